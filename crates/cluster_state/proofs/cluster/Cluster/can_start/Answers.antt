@@ -1,0 +1,6 @@
+use Rattle.std.proofs.lemmas.Bool.{false≢true}
+use Rattle.cluster_state.proofs.cluster.Cluster.can_start.Goals as goal
+
+pub returns-in-None : goal.returns-in-None
+returns-in-None g c =
+    rw (← c.self.view_is, ← c.deref.ensures.value, ← c.in-None.ensures) (λ e. false≢true e, λ e. absurd e)

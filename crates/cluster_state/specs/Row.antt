@@ -1,0 +1,35 @@
+-- The order in which the later waiting jobs are looked at.
+use Rattle.std.specs.Prelude.{nat_le, nat_lt, if◌then◌else◌, List, [], ◌∷◌}
+use Rattle.scenarios.specs.Job.{EffectiveJob}
+use Rattle.scenarios.specs.declared.order.Order.{Order}
+use Rattle.scenarios.specs.declared.order.Order.TheVariants.{Arrival, Shortest}
+
+-- a job among others, before the first whose estimate is not shorter
+abbrev pub put : EffectiveJob → List EffectiveJob → List EffectiveJob
+put job [] = job ∷ []
+put job (x ∷ xs) = if nat_le job.estimate x.estimate then job ∷ x ∷ xs else x ∷ put job xs
+
+-- the shortest estimate first; those of one estimate as they stand
+abbrev pub by_estimate : List EffectiveJob → List EffectiveJob
+by_estimate [] = []
+by_estimate (j ∷ js) = put j (by_estimate js)
+
+-- jobs of the queue in the order in which they are looked at
+abbrev pub in_order : Order → List EffectiveJob → List EffectiveJob
+in_order Arrival js = js
+in_order Shortest js = by_estimate js
+
+-- the row that a cluster keeps beside its queue: none in order of arrival, where the queue itself serves
+abbrev pub row_of : Order → List EffectiveJob → List EffectiveJob
+row_of Arrival js = []
+row_of Shortest js = by_estimate js
+
+-- a job among others, before the first whose estimate is longer
+abbrev pub put_last : EffectiveJob → List EffectiveJob → List EffectiveJob
+put_last job [] = job ∷ []
+put_last job (x ∷ xs) = if nat_lt job.estimate x.estimate then job ∷ x ∷ xs else x ∷ put_last job xs
+
+-- the kept row with one more job, behind those of its estimate
+abbrev pub row_with : Order → EffectiveJob → List EffectiveJob → List EffectiveJob
+row_with Arrival job row = row
+row_with Shortest job row = put_last job row

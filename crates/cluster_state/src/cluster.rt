@@ -1,0 +1,238 @@
+ghost use Rattle.std.specs.Prelude.{◌≡◌, ◌-◌, ◌<◌, ◌≤◌, ◌+◌, ◌^◌, ◌↔◌, [], OnOk, OnErr, IfSome, IsNone, IsOk, IsTrue, MatchOption, All, Any, slice_get, count_by, nat_eq};
+ghost use Rattle.std.specs.Option.{option_copied};
+ghost use Rattle.scenarios.specs.declared.order.Order.TheVariants.{Arrival};
+
+use crate::queue::{find_job, put_job, remove_job};
+use crate::running::{Running, drop_ended, first_end, held, run};
+use scenarios::{Job, Order, Scenario};
+use std::alloc::Allocator;
+use std::marker::Model;
+use swf_text::Memory;
+
+/// A simulated machine, with the jobs that wait for it and those that run on it.
+///
+/// Seconds stay below 2^49, and a machine has at most 16,777,216 processors.
+#[derive(Drop)]
+pub struct Cluster<A: Allocator + Copy> {
+    procs: u64,
+    order: Order,
+    free: u64,
+    waiting: Vec<Job, A>,
+    shortest: Vec<Job, A>,
+    running: Vec<Running, A>,
+}
+
+impl<A: Allocator + Copy> Model for Cluster<A> {
+    ghost use Rattle.cluster_state.specs.State.{ClusterView};
+
+    ghost Value = { ClusterView };
+
+    ghost use Rattle.cluster_state.specs.Parts.{view_of, IsCluster};
+
+    ghost view = { view_of };
+
+    ghost invariant = { IsCluster };
+}
+
+impl<A: Allocator + Copy> Cluster<A> {
+    ghost use Rattle.cluster_state.specs.State.{empty, free, real_end, arrived, after_start};
+    ghost use Rattle.cluster_state.specs.State.{ended_until, holders, CanArrive, CanStart, IsSound};
+    ghost use Rattle.cluster_state.specs.Row.{in_order};
+
+    /// An empty machine of `procs` processors, with backfills in order of arrival.
+    pub fn new(alloc: A, procs: u64) -> Cluster<A>
+        requires { procs ≤ 16777216 }
+        ensures { result.state ≡ empty procs Arrival }
+    {
+        Cluster::with_order(alloc, procs, Order::Arrival)
+    }
+
+    /// The empty machine of a scenario, with backfills in the scenario's order.
+    pub fn for_scenario(alloc: A, scenario: &Scenario) -> Cluster<A>
+        ensures { result.state ≡ empty scenario.now.procs scenario.now.order }
+    {
+        Cluster::with_order(alloc, scenario.procs(), scenario.order())
+    }
+
+    // An empty machine with backfills in this order.
+    fn with_order(alloc: A, procs: u64, order: Order) -> Cluster<A>
+        requires { procs ≤ 16777216 }
+        ensures { result.state ≡ empty procs order }
+    {
+        Cluster {
+            procs,
+            order,
+            free: procs,
+            waiting: Vec::new(alloc),
+            shortest: Vec::new(alloc),
+            running: Vec::new(alloc),
+        }
+    }
+
+    /// The order in which the later waiting jobs are looked at.
+    pub fn order(&self) -> Order
+        ensures { result ≡ self.now.state.order }
+    {
+        self.order
+    }
+
+    /// The processors that no running job holds.
+    pub fn free(&self) -> u64
+        ensures free { result ≡ free self.now.state }
+        ensures sound { IsSound self.now.state }
+    {
+        self.free
+    }
+
+    /// The waiting jobs in order of arrival.
+    pub fn waiting(&self) -> &[Job]
+        ensures jobs { result.now ≡ self.now.state.waiting }
+        ensures sound { IsSound self.now.state }
+    {
+        self.waiting.as_slice()
+    }
+
+    /// The waiting jobs in the order in which they are looked at for a backfill.
+    pub fn row(&self) -> &[Job]
+        ensures jobs { result.now ≡ in_order self.now.state.order self.now.state.waiting }
+        ensures sound { IsSound self.now.state }
+    {
+        match self.order {
+            Order::Arrival => self.waiting(),
+            Order::Shortest => self.shortest.as_slice(),
+        }
+    }
+
+    /// The running jobs with their starts, rising by number.
+    pub fn running(&self) -> &[Running]
+        ensures jobs { result.now ≡ self.now.state.running }
+        ensures sound { IsSound self.now.state }
+    {
+        self.running.as_slice()
+    }
+
+    /// The waiting job at this place of the queue, counted from 0; none past the end.
+    pub fn waiting_at(&self, place: usize) -> Option<&Job>
+        ensures { option_copied result ≡ slice_get self.now.state.waiting place }
+    {
+        self.waiting.get(place)
+    }
+
+    /// The running job at this place, counted from 0, with the second of its start; none past the
+    /// end. They rise by number.
+    pub fn running_at(&self, place: usize) -> Option<(&Job, u64)>
+        ensures { MatchOption result (slice_get self.now.state.running place ≡ None)
+            (λ p. slice_get self.now.state.running place ≡ Some (record { job = p.0.now; start = p.1 })) }
+    {
+        match self.running.get(place) {
+            None => None,
+            Some(r) => Some((&r.job, r.start)),
+        }
+    }
+
+    /// Whether a job may join the queue: no job of its number waits or runs, and it is not larger
+    /// than the machine.
+    pub fn can_arrive(&self, job: &Job) -> bool
+        ensures { IsTrue result ↔ CanArrive self.now.state job.now }
+    {
+        is_absent(&self.waiting, &self.running, job.number()) && job.size() <= self.procs
+    }
+
+    /// A job joins the queue, at its end.
+    ///
+    /// Memory where a growth was refused; the state is then as it was.
+    pub fn arrive(&mut self, job: Job) -> Result<(), Memory>
+        requires absent { holders self.old.state job.number ≡ 0 }
+        requires fits { job.size ≤ self.old.state.machine }
+        ensures ok { OnOk result (self.new.state ≡ arrived self.old.state job) }
+        ensures err { OnErr result (self.new.state ≡ self.old.state) }
+        ensures spare { self.new.spare ≡ self.old.spare }
+    {
+        self.waiting.reserve(1)?;
+        put_job(&mut self.shortest, self.order, job)?;
+        let Ok(()) = self.waiting.push(job) else {
+            unreachable!()
+        };
+        Ok(())
+    }
+
+    /// How many starts surely find room. Each start takes up one at most, and nothing else takes any.
+    pub fn spare_starts(&self) -> usize
+        ensures { result ≡ self.now.spare }
+    {
+        self.running.capacity() - self.running.len()
+    }
+
+    /// Makes room for so many starts.
+    ///
+    /// Memory where a growth was refused; the room may then be greater than it was, too.
+    pub fn reserve_starts(&mut self, count: usize) -> Result<(), Memory>
+        ensures state { self.new.state ≡ self.old.state }
+        ensures ok { OnOk result (count ≤ self.new.spare) }
+        ensures kept { self.old.spare ≤ self.new.spare }
+    {
+        self.running.reserve(count)?;
+        Ok(())
+    }
+
+    /// Whether a job of this number waits and fits into the free processors.
+    pub fn can_start(&self, number: u64) -> bool
+        ensures { IsTrue result ↔ CanStart self.now.state number }
+    {
+        match find_job(&self.waiting, number) {
+            None => false,
+            Some(job) => job.size() <= self.free,
+        }
+    }
+
+    /// The waiting job of this number starts at second `now`.
+    ///
+    /// With room for a start it takes no memory. Memory where a growth was refused; the state is then
+    /// as it was.
+    pub fn start(&mut self, number: u64, now: u64) -> Result<(), Memory>
+        requires fits { CanStart self.old.state number }
+        requires now { now < 2 ^ 49 }
+        ensures ok { OnOk result (self.new.state ≡ after_start self.old.state number now) }
+        ensures err { OnErr result (self.new.state ≡ self.old.state) }
+        ensures room { 1 ≤ self.old.spare → IsOk result }
+        ensures spare { self.old.spare ≤ self.new.spare + 1 }
+    {
+        let Some(job) = find_job(&self.waiting, number) else {
+            unreachable!()
+        };
+        run(&mut self.running, Running { job, start: now })?;
+        remove_job(&mut self.waiting, number);
+        remove_job(&mut self.shortest, number);
+        self.free -= job.size();
+        Ok(())
+    }
+
+    /// The jobs that end by second `t` leave.
+    pub fn finish_until(&mut self, t: u64)
+        ensures state { self.new.state ≡ ended_until self.old.state t }
+        ensures spare { self.old.spare ≤ self.new.spare }
+    {
+        drop_ended(&mut self.running, t);
+        self.free = self.procs - held(&self.running);
+    }
+
+    /// The second at which the next running job ends; none where no job runs.
+    pub fn next_end(&self) -> Option<u64>
+        ensures none { IsNone result ↔ (self.now.state.running ≡ []) }
+        ensures found { IfSome result (λ t. Any (λ r. real_end r ≡ t) self.now.state.running) }
+        ensures least { IfSome result (λ t. All (λ r. t ≤ real_end r) self.now.state.running) }
+    {
+        first_end(&self.running)
+    }
+}
+
+// Whether no job of this number waits or runs.
+fn is_absent(waiting: &[Job], running: &[Running], number: u64) -> bool
+    ensures { IsTrue result
+        ↔ (count_by (λ j. nat_eq j.number number) waiting.now
+        + count_by (λ r. nat_eq r.job.number number) running.now ≡ 0) }
+{
+    let waits = waiting.iter().filter(|j| j.number() == number).count();
+    let runs = running.iter().filter(|r| r.job.number() == number).count();
+    waits == 0 && runs == 0
+}

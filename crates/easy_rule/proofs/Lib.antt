@@ -1,0 +1,4 @@
+pub mod RuleLemmas
+pub mod NextLemmas
+pub mod FirstLemmas
+pub mod Runs

@@ -1,0 +1,203 @@
+-- The job that starts next, and what its start leaves.
+use Rattle.std.proofs.Common.{◌≡◌, ℕ, zero, suc, ◌+◌, ◌-◌, ◌^◌, ◌≤◌, ◌<◌, Bool, true, false, cond, ◌&&◌, ◌||◌, nat_le, nat_eq, List, [], ◌∷◌, ◌++◌, append_assoc, Option, Some, None, All, IsSomeAnd, find, count_by, refl, sym, ◌∙◌, ap, arith, subst, inl, inr, ⊎_elim, ◌⊎◌}
+use Rattle.std.specs.Option.{option_map_or}
+use Rattle.std.proofs.lemmas.List.Sums.{sum_by-cons}
+use Rattle.std.proofs.lemmas.List.Elements.{All-head, All-tail}
+use Rattle.std.proofs.lemmas.Bool.{leb-true, lt-leb, cases_Bool, cond-true, cond-false, eq-eqb, and_parts}
+use Rattle.scenarios.specs.Job.{EffectiveJob, IsWithinLimits}
+use Rattle.cluster_state.specs.declared.running.Running.{Running}
+use Rattle.cluster_state.specs.State.{State, IsSound, free, waiting_job, started, after_start}
+use Rattle.cluster_state.specs.Row.{put, by_estimate, in_order}
+use Rattle.cluster_state.proofs.StateLemmas.{sum_by-placed, sound-started}
+use Rattle.cluster_state.proofs.RowLemmas.{find-in_order}
+use Rattle.scenarios.specs.declared.order.Order.{Order}
+use Rattle.scenarios.specs.declared.order.Order.TheVariants.{Arrival, Shortest}
+use Rattle.easy_rule.specs.declared.shadow_time.Shadow.{Shadow}
+use Rattle.easy_rule.specs.declared.start.Start.{Start}
+use Rattle.easy_rule.specs.Rule.{next, next_of, may_backfill, shadow_at, decided, decisions}
+
+-- it is one of these
+abbrev pub Member : List EffectiveJob → EffectiveJob → Type 0
+Member [] job = ⊥
+Member (j ∷ js) job = (j ≡ job) ⊎ Member js job
+
+pub found-member : (q : EffectiveJob → Bool) (js : List EffectiveJob) (job : EffectiveJob) → find q js ≡ Some job → Member js job
+found-member q [] job e = cc
+found-member q (j ∷ js) job e =
+    elim (q j) as (λ b. cond b (Some j) (find q js) ≡ Some job → (j ≡ job) ⊎ Member js job) [
+      | true ↦ λ h. let same : j ≡ job = cc in inl same
+      | false ↦ λ h. inr (found-member q js job h)
+    ] e
+
+count-member : (js : List EffectiveJob) (job : EffectiveJob) → Member js job → 1 ≤ count_by (λ (j : EffectiveJob). nat_eq j.number job.number) js
+count-member [] job m = absurd m
+count-member (j ∷ js) job m =
+    let e = sum_by-cons (λ (j : EffectiveJob). cond (nat_eq j.number job.number) 1 0) j js in
+    ⊎_elim
+    (λ (same : j ≡ job). let one = cond-true {A = ℕ} (nat_eq j.number job.number) 1 0 (eq-eqb j.number job.number (ap (λ (x : EffectiveJob). x.number) same)) in omega (arith, e, one))
+    (λ (later : Member js job). omega (arith, e, count-member js job later))
+    m
+
+-- where a number stands once, it finds its job
+pub find-member : (js : List EffectiveJob) (job : EffectiveJob) → Member js job → count_by (λ (j : EffectiveJob). nat_eq j.number job.number) js ≤ 1 → find (λ (j : EffectiveJob). nat_eq j.number job.number) js ≡ Some job
+find-member [] job m l = absurd m
+find-member (j ∷ js) job m l =
+    let e = sum_by-cons (λ (j : EffectiveJob). cond (nat_eq j.number job.number) 1 0) j js in
+    let f = find (λ (j : EffectiveJob). nat_eq j.number job.number) js in
+    ⊎_elim
+    (λ (same : j ≡ job). cond-true (nat_eq j.number job.number) (Some j) f (eq-eqb j.number job.number (ap (λ (x : EffectiveJob). x.number) same)) ∙ ap Some same)
+    (λ (later : Member js job).
+    let n = count-member js job later in
+    ⊎_elim
+    (λ (yes' : nat_eq j.number job.number ≡ true). let one = cond-true {A = ℕ} (nat_eq j.number job.number) 1 0 yes' in absurd (omega (arith, e, one)))
+    (λ (no' : nat_eq j.number job.number ≡ false). cond-false (nat_eq j.number job.number) (Some j) f no' ∙ find-member js job later (omega (arith, e)))
+    (cases_Bool (nat_eq j.number job.number)))
+    m
+
+-- what is found passes the test
+pub found-passes : (q : EffectiveJob → Bool) (js : List EffectiveJob) (job : EffectiveJob) → find q js ≡ Some job → q job ≡ true
+found-passes q [] job e = cc
+found-passes q (j ∷ js) job e =
+    ⊎_elim
+    (λ (h : q j ≡ true). let k : cond true (Some j) (find q js) ≡ Some job = rw h at e in let same : j ≡ job = cc in subst (λ z. q z ≡ true) same h)
+    (λ (h : q j ≡ false). found-passes q js job (rw h at e))
+    (cases_Bool (q j))
+
+-- the order takes nobody in
+put-member : (j : EffectiveJob) (xs : List EffectiveJob) (job : EffectiveJob) → Member (put j xs) job → Member (j ∷ xs) job
+put-member j [] job m = m
+put-member j (x ∷ xs) job m =
+    elim (nat_le j.estimate x.estimate) as (λ b. Member (cond b (j ∷ x ∷ xs) (x ∷ put j xs)) job → Member (j ∷ x ∷ xs) job) [
+      | true ↦ λ h. h
+      | false ↦ λ h.
+          ⊎_elim
+          (λ (same : x ≡ job). inr (inl same))
+          (λ (later : Member (put j xs) job).
+          ⊎_elim (λ (same : j ≡ job). inl same) (λ (in_rest : Member xs job). inr (inr in_rest)) (put-member j xs job later))
+          h
+    ] m
+
+by_estimate-member : (js : List EffectiveJob) (job : EffectiveJob) → Member (by_estimate js) job → Member js job
+by_estimate-member [] job m = m
+by_estimate-member (j ∷ js) job m =
+    ⊎_elim (λ (same : j ≡ job). inl same) (λ (later : Member (by_estimate js) job). inr (by_estimate-member js job later)) (put-member j (by_estimate js) job m)
+
+pub in_order-member : (o : Order) (js : List EffectiveJob) (job : EffectiveJob) → Member (in_order o js) job → Member js job
+in_order-member Arrival js job m = m
+in_order-member Shortest js job m = by_estimate-member js job m
+
+-- the next job waits and fits
+pub next-facts : (s : State) (now : ℕ) (job : EffectiveJob) (js : List EffectiveJob) → next_of s now js ≡ Some job → Member js job × (job.size ≤ free s)
+next-facts s now job [] e = cc
+next-facts s now job (head ∷ rest) e =
+    let q = may_backfill now (free s) (shadow_at s head.size) in
+    let row = in_order s.order rest in
+    ⊎_elim
+    (λ (h : nat_le head.size (free s) ≡ true).
+    let k : Some head ≡ Some job = sym (cond-true (nat_le head.size (free s)) (Some head) (find q row) h) ∙ e in
+    let same : head ≡ job = cc in
+    (inl same, subst (λ (j : EffectiveJob). j.size ≤ free s) same (leb-true head.size (free s) h)))
+    (λ (h : nat_le head.size (free s) ≡ false).
+    let k : find q row ≡ Some job = sym (cond-false (nat_le head.size (free s)) (Some head) (find q row) h) ∙ e in
+    let p = found-passes q row job k in
+    (inr (in_order-member s.order rest job (found-member q row job k)), leb-true job.size (free s) (and_parts _ _ p).0))
+    (cases_Bool (nat_le head.size (free s)))
+
+pub next-found : (s : State) (now : ℕ) (job : EffectiveJob) → IsSound s → next s now ≡ Some job → waiting_job s job.number ≡ Some job
+next-found s now job h e = find-member s.waiting job (next-facts s now job s.waiting e).0 (omega (arith, h.once job.number))
+
+pub next-fits : (s : State) (now : ℕ) (job : EffectiveJob) → next s now ≡ Some job → job.size ≤ free s
+next-fits s now job e = (next-facts s now job s.waiting e).1
+
+-- who does not fit may not be backfilled
+pub too-large : (now room : ℕ) (w : Shadow) (job : EffectiveJob) → room < job.size → may_backfill now room w job ≡ false
+too-large now room w job l = ap (λ b. b && (nat_le (now + job.estimate) w.time || nat_le job.size w.extra)) (lt-leb job.size room l)
+
+-- with a head that does not fit, the search goes over the whole row, the head among them
+pub next-row : (s : State) (now : ℕ) (head : EffectiveJob) (rest : List EffectiveJob) → s.waiting ≡ head ∷ rest → free s < head.size → next s now ≡ find (may_backfill now (free s) (shadow_at s head.size)) (in_order s.order s.waiting)
+next-row s now head rest queue l =
+    let q = may_backfill now (free s) (shadow_at s head.size) in
+    ap (next_of s now) queue
+    ∙ cond-false (nat_le head.size (free s)) (Some head) (find q (in_order s.order rest)) (lt-leb head.size (free s) l)
+    ∙ sym (ap (λ js. find q (in_order s.order js)) queue ∙ find-in_order q s.order head rest (too-large now (free s) (shadow_at s head.size) head l))
+
+-- a step of the fold
+pub decided-start : (n : ℕ) (s : State) (job : EffectiveJob) (now : ℕ) → 0 < n → next s now ≡ Some job → decided n s now ≡ decided (n - 1) (started s job now) now
+unfolding decided
+decided-start zero s job now l e = absurd (omega arith)
+decided-start (suc n) s job now l e =
+    ap (λ o. option_map_or (λ job. decided n (started s job now) now) o s) e ∙ ap (λ m. decided m (started s job now) now) (let k : n ≡ suc n - 1 = omega arith in k)
+
+pub decided-stop : (n : ℕ) (s : State) (now : ℕ) → next s now ≡ None → decided n s now ≡ s
+unfolding decided
+decided-stop zero s now e = refl
+decided-stop (suc n) s now e = ap (λ o. option_map_or (λ job. decided n (started s job now) now) o s) e
+
+pub decisions-start : (n : ℕ) (s : State) (job : EffectiveJob) (now : ℕ) → 0 < n → next s now ≡ Some job → decisions n s now ≡ record { number = job.number; at = now } ∷ decisions (n - 1) (started s job now) now
+unfolding decisions
+decisions-start zero s job now l e = absurd (omega arith)
+decisions-start (suc n) s job now l e =
+    ap (λ o. option_map_or (λ (job : EffectiveJob). record { number = job.number; at = now } ∷ decisions n (started s job now) now) o []) e
+    ∙ ap (λ m. record { number = job.number; at = now } ∷ decisions m (started s job now) now) (let k : n ≡ suc n - 1 = omega arith in k)
+
+pub decisions-stop : (n : ℕ) (s : State) (now : ℕ) → next s now ≡ None → decisions n s now ≡ []
+unfolding decisions
+decisions-stop zero s now e = refl
+decisions-stop (suc n) s now e = ap (λ o. option_map_or (λ (job : EffectiveJob). record { number = job.number; at = now } ∷ decisions n (started s job now) now) o []) e
+
+-- what the start of the next job by its number leaves
+pub started-next : (s : State) (now : ℕ) (job : EffectiveJob) → IsSound s → next s now ≡ Some job → after_start s job.number now ≡ started s job now
+started-next s now job h e = ap (λ o. option_map_or (λ j. started s j now) o s) (next-found s now job h e)
+
+pub start-allowed : (s : State) (now : ℕ) (job : EffectiveJob) → IsSound s → next s now ≡ Some job → IsSomeAnd (waiting_job s job.number) (λ (j : EffectiveJob). j.size ≤ free s)
+start-allowed s now job h e = rw (next-found s now job h e) (next-fits s now job e)
+
+-- a turn of the loop
+pub decided-more : (n i : ℕ) (s s' e : State) (job : EffectiveJob) (now : ℕ) → IsSound s → i < n → next s now ≡ Some job → s' ≡ after_start s job.number now → decided (n - i) s now ≡ e → decided (n - (i + 1)) s' now ≡ e
+decided-more n i s s' e job now h l found is so =
+    let one : n - (i + 1) ≡ n - i - 1 = omega arith in
+    rw (one, is, started-next s now job h found, ← decided-start (n - i) s job now (omega arith) found) so
+
+pub decisions-more : (n i : ℕ) (s s' : State) (done e : List Start) (job : EffectiveJob) (now : ℕ) → IsSound s → i < n → next s now ≡ Some job → s' ≡ after_start s job.number now
+    → done ++ decisions (n - i) s now ≡ e → (done ++ record { number = job.number; at = now } ∷ []) ++ decisions (n - (i + 1)) s' now ≡ e
+decisions-more n i s s' done e job now h l found is so =
+    let one : n - (i + 1) ≡ n - i - 1 = omega arith in
+    rw (one, is, started-next s now job h found, append_assoc) (rw (decisions-start (n - i) s job now (omega arith) found) at so)
+
+-- what holds of all holds of one of them
+All-member : (P : EffectiveJob → Type 0) (js : List EffectiveJob) (job : EffectiveJob) → Member js job → All P js → P job
+All-member P [] job m a = absurd m
+All-member P (j ∷ js) job m a =
+    ⊎_elim (λ (same : j ≡ job). subst P same (All-head P j js a)) (λ (later : Member js job). All-member P js job later (All-tail P j js a)) m
+
+-- the next job takes a processor at least
+pub next-takes : (s : State) (now : ℕ) (job : EffectiveJob) → IsSound s → next s now ≡ Some job → 1 ≤ job.size
+next-takes s now job h e = (All-member IsWithinLimits s.waiting job (next-facts s now job s.waiting e).0 h.waiting_limits).takes_some
+
+-- on a full machine nobody is next
+pub next-full : (s : State) (now : ℕ) → IsSound s → free s ≡ 0 → next s now ≡ None
+next-full s now h full = none-or (next s now) (λ job e. let l = next-takes s now job h e in let m = next-fits s now job e in omega arith)
+  where
+    none-or : (o : Option EffectiveJob) → ((job : EffectiveJob) → o ≡ Some job → ⊥) → o ≡ None
+    none-or None k = refl
+    none-or (Some job) k = absurd (k job refl)
+
+-- what a start leaves is sound, and has a free processor less at least
+pub sound-next : (s : State) (now : ℕ) (job : EffectiveJob) → IsSound s → next s now ≡ Some job → now < 2 ^ 49 → IsSound (started s job now)
+sound-next s now job h e early = sound-started s job now h (next-found s now job h e) (next-fits s now job e) early
+
+pub free-next : (s : State) (now : ℕ) (job : EffectiveJob) → IsSound s → next s now ≡ Some job → free (started s job now) + 1 ≤ free s
+free-next s now job h e =
+    let taken = sum_by-placed (λ (r : Running). r.job.size) (record { job = job; start = now }) s.running in
+    omega (arith, taken, next-takes s now job h e, next-fits s now job e, h.fits)
+
+-- no more can start than there are free processors
+pub decided-full : (n : ℕ) (s : State) (now : ℕ) → IsSound s → (0 < n → free s ≡ 0) → decided n s now ≡ s
+unfolding decided
+decided-full zero s now h full = refl
+decided-full (suc n) s now h full = decided-stop (suc n) s now (next-full s now h (full (omega arith)))
+
+pub decisions-full : (n : ℕ) (s : State) (now : ℕ) → IsSound s → (0 < n → free s ≡ 0) → decisions n s now ≡ []
+unfolding decisions
+decisions-full zero s now h full = refl
+decisions-full (suc n) s now h full = decisions-stop (suc n) s now (next-full s now h (full (omega arith)))

@@ -1,0 +1,14 @@
+-- The fault of the program where its log is refused.
+use Rattle.swf_text.specs.declared.fault.SwfFault.{SwfFault}
+use Rattle.swf_text.specs.declared.fault.FaultKind.{FaultKind}
+use Rattle.swf_text.specs.declared.fault.FaultKind.TheVariants as kinds
+use Rattle.easybook.specs.declared.fault.ProgramFault.{ProgramFault}
+use Rattle.easybook.specs.declared.fault.ProgramFault.TheVariants as faults
+
+abbrev pub fault_of_kind : SwfFault → FaultKind → ProgramFault
+fault_of_kind fault kinds.Memory = faults.Memory
+fault_of_kind fault kind = faults.Log fault
+
+-- the log's fault, unless memory was short
+abbrev pub fault_of : SwfFault → ProgramFault
+fault_of fault = fault_of_kind fault fault.kind

@@ -1,0 +1,70 @@
+ghost use Rattle.std.specs.Prelude.{◌≡◌};
+ghost use Rattle.easybook.specs.declared.fault.ProgramFault.TheVariants.{Memory as OutOfMemory};
+
+use std::alloc::{AllocError, AllocFailed};
+use swf_text::{FaultKind, Memory, SwfFault};
+use thiserror::Error;
+
+/// Why the program ends without its answer. It displays as the line that the program writes.
+#[derive(Clone, Copy, Debug, PartialEq, Eq, Error)]
+pub enum ProgramFault {
+    /// The log's first faulty line.
+    #[error("{0}")]
+    Log(SwfFault),
+    /// Nothing names the machine's size.
+    #[error("no machine size")]
+    NoMachine,
+    /// The machine's size is not 1 to 16,777,216 processors.
+    #[error("bad machine size")]
+    BadMachine,
+    /// The input has more bytes than its limit.
+    #[error("input too long")]
+    TooLong,
+    /// A reader answered an error, or a file cannot be opened.
+    #[error("read failed")]
+    Read,
+    /// A writer answered an error, or took no byte.
+    #[error("write failed")]
+    Write,
+    /// A growth was refused.
+    #[error("out of memory")]
+    Memory,
+}
+
+impl From<SwfFault> for ProgramFault {
+    ghost use Rattle.std.specs.Prelude.{◌≡◌};
+    ghost use Rattle.easybook.specs.Fault.{fault_of};
+
+    ghost from_gives = { λ fault given. given ≡ fault_of fault };
+
+    fn from(fault: SwfFault) -> ProgramFault {
+        match fault.kind {
+            FaultKind::Memory => ProgramFault::Memory,
+            _ => ProgramFault::Log(fault),
+        }
+    }
+}
+
+impl From<Memory> for ProgramFault {
+    ghost from_gives = { λ _ fault. fault ≡ OutOfMemory };
+
+    fn from(_memory: Memory) -> ProgramFault {
+        ProgramFault::Memory
+    }
+}
+
+impl From<AllocError> for ProgramFault {
+    ghost from_gives = { λ _ fault. fault ≡ OutOfMemory };
+
+    fn from(_error: AllocError) -> ProgramFault {
+        ProgramFault::Memory
+    }
+}
+
+impl<T: Drop> From<AllocFailed<T>> for ProgramFault {
+    ghost from_gives = { λ _ fault. fault ≡ OutOfMemory };
+
+    fn from(_error: AllocFailed<T>) -> ProgramFault {
+        ProgramFault::Memory
+    }
+}

@@ -1,0 +1,20 @@
+//! The program's calls: its words, its input, and the plain run from a log to its schedule.
+#![tactic(auto)]
+
+mod fault;
+mod input;
+mod options;
+mod output;
+mod plain;
+mod row;
+mod schedule;
+mod words;
+
+pub use fault::ProgramFault;
+pub use input::read_input;
+pub use options::Options;
+pub use plain::run_plain;
+pub use words::{Words, WordsFault, read_words};
+
+#[cfg(test)]
+mod tests;

@@ -1,0 +1,3 @@
+pub mod SoundPlan
+pub mod Arranged
+pub mod Laws

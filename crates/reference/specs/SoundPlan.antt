@@ -1,0 +1,23 @@
+-- What each plan of a log keeps.
+use Rattle.std.specs.Prelude.{ℕ, ◌≤◌, Bool, ◌&&◌, ◌||◌, ◌==◌, nat_eq, nat_lt, IsTrue, List, [], ◌∷◌, length, All, count_by}
+use Rattle.scenarios.specs.Job.{EffectiveJob, IsWithinLimits}
+use Rattle.scenarios.specs.Plan.{Plan}
+
+-- the earlier submit second comes first, and of one second the smaller job number
+abbrev pub is_before : EffectiveJob → EffectiveJob → Bool
+is_before a b = nat_lt a.submit b.submit || (a.submit == b.submit && nat_lt a.number b.number)
+
+-- each job comes before the next
+abbrev pub IsRising : List EffectiveJob → Type 0
+IsRising [] = Unit {0}
+IsRising (job ∷ []) = Unit {0}
+IsRising (job ∷ next ∷ jobs) = IsTrue (is_before job next) × IsRising (next ∷ jobs)
+
+-- a machine within its limit, and jobs that fit it, at most as many as a log has, rising by submit second and number, no two of one number
+pub record IsPlan (plan : Plan) : Type 0 where
+  pub limited : plan.machine ≤ 16777216
+  pub sizes : All (λ j. j.size ≤ plan.machine) plan.jobs
+  pub limits : All IsWithinLimits plan.jobs
+  pub few : length plan.jobs ≤ 4194304
+  pub once : (n : ℕ) → count_by (λ j. nat_eq j.number n) plan.jobs ≤ 1
+  pub rising : IsRising plan.jobs

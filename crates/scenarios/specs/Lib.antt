@@ -1,0 +1,4 @@
+pub mod Job
+pub mod Scenario
+pub mod Effective
+pub mod Plan

@@ -1,0 +1,24 @@
+-- What a log is simulated under.
+use Rattle.std.specs.Prelude.{ℕ, Bool, ◌≤◌, ◌&&◌, nat_le, if◌then◌else◌, Option, Some, None}
+use Rattle.scenarios.specs.declared.order.Order.{Order}
+use Rattle.scenarios.specs.declared.order.Order.TheVariants.{Arrival}
+
+-- A machine's processors, what estimates are multiplied by in thousandths, and the order of backfills.
+pub record Setting : Type 0 where
+  pub procs : ℕ
+  pub factor : ℕ
+  pub order : Order
+
+-- the limits of a scenario
+pub record IsSetting (scenario : Setting) : Type 0 where
+  pub some_procs : 1 ≤ scenario.procs
+  pub procs_fit : scenario.procs ≤ 16777216
+  pub some_factor : 1 ≤ scenario.factor
+  pub factor_fits : scenario.factor ≤ 100000
+
+abbrev pub are_within : ℕ → ℕ → Bool
+are_within procs factor = nat_le 1 procs && nat_le procs 16777216 && nat_le 1 factor && nat_le factor 100000
+
+-- the scenario of this machine and factor, with backfills in order of arrival; none outside the limits
+abbrev pub setting_of : ℕ → ℕ → Option Setting
+setting_of procs factor = if are_within procs factor then Some (record { procs = procs; factor = factor; order = Arrival }) else None

@@ -1,0 +1,107 @@
+ghost use Rattle.std.specs.Prelude.{◌≡◌, ◌≤◌, ◌^◌, ◌<◌, IfOk, IfSome, nat_abs};
+ghost use Rattle.swf_text.specs.Entry.{field};
+ghost use Rattle.scenarios.specs.Job.{IsWithinLimits};
+ghost use Rattle.scenarios.specs.Effective.{effective, whole_field, positive, natural, size_of, run_of, base_of, estimate_of};
+
+use crate::job::Job;
+use crate::scenario::Scenario;
+use crate::skip::Skip;
+use std::alloc::Allocator;
+use swf_text::{Entry, Fields};
+
+/// The longest estimate and length, in seconds.
+const MAX_LENGTH: u64 = 100_000_000;
+
+// A field of a line, to the nearest whole number.
+fn whole_field(line: &Fields, place: usize) -> i64
+    requires low { 1 ≤ place }
+    requires high { place ≤ 18 }
+    ensures value { result ≡ whole_field line.now.0 place }
+    ensures within { nat_abs result ≤ 1000000000000 }
+{
+    line.0[place - 1].whole()
+}
+
+// The number, where it is at least 0.
+fn natural(number: i64) -> Option<u64>
+    ensures value { result ≡ natural number }
+    ensures within { IfSome result (λ n. n ≤ nat_abs number) }
+{
+    u64::try_from(number).ok()
+}
+
+// The number, where it is above 0.
+fn positive(number: i64) -> Option<u64>
+    ensures value { result ≡ positive number }
+    ensures within { IfSome result (λ n. n ≤ nat_abs number) }
+{
+    natural(number).filter(|n| *n > 0)
+}
+
+// The processors that a job asks for, or else was given.
+fn size_of(line: &Fields) -> Option<u64>
+    ensures { result ≡ size_of line.now.0 }
+{
+    positive(whole_field(line, 8)).or(positive(whole_field(line, 5)))
+}
+
+// The seconds that a job ran.
+fn run_of(line: &Fields) -> Option<u64>
+    ensures value { result ≡ run_of line.now.0 }
+    ensures within { IfSome result (λ n. n ≤ 1000000000000) }
+{
+    natural(whole_field(line, 4))
+}
+
+// The seconds that a job asks for, or else ran.
+fn base_of(line: &Fields, run: u64) -> u64
+    requires { run ≤ 1000000000000 }
+    ensures value { result ≡ base_of line.now.0 run }
+    ensures within { result ≤ 1000000000000 }
+{
+    match positive(whole_field(line, 9)) {
+        Some(asked) => asked,
+        None => run,
+    }
+}
+
+// The estimate, in seconds.
+fn estimate_of(base: u64, factor: u64) -> u64
+    requires base { base ≤ 1000000000000 }
+    requires factor { factor ≤ 100000 }
+    ensures { result ≡ estimate_of base factor }
+{
+    (base * factor).div_ceil(1000).max(1)
+}
+
+/// The job that an entry is under a scenario, or the first reason to skip it.
+///
+/// The size is the requested processors (field 8) if above 0, otherwise the allocated ones
+/// (field 5); the run time is field 4. The base estimate is the requested time (field 9) if above
+/// 0, otherwise the run time; the estimate is the base times the factor, rounded up, and at least
+/// one second. The job runs for its run time, at least one second, and at its estimate it is
+/// killed. Fields are taken to the nearest whole number.
+pub fn effective<A: Allocator + Copy>(entry: &Entry<A>, scenario: &Scenario) -> Result<Job, Skip>
+    ensures job { result ≡ effective entry.now scenario.now }
+    ensures limits { IfOk result IsWithinLimits }
+{
+    let line = entry.main();
+    let size = size_of(line).ok_or(Skip::NoSize)?;
+    let run = run_of(line).ok_or(Skip::NoRun)?;
+    if size > scenario.procs() {
+        return Err(Skip::TooLarge);
+    }
+    let estimate = estimate_of(base_of(line, run), scenario.factor());
+    if estimate > MAX_LENGTH {
+        return Err(Skip::TooLong);
+    }
+    Ok(Job {
+        number: entry.number(),
+        submit: entry.submit(),
+        user: whole_field(line, 12),
+        size: size as u32,
+        estimate: estimate as u32,
+        length: run.min(estimate).max(1) as u32,
+        killed: estimate < run,
+    })
+}

@@ -1,0 +1,9 @@
+pub mod Numbers
+pub mod Words
+pub mod Plains
+pub mod Walks
+pub mod Lines
+pub mod Grammars
+pub mod Outcomes
+pub mod Texts
+pub mod Entries

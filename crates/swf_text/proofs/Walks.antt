@@ -1,0 +1,122 @@
+-- One walk over a good line.
+use Rattle.std.proofs.Common.{◌≡◌, ℕ, suc, ◌+◌, ◌-◌, ◌*◌, ◌<◌, ◌≤◌, Bool, true, false, eqb, ltb, ◌||◌, min, List, [], ◌∷◌, ◌++◌, length, get_or, take, drop, set, Option, Some, None, Ok, ℤ, refl, sym, ap, subst, ◌∙◌, append_assoc, arith, inl, inr, add-one, length-set}
+use Rattle.std.specs.Prelude.{IsTrue}
+use Rattle.std.specs.List.{list_all, list_any, prefix_len}
+use Rattle.std.specs.Char.{is_ascii_digit}
+use Rattle.std.proofs.Math.Seq.{take-suc-set}
+use Rattle.std.proofs.lemmas.Grind.{common_steps}
+use Rattle.std.proofs.lemmas.Bool.{cases_Bool, lt-ltb}
+use Rattle.std.proofs.lemmas.List.{append-nil, take-append-drop, length-take-le, take_all, nil_from_length}
+use Rattle.std.proofs.lemmas.List.Folds.{list_any-append}
+use Rattle.swf_text.specs.Number.{decimal, are_digits, begins_negative, unsigned_text, sign_text, signed, greatest, millionths_of}
+use Rattle.swf_text.specs.Line.{is_blank, is_high, fields, from_first, values_from, value_then, job_line, job_of_values}
+use Rattle.swf_text.specs.Scan.{Word, ends}
+use Rattle.swf_text.proofs.Numbers.{sign_again, number_of-Spells}
+use Rattle.swf_text.proofs.Words.{onto, onto-value_then, fields-from_first, values_end, fields-end}
+use Rattle.swf_text.proofs.Plains.{is_plain, word_fields, spelling_plain, all_low}
+
+-- ---- a word
+
+digits_tests : (ds : List ℕ) → list_all is_ascii_digit ds ≡ true → 0 < length ds → IsTrue (are_digits ds)
+digits_tests ds all some = let t : ltb 0 (length ds) ≡ true = lt-ltb 0 (length ds) some in rw (t, all) refl
+
+module _ (bytes unsigned : List ℕ) (n : Bool) (count whole : ℕ) (sign : n ≡ begins_negative bytes) (body : unsigned ≡ unsigned_text bytes) (within : count ≤ length unsigned) (digits : list_all is_ascii_digit (take count unsigned) ≡ true) (value : whole ≡ min 1000000000001 (decimal (take count unsigned))) (some : 0 < count) (small : whole ≤ 1000000000000) where
+  exact : decimal (take count unsigned) ≡ whole
+  exact = omega arith
+
+  filled : 0 < length (take count unsigned)
+  filled = omega (arith, length-take-le count unsigned within)
+
+  apart : bytes ≡ sign_text n ++ (take count unsigned ++ drop count unsigned)
+  apart = sym (sign_again bytes) ∙ ap (λ (s : Bool). sign_text s ++ unsigned_text bytes) (sym sign) ∙ ap (λ (u : List ℕ). sign_text n ++ u) (sym body ∙ sym (take-append-drop count unsigned))
+
+  pub word_whole : (rest : List ℕ) (v : ℤ) → rest ≡ drop count unsigned → ends rest ≡ true → v ≡ signed n (1000000 * whole) → Word bytes v rest
+  word_whole rest v is end v_is =
+      let size : 1000000 * whole ≡ 1000000 * decimal (take count unsigned) + 0 = omega (arith, exact) in
+      record {
+        word = sign_text n ++ (take count unsigned ++ []);
+        is = apart ∙ ap (λ (r : List ℕ). sign_text n ++ (take count unsigned ++ r)) (sym is) ∙ ap (λ (u : List ℕ). sign_text n ++ u) (ap (λ (t : List ℕ). t ++ rest) (sym (append-nil (take count unsigned)))) ∙ sym (append_assoc (sign_text n) (take count unsigned ++ []) rest);
+        spells = record {
+          parts = record { is_negative = n; whole = take count unsigned; fraction = None };
+          is_text = refl;
+          whole = digits_tests (take count unsigned) digits filled;
+          fraction = tt;
+          fits = omega (arith, exact);
+          value = v_is ∙ ap (signed n) size;
+        };
+        end = end;
+      }
+
+  pub word_point : (fraction rest : List ℕ) (v : ℤ) → drop count unsigned ≡ 46 ∷ (fraction ++ rest) → list_all is_ascii_digit fraction ≡ true → 0 < length fraction → 1000000 * whole + millionths_of fraction ≤ greatest → ends rest ≡ true → v ≡ signed n (1000000 * whole + millionths_of fraction) → Word bytes v rest
+  word_point fraction rest v is all more fits end v_is =
+      let size : 1000000 * whole + millionths_of fraction ≡ 1000000 * decimal (take count unsigned) + millionths_of fraction = ap (λ (k : ℕ). 1000000 * k + millionths_of fraction) (sym exact) in
+      record {
+        word = sign_text n ++ (take count unsigned ++ 46 ∷ fraction);
+        is = apart ∙ ap (λ (r : List ℕ). sign_text n ++ (take count unsigned ++ r)) is ∙ ap (λ (u : List ℕ). sign_text n ++ u) (sym (append_assoc (take count unsigned) (46 ∷ fraction) rest)) ∙ sym (append_assoc (sign_text n) (take count unsigned ++ 46 ∷ fraction) rest);
+        spells = record {
+          parts = record { is_negative = n; whole = take count unsigned; fraction = Some fraction };
+          is_text = refl;
+          whole = digits_tests (take count unsigned) digits filled;
+          fraction = digits_tests fraction all more;
+          fits = subst (λ (k : ℕ). k ≤ greatest) size fits;
+          value = v_is ∙ ap (signed n) size;
+        };
+        end = end;
+      }
+
+-- ---- a line
+
+blank_low : (b : ℕ) → is_blank b ≡ true → is_high b ≡ false
+blank_low b h = grind (arith, common_steps)
+
+low_from_first : (bs : List ℕ) → list_any is_high bs ≡ list_any is_high (from_first bs)
+low_from_first [] = refl
+low_from_first (b ∷ bs) = elim (cases_Bool (is_blank b)) [
+  | inl blank ↦
+      let count : prefix_len is_blank (b ∷ bs) ≡ suc (prefix_len is_blank bs) = rw blank (omega arith) in
+      let low = blank_low b blank in
+      ap (λ (c : Bool). c || list_any is_high bs) low ∙ low_from_first bs ∙ ap (λ (k : ℕ). list_any is_high (drop k (b ∷ bs))) (sym count)
+  | inr other ↦
+      let count : prefix_len is_blank (b ∷ bs) ≡ 0 = rw other refl in
+      ap (λ (k : ℕ). list_any is_high (drop k (b ∷ bs))) (sym count)
+]
+
+module _ (bytes after : List ℕ) (v : ℤ) (h : Word bytes v after) where
+  plain_word : (list_all is_plain h.word ≡ true) × (0 < length h.word)
+  plain_word = spelling_plain h.word v h.spells
+
+  pub word_next : fields bytes ≡ h.word ∷ fields after
+  word_next = ap fields h.is ∙ word_fields h.word after plain_word.0 plain_word.1 h.end
+
+  pub word_low : list_any is_high bytes ≡ list_any is_high after
+  word_low = ap (list_any is_high) h.is ∙ list_any-append is_high h.word after ∙ ap (λ (c : Bool). c || list_any is_high after) (all_low h.word plain_word.0)
+
+pub walk_kept : (line : List ℕ) (values : List ℤ) (place : ℕ) (rest front after : List ℕ) (v : ℤ) → length values ≡ 18 → place < 18 → place + length (fields rest) ≡ length (fields line) → list_any is_high line ≡ list_any is_high rest → onto (take place values) (values_from (place + 1) (fields rest)) ≡ values_from 1 (fields line) → front ≡ from_first rest → Word front v after
+    → record { sized : length (set values place v) ≡ 18; counted : place + 1 + length (fields after) ≡ length (fields line); low : list_any is_high line ≡ list_any is_high after; read : onto (take (place + 1) (set values place v)) (values_from (place + 1 + 1) (fields after)) ≡ values_from 1 (fields line) }
+unfolding values_from
+walk_kept line values place rest front after v sized less counted low read is h =
+    let next : fields rest ≡ h.word ∷ fields after = fields-from_first rest ∙ ap fields (sym is) ∙ word_next front after v h in
+    let written : take (place + 1) (set values place v) ≡ take place values ++ v ∷ [] = rw add-one (take-suc-set values place v (omega arith)) in
+    record {
+      sized = omega (arith, length-set {A = ℤ});
+      counted = omega (arith, ap length next);
+      low = low ∙ low_from_first rest ∙ ap (list_any is_high) (sym is) ∙ word_low front after v h;
+      read = ap (λ (vs : List ℤ). onto vs (values_from (place + 1 + 1) (fields after))) written
+          ∙ sym (onto-value_then (take place values) (place + 1) v (values_from (place + 1 + 1) (fields after)))
+          ∙ ap (λ (o : Option ℤ). onto (take place values) (value_then (place + 1) o (values_from (place + 1 + 1) (fields after)))) (sym (number_of-Spells h.word v h.spells))
+          ∙ ap (λ (ws : List (List ℕ)). onto (take place values) (values_from (place + 1) ws)) (sym next)
+          ∙ read;
+    }
+
+pub walk_end : (line : List ℕ) (values : List ℤ) (place : ℕ) (rest front : List ℕ) → length values ≡ 18 → 18 ≤ place → place ≤ 18 → place + length (fields rest) ≡ length (fields line) → list_any is_high line ≡ list_any is_high rest → onto (take place values) (values_from (place + 1) (fields rest)) ≡ values_from 1 (fields line) → front ≡ from_first rest → length front ≡ 0 → job_line line ≡ job_of_values (Ok values)
+walk_end line values place rest front sized done within counted low read is none =
+    let nothing : from_first rest ≡ [] = sym is ∙ nil_from_length front none in
+    let no_words : fields rest ≡ [] = fields-end rest (ap length nothing) in
+    let low' : list_any is_high line ≡ false = low ∙ low_from_first rest ∙ ap (list_any is_high) nothing in
+    let count : eqb (length (fields line)) 18 ≡ true = let c : length (fields line) ≡ 18 = omega (arith, ap length no_words) in rw c refl in
+    let all : values_from 1 (fields line) ≡ Ok values = sym read ∙ values_end (take place values) (place + 1) rest (ap length no_words) ∙ ap Ok (take_all place values (omega arith)) in
+    rw (low', count, all) refl
+
+pub point_first : (bs : List ℕ) (n : ℕ) → 0 < length bs → get_or bs 0 0 ≡ 46 → length bs - 1 ≤ n → bs ≡ 46 ∷ take n (drop 1 bs)
+point_first [] n some is le = absurd (omega arith)
+point_first (b ∷ bs) n some is le = ap (λ (x : ℕ). x ∷ bs) is ∙ ap (λ (l : List ℕ). 46 ∷ l) (sym (take_all n bs (omega arith)))

@@ -1,0 +1,10 @@
+use Rattle.std.proofs.Common.{arith, sym}
+use Rattle.std.proofs.lemmas.List.Sums.{prefix_len_is}
+use Rattle.swf_text.specs.Line.{is_blank}
+use Rattle.swf_text.proofs.scan.blank_count.Goals as goal
+
+pub returns-then-not-is_blank-clause-value : goal.returns-then-not-is_blank-clause-value
+returns-then-not-is_blank-clause-value c = sym (prefix_len_is is_blank c.args.bytes.now c.loop-place.place 0 (omega arith) c.loop-place.invariant (λ lt. sym c.if-not-is_blank.ensures))
+
+pub returns-clause-value : goal.returns-clause-value
+returns-clause-value c = sym (prefix_len_is is_blank c.args.bytes.now _ 0 (omega arith) (λ k lt. c.loop-place.invariant k (omega arith)) (λ lt. absurd (omega arith)))

@@ -1,0 +1,6 @@
+use Rattle.std.proofs.Common.{◌≡◌, ℕ, ◌<◌, get_or, false}
+use Rattle.swf_text.specs.Line.{is_blank}
+use Rattle.swf_text.proofs.scan.word_len.Given as goal
+
+abbrev pub invariant-loop-place : goal.invariant-loop-place
+invariant-loop-place l = (k : ℕ) → k < l.place → is_blank (get_or l.bytes k 0) ≡ false

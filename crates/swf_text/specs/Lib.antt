@@ -1,0 +1,9 @@
+pub mod Number
+pub mod Line
+pub mod Fault
+pub mod Entry
+pub mod Log
+pub mod Text
+pub mod Reading
+pub mod Grammar
+pub mod Scan

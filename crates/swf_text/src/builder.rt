@@ -1,0 +1,148 @@
+ghost use Rattle.std.specs.Prelude.{◌≡◌, ◌+◌, ◌-◌, ◌≤◌, ℕ, List, length, slice_get, OnOk, Some, true};
+ghost use Rattle.std.specs.List.{AllByRecursion, count_by};
+ghost use Rattle.swf_text.specs.Entry.{IsEntry, LogEntry, field, whole_number, is_partial, has_number};
+ghost use Rattle.swf_text.specs.Text.{empty};
+ghost use Rattle.swf_text.specs.Reading.{with_part, with_job, with_read, with_line, Adds};
+
+use crate::checks::{is_before_start, is_partial_line, job_number};
+use crate::entry::Entry;
+use crate::fault::FaultKind;
+use crate::line::{Fields, LineRead};
+use crate::scan::{from_first, read_line, without_returns};
+use crate::text::SwfText;
+use crate::value::Value;
+use std::alloc::Allocator;
+use std::collections::HashSet;
+use std::hash::{BuildHasherDefault, FoldHasher};
+use std::marker::Model;
+
+/// The most entries of a log.
+const ENTRY_LIMIT: usize = 4_194_304;
+
+/// The part of a log that was read, and the numbers of its jobs.
+#[derive(Drop)]
+pub(crate) struct Builder<A: Allocator + Copy> {
+    comments: Vec<Vec<u8, A>, A>,
+    entries: Vec<Entry<A>, A>,
+    numbers: HashSet<u64, BuildHasherDefault<FoldHasher>, A>,
+}
+
+impl<A: Allocator + Copy> Model for Builder<A> {
+    ghost use Rattle.std.specs.Prelude.{map};
+    ghost use Rattle.swf_text.specs.Log.{IsLog};
+    ghost use Rattle.swf_text.specs.Text.{LogText};
+    ghost use Rattle.swf_text.specs.Reading.{IsIndex};
+
+    ghost Value = { LogText };
+
+    ghost view = { λ b. record { comments = map (λ c. c.items) b.comments.items; entries = b.entries.items } };
+
+    ghost invariant = { λ b. record { log : IsLog b.entries.items; index : IsIndex b.numbers b.entries.items } };
+}
+
+// Adds a partial line to the last entry, which must have this number.
+#[tactic(auto, using(crate::proofs::Entries::all_set))]
+fn add_part<A: Allocator + Copy>(
+    entries: &mut Vec<Entry<A>, A>,
+    number: u64,
+    part: Fields,
+) -> Result<(), FaultKind>
+    requires numbered { whole_number (field part.0 1) ≡ Some number }
+    requires partial { is_partial (field part.0 11) ≡ true }
+    ensures adds { (comments : List (List ℕ)) → Adds (record { comments = comments; entries = entries.new.items }) result (with_part (record { comments = comments; entries = entries.old.items }) part.0 number (slice_get entries.old.items (length entries.old.items - 1))) }
+    ensures sound { AllByRecursion IsEntry entries.old.items → AllByRecursion IsEntry entries.new.items }
+    ensures count { length entries.new.items ≡ length entries.old.items }
+    ensures numbers { (n : ℕ) → count_by (has_number n) entries.new.items ≡ count_by (has_number n) entries.old.items }
+{
+    // Named here since the check has to be told of the type.
+    let _number: &Value = &part.0[0];
+    let count = entries.len();
+    if count == 0 {
+        return Err(FaultKind::OrphanPartial);
+    }
+    let last = &mut entries[count - 1];
+    if last.number() != number {
+        return Err(FaultKind::OrphanPartial);
+    }
+    last.add_part(part)?;
+    Ok(())
+}
+
+impl<A: Allocator + Copy> Builder<A> {
+    // Nothing read yet.
+    pub(crate) fn new(alloc: A) -> Builder<A>
+        ensures { result ≡ empty }
+    {
+        Builder {
+            comments: Vec::new(alloc),
+            entries: Vec::new(alloc),
+            numbers: HashSet::new(alloc),
+        }
+    }
+
+    // Adds a job line: an entry, or a part of the last one.
+    fn add_job(&mut self, alloc: A, job: Fields) -> Result<(), FaultKind>
+        ensures { Adds self.new result (with_job self.old job.0) }
+    {
+        let Some(number) = job_number(&job) else {
+            return Err(FaultKind::BadJobNumber);
+        };
+        if is_partial_line(&job) {
+            return add_part(&mut self.entries, number, job);
+        }
+        if is_before_start(&job) {
+            return Err(FaultKind::BadSubmit);
+        }
+        if self.numbers.contains(&number) {
+            return Err(FaultKind::DuplicateJob);
+        }
+        if self.entries.len() >= ENTRY_LIMIT {
+            return Err(FaultKind::TooManyJobs);
+        }
+        self.entries.reserve(1)?;
+        self.numbers.insert(number)?;
+        self.entries.push(Entry::of_main(alloc, job)).unwrap();
+        Ok(())
+    }
+
+    // Adds what a line holds, given its reading.
+    pub(crate) fn add_read(
+        &mut self,
+        alloc: A,
+        line: &[u8],
+        read: LineRead,
+    ) -> Result<(), FaultKind>
+        ensures { Adds self.new result (with_read self.old line.now read) }
+    {
+        match read {
+            LineRead::Blank => Ok(()),
+            LineRead::Comment => {
+                let comment = Vec::from_slice(alloc, from_first(without_returns(line)))?;
+                self.comments.push(comment)?;
+                Ok(())
+            }
+            LineRead::Job(job) => self.add_job(alloc, job),
+            LineRead::Fault(fault) => Err(fault.into()),
+        }
+    }
+
+    // Adds what a line holds.
+    #[tactic(auto, unfolding(crate::specs::Reading::with_line))]
+    pub(crate) fn add_line(&mut self, alloc: A, line: &[u8]) -> Result<(), FaultKind>
+        ensures { Adds self.new result (with_line self.old line.now) }
+    {
+        self.add_read(alloc, line, read_line(line))
+    }
+
+    // The log that was read.
+    pub(crate) fn finish(self) -> SwfText<A>
+        ensures { result ≡ self }
+    {
+        let Builder {
+            comments,
+            entries,
+            numbers: _numbers,
+        } = self;
+        SwfText::of_parts(comments, entries)
+    }
+}

@@ -1,0 +1,76 @@
+ghost use Rattle.std.specs.Prelude.{◌≡◌, ◌≤◌, IfSome, nat_abs};
+ghost use Rattle.std.specs.List.{list_all};
+ghost use Rattle.swf_text.specs.Entry.{field, whole_number, is_partial, is_negative, is_part, values};
+ghost use Rattle.swf_text.specs.Number.{greatest};
+
+use crate::line::Fields;
+use crate::value::Value;
+
+// The number that a value is, where it is whole and at least 0.
+fn whole_number(value: &Value) -> Option<u64>
+    ensures value { result ≡ whole_number value.now }
+    ensures limit { IfSome result (λ n. n ≤ 1000000000000) }
+{
+    let millionths = value.millionths();
+    if millionths < 0 {
+        return None;
+    }
+    let millionths = millionths as u64;
+    if millionths % 1_000_000 == 0 {
+        Some(millionths / 1_000_000)
+    } else {
+        None
+    }
+}
+
+// Whether a value is below 0.
+fn is_negative(value: &Value) -> bool
+    ensures value { result ≡ is_negative value.now }
+    ensures limit { nat_abs value.now ≤ greatest }
+{
+    value.millionths() < 0
+}
+
+// Whether a status is that of a partial execution.
+fn is_partial(status: &Value) -> bool
+    ensures { result ≡ is_partial status.now }
+{
+    matches!(status.millionths(), 2_000_000 | 3_000_000 | 4_000_000)
+}
+
+// The job number of a line.
+pub(crate) fn job_number(fields: &Fields) -> Option<u64>
+    ensures value { result ≡ whole_number (field fields.now.0 1) }
+    ensures limit { IfSome result (λ n. n ≤ 1000000000000) }
+{
+    whole_number(&fields.0[0])
+}
+
+// Whether the submit time of a line is negative.
+pub(crate) fn is_before_start(fields: &Fields) -> bool
+    ensures value { result ≡ is_negative (field fields.now.0 2) }
+    ensures limit { nat_abs (field fields.now.0 2) ≤ greatest }
+{
+    is_negative(&fields.0[1])
+}
+
+// Whether a line has the status of a partial execution.
+pub(crate) fn is_partial_line(fields: &Fields) -> bool
+    ensures { result ≡ is_partial (field fields.now.0 11) }
+{
+    is_partial(&fields.0[10])
+}
+
+// Whether a line is a partial line of the job with this number.
+fn is_part(number: u64, part: &Fields) -> bool
+    ensures { result ≡ is_part number (values part.now) }
+{
+    job_number(part) == Some(number) && is_partial_line(part)
+}
+
+// Whether all of the lines are partial lines of the job with this number.
+pub(crate) fn are_parts(number: u64, parts: &[Fields]) -> bool
+    ensures { result ≡ list_all (λ part. is_part number (values part)) parts.now }
+{
+    parts.iter().all(|part| is_part(number, part))
+}

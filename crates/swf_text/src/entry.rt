@@ -1,0 +1,116 @@
+ghost use Rattle.std.specs.Prelude.{◌≡◌, ◌++◌, ◌∷◌, ◌≤◌, ◌&&◌, [], OnOk, map, true, false, IsTrue, is_some, nat_le, pos, Some, None, if◌then◌else◌};
+ghost use Rattle.swf_text.specs.Entry.{HasNumber, is_partial, field, values, entry_made, is_negative, whole_number, IsEntry, number_of_entry, submit_of};
+ghost use Rattle.swf_text.specs.Number.{whole_of};
+
+use crate::checks::{are_parts, is_before_start, is_partial_line, job_number};
+use crate::fault::EntryFault;
+use crate::line::Fields;
+use crate::value::Value;
+use std::alloc::{AllocFailed, Allocator};
+use std::marker::Model;
+
+/// A job of a log: its summary line, and the lines of its partial executions, in order.
+#[derive(Drop)]
+pub struct Entry<A: Allocator + Copy> {
+    main: Fields,
+    parts: Vec<Fields, A>,
+}
+
+impl<A: Allocator + Copy> Model for Entry<A> {
+    ghost use Rattle.std.specs.Prelude.{map};
+    ghost use Rattle.swf_text.specs.Entry.{LogEntry, values, IsEntry};
+
+    ghost Value = { LogEntry };
+
+    ghost view = { λ e. record { main = e.main.0; parts = map values e.parts.items } };
+
+    ghost invariant = { λ e. IsEntry (record { main = e.main.0; parts = map values e.parts.items }) };
+}
+
+impl<A: Allocator + Copy> Entry<A> {
+    /// An entry of these lines, or the first of its faults in the order of `EntryFault`. Takes no
+    /// memory; on a fault the partial lines are dropped.
+    pub fn new(main: Fields, parts: Vec<Fields, A>) -> Result<Entry<A>, EntryFault>
+        ensures { result ≡ entry_made main.0 (map values parts.items) }
+    {
+        let Some(number) = job_number(&main) else {
+            return Err(EntryFault::BadJobNumber);
+        };
+        if is_before_start(&main) {
+            return Err(EntryFault::BadSubmit);
+        }
+        if is_partial_line(&main) {
+            return Err(EntryFault::BadStatus);
+        }
+        if !are_parts(number, parts.as_slice()) {
+            return Err(EntryFault::BadPart);
+        }
+        Ok(Entry { main, parts })
+    }
+
+    // An entry of a summary line alone.
+    pub(crate) fn of_main(alloc: A, main: Fields) -> Entry<A>
+        requires { IsEntry (record { main = main.0; parts = [] }) }
+        ensures { result ≡ record { main = main.0; parts = [] } }
+    {
+        Entry {
+            main,
+            parts: Vec::new(alloc),
+        }
+    }
+
+    /// The job number: field 1 of the summary line, at most a trillion.
+    pub fn number(&self) -> u64
+        ensures exact { HasNumber self.now.main result }
+        ensures number { result ≡ number_of_entry self.now }
+        ensures limit { result ≤ 1000000000000 }
+    {
+        self.main.0[0].millionths() as u64 / 1_000_000
+    }
+
+    /// The second in which the job is submitted: field 2, to the nearest second, halves up; at
+    /// most a trillion.
+    pub fn submit(&self) -> u64
+        ensures field { pos result ≡ whole_of (field self.now.main 2) }
+        ensures second { result ≡ submit_of self.now }
+        ensures limit { result ≤ 1000000000000 }
+    {
+        self.main.0[1].whole() as u64
+    }
+
+    /// A field of the summary line, the first of which is field 1; None outside 1 to 18.
+    pub fn field(&self, place: usize) -> Option<Value>
+        ensures { result ≡ (if nat_le 1 place && nat_le place 18 then Some (field self.now.main place) else None) }
+    {
+        if place == 0 || place > 18 {
+            return None;
+        }
+        Some(self.main.0[place - 1])
+    }
+
+    /// The summary line.
+    pub fn main(&self) -> &Fields
+        ensures main { result.now.0 ≡ self.now.main }
+        ensures entry { IsEntry self.now }
+    {
+        &self.main
+    }
+
+    /// The partial lines, in order.
+    pub fn parts(&self) -> &[Fields]
+        ensures { map values result.now ≡ self.now.parts }
+    {
+        self.parts.as_slice()
+    }
+
+    // Adds a partial line.
+    pub(crate) fn add_part(&mut self, part: Fields) -> Result<(), AllocFailed<Fields>>
+        requires same { field part.0 1 ≡ field self.old.main 1 }
+        requires partial { is_partial (field part.0 11) ≡ true }
+        ensures main { self.new.main ≡ self.old.main }
+        ensures entry { IsEntry self.new }
+        ensures added { OnOk result (self.new ≡ record self.old { parts = self.old.parts ++ part.0 ∷ [] }) }
+    {
+        self.parts.push(part)
+    }
+}

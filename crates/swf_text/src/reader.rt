@@ -1,0 +1,55 @@
+ghost use Rattle.std.specs.Prelude.{◌≡◌, ◌+◌, ◌<◌, ◌≤◌, length, IfOk, IfErr};
+ghost use Rattle.std.specs.List.{before_first, after_first};
+ghost use Rattle.swf_text.specs.Grammar.{IsText, IsOkOf, IsFaultOf, HasReached};
+ghost use Rattle.swf_text.specs.Text.{LogText, lines, is_feed};
+ghost use Rattle.swf_text.specs.Reading.{text_of, Gives};
+
+use crate::builder::Builder;
+use crate::fault::SwfFault;
+use crate::text::SwfText;
+use memchr::memchr;
+use std::alloc::Allocator;
+
+// The bytes before the first line feed, and those after it.
+fn split_line(bytes: &[u8]) -> (&[u8], &[u8])
+    ensures line { result.0.now ≡ before_first is_feed bytes.now }
+    ensures rest { result.1.now ≡ after_first is_feed bytes.now }
+{
+    match memchr(b'\n', bytes) {
+        Some(end) => (&bytes[..end], &bytes[end + 1..]),
+        None => (bytes, &[]),
+    }
+}
+
+// Reads line after line.
+fn read_all<A: Allocator + Copy>(alloc: A, bytes: &[u8]) -> Result<SwfText<A>, SwfFault>
+    ensures exact { Gives result (text_of bytes.now) }
+    ensures reached { IfErr result (λ fault. HasReached (lines bytes.now) fault.line) }
+{
+    let mut text = Builder::new(alloc);
+    let mut rest = bytes;
+    let mut line = 1u64;
+    while !rest.is_empty() {
+        let (front, after) = split_line(rest);
+        if let Err(kind) = text.add_line(alloc, front) {
+            return Err(SwfFault { line, kind });
+        }
+        rest = after;
+        line += 1;
+    }
+    Ok(text.finish())
+}
+
+/// Reads a log of the Standard Workload Format, version 2: its comments and its entries, or the
+/// first faulty line, counted from 1, with its first fault in the order of `FaultKind`.
+///
+/// A fault of kind `Memory` comes where a growth was refused, and has the line that was being
+/// read then; all lines before it are without faults. After a fault there is no value.
+pub fn read_swf<A: Allocator + Copy>(alloc: A, bytes: &[u8]) -> Result<SwfText<A>, SwfFault>
+    ensures text { IfOk result (λ text. IsText (lines bytes.now) text) }
+    ensures only { (t : LogText) → IsText (lines bytes.now) t → IsOkOf result t }
+    ensures fault { IfErr result (λ fault. IsFaultOf (lines bytes.now) fault) }
+    ensures reached { IfErr result (λ fault. HasReached (lines bytes.now) fault.line) }
+{
+    read_all(alloc, bytes)
+}

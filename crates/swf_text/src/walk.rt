@@ -1,0 +1,108 @@
+ghost use Rattle.std.specs.Prelude.{◌≡◌, ◌∷◌, ◌++◌, ◌+◌, ◌*◌, ◌≤◌, ◌<◌, take, drop, length, min, IfSome, IsTrue, List, ℕ, true};
+ghost use Rattle.std.specs.List.{list_all};
+ghost use Rattle.std.specs.Char.{is_ascii_digit};
+ghost use Rattle.swf_text.specs.Number.{decimal, greatest, millionths_of};
+ghost use Rattle.swf_text.specs.Scan.{Word, ends};
+ghost use Rattle.swf_text.specs.Line.{job_line, job_of_values};
+ghost use Rattle.std.specs.Prelude.{Ok};
+
+use crate::number::{LIMIT, WHOLE_LIMIT, millionths, split_sign};
+use crate::scan::from_first;
+use crate::value::{Value, signed_value};
+
+// The number of the digits that the bytes begin with, cut off past the limit, and how many they are.
+fn leading_digits(bytes: &[u8]) -> (u64, usize)
+    ensures within { result.1 ≤ length bytes.now }
+    ensures digits { list_all is_ascii_digit (take result.1 bytes.now) ≡ true }
+    ensures value { result.0 ≡ min 1000000000001 (decimal (take result.1 bytes.now)) }
+{
+    let mut value = 0u64;
+    for (place, byte) in bytes.iter().enumerate() {
+        if !byte.is_ascii_digit() {
+            return (value, place);
+        }
+        value = (value * 10 + u64::from(byte.saturating_sub(b'0'))).min(WHOLE_LIMIT + 1);
+    }
+    (value, bytes.len())
+}
+
+// How many digits the bytes begin with.
+fn digit_count(bytes: &[u8]) -> usize
+    ensures within { result ≤ length bytes.now }
+    ensures digits { list_all is_ascii_digit (take result bytes.now) ≡ true }
+{
+    for (place, byte) in bytes.iter().enumerate() {
+        if !byte.is_ascii_digit() {
+            return place;
+        }
+    }
+    bytes.len()
+}
+
+// Whether a word ends here: nothing or a blank follows.
+fn is_ended(bytes: &[u8]) -> bool
+    ensures { result ≡ ends bytes.now }
+{
+    match bytes {
+        [] => true,
+        [byte, ..] => *byte == b' ' || *byte == b'\t',
+    }
+}
+
+// What follows a point, where the bytes begin with one.
+fn after_point(bytes: &[u8]) -> Option<&[u8]>
+    ensures { IfSome result (λ rest. bytes.now ≡ 46 ∷ rest.now) }
+{
+    if bytes.is_empty() || bytes[0] != b'.' {
+        return None;
+    }
+    Some(&bytes[1..])
+}
+
+// The value of the word that the bytes begin with, and what follows it.
+fn word_at(bytes: &[u8]) -> Option<(Value, &[u8])>
+    ensures { IfSome result (λ r. Word bytes.now r.0 r.1.now) }
+{
+    let (is_negative, unsigned) = split_sign(bytes);
+    let (whole, count) = leading_digits(unsigned);
+    if count == 0 || whole > WHOLE_LIMIT {
+        return None;
+    }
+    let rest = &unsigned[count..];
+    if is_ended(rest) {
+        return Some((signed_value(is_negative, 1_000_000 * whole), rest));
+    }
+    let Some(rest) = after_point(rest) else {
+        return None;
+    };
+    let count = digit_count(rest);
+    if count == 0 {
+        return None;
+    }
+    let (digits, rest) = rest.split_at(count);
+    let magnitude = 1_000_000 * whole + millionths(digits);
+    if magnitude > LIMIT || !is_ended(rest) {
+        return None;
+    }
+    Some((signed_value(is_negative, magnitude), rest))
+}
+
+// The values of a job line without faults, by one walk; None says nothing.
+pub(crate) fn values_at(line: &[u8]) -> Option<[Value; 18]>
+    ensures { IfSome result (λ values. job_line line.now ≡ job_of_values (Ok values)) }
+{
+    let mut values = [Value::ZERO; 18];
+    let mut rest = line;
+    for place in 0..18usize {
+        let Some(word) = word_at(from_first(rest)) else {
+            return None;
+        };
+        values[place] = word.0;
+        rest = word.1;
+    }
+    if from_first(rest).is_empty() {
+        Some(values)
+    } else {
+        None
+    }
+}
