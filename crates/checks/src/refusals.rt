@@ -1,3 +1,7 @@
+ghost use Rattle.std.specs.Prelude.{◌≡◌, map, IfOk};
+ghost use Rattle.swf_text.specs.Line.{line_of};
+ghost use Rattle.swf_text.specs.Bounds.{bytes_at};
+
 use cluster_state::Cluster;
 use easy_rule::decide;
 use easybook::{Options, ProgramFault, run_plain};
@@ -6,7 +10,9 @@ use refusing::Refusing;
 use scenarios::{Order, Scenario};
 use std::alloc::Allocator;
 use std::test::Fail;
-use swf_text::{FaultKind, Memory, read_swf};
+use swf_text::{
+    FaultKind, LineRead, Memory, SwfFault, assemble, line_at, line_bounds, read_line, read_swf,
+};
 
 /// The four-job log, with a comment and a partial line.
 const LOG: &[u8] = b"; four jobs
@@ -35,6 +41,79 @@ fn read_swf_tells_memory_at_its_line(rt: HostRuntime) -> Result<(), Fail> {
         assert_eq!(rt; fault.kind, FaultKind::Memory);
         assert!(rt; earlier <= fault.line && fault.line <= 6);
         earlier = fault.line;
+    }
+    Err("always refused")?
+}
+
+// What each line is, given its bounds.
+fn readings_at<A: Allocator + Copy>(
+    alloc: A,
+    bytes: &[u8],
+    bounds: &[(usize, usize)],
+) -> Result<Vec<LineRead, A>, Memory>
+    ensures { IfOk result (λ readings. readings.items ≡ map (λ bound. line_of (bytes_at bytes.now bound)) bounds.now) }
+{
+    let mut readings = Vec::new(alloc);
+    'lines: for bound in bounds {
+        readings.push(read_line(line_at(bytes, *bound)))?;
+    }
+    Ok(readings)
+}
+
+// How many entries the bytes hold, read in pieces, or the fault of their assembly.
+fn entry_count<A: Allocator + Copy>(
+    alloc: A,
+    bytes: &[u8],
+) -> Result<Result<usize, SwfFault>, Memory> {
+    let bounds = line_bounds(alloc, bytes)?;
+    let readings = readings_at(alloc, bytes, &bounds)?;
+    match assemble(alloc, bytes, &bounds, &readings) {
+        Ok(text) => Ok(Ok(text.entries().len())),
+        Err(fault) => Ok(Err(fault)),
+    }
+}
+
+#[test]
+fn reading_in_pieces_tells_memory(rt: HostRuntime) -> Result<(), Fail> {
+    for nth in 1..MANY {
+        let heap = Refusing::new(rt.alloc(), nth);
+        let answer = entry_count(&heap, LOG);
+        if !heap.refused() {
+            assert_eq!(rt; answer, Ok(Ok(4)));
+            return Ok(());
+        }
+        if let Ok(assembled) = answer {
+            let fault = assembled.err().ok_or("a fault")?;
+            assert_eq!(rt; fault.kind, FaultKind::Memory);
+            assert!(rt; 1 <= fault.line && fault.line <= 6);
+        }
+    }
+    Err("always refused")?
+}
+
+// Whether a copy of the log's first entry, with its partial line, is made or Memory is told.
+fn copies<A: Allocator + Copy>(alloc: A) -> Option<Result<usize, Memory>> {
+    let text = read_swf(alloc, LOG).ok()?;
+    let entry = text.entries().first()?;
+    match entry.copy() {
+        Ok(copy) => Some(Ok(copy.parts().len())),
+        Err(Memory) => Some(Err(Memory)),
+    }
+}
+
+#[test]
+fn copying_an_entry_tells_memory(rt: HostRuntime) -> Result<(), Fail> {
+    let mut was_told = false;
+    for nth in 1..MANY {
+        let heap = Refusing::new(rt.alloc(), nth);
+        let answer = copies(&heap);
+        if !heap.refused() {
+            assert_eq!(rt; answer, Some(Ok(1)));
+            assert!(rt; was_told);
+            return Ok(());
+        }
+        assert_ne!(rt; answer, Some(Ok(1)));
+        was_told = was_told || answer.is_some();
     }
     Err("always refused")?
 }

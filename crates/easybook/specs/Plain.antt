@@ -1,5 +1,5 @@
 -- What the plain run answers: the schedule of a log, or why there is none.
-use Rattle.std.specs.Prelude.{◌≡◌, ℕ, ◌<◌, ◌≤◌, List, length, codes, Option, Some, None, Result, Ok, Err, IsSomeAnd}
+use Rattle.std.specs.Prelude.{◌≡◌, ℕ, ◌<◌, ◌≤◌, List, length, take, codes, Option, Some, None, Result, Ok, Err, IsSomeAnd}
 use Rattle.std.specs.Io.KnownBytes.{Appends, Keeps}
 use Rattle.swf_text.specs.Text.{LogText, lines}
 use Rattle.swf_text.specs.Grammar.{IsText, FirstFault}
@@ -8,7 +8,6 @@ use Rattle.scenarios.specs.Scenario.{Setting, setting_of}
 use Rattle.scenarios.specs.Plan.{plan_of}
 use Rattle.easybook.specs.declared.fault.ProgramFault.{ProgramFault}
 use Rattle.easybook.specs.declared.fault.ProgramFault.TheVariants as faults
-use Rattle.easybook.specs.Output.{WritesFront}
 use Rattle.easybook.specs.Schedule.{schedule_text}
 
 -- a log has at most so many bytes
@@ -57,5 +56,5 @@ IsTextOrFault bytes log procs (Err fault) = IsFaultOf log procs fault
 -- where there is none nothing
 abbrev pub Answers : {X : Type 0} → List ℕ → Option ℕ → Option (List ℕ) → Option (List ℕ) → Result X ProgramFault → Type 0
 Answers log procs old new (Ok x) = (text : List ℕ) × IsScheduleOf log procs text × Appends old new text
-Answers log procs old new (Err faults.Write) = (text : List ℕ) × IsScheduleOf log procs text × WritesFront old new text
+Answers log procs old new (Err faults.Write) = (text : List ℕ) × IsScheduleOf log procs text × ((n : ℕ) × Appends old new (take n text))
 Answers log procs old new (Err fault) = IsFaultOf log procs fault × Keeps old new

@@ -1,8 +1,8 @@
 ghost use Rattle.std.specs.Prelude.{◌≡◌};
-ghost use Rattle.easybook.specs.declared.fault.ProgramFault.TheVariants.{Memory as OutOfMemory};
+ghost use Rattle.easybook.specs.declared.fault.ProgramFault.TheVariants.{Memory as OutOfMemory, Write as WriteFailed};
 
 use std::alloc::{AllocError, AllocFailed};
-use swf_text::{FaultKind, Memory, SwfFault};
+use swf_text::{FaultKind, Memory, SwfFault, WriteFault};
 use thiserror::Error;
 
 /// Why the program ends without its answer. It displays as the line that the program writes.
@@ -42,6 +42,14 @@ impl From<SwfFault> for ProgramFault {
             FaultKind::Memory => ProgramFault::Memory,
             _ => ProgramFault::Log(fault),
         }
+    }
+}
+
+impl From<WriteFault> for ProgramFault {
+    ghost from_gives = { λ _ fault. fault ≡ WriteFailed };
+
+    fn from(_fault: WriteFault) -> ProgramFault {
+        ProgramFault::Write
     }
 }
 

@@ -4,7 +4,6 @@
 mod fault;
 mod input;
 mod options;
-mod output;
 mod plain;
 mod row;
 mod schedule;

@@ -4,13 +4,12 @@ ghost use Rattle.easybook.specs.Plain.{IsTextOrFault, Answers, IsBase};
 
 use crate::fault::ProgramFault;
 use crate::options::Options;
-use crate::output::write_bytes;
 use crate::schedule::lines_text;
 use reference::{LogPlan, simulate};
 use scenarios::Scenario;
 use std::alloc::Allocator;
 use std::io::Write;
-use swf_text::read_swf;
+use swf_text::{read_swf, write_bytes};
 
 /// The most bytes of a log.
 const LOG_LIMIT: usize = 1_073_741_824;
@@ -62,5 +61,6 @@ pub fn run_plain<W: Write, A: Allocator + Copy>(
     ensures { Answers log.now options.procs (W.contents writer.old) (W.contents writer.new) result }
 {
     let text = schedule_of(alloc, log, options.procs)?;
-    write_bytes(writer, text.as_bytes())
+    write_bytes(writer, text.as_bytes())?;
+    Ok(())
 }

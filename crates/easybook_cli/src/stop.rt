@@ -14,8 +14,13 @@ pub enum Stop {
 }
 
 impl Stop {
-    /// The exit status.
-    pub fn status(&self) -> u8 {
+    ghost use Rattle.std.specs.Prelude.{◌≡◌};
+    ghost use Rattle.easybook_cli.specs.Status.{status_of};
+
+    /// The exit status: 2 for bad arguments, otherwise 1.
+    pub fn status(&self) -> u8
+        ensures { result ≡ status_of self.now }
+    {
         match self {
             Stop::Words(WordsFault::BadWords) => 2,
             _ => 1,

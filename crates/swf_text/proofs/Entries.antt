@@ -52,7 +52,7 @@ all_set P [] k x h p = h
 all_set P (y ∷ ys) zero x h p = (p, h.1)
 all_set P (y ∷ ys) (suc k) x h p = (h.0, all_set P ys k x h.1 p)
 
-all_end : {X : Type 0} (P : X → Type 0) (xs : List X) (x : X) → AllByRecursion P xs → P x → AllByRecursion P (xs ++ x ∷ [])
+pub all_end : {X : Type 0} (P : X → Type 0) (xs : List X) (x : X) → AllByRecursion P xs → P x → AllByRecursion P (xs ++ x ∷ [])
 all_end P [] x h p = (p, tt)
 all_end P (y ∷ ys) x h p = (h.0, all_end P ys x h.1 p)
 

@@ -81,7 +81,7 @@ none_has n (job ∷ entries) h = elim (cases_Bool (has_number n job)) [
   | inr hasn't ↦ (λ same. true≢false (sym (exact_has n job same) ∙ hasn't), none_has n entries (or_second (has_number n job) (list_any (has_number n) entries) hasn't h))
 ]
 
-has_none : (n : ℕ) (entries : List LogEntry) → AllByRecursion (λ (other : LogEntry). HasNumber other.main n → ⊥) entries → list_any (has_number n) entries ≡ false
+pub has_none : (n : ℕ) (entries : List LogEntry) → AllByRecursion (λ (other : LogEntry). HasNumber other.main n → ⊥) entries → list_any (has_number n) entries ≡ false
 has_none n [] h = refl
 has_none n (job ∷ entries) h = elim (cases_Bool (has_number n job)) [
   | inl has ↦ absurd (h.0 (number_exact (field job.main 1) n (has_exact n (whole_number (field job.main 1)) has)))

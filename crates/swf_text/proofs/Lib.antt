@@ -7,3 +7,11 @@ pub mod Grammars
 pub mod Outcomes
 pub mod Texts
 pub mod Entries
+pub mod Spellings
+pub mod Writings
+pub mod Printed
+pub mod Trips
+pub mod Bounds
+pub mod Headers
+pub mod Comments
+pub mod Kept

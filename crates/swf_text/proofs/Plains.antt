@@ -45,7 +45,7 @@ spelling_plain bytes v h =
     ltb-is-true : (a b : ℕ) → ltb a b ≡ true → a < b
     ltb-is-true a b h = grind (arith, common_steps)
 
-plain_no_blank : (b : ℕ) → is_plain b ≡ true → is_blank b ≡ false
+pub plain_no_blank : (b : ℕ) → is_plain b ≡ true → is_blank b ≡ false
 plain_no_blank b h = grind (arith, common_steps)
 
 word_end : (w rest : List ℕ) → list_all is_plain w ≡ true → ends rest ≡ true → position_or_len is_blank (w ++ rest) ≡ length w

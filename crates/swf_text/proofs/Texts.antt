@@ -89,7 +89,7 @@ at_end number text (b ∷ bs) none = absurd (omega arith)
 -- ---- the lines that are read
 
 -- the text with the lines of two lists more
-with_lines-append : (number : ℕ) (t next : LogText) (front : List (List ℕ)) (line : List ℕ) (u : LogText) → with_lines number t front ≡ Ok next → with_line next line ≡ Ok u → with_lines number t (front ++ line ∷ []) ≡ Ok u
+pub with_lines-append : (number : ℕ) (t next : LogText) (front : List (List ℕ)) (line : List ℕ) (u : LogText) → with_lines number t front ≡ Ok next → with_line next line ≡ Ok u → with_lines number t (front ++ line ∷ []) ≡ Ok u
 unfolding with_lines
 with_lines-append number t next [] line u h is =
     let same : t ≡ next = cc in

@@ -1,5 +1,5 @@
 -- An entry of a log: a job's summary line and its partial lines (Standard Workload Format, version 2).
-use Rattle.std.specs.Prelude.{◌≡◌, ℕ, ◌-◌, ◌*◌, ◌%◌, ◌/◌, ◌≤◌, List, length, Bool, true, false, ◌&&◌, ◌||◌, ◌==◌, if◌then◌else◌, Option, Some, None, Result, Ok, Err, ℤ, pos, negsuc, ◌≤ℤ◌, nat_abs, slice_index_or, unwrap_or}
+use Rattle.std.specs.Prelude.{◌≡◌, ℕ, ◌-◌, ◌*◌, ◌%◌, ◌/◌, ◌≤◌, List, length, Bool, true, false, ◌&&◌, ◌||◌, ◌==◌, nat_lt, if◌then◌else◌, Option, Some, None, Result, Ok, Err, ℤ, pos, negsuc, ◌≤ℤ◌, nat_abs, slice_index_or, unwrap_or}
 use Rattle.std.specs.List.{AllByRecursion, list_all}
 use Rattle.swf_text.specs.declared.line.Fields.{Fields}
 use Rattle.swf_text.specs.declared.fault.EntryFault.{EntryFault}
@@ -80,6 +80,16 @@ pub record IsEntry (entry : LogEntry) : Type 0 where
   pub summary : is_partial (field entry.main 11) ≡ false
   pub parts : AllByRecursion (IsPart number) entry.parts
 
+-- the values of a line: eighteen, each at most a trillion on either side
+pub record AreFields (values : List ℤ) : Type 0 where
+  pub eighteen : length values ≡ 18
+  pub within : AllByRecursion (λ v. nat_abs v ≤ greatest) values
+
+-- each line of the entry has such values
+pub record HasFields (entry : LogEntry) : Type 0 where
+  pub main : AreFields entry.main
+  pub parts : AllByRecursion AreFields entry.parts
+
 -- ---- the entry of given lines
 
 -- a partial line of the job with this number, as a test
@@ -98,3 +108,14 @@ entry_numbered main parts (Some number) =
 -- the entry of these lines, or the first of its faults
 abbrev pub entry_made : List ℤ → List (List ℤ) → Result LogEntry EntryFault
 entry_made main parts = entry_numbered main parts (whole_number (field main 1))
+
+-- ---- a field of an entry changed
+
+-- whether a field of a summary line may have this value: fields 2 to 18 may be changed, field 2 to no
+-- negative value, and field 11 to no status of a partial execution
+abbrev pub field_change : ℕ → ℤ → Result (Unit {0}) EntryFault
+field_change place value =
+    if nat_lt place 2 || nat_lt 18 place then Err faults.BadJobNumber
+    else (if place == 2 && is_negative value then Err faults.BadSubmit
+    else (if place == 11 && is_partial value then Err faults.BadStatus
+    else Ok tt))

@@ -7,3 +7,7 @@ pub mod Text
 pub mod Reading
 pub mod Grammar
 pub mod Scan
+pub mod Writing
+pub mod Comment
+pub mod Bounds
+pub mod Header

@@ -1,7 +1,8 @@
 -- Numbers of a log: which bytes spell which value, in millionths.
-use Rattle.std.specs.Prelude.{◌≡◌, ℕ, ◌+◌, ◌-◌, ◌*◌, ◌≤◌, List, [], ◌∷◌, ◌++◌, length, drop, Bool, true, false, ◌&&◌, ◌==◌, nat_lt, nat_le, if◌then◌else◌, Option, Some, None, IfSome, IsTrue, ℤ, pos, ◌+ℤ◌, neg_ℤ, slice_index_or}
-use Rattle.std.specs.List.{fold, list_all, list_any, before_first, after_first}
+use Rattle.std.specs.Prelude.{◌≡◌, ℕ, ◌+◌, ◌-◌, ◌*◌, ◌/◌, ◌%◌, ◌≤◌, List, [], ◌∷◌, ◌++◌, length, take, drop, Bool, true, false, ◌&&◌, ◌==◌, nat_lt, nat_le, if◌then◌else◌, Option, Some, None, IfSome, IsTrue, ℤ, pos, negsuc, nat_abs, ◌+ℤ◌, neg_ℤ, slice_index_or}
+use Rattle.std.specs.List.{fold, list_all, list_any, before_first, after_first, suffix_len}
 use Rattle.std.specs.Int.{int_div_euclid}
+use Rattle.std.specs.Fmt.{decimal as decimal_text}
 use Rattle.std.specs.Char.{is_ascii_digit}
 
 -- the number that digits spell
@@ -109,3 +110,36 @@ number_of bytes = value_of_parts (parts_of bytes)
 -- the nearest whole number to a number of millionths, halves up
 abbrev pub whole_of : ℤ → ℤ
 whole_of m = int_div_euclid (m +ℤ pos 500000) (pos 1000000)
+
+-- ---- the canonical spelling
+
+-- the six decimals of fewer than a million millionths
+abbrev pub six_digits : ℕ → List ℕ
+six_digits n =
+    (48 + n / 10 / 10 / 10 / 10 / 10) ∷ (48 + n / 10 / 10 / 10 / 10 % 10) ∷ (48 + n / 10 / 10 / 10 % 10)
+    ∷ (48 + n / 10 / 10 % 10) ∷ (48 + n / 10 % 10) ∷ (48 + n % 10) ∷ []
+
+-- the digit 0
+abbrev pub is_zero : ℕ → Bool
+is_zero digit = digit == 48
+
+-- without the zeros at the end
+abbrev pub without_zeros : List ℕ → List ℕ
+without_zeros digits = take (length digits - suffix_len is_zero digits) digits
+
+-- a value that is written with a `-`
+abbrev pub is_below_zero : ℤ → Bool
+is_below_zero (pos n) = false
+is_below_zero (negsuc n) = true
+
+-- the whole part without leading zeros, and the decimals without trailing zeros where they aren't all zero
+abbrev pub canonical_parts : ℤ → Parts
+canonical_parts v = record {
+  is_negative = is_below_zero v;
+  whole = decimal_text (nat_abs v / 1000000);
+  fraction = if nat_abs v % 1000000 == 0 then None else Some (without_zeros (six_digits (nat_abs v % 1000000)));
+}
+
+-- the one spelling in which a value is written
+abbrev pub canonical : ℤ → List ℕ
+canonical v = text (canonical_parts v)

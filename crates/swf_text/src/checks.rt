@@ -24,7 +24,7 @@ fn whole_number(value: &Value) -> Option<u64>
 }
 
 // Whether a value is below 0.
-fn is_negative(value: &Value) -> bool
+pub(crate) fn is_negative(value: &Value) -> bool
     ensures value { result ≡ is_negative value.now }
     ensures limit { nat_abs value.now ≤ greatest }
 {
@@ -32,7 +32,7 @@ fn is_negative(value: &Value) -> bool
 }
 
 // Whether a status is that of a partial execution.
-fn is_partial(status: &Value) -> bool
+pub(crate) fn is_partial(status: &Value) -> bool
     ensures { result ≡ is_partial status.now }
 {
     matches!(status.millionths(), 2_000_000 | 3_000_000 | 4_000_000)

@@ -1,10 +1,13 @@
-ghost use Rattle.std.specs.Prelude.{◌≡◌, ◌++◌, ◌∷◌, ◌≤◌, ◌&&◌, [], OnOk, map, true, false, IsTrue, is_some, nat_le, pos, Some, None, if◌then◌else◌};
-ghost use Rattle.swf_text.specs.Entry.{HasNumber, is_partial, field, values, entry_made, is_negative, whole_number, IsEntry, number_of_entry, submit_of};
+ghost use Rattle.std.specs.Prelude.{◌≡◌, ◌++◌, ◌∷◌, ◌≤◌, ◌&&◌, ◌-◌, [], OnOk, OnErr, IfOk, slice_set, map, true, false, IsTrue, is_some, nat_le, pos, Some, None, if◌then◌else◌};
+ghost use Rattle.swf_text.specs.Entry.{HasNumber, is_partial, field, values, entry_made, is_negative, whole_number, IsEntry, number_of_entry, submit_of, field_change};
 ghost use Rattle.swf_text.specs.Number.{whole_of};
 
-use crate::checks::{are_parts, is_before_start, is_partial_line, job_number};
+use crate::checks::{
+    are_parts, is_before_start, is_negative, is_partial, is_partial_line, job_number,
+};
 use crate::fault::EntryFault;
 use crate::line::Fields;
+use crate::memory::Memory;
 use crate::value::Value;
 use std::alloc::{AllocFailed, Allocator};
 use std::marker::Model;
@@ -101,6 +104,40 @@ impl<A: Allocator + Copy> Entry<A> {
         ensures { map values result.now ≡ self.now.parts }
     {
         self.parts.as_slice()
+    }
+
+    /// The same entry once more, on the allocator that this one keeps; Memory where the growth for
+    /// its partial lines is refused.
+    pub fn copy(&self) -> Result<Entry<A>, Memory>
+        ensures { IfOk result (λ entry. entry ≡ self.now) }
+    {
+        let parts = Vec::from_slice(*self.parts.allocator(), self.parts.as_slice())?;
+        Ok(Entry {
+            main: self.main,
+            parts,
+        })
+    }
+
+    /// Changes a field of the summary line, 2 to 18. A refused change leaves the entry as it was,
+    /// and is told by the first of these: BadJobNumber for any other place, field 1 among them,
+    /// which is never changed; BadSubmit for a negative submit time; BadStatus for the status of
+    /// a partial line, 2, 3 or 4. Takes no memory.
+    pub fn set_field(&mut self, place: usize, value: Value) -> Result<(), EntryFault>
+        ensures answer { result ≡ field_change place value }
+        ensures changed { OnOk result (self.new ≡ record self.old { main = slice_set self.old.main (place - 1) value }) }
+        ensures kept { OnErr result (self.new ≡ self.old) }
+    {
+        if place < 2 || place > 18 {
+            return Err(EntryFault::BadJobNumber);
+        }
+        if place == 2 && is_negative(&value) {
+            return Err(EntryFault::BadSubmit);
+        }
+        if place == 11 && is_partial(&value) {
+            return Err(EntryFault::BadStatus);
+        }
+        self.main.0[place - 1] = value;
+        Ok(())
     }
 
     // Adds a partial line.

@@ -96,3 +96,11 @@ pub enum EntryFault {
     #[error("BadPart")]
     BadPart,
 }
+
+/// Why bytes were not written whole.
+#[derive(Clone, Copy, Debug, PartialEq, Eq, Error)]
+pub enum WriteFault {
+    /// The writer answered an error, or took no byte.
+    #[error("Device")]
+    Device,
+}

@@ -1,27 +1,38 @@
-//! Reads logs of the Standard Workload Format, version 2.
+//! Reads and writes logs of the Standard Workload Format, version 2.
 #![tactic(auto)]
 
+mod assembly;
 mod builder;
 mod checks;
 mod entry;
 mod fault;
+mod header;
+mod laws;
 mod line;
 mod memory;
 mod number;
 mod reader;
 mod scan;
+mod spelling;
 mod text;
 mod value;
 mod walk;
+mod writer;
 
+pub use assembly::{assemble, line_at, line_bounds};
 pub use entry::Entry;
-pub use fault::{EntryFault, FaultKind, SwfFault};
+pub use fault::{EntryFault, FaultKind, SwfFault, WriteFault};
+pub use header::header_number;
+pub use laws::round_trip_law;
 pub use line::{Fields, LineFault, LineRead};
 pub use memory::Memory;
 pub use reader::read_swf;
 pub use scan::read_line;
 pub use text::SwfText;
 pub use value::Value;
+pub use writer::{write_bytes, write_swf};
 
 #[cfg(test)]
 mod tests;
+#[cfg(test)]
+mod writing_tests;

@@ -1,5 +1,6 @@
 ghost use Rattle.std.specs.Prelude.{◌≡◌, ◌+◌, ◌<◌, ◌≤◌, length, IfOk, IfErr};
-ghost use Rattle.std.specs.List.{before_first, after_first};
+ghost use Rattle.std.specs.List.{AllByRecursion, before_first, after_first};
+ghost use Rattle.swf_text.specs.Comment.{IsComment};
 ghost use Rattle.swf_text.specs.Grammar.{IsText, IsOkOf, IsFaultOf, HasReached};
 ghost use Rattle.swf_text.specs.Text.{LogText, lines, is_feed};
 ghost use Rattle.swf_text.specs.Reading.{text_of, Gives};
@@ -11,7 +12,7 @@ use memchr::memchr;
 use std::alloc::Allocator;
 
 // The bytes before the first line feed, and those after it.
-fn split_line(bytes: &[u8]) -> (&[u8], &[u8])
+pub(crate) fn split_line(bytes: &[u8]) -> (&[u8], &[u8])
     ensures line { result.0.now ≡ before_first is_feed bytes.now }
     ensures rest { result.1.now ≡ after_first is_feed bytes.now }
 {
@@ -50,6 +51,7 @@ pub fn read_swf<A: Allocator + Copy>(alloc: A, bytes: &[u8]) -> Result<SwfText<A
     ensures only { (t : LogText) → IsText (lines bytes.now) t → IsOkOf result t }
     ensures fault { IfErr result (λ fault. IsFaultOf (lines bytes.now) fault) }
     ensures reached { IfErr result (λ fault. HasReached (lines bytes.now) fault.line) }
+    ensures comments { IfOk result (λ text. AllByRecursion IsComment text.comments) }
 {
     read_all(alloc, bytes)
 }

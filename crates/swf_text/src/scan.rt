@@ -20,7 +20,7 @@ fn is_blank(byte: u8) -> bool
 }
 
 // How many blanks the bytes begin with.
-fn blank_count(bytes: &[u8]) -> usize
+pub(crate) fn blank_count(bytes: &[u8]) -> usize
     ensures value { result ≡ prefix_len is_blank bytes.now }
     ensures within { result ≤ length bytes.now }
 {

@@ -6,7 +6,7 @@ use std::alloc::{AllocError, Global};
 use std::test::Fail;
 
 /// Four jobs on ten processors.
-const FOUR_JOBS: &str = "1 0 -1 100 6 -1 -1 6 100 -1 1 7 -1 -1 -1 -1 -1 -1
+pub(crate) const FOUR_JOBS: &str = "1 0 -1 100 6 -1 -1 6 100 -1 1 7 -1 -1 -1 -1 -1 -1
 2 1 -1 50 8 -1 -1 8 50 -1 1 8 -1 -1 -1 -1 -1 -1
 3 2 -1 90 4 -1 -1 4 90 -1 1 7 -1 -1 -1 -1 -1 -1
 4 3 -1 500 2 -1 -1 2 500 -1 1 8 -1 -1 -1 -1 -1 -1
@@ -19,7 +19,7 @@ const WORDS: [&str; 18] = [
 ];
 
 // The line of the first job, with another word in one field.
-fn line_with(rt: &HostRuntime, place: usize, word: &str) -> Result<Vec<u8>, Fail> {
+pub(crate) fn line_with(rt: &HostRuntime, place: usize, word: &str) -> Result<Vec<u8>, Fail> {
     let mut line = Vec::new(rt.alloc());
     for (index, usual) in WORDS.iter().enumerate() {
         let shown = if index + 1 == place { word } else { *usual };
@@ -30,7 +30,7 @@ fn line_with(rt: &HostRuntime, place: usize, word: &str) -> Result<Vec<u8>, Fail
 }
 
 // The values of the first job, with another word in one field.
-fn fields_with(rt: &HostRuntime, place: usize, word: &str) -> Result<Fields, Fail> {
+pub(crate) fn fields_with(rt: &HostRuntime, place: usize, word: &str) -> Result<Fields, Fail> {
     let line = line_with(rt, place, word)?;
     match read_line(&line) {
         LineRead::Job(fields) => Ok(fields),
@@ -46,7 +46,7 @@ fn fault_of(rt: &HostRuntime, text: &[u8]) -> Option<SwfFault> {
     read_swf(rt.alloc(), text).err()
 }
 
-fn read(rt: &HostRuntime, text: &[u8]) -> Result<SwfText<Global>, Fail> {
+pub(crate) fn read(rt: &HostRuntime, text: &[u8]) -> Result<SwfText<Global>, Fail> {
     Ok(read_swf(rt.alloc(), text)?)
 }
 

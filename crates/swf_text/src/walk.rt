@@ -3,6 +3,7 @@ ghost use Rattle.std.specs.List.{list_all};
 ghost use Rattle.std.specs.Char.{is_ascii_digit};
 ghost use Rattle.swf_text.specs.Number.{decimal, greatest, millionths_of};
 ghost use Rattle.swf_text.specs.Scan.{Word, ends};
+ghost use Rattle.swf_text.specs.Header.{digit_len};
 ghost use Rattle.swf_text.specs.Line.{job_line, job_of_values};
 ghost use Rattle.std.specs.Prelude.{Ok};
 
@@ -27,7 +28,8 @@ fn leading_digits(bytes: &[u8]) -> (u64, usize)
 }
 
 // How many digits the bytes begin with.
-fn digit_count(bytes: &[u8]) -> usize
+pub(crate) fn digit_count(bytes: &[u8]) -> usize
+    ensures value { result ≡ digit_len bytes.now }
     ensures within { result ≤ length bytes.now }
     ensures digits { list_all is_ascii_digit (take result bytes.now) ≡ true }
 {
@@ -40,7 +42,7 @@ fn digit_count(bytes: &[u8]) -> usize
 }
 
 // Whether a word ends here: nothing or a blank follows.
-fn is_ended(bytes: &[u8]) -> bool
+pub(crate) fn is_ended(bytes: &[u8]) -> bool
     ensures { result ≡ ends bytes.now }
 {
     match bytes {

@@ -1,5 +1,6 @@
 use Rattle.swf_text.specs.Text.{lines}
 use Rattle.swf_text.proofs.Outcomes.{gives_text, gives_only, gives_fault}
+use Rattle.swf_text.proofs.Kept.{gives_comments}
 use Rattle.swf_text.proofs.reader.read_swf.Goals as goal
 
 pub returns-clause-text : goal.returns-clause-text
@@ -10,3 +11,6 @@ returns-clause-only g c = gives_only c.read_all.result (lines c.args.bytes.now) 
 
 pub returns-clause-fault : goal.returns-clause-fault
 returns-clause-fault g c = gives_fault c.read_all.result (lines c.args.bytes.now) c.read_all.ensures.exact
+
+pub returns-clause-comments : goal.returns-clause-comments
+returns-clause-comments g c = gives_comments c.args.bytes.now c.read_all.result (gives_text c.read_all.result (lines c.args.bytes.now) c.read_all.ensures.exact)

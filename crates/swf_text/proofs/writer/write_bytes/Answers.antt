@@ -1,8 +1,8 @@
 use Rattle.std.proofs.Common.{◌≡◌, ◌-◌, ℕ, List, length, take, drop, subst, arith}
 use Rattle.std.proofs.lemmas.List.{take_all, length-take, length-drop}
 use Rattle.std.specs.Io.KnownBytes.{Appends}
-use Rattle.easybook.proofs.Writings.{appends_more}
-use Rattle.easybook.proofs.output.write_bytes.Goals as goal
+use Rattle.swf_text.proofs.Writings.{appends_more}
+use Rattle.swf_text.proofs.writer.write_bytes.Goals as goal
 
 pub loop-written-preserved : goal.loop-written-preserved
 loop-written-preserved g c =

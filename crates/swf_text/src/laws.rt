@@ -1,0 +1,16 @@
+ghost use Rattle.std.specs.Prelude.{◌≡◌, ℕ, List};
+ghost use Rattle.std.specs.List.{AllByRecursion};
+ghost use Rattle.swf_text.specs.Text.{LogText, lines};
+ghost use Rattle.swf_text.specs.Grammar.{IsText};
+ghost use Rattle.swf_text.specs.Comment.{IsComment};
+ghost use Rattle.swf_text.specs.Writing.{text_bytes};
+
+/// What is read, written and read again is the same log, and written again it gives the same
+/// bytes: lines are one log alone, each comment of a log that was read is sound, and the text of
+/// such a log is read as that log.
+pub fn round_trip_law()
+    ensures one_text { (ls : List (List ℕ)) (t u : LogText) → IsText ls t → IsText ls u → u ≡ t }
+    ensures comments { (bytes : List ℕ) (t : LogText) → IsText (lines bytes) t → AllByRecursion IsComment t.comments }
+    ensures read_again { (bytes : List ℕ) (t : LogText) → IsText (lines bytes) t → IsText (lines (text_bytes t)) t }
+    ensures same_bytes { (bytes : List ℕ) (t u : LogText) → IsText (lines bytes) t → IsText (lines (text_bytes t)) u → text_bytes u ≡ text_bytes t }
+{}
