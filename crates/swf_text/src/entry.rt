@@ -77,6 +77,7 @@ impl<A: Allocator + Copy> Entry<A> {
         ensures field { pos result ≡ whole_of (field self.now.main 2) }
         ensures second { result ≡ submit_of self.now }
         ensures limit { result ≤ 1000000000000 }
+        ensures entry { IsEntry self.now }
     {
         self.main.0[1].whole() as u64
     }

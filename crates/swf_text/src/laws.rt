@@ -1,5 +1,6 @@
-ghost use Rattle.std.specs.Prelude.{◌≡◌, ℕ, List};
+ghost use Rattle.std.specs.Prelude.{◌≡◌, ◌≤◌, ℕ, ℤ, List, nat_abs};
 ghost use Rattle.std.specs.List.{AllByRecursion};
+ghost use Rattle.swf_text.specs.Number.{Spells, canonical, greatest};
 ghost use Rattle.swf_text.specs.Text.{LogText, lines};
 ghost use Rattle.swf_text.specs.Grammar.{IsText};
 ghost use Rattle.swf_text.specs.Comment.{IsComment};
@@ -13,4 +14,9 @@ pub fn round_trip_law()
     ensures comments { (bytes : List ℕ) (t : LogText) → IsText (lines bytes) t → AllByRecursion IsComment t.comments }
     ensures read_again { (bytes : List ℕ) (t : LogText) → IsText (lines bytes) t → IsText (lines (text_bytes t)) t }
     ensures same_bytes { (bytes : List ℕ) (t u : LogText) → IsText (lines bytes) t → IsText (lines (text_bytes t)) u → text_bytes u ≡ text_bytes t }
+{}
+
+/// The spelling in which a value is written is one of those in which it can be read.
+pub fn spelling_law()
+    ensures { (v : ℤ) → nat_abs v ≤ greatest → Spells (canonical v) v }
 {}

@@ -23,7 +23,7 @@ pub use assembly::{assemble, line_at, line_bounds};
 pub use entry::Entry;
 pub use fault::{EntryFault, FaultKind, SwfFault, WriteFault};
 pub use header::header_number;
-pub use laws::round_trip_law;
+pub use laws::{round_trip_law, spelling_law};
 pub use line::{Fields, LineFault, LineRead};
 pub use memory::Memory;
 pub use reader::read_swf;

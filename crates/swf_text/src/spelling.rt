@@ -1,5 +1,5 @@
-ghost use Rattle.std.specs.Prelude.{◌≡◌, ◌+◌, ◌<◌, ◌≤◌, ◌++◌, ℤ, length, nat_abs, Some};
-ghost use Rattle.swf_text.specs.Number.{Spells, greatest, canonical, number_of, six_digits, without_zeros};
+ghost use Rattle.std.specs.Prelude.{◌≡◌, ◌+◌, ◌<◌, ◌≤◌, ◌++◌, length, nat_abs};
+ghost use Rattle.swf_text.specs.Number.{greatest, canonical, six_digits, without_zeros};
 
 use crate::value::Value;
 use arrayvec::ArrayVec;
@@ -51,7 +51,7 @@ pub(crate) fn push_all<const N: usize>(text: &mut ArrayVec<u8, N>, bytes: &[u8])
 }
 
 // The canonical spelling: the sign of a value below 0, the whole part, and the decimals if any.
-fn spelled(value: &Value) -> ArrayVec<u8, SPELLING_ROOM>
+pub(crate) fn spell(value: &Value) -> ArrayVec<u8, SPELLING_ROOM>
     ensures value { result.items ≡ canonical value.now }
     ensures within { nat_abs value.now ≤ greatest }
 {
@@ -69,14 +69,4 @@ fn spelled(value: &Value) -> ArrayVec<u8, SPELLING_ROOM>
         push_all(&mut text, without_zeros(&six_digits(fraction)));
     }
     text
-}
-
-// The canonical spelling of a value, which spells it.
-pub(crate) fn spell(value: &Value) -> ArrayVec<u8, SPELLING_ROOM>
-    ensures value { result.items ≡ canonical value.now }
-    ensures spells { Spells result.items value.now }
-    ensures within { nat_abs value.now ≤ greatest }
-    ensures read_again { number_of result.items ≡ Some value.now }
-{
-    spelled(value)
 }

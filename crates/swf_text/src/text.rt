@@ -26,8 +26,9 @@ impl<A: Allocator + Copy> Model for SwfText<A> {
 }
 
 impl<A: Allocator + Copy> SwfText<A> {
-    // A log of these comments and entries.
-    pub(crate) fn of_parts(comments: Vec<Vec<u8, A>, A>, entries: Vec<Entry<A>, A>) -> SwfText<A>
+    /// A log of these comments and entries. Its condition is what holds of every log: job numbers
+    /// are distinct, and there are at most 4,194,304 entries.
+    pub fn of_parts(comments: Vec<Vec<u8, A>, A>, entries: Vec<Entry<A>, A>) -> SwfText<A>
         requires { IsLog entries.items }
         ensures comments { result.comments ≡ map (λ c. c.items) comments.items }
         ensures entries { result.entries ≡ entries.items }
