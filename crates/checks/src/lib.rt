@@ -1,5 +1,16 @@
-//! Tests that cross crates: what each call answers where one growth after another is refused.
+//! Tests that cross crates: decisions from what is known, the engine beside the plain program on
+//! generated logs, and what each call answers where one growth after another is refused.
 #![tactic(auto)]
 
 #[cfg(test)]
+mod decisions;
+#[cfg(test)]
+mod engines;
+#[cfg(test)]
+mod generated;
+#[cfg(test)]
+mod openings;
+#[cfg(test)]
 mod refusals;
+#[cfg(test)]
+mod tables;

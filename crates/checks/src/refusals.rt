@@ -15,7 +15,7 @@ use swf_text::{
 };
 
 /// The four-job log, with a comment and a partial line.
-const LOG: &[u8] = b"; four jobs
+pub(crate) const LOG: &[u8] = b"; four jobs
 1 0 -1 100 6 -1 -1 6 100 -1 1 7 -1 -1 -1 -1 -1 -1
 1 0 -1 40 6 -1 -1 6 100 -1 2 7 -1 -1 -1 -1 -1 -1
 2 1 -1 50 8 -1 -1 8 50 -1 1 8 -1 -1 -1 -1 -1 -1
@@ -24,7 +24,7 @@ const LOG: &[u8] = b"; four jobs
 ";
 
 /// More calls than any of these makes.
-const MANY: u64 = 10_000;
+pub(crate) const MANY: u64 = 10_000;
 
 #[test]
 fn read_swf_tells_memory_at_its_line(rt: HostRuntime) -> Result<(), Fail> {

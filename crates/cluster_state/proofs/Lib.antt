@@ -1,2 +1,5 @@
 pub mod StateLemmas
 pub mod RowLemmas
+pub mod SnapshotLemmas
+pub mod EffectiveLemmas
+pub mod LookupLemmas

@@ -1,3 +1,5 @@
 pub mod State
 pub mod Row
 pub mod Parts
+pub mod Snapshot
+pub mod Laws

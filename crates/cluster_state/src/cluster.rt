@@ -1,9 +1,12 @@
-ghost use Rattle.std.specs.Prelude.{◌≡◌, ◌-◌, ◌<◌, ◌≤◌, ◌+◌, ◌^◌, ◌↔◌, [], OnOk, OnErr, IfSome, IsNone, IsOk, IsTrue, MatchOption, All, Any, slice_get, count_by, nat_eq};
+ghost use Rattle.std.specs.Prelude.{◌≡◌, ◌-◌, ◌<◌, ◌≤◌, ◌+◌, ◌^◌, ◌↔◌, [], OnOk, OnErr, IfOk, IfSome, IsNone, IsOk, IsTrue, MatchOption, All, Any, slice_get, count_by, nat_eq};
 ghost use Rattle.std.specs.Option.{option_copied};
 ghost use Rattle.scenarios.specs.declared.order.Order.TheVariants.{Arrival};
 
+use crate::lookup::{job_in, running_in};
 use crate::queue::{find_job, put_job, remove_job};
 use crate::running::{Running, drop_ended, first_end, held, run};
+use crate::snapshot::Snapshot;
+use job_table::JobTable;
 use scenarios::{Job, Order, Scenario};
 use std::alloc::Allocator;
 use std::marker::Model;
@@ -38,6 +41,8 @@ impl<A: Allocator + Copy> Cluster<A> {
     ghost use Rattle.cluster_state.specs.State.{empty, free, real_end, arrived, after_start};
     ghost use Rattle.cluster_state.specs.State.{ended_until, holders, CanArrive, CanStart, IsSound};
     ghost use Rattle.cluster_state.specs.Row.{in_order};
+    ghost use Rattle.scenarios.specs.Plan.{plan_of};
+    ghost use Rattle.cluster_state.specs.Snapshot.{numbers_of, restored, Fits};
 
     /// An empty machine of `procs` processors, with backfills in order of arrival.
     pub fn new(alloc: A, procs: u64) -> Cluster<A>
@@ -67,6 +72,44 @@ impl<A: Allocator + Copy> Cluster<A> {
             shortest: Vec::new(alloc),
             running: Vec::new(alloc),
         }
+    }
+
+    // A machine on which these jobs run and none waits.
+    fn with_running(alloc: A, procs: u64, order: Order, running: Vec<Running, A>) -> Cluster<A>
+        requires { IsSound (record { machine = procs; order = order; waiting = []; running = running.items }) }
+        ensures { result.state ≡ record { machine = procs; order = order; waiting = []; running = running.items } }
+    {
+        Cluster {
+            procs,
+            order,
+            free: procs - held(&running),
+            waiting: Vec::new(alloc),
+            shortest: Vec::new(alloc),
+            running,
+        }
+    }
+
+    /// The cluster of a snapshot: each number stands for the job of its entry in the table under the
+    /// scenario, whose machine and order of backfills the cluster has.
+    ///
+    /// Memory where a growth was refused.
+    pub fn restore(
+        alloc: A,
+        snapshot: &Snapshot<A>,
+        table: &JobTable<A>,
+        scenario: &Scenario,
+    ) -> Result<Cluster<A>, Memory>
+        requires { Fits snapshot.now (plan_of table.now scenario.now) }
+        ensures { IfOk result (λ c. c.state ≡ restored snapshot.now (plan_of table.now scenario.now)) }
+    {
+        let running = running_in(alloc, snapshot.running(), table, scenario)?;
+        let mut cluster = Cluster::with_running(alloc, scenario.procs(), scenario.order(), running);
+        for number in snapshot.waiting() {
+            if let Some(job) = job_in(table, scenario, *number) {
+                cluster.arrive(job)?;
+            }
+        }
+        Ok(cluster)
     }
 
     /// The order in which the later waiting jobs are looked at.
@@ -223,6 +266,13 @@ impl<A: Allocator + Copy> Cluster<A> {
         ensures least { IfSome result (λ t. All (λ r. t ≤ real_end r) self.now.state.running) }
     {
         first_end(&self.running)
+    }
+
+    /// The numbers of the jobs that wait and run now; Memory where a growth was refused.
+    pub fn snapshot(&self) -> Result<Snapshot<A>, Memory>
+        ensures { IfOk result (λ s. s ≡ numbers_of self.now.state) }
+    {
+        Snapshot::of(*self.waiting.allocator(), self.waiting(), self.running())
     }
 }
 

@@ -2,8 +2,14 @@
 #![tactic(auto)]
 
 mod cluster;
+pub mod laws;
+mod lookup;
 mod queue;
 mod running;
+mod snapshot;
+#[cfg(test)]
+mod tests;
 
 pub use cluster::Cluster;
 pub use running::Running;
+pub use snapshot::{RunningNumber, Snapshot};

@@ -1,5 +1,5 @@
 -- The next job is the first in the order, of those that may start.
-use Rattle.std.proofs.Common.{◌≡◌, ℕ, zero, suc, ◌+◌, ◌≤◌, ◌<◌, Bool, true, false, nat_le, List, [], ◌∷◌, slice_get, Option, Some, None, All, MatchOption, find, refl, sym, ◌∙◌, ap, arith, subst, inl, inr, ⊎_elim, ◌⊎◌}
+use Rattle.std.proofs.Common.{◌≡◌, ℕ, zero, suc, ◌+◌, ◌≤◌, ◌<◌, Bool, true, false, nat_le, List, [], ◌∷◌, slice_get, Option, Some, None, All, MatchOption, find, sym, ◌∙◌, ap, arith, subst, inl, inr, ⊎_elim, ◌⊎◌}
 use Rattle.std.proofs.lemmas.List.Elements.{All-head, All-tail, All-nil, All-cons, All-weaker}
 use Rattle.std.proofs.lemmas.Bool.{cond-true, cond-false, cases_Bool, cases_lt, lt-leb}
 use Rattle.scenarios.specs.Job.{EffectiveJob}
@@ -10,10 +10,8 @@ use Rattle.cluster_state.specs.Row.{put, by_estimate, in_order}
 use Rattle.cluster_state.proofs.RowLemmas.{Rises, put-before, put-behind, rises-by_estimate, find-put, by_estimate-All, in_order-All}
 use Rattle.easy_rule.specs.Rule.{next, next_of, may_backfill, shadow_at}
 use Rattle.easy_rule.specs.Laws.{IsFirst, IsNotAfter, NextIsTheFirst}
-
-cases_option : {X : Type 0} (o : Option X) → (o ≡ None) ⊎ ((x : X) × (o ≡ Some x))
-cases_option None = inl refl
-cases_option (Some x) = inr (x, refl)
+use Rattle.easy_rule.proofs.PassLemmas.{none-passes}
+use Rattle.easy_rule.proofs.Decisions.{cases_option}
 
 true_false : true ≡ false → ⊥
 true_false e = cc
@@ -22,14 +20,6 @@ All-at : (P : EffectiveJob → Type 0) (js : List EffectiveJob) (m : ℕ) (other
 All-at P [] m other a e = cc
 All-at P (j ∷ js) zero other a e = let same : j ≡ other = cc in subst P same (All-head P j js a)
 All-at P (j ∷ js) (suc m) other a e = All-at P js m other (All-tail P j js a) e
-
-none-passes : {X : Type 0} (q : X → Bool) (xs : List X) → find q xs ≡ None → All (λ x. q x ≡ false) xs
-none-passes q [] e = All-nil (λ x. q x ≡ false)
-none-passes q (x ∷ xs) e =
-    ⊎_elim
-    (λ (y : q x ≡ true). let k : Some x ≡ None = sym (cond-true (q x) (Some x) (find q xs) y) ∙ e in cc)
-    (λ (n : q x ≡ false). All-cons (λ x. q x ≡ false) x xs n (none-passes q xs (sym (cond-false (q x) (Some x) (find q xs) n) ∙ e)))
-    (cases_Bool (q x))
 
 -- one more that passes: it is found, or a shorter one is
 find-put-passes : (q : EffectiveJob → Bool) (j : EffectiveJob) (xs : List EffectiveJob) (job : EffectiveJob) → q j ≡ true → Rises xs → find q (put j xs) ≡ Some job

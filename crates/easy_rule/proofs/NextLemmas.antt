@@ -1,19 +1,18 @@
 -- The job that starts next, and what its start leaves.
-use Rattle.std.proofs.Common.{◌≡◌, ℕ, zero, suc, ◌+◌, ◌-◌, ◌^◌, ◌≤◌, ◌<◌, Bool, true, false, cond, ◌&&◌, ◌||◌, nat_le, nat_eq, List, [], ◌∷◌, ◌++◌, append_assoc, Option, Some, None, All, IsSomeAnd, find, count_by, refl, sym, ◌∙◌, ap, arith, subst, inl, inr, ⊎_elim, ◌⊎◌}
+use Rattle.std.proofs.Common.{◌≡◌, ℕ, zero, suc, ◌+◌, ◌-◌, ◌≤◌, ◌<◌, Bool, true, false, cond, ◌&&◌, ◌||◌, nat_le, nat_eq, List, [], ◌∷◌, length, Option, Some, None, All, IsSomeAnd, find, count_by, refl, sym, ◌∙◌, ap, arith, subst, inl, inr, ⊎_elim, ◌⊎◌}
 use Rattle.std.specs.Option.{option_map_or}
 use Rattle.std.proofs.lemmas.List.Sums.{sum_by-cons}
 use Rattle.std.proofs.lemmas.List.Elements.{All-head, All-tail}
-use Rattle.std.proofs.lemmas.Bool.{leb-true, lt-leb, cases_Bool, cond-true, cond-false, eq-eqb, and_parts}
+use Rattle.std.proofs.lemmas.Bool.{leb-true, lt-leb, cases_Bool, cond-true, cond-false, eq-eqb, and_parts, true≢false}
 use Rattle.scenarios.specs.Job.{EffectiveJob, IsWithinLimits}
 use Rattle.cluster_state.specs.declared.running.Running.{Running}
-use Rattle.cluster_state.specs.State.{State, IsSound, free, waiting_job, started, after_start}
+use Rattle.cluster_state.specs.State.{State, IsSound, free, waiting_job, started, after_start, without}
 use Rattle.cluster_state.specs.Row.{put, by_estimate, in_order}
-use Rattle.cluster_state.proofs.StateLemmas.{sum_by-placed, sound-started}
+use Rattle.cluster_state.proofs.StateLemmas.{sum_by-placed}
 use Rattle.cluster_state.proofs.RowLemmas.{find-in_order}
 use Rattle.scenarios.specs.declared.order.Order.{Order}
 use Rattle.scenarios.specs.declared.order.Order.TheVariants.{Arrival, Shortest}
 use Rattle.easy_rule.specs.declared.shadow_time.Shadow.{Shadow}
-use Rattle.easy_rule.specs.declared.start.Start.{Start}
 use Rattle.easy_rule.specs.Rule.{next, next_of, may_backfill, shadow_at, decided, decisions}
 
 -- it is one of these
@@ -152,20 +151,8 @@ started-next s now job h e = ap (λ o. option_map_or (λ j. started s j now) o s
 pub start-allowed : (s : State) (now : ℕ) (job : EffectiveJob) → IsSound s → next s now ≡ Some job → IsSomeAnd (waiting_job s job.number) (λ (j : EffectiveJob). j.size ≤ free s)
 start-allowed s now job h e = rw (next-found s now job h e) (next-fits s now job e)
 
--- a turn of the loop
-pub decided-more : (n i : ℕ) (s s' e : State) (job : EffectiveJob) (now : ℕ) → IsSound s → i < n → next s now ≡ Some job → s' ≡ after_start s job.number now → decided (n - i) s now ≡ e → decided (n - (i + 1)) s' now ≡ e
-decided-more n i s s' e job now h l found is so =
-    let one : n - (i + 1) ≡ n - i - 1 = omega arith in
-    rw (one, is, started-next s now job h found, ← decided-start (n - i) s job now (omega arith) found) so
-
-pub decisions-more : (n i : ℕ) (s s' : State) (done e : List Start) (job : EffectiveJob) (now : ℕ) → IsSound s → i < n → next s now ≡ Some job → s' ≡ after_start s job.number now
-    → done ++ decisions (n - i) s now ≡ e → (done ++ record { number = job.number; at = now } ∷ []) ++ decisions (n - (i + 1)) s' now ≡ e
-decisions-more n i s s' done e job now h l found is so =
-    let one : n - (i + 1) ≡ n - i - 1 = omega arith in
-    rw (one, is, started-next s now job h found, append_assoc) (rw (decisions-start (n - i) s job now (omega arith) found) at so)
-
 -- what holds of all holds of one of them
-All-member : (P : EffectiveJob → Type 0) (js : List EffectiveJob) (job : EffectiveJob) → Member js job → All P js → P job
+pub All-member : (P : EffectiveJob → Type 0) (js : List EffectiveJob) (job : EffectiveJob) → Member js job → All P js → P job
 All-member P [] job m a = absurd m
 All-member P (j ∷ js) job m a =
     ⊎_elim (λ (same : j ≡ job). subst P same (All-head P j js a)) (λ (later : Member js job). All-member P js job later (All-tail P j js a)) m
@@ -182,22 +169,22 @@ next-full s now h full = none-or (next s now) (λ job e. let l = next-takes s no
     none-or None k = refl
     none-or (Some job) k = absurd (k job refl)
 
--- what a start leaves is sound, and has a free processor less at least
-pub sound-next : (s : State) (now : ℕ) (job : EffectiveJob) → IsSound s → next s now ≡ Some job → now < 2 ^ 49 → IsSound (started s job now)
-sound-next s now job h e early = sound-started s job now h (next-found s now job h e) (next-fits s now job e) early
-
+-- a start leaves a free processor less at least
 pub free-next : (s : State) (now : ℕ) (job : EffectiveJob) → IsSound s → next s now ≡ Some job → free (started s job now) + 1 ≤ free s
 free-next s now job h e =
     let taken = sum_by-placed (λ (r : Running). r.job.size) (record { job = job; start = now }) s.running in
     omega (arith, taken, next-takes s now job h e, next-fits s now job e, h.fits)
 
--- no more can start than there are free processors
-pub decided-full : (n : ℕ) (s : State) (now : ℕ) → IsSound s → (0 < n → free s ≡ 0) → decided n s now ≡ s
-unfolding decided
-decided-full zero s now h full = refl
-decided-full (suc n) s now h full = decided-stop (suc n) s now (next-full s now h (full (omega arith)))
-
-pub decisions-full : (n : ℕ) (s : State) (now : ℕ) → IsSound s → (0 < n → free s ≡ 0) → decisions n s now ≡ []
-unfolding decisions
-decisions-full zero s now h full = refl
-decisions-full (suc n) s now h full = decisions-stop (suc n) s now (next-full s now h (full (omega arith)))
+-- one job fewer waits
+pub length-without : (js : List EffectiveJob) (job : EffectiveJob) → Member js job → length (without job.number js) + 1 ≡ length js
+length-without [] job m = absurd m
+length-without (j ∷ js) job m =
+    ⊎_elim
+    (λ (h : nat_eq j.number job.number ≡ true). let e = ap length (cond-true (nat_eq j.number job.number) js (j ∷ without job.number js) h) in omega (arith, e))
+    (λ (h : nat_eq j.number job.number ≡ false).
+    let e = ap length (cond-false (nat_eq j.number job.number) js (j ∷ without job.number js) h) in
+    ⊎_elim
+    (λ (same : j ≡ job). absurd (true≢false (sym (eq-eqb j.number job.number (ap (λ (x : EffectiveJob). x.number) same)) ∙ h)))
+    (λ (later : Member js job). omega (arith, e, length-without js job later))
+    m)
+    (cases_Bool (nat_eq j.number job.number))

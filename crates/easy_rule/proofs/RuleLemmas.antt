@@ -143,3 +143,22 @@ seen-all s need time i h wants within past low all =
 
 pub available-le : (s : State) (t : ℕ) → IsSound s → available s t ≤ s.machine
 available-le s t h = omega (arith, back-le-busy t s.running, h.fits)
+
+-- more is available at a later second
+back-later : (t u : ℕ) (rs : List Running) → t ≤ u → sum_by (back_by t) rs ≤ sum_by (back_by u) rs
+back-later t u [] l = omega arith
+back-later t u (r ∷ rs) l =
+    let one : back_by t r ≤ back_by u r =
+    ⊎_elim
+    (λ (h : expected_end r < t + 1). let a = cond-true {A = ℕ} (nat_le (expected_end r) t) r.job.size 0 (le-leb (expected_end r) t (omega arith)) in let b = cond-true {A = ℕ} (nat_le (expected_end r) u) r.job.size 0 (le-leb (expected_end r) u (omega arith)) in omega (arith, a, b))
+    (λ (h : t + 1 ≤ expected_end r). let a = cond-false {A = ℕ} (nat_le (expected_end r) t) r.job.size 0 (lt-leb (expected_end r) t (omega arith)) in omega (arith, a))
+    (cases_lt (expected_end r) (t + 1)) in
+    omega (arith, one, sum_by-cons (back_by t) r rs, sum_by-cons (back_by u) r rs, back-later t u rs l)
+
+pub available-later : (s : State) (t u : ℕ) → t ≤ u → available s t ≤ available s u
+available-later s t u l = omega (arith, back-later t u s.running l)
+
+-- nothing has come back at second 0
+pub available-first : (s : State) → IsSound s → available s 0 ≡ free s
+available-first s h =
+    omega (arith, back-zero s.running (λ k d l. let a = h.running_limits k d l in λ e. omega (arith, a.lasts, a.within_estimate, e)))

@@ -1,10 +1,13 @@
 -- What the rule promises, apart from how it searches.
-use Rattle.std.specs.Prelude.{◌≡◌, ℕ, ◌≤◌, ◌<◌, ◌⊎◌, Bool, true, false, List, ◌∷◌, Some, All, MatchOption, slice_get}
+use Rattle.std.specs.Prelude.{◌≡◌, ℕ, ◌≤◌, ◌<◌, ◌⊎◌, Bool, true, false, List, ◌∷◌, length, None, Some, All, MatchOption, slice_get}
 use Rattle.scenarios.specs.Job.{EffectiveJob}
 use Rattle.scenarios.specs.declared.order.Order.{Order}
 use Rattle.scenarios.specs.declared.order.Order.TheVariants.{Arrival, Shortest}
 use Rattle.cluster_state.specs.State.{State, free}
-use Rattle.easy_rule.specs.Rule.{next, may_backfill, shadow_at}
+use Rattle.easy_rule.specs.declared.shadow_time.Shadow.{Shadow}
+use Rattle.easy_rule.specs.Rule.{next, may_backfill, shadow_at, shadow_of}
+use Rattle.easy_rule.specs.Pass.{front}
+use Rattle.easy_rule.specs.Simulation.{joined}
 
 -- in this order, the job at place k of the queue does not come after the one at place m
 abbrev pub IsNotAfter : Order → EffectiveJob → ℕ → EffectiveJob → ℕ → Type 0
@@ -24,3 +27,9 @@ NextIsTheFirst =
     (s : State) (now : ℕ) (head : EffectiveJob) (rest : List EffectiveJob) → s.waiting ≡ head ∷ rest → free s < head.size
     → MatchOption (next s now) (All (λ j. may_backfill now (free s) (shadow_at s head.size) j ≡ false) rest)
     (λ job. IsFirst s.order (may_backfill now (free s) (shadow_at s head.size)) rest job)
+
+-- where nobody may start, whoever joins the queue lets none of those before him start, and leaves the shadow as it is
+abbrev pub ArrivalsUnsettleNobody : Type 0
+ArrivalsUnsettleNobody =
+    (s : State) (js : List EffectiveJob) (now : ℕ) → next s now ≡ None
+    → (next (front (joined s js) (length s.waiting)) now ≡ None) × ((w : Shadow) → shadow_of s ≡ Some w → shadow_of (joined s js) ≡ Some w)

@@ -1,4 +1,6 @@
 pub mod Rule
+pub mod Pass
 pub mod Laws
+pub mod RuleLaws
 pub mod Simulation
 pub mod Examples

@@ -1,53 +1,23 @@
-ghost use Rattle.std.specs.Prelude.{◌≡◌, ◌<◌, ◌≤◌, ◌^◌, OnOk, OnErr, IsOk, IfOk, None, find};
-ghost use Rattle.cluster_state.specs.State.{IsSound};
-ghost use Rattle.easy_rule.specs.Rule.{may_backfill, next, state_after, starts_at};
+ghost use Rattle.std.specs.Prelude.{◌≡◌, ◌<◌, ◌≤◌, ◌^◌, OnOk, OnErr, IsOk, IfOk, IfSome, IsSome, None, Some};
+ghost use Rattle.cluster_state.specs.State.{free};
+ghost use Rattle.easy_rule.specs.Rule.{next, shadow_of, state_after, starts_at};
 
+use crate::backfill::first_place;
 use crate::head::shadow_for;
+use crate::pass::{pass_on, room_for_starts, start_heads, start_later};
 use crate::shadow_time::Shadow;
 use crate::start::Start;
 use cluster_state::Cluster;
-use scenarios::Job;
 use std::alloc::Allocator;
 use swf_text::Memory;
-
-// Whether a later job may start now, in the place of the head.
-fn backfills(job: &Job, now: u64, free: u64, head: Shadow) -> bool
-    ensures { result ≡ may_backfill now free head job.now }
-{
-    job.size() <= free
-        && (now <= head.time && job.estimate() <= head.time - now || job.size() <= head.extra)
-}
-
-// The first job of the row that may start now.
-fn first_backfill(row: &[Job], now: u64, free: u64, head: Shadow) -> Option<Job>
-    ensures { result ≡ find (may_backfill now free head) row.now }
-{
-    row.iter()
-        .copied()
-        .find(|job| backfills(job, now, free, head))
-}
-
-// The job that starts next.
-fn next_job<A: Allocator + Copy>(cluster: &Cluster<A>, now: u64) -> Option<Job>
-    ensures next { result ≡ next cluster.now.state now }
-    ensures sound { IsSound cluster.now.state }
-{
-    let [head, ..] = cluster.waiting() else {
-        return None;
-    };
-    let free = cluster.free();
-    if head.size() <= free {
-        return Some(*head);
-    }
-    first_backfill(cluster.row(), now, free, shadow_for(cluster, head.size()))
-}
 
 /// Starts the jobs that start at second `now`, and answers these starts in order.
 ///
 /// The first waiting job starts while it fits. Otherwise the first later one that fits starts, in
 /// the order of the cluster, if it is expected to end by the shadow time or takes no more than the
 /// extra processors; then the search begins again (Lifka 1995; Mu'alem and Feitelson, IEEE TPDS
-/// 12(6), 2001).
+/// 12(6), 2001). It is done in one pass over the queue: a job that may not start now may not start
+/// after the starts of others either.
 ///
 /// Memory where a growth was refused; no job has started then. It takes no memory where no job
 /// starts.
@@ -63,21 +33,45 @@ pub fn decide<A: Allocator + Copy>(
     ensures err { OnErr result (cluster.new.state ≡ cluster.old.state) }
     ensures spare { OnErr result (cluster.old.spare ≤ cluster.new.spare) }
 {
-    if next_job(cluster, now).is_none() {
-        return Ok(Vec::new(alloc));
-    }
-    let count = cluster.waiting().len().min(cluster.free() as usize);
-    cluster.reserve_starts(count)?;
-    let mut starts = Vec::with_capacity(alloc, count)?;
-    for _ in 0..count {
-        let Some(job) = next_job(cluster, now) else {
-            return Ok(starts);
-        };
-        cluster.start(job.number(), now)?;
-        starts.push(Start {
-            number: job.number(),
-            at: now,
-        })?;
-    }
+    let (starts, _) = decide_with_shadow(alloc, cluster, now)?;
     Ok(starts)
+}
+
+/// As `decide`, with the shadow of the state that it leaves, where it came to know it. It does where
+/// there is one and a processor is free.
+pub fn decide_with_shadow<A: Allocator + Copy>(
+    alloc: A,
+    cluster: &mut Cluster<A>,
+    now: u64,
+) -> Result<(Vec<Start, A>, Option<Shadow>), Memory>
+    requires { now < 2 ^ 49 }
+    ensures state { OnOk result (cluster.new.state ≡ state_after cluster.old.state now) }
+    ensures starts { IfOk result (λ decision. decision.0.items ≡ starts_at cluster.old.state now) }
+    ensures shadow { IfOk result (λ decision. IfSome decision.1 (λ w. shadow_of cluster.new.state ≡ Some w)) }
+    ensures told { IfOk result (λ decision. 0 < free cluster.new.state → IsSome (shadow_of cluster.new.state) → IsSome decision.1) }
+    ensures settled { next cluster.old.state now ≡ None → IsOk result }
+    ensures err { OnErr result (cluster.new.state ≡ cluster.old.state) }
+    ensures spare { OnErr result (cluster.old.spare ≤ cluster.new.spare) }
+{
+    let free = cluster.free();
+    let [head, ..] = cluster.waiting() else {
+        return Ok((Vec::new(alloc), None));
+    };
+    if free == 0 {
+        return Ok((Vec::new(alloc), None));
+    }
+    let need = head.size();
+    if need <= free {
+        let mut starts = room_for_starts(alloc, cluster)?;
+        start_heads(cluster, &mut starts, now);
+        let left = start_later(cluster, &mut starts, now);
+        return Ok((starts, left));
+    }
+    let shadow = shadow_for(cluster, need);
+    let Some(place) = first_place(cluster.row(), 0, now, free, shadow) else {
+        return Ok((Vec::new(alloc), Some(shadow)));
+    };
+    let mut starts = room_for_starts(alloc, cluster)?;
+    let left = pass_on(cluster, &mut starts, shadow, place, now);
+    Ok((starts, Some(left)))
 }

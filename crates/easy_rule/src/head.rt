@@ -8,6 +8,8 @@ use cluster_state::Cluster;
 use std::alloc::Allocator;
 
 // The least second at which so much is available, and what is over then.
+//
+// It narrows the seconds between one at which too little is available and one at which enough is.
 pub(crate) fn shadow_for<A: Allocator + Copy>(cluster: &Cluster<A>, need: u64) -> Shadow
     requires wants { free cluster.now.state < need }
     requires within { need ≤ cluster.now.state.machine }
@@ -15,11 +17,20 @@ pub(crate) fn shadow_for<A: Allocator + Copy>(cluster: &Cluster<A>, need: u64) -
     ensures least { IsLeast (λ t. need ≤ available cluster.now.state t) result.time }
 {
     let running = cluster.running();
+    let mut short = 0;
     let mut time = u64::MAX;
     for r in running {
         let end = r.start + r.job.estimate();
-        if end < time && need <= available_at(cluster, end) {
+        if end <= short {
+            continue;
+        }
+        if time <= end {
+            continue;
+        }
+        if need <= available_at(cluster, end) {
             time = end;
+        } else {
+            short = end;
         }
     }
     Shadow {

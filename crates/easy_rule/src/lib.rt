@@ -2,14 +2,18 @@
 #![tactic(auto)]
 
 mod available;
+mod backfill;
+mod behind;
 mod decision;
 pub mod examples;
 mod head;
 pub mod laws;
+mod pass;
 mod shadow_time;
 mod start;
 
-pub use decision::decide;
+pub use behind::decide_behind;
+pub use decision::{decide, decide_with_shadow};
 pub use head::shadow;
 pub use shadow_time::Shadow;
 pub use start::Start;

@@ -1,7 +1,9 @@
--- The fault of the program where its log is refused.
+-- The fault of the program where its log is refused or cannot be opened.
 use Rattle.swf_text.specs.declared.fault.SwfFault.{SwfFault}
 use Rattle.swf_text.specs.declared.fault.FaultKind.{FaultKind}
 use Rattle.swf_text.specs.declared.fault.FaultKind.TheVariants as kinds
+use Rattle.commands.specs.declared.opening_fault.OpenTextFault.{OpenTextFault}
+use Rattle.commands.specs.declared.opening_fault.OpenTextFault.TheVariants as openings
 use Rattle.easybook.specs.declared.fault.ProgramFault.{ProgramFault}
 use Rattle.easybook.specs.declared.fault.ProgramFault.TheVariants as faults
 
@@ -12,3 +14,9 @@ fault_of_kind fault kind = faults.Log fault
 -- the log's fault, unless memory was short
 abbrev pub fault_of : SwfFault → ProgramFault
 fault_of fault = fault_of_kind fault fault.kind
+
+-- why the log was not opened
+abbrev pub fault_of_opening : OpenTextFault → ProgramFault
+fault_of_opening openings.NoMachine = faults.NoMachine
+fault_of_opening openings.BadMachine = faults.BadMachine
+fault_of_opening openings.Memory = faults.Memory

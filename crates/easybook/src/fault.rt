@@ -1,6 +1,8 @@
 ghost use Rattle.std.specs.Prelude.{◌≡◌};
 ghost use Rattle.easybook.specs.declared.fault.ProgramFault.TheVariants.{Memory as OutOfMemory, Write as WriteFailed};
 
+use commands::OpenTextFault;
+use event_loop::EngineFault;
 use std::alloc::{AllocError, AllocFailed};
 use swf_text::{FaultKind, Memory, SwfFault, WriteFault};
 use thiserror::Error;
@@ -42,6 +44,30 @@ impl From<SwfFault> for ProgramFault {
             FaultKind::Memory => ProgramFault::Memory,
             _ => ProgramFault::Log(fault),
         }
+    }
+}
+
+impl From<OpenTextFault> for ProgramFault {
+    ghost use Rattle.std.specs.Prelude.{◌≡◌};
+    ghost use Rattle.easybook.specs.Fault.{fault_of_opening};
+
+    ghost from_gives = { λ fault given. given ≡ fault_of_opening fault };
+
+    fn from(fault: OpenTextFault) -> ProgramFault {
+        match fault {
+            OpenTextFault::NoMachine => ProgramFault::NoMachine,
+            OpenTextFault::BadMachine => ProgramFault::BadMachine,
+            OpenTextFault::Memory => ProgramFault::Memory,
+        }
+    }
+}
+
+impl From<EngineFault> for ProgramFault {
+    ghost from_gives = { λ _ fault. fault ≡ OutOfMemory };
+
+    // An engine fails for want of memory alone.
+    fn from(_fault: EngineFault) -> ProgramFault {
+        ProgramFault::Memory
     }
 }
 

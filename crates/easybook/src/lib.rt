@@ -7,6 +7,7 @@ mod options;
 mod plain;
 mod row;
 mod schedule;
+mod starts;
 mod words;
 
 pub use fault::ProgramFault;

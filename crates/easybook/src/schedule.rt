@@ -1,21 +1,13 @@
-ghost use Rattle.std.specs.Prelude.{◌≡◌, ◌++◌, ◌<◌, ◌^◌, All, IfOk, IfSome, OnOk, string_bytes};
-ghost use Rattle.easy_rule.specs.Simulation.{start_of};
-ghost use Rattle.easybook.specs.Schedule.{heading, line_of, lines_text};
+ghost use Rattle.std.specs.Prelude.{◌≡◌, ◌++◌, ◌<◌, ◌^◌, [], All, IfOk, IfSome, OnOk, string_bytes};
+ghost use Rattle.std.specs.Option.{option_map_or};
+ghost use Rattle.easybook.specs.Row.{row_text};
+ghost use Rattle.easybook.specs.Schedule.{heading, lines_text};
 
 use crate::row::push_row;
+use crate::starts::seconds_of;
 use easy_rule::Start;
 use scenarios::Job;
 use std::alloc::{AllocError, Allocator};
-
-// The start of the job of this number.
-fn start_of(starts: &[Start], number: u64) -> Option<u64>
-    requires { All (λ s. s.at < 2 ^ 49) starts.now }
-    ensures start { result ≡ start_of starts.now number }
-    ensures within { IfSome result (λ at. at < 2 ^ 49) }
-{
-    let start = starts.iter().find(|start| start.number == number)?;
-    Some(start.at)
-}
 
 fn push_heading<A: Allocator + Copy>(
     text: &mut String<A>,
@@ -34,12 +26,12 @@ fn push_heading<A: Allocator + Copy>(
 fn push_line<A: Allocator + Copy>(
     text: &mut String<A>,
     job: &Job,
-    starts: &[Start],
+    start: Option<u64>,
 ) -> Result<(), AllocError>
-    requires { All (λ s. s.at < 2 ^ 49) starts.now }
-    ensures { OnOk result (string_bytes text.new ≡ string_bytes text.old ++ line_of starts.now job.now) }
+    requires { IfSome start (λ at. at < 2 ^ 49) }
+    ensures { OnOk result (string_bytes text.new ≡ string_bytes text.old ++ option_map_or (row_text job.now) start []) }
 {
-    match start_of(starts, job.number()) {
+    match start {
         Some(start) => push_row(text, job, start),
         None => Ok(()),
     }
@@ -56,10 +48,11 @@ pub(crate) fn lines_text<A: Allocator + Copy>(
     requires { All (λ s. s.at < 2 ^ 49) starts.now }
     ensures { IfOk result (λ text. string_bytes text ≡ lines_text name.now version jobs.now starts.now) }
 {
+    let seconds = seconds_of(alloc, starts)?;
     let mut text = String::new(alloc);
     push_heading(&mut text, name, version, jobs.len())?;
     'lines: for job in jobs {
-        push_line(&mut text, job, starts)?;
+        push_line(&mut text, job, seconds.get(&job.number()).copied())?;
     }
     Ok(text)
 }

@@ -1,3 +1,0 @@
-pub mod SoundPlan
-pub mod Arranged
-pub mod Laws

@@ -24,7 +24,7 @@ pub struct LogPlan<A: Allocator + Copy> {
 
 impl<A: Allocator + Copy> Model for LogPlan<A> {
     ghost use Rattle.scenarios.specs.Plan.{Plan};
-    ghost use Rattle.reference.specs.SoundPlan.{IsPlan};
+    ghost use Rattle.timeline.specs.SoundPlan.{IsPlan};
 
     ghost Value = { Plan };
 
@@ -64,7 +64,7 @@ fn jobs_of<A: Allocator + Copy>(
 }
 
 impl<A: Allocator + Copy> LogPlan<A> {
-    ghost use Rattle.reference.specs.SoundPlan.{IsPlan};
+    ghost use Rattle.timeline.specs.SoundPlan.{IsPlan};
 
     /// The plan of a log under a scenario: the jobs of its entries that are not skipped, by submit
     /// second and job number.

@@ -2,3 +2,5 @@ pub mod Job
 pub mod Scenario
 pub mod Effective
 pub mod Plan
+pub mod Name
+pub mod ScenarioList

@@ -1,11 +1,13 @@
 use crate::{Job, Order, Scenario, Skip, effective};
+use job_table::JobTable;
 use std::test::Fail;
 use swf_text::read_swf;
 
 /// What the only entry of a log is on ten processors, with estimates times a factor.
 fn job(rt: &HostRuntime, line: &[u8], factor: u64) -> Result<Result<Job, Skip>, Fail> {
     let log = read_swf(rt.alloc(), line)?;
-    let entry = log.entries().first().ok_or("no entry")?;
+    let table = JobTable::from_text(rt.alloc(), &log)?;
+    let entry = table.from_second(0).peek().ok_or("no entry")?;
     let scenario = Scenario::new(10, factor).ok_or("no scenario")?;
     Ok(effective(entry, &scenario))
 }

@@ -138,24 +138,21 @@ module _ (old new : List LogEntry) (t : LogText) (seen : old ≡ t.entries) wher
   seen_count = ap length (sym seen)
 
 -- an index with a number more
-pub index_more : (old new : List LogEntry) (job : LogEntry) (number : ℕ) → new ≡ old ++ job ∷ [] → whole_number (field job.main 1) ≡ Some number → (n : ℕ) (a b : Bool) → a ≡ cond (eqb number n) true b → b ≡ list_any (has_number n) old → a ≡ list_any (has_number n) new
+pub index_more : (old new : List LogEntry) (job : LogEntry) (number : ℕ) → new ≡ old ++ job ∷ [] → whole_number (field job.main 1) ≡ Some number → (n : ℕ) (a b : Bool) → a ≡ (eqb number n || b) → b ≡ list_any (has_number n) old → a ≡ list_any (has_number n) new
 index_more old new job number is numbered n a b added kept =
     let whole : list_any (has_number n) new ≡ (list_any (has_number n) old || has_number n job) = ap (list_any (has_number n)) is ∙ list_any-append (has_number n) old (job ∷ []) ∙ ap (λ (c : Bool). list_any (has_number n) old || c) (or_false (has_number n job)) in
-    added ∙ ap (λ (c : Bool). cond (eqb number n) true c) kept ∙ either (eqb number n) (has_number n job) (list_any (has_number n) old) (eq_sides number n ∙ sym (ap (is_some_number n) numbered)) ∙ sym whole
+    added ∙ ap (λ (c : Bool). eqb number n || c) kept ∙ either (eqb number n) (has_number n job) (list_any (has_number n) old) (eq_sides number n ∙ sym (ap (is_some_number n) numbered)) ∙ sym whole
   where
     or_false : (c : Bool) → (c || false) ≡ c
     or_false true = refl
     or_false false = refl
 
-    either : (c d e : Bool) → c ≡ d → cond c true e ≡ (e || d)
+    either : (c d e : Bool) → c ≡ d → (c || e) ≡ (e || d)
     either c d true h = go c where
-      go : (c : Bool) → cond c true true ≡ true
+      go : (c : Bool) → (c || true) ≡ true
       go true = refl
       go false = refl
-    either c d false h = go c ∙ h where
-      go : (c : Bool) → cond c true false ≡ c
-      go true = refl
-      go false = refl
+    either c d false h = or_false c ∙ h
 
     eq_sides : (a b : ℕ) → eqb a b ≡ eqb b a
     eq_sides a b = go (eqb a b) (eqb b a) refl refl where

@@ -15,3 +15,5 @@ pub mod Bounds
 pub mod Headers
 pub mod Comments
 pub mod Kept
+pub mod Seens
+pub mod Tens

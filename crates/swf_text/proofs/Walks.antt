@@ -1,5 +1,5 @@
 -- One walk over a good line.
-use Rattle.std.proofs.Common.{◌≡◌, ℕ, suc, ◌+◌, ◌-◌, ◌*◌, ◌<◌, ◌≤◌, Bool, true, false, eqb, ltb, ◌||◌, min, List, [], ◌∷◌, ◌++◌, length, get_or, take, drop, set, Option, Some, None, Ok, ℤ, refl, sym, ap, subst, ◌∙◌, append_assoc, arith, inl, inr, add-one, length-set}
+use Rattle.std.proofs.Common.{◌≡◌, ℕ, suc, ◌+◌, ◌-◌, ◌*◌, ◌<◌, ◌≤◌, Bool, true, false, eqb, ltb, ◌||◌, List, [], ◌∷◌, ◌++◌, length, get_or, take, drop, set, Option, Some, None, Ok, ℤ, refl, sym, ap, subst, ◌∙◌, append_assoc, arith, inl, inr, add-one, length-set}
 use Rattle.std.specs.Prelude.{IsTrue}
 use Rattle.std.specs.List.{list_all, list_any, prefix_len}
 use Rattle.std.specs.Char.{is_ascii_digit}
@@ -20,9 +20,9 @@ use Rattle.swf_text.proofs.Plains.{is_plain, word_fields, spelling_plain, all_lo
 digits_tests : (ds : List ℕ) → list_all is_ascii_digit ds ≡ true → 0 < length ds → IsTrue (are_digits ds)
 digits_tests ds all some = let t : ltb 0 (length ds) ≡ true = lt-ltb 0 (length ds) some in rw (t, all) refl
 
-module _ (bytes unsigned : List ℕ) (n : Bool) (count whole : ℕ) (sign : n ≡ begins_negative bytes) (body : unsigned ≡ unsigned_text bytes) (within : count ≤ length unsigned) (digits : list_all is_ascii_digit (take count unsigned) ≡ true) (value : whole ≡ min 1000000000001 (decimal (take count unsigned))) (some : 0 < count) (small : whole ≤ 1000000000000) where
+module _ (bytes unsigned : List ℕ) (n : Bool) (count whole : ℕ) (sign : n ≡ begins_negative bytes) (body : unsigned ≡ unsigned_text bytes) (within : count ≤ length unsigned) (digits : list_all is_ascii_digit (take count unsigned) ≡ true) (value : whole ≡ decimal (take count unsigned)) (some : 0 < count) (small : whole ≤ 1000000000000) where
   exact : decimal (take count unsigned) ≡ whole
-  exact = omega arith
+  exact = sym value
 
   filled : 0 < length (take count unsigned)
   filled = omega (arith, length-take-le count unsigned within)

@@ -4,6 +4,7 @@ pub mod Fault
 pub mod Entry
 pub mod Log
 pub mod Text
+pub mod Seen
 pub mod Reading
 pub mod Grammar
 pub mod Scan

@@ -1,9 +1,6 @@
 -- The reading of a log as one step after another: each line adds to the text before it, or ends the reading.
-use Rattle.std.specs.Prelude.{◌≡◌, ℕ, ◌+◌, ◌-◌, List, [], ◌∷◌, ◌++◌, length, nat_eq, nat_le, if◌then◌else◌, Option, Some, None, Result, Ok, Err, ℤ, slice_get, slice_set}
+use Rattle.std.specs.Prelude.{◌≡◌, ℕ, ◌+◌, ◌-◌, List, [], ◌∷◌, ◌++◌, length, nat_le, if◌then◌else◌, Option, Some, None, Result, Ok, Err, ℤ, slice_get, slice_set}
 use Rattle.std.specs.List.{list_any}
-use Rattle.std.specs.HashSet.{HashSet, contains}
-use Rattle.std.specs.declared.hash.FoldHasher.{FoldHasher}
-use Rattle.std.specs.declared.hash.BuildHasherDefault.{BuildHasherDefault}
 use Rattle.swf_text.specs.declared.line.LineRead.{LineRead}
 use Rattle.swf_text.specs.declared.line.LineRead.TheVariants as read
 use Rattle.swf_text.specs.declared.fault.FaultKind.{FaultKind}
@@ -86,13 +83,3 @@ FailsAt kind number reading = reading ≡ Err (record { line = number; kind = ki
 abbrev pub Gives : Result LogText SwfFault → Result LogText SwfFault → Type 0
 Gives (Ok text) reading = reading ≡ Ok text
 Gives (Err fault) reading = FailsAt fault.kind fault.line reading
-
--- ---- the index
-
--- a set of job numbers
-abbrev pub Numbers : Type 0
-Numbers = HashSet ℕ (BuildHasherDefault FoldHasher)
-
--- the set has the numbers of the entries
-abbrev pub IsIndex : Numbers → List LogEntry → Type 0
-IsIndex numbers entries = (n : ℕ) → contains nat_eq numbers n ≡ list_any (has_number n) entries

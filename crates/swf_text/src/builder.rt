@@ -9,11 +9,10 @@ use crate::entry::Entry;
 use crate::fault::FaultKind;
 use crate::line::{Fields, LineRead};
 use crate::scan::{from_first, read_line, without_returns};
+use crate::seen::SeenNumbers;
 use crate::text::SwfText;
 use crate::value::Value;
 use std::alloc::Allocator;
-use std::collections::HashSet;
-use std::hash::{BuildHasherDefault, FoldHasher};
 use std::marker::Model;
 
 /// The most entries of a log.
@@ -24,20 +23,20 @@ const ENTRY_LIMIT: usize = 4_194_304;
 pub(crate) struct Builder<A: Allocator + Copy> {
     comments: Vec<Vec<u8, A>, A>,
     entries: Vec<Entry<A>, A>,
-    numbers: HashSet<u64, BuildHasherDefault<FoldHasher>, A>,
+    numbers: SeenNumbers<A>,
 }
 
 impl<A: Allocator + Copy> Model for Builder<A> {
     ghost use Rattle.std.specs.Prelude.{map};
     ghost use Rattle.swf_text.specs.Log.{IsLog};
     ghost use Rattle.swf_text.specs.Text.{LogText};
-    ghost use Rattle.swf_text.specs.Reading.{IsIndex};
+    ghost use Rattle.swf_text.specs.Seen.{IsIndex};
 
     ghost Value = { LogText };
 
     ghost view = { λ b. record { comments = map (λ c. c.items) b.comments.items; entries = b.entries.items } };
 
-    ghost invariant = { λ b. record { log : IsLog b.entries.items; index : IsIndex b.numbers b.entries.items } };
+    ghost invariant = { λ b. record { log : IsLog b.entries.items; index : IsIndex b.numbers.rising.items b.numbers.others b.entries.items } };
 }
 
 // Adds a partial line to the last entry, which must have this number.
@@ -76,7 +75,7 @@ impl<A: Allocator + Copy> Builder<A> {
         Builder {
             comments: Vec::new(alloc),
             entries: Vec::new(alloc),
-            numbers: HashSet::new(alloc),
+            numbers: SeenNumbers::new(alloc),
         }
     }
 
@@ -93,7 +92,7 @@ impl<A: Allocator + Copy> Builder<A> {
         if is_before_start(&job) {
             return Err(FaultKind::BadSubmit);
         }
-        if self.numbers.contains(&number) {
+        if self.numbers.contains(number) {
             return Err(FaultKind::DuplicateJob);
         }
         if self.entries.len() >= ENTRY_LIMIT {

@@ -12,8 +12,9 @@ use std::alloc::Allocator;
 /// The most digits of a header number.
 const DIGIT_LIMIT: usize = 18;
 
-// The number of the digits.
-fn decimal(digits: &[u8]) -> u64
+/// The number that at most eighteen digits spell, 0 of none. Its conditions are that they are
+/// digits, and so few. Takes no memory.
+pub fn decimal(digits: &[u8]) -> u64
     requires few { length digits.now ≤ 18 }
     requires all { list_all is_ascii_digit digits.now ≡ true }
     ensures { result ≡ decimal digits.now }

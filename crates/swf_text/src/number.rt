@@ -13,8 +13,8 @@ pub(crate) const WHOLE_LIMIT: u64 = 1_000_000_000_000;
 /// The greatest size of a value, in millionths.
 pub(crate) const LIMIT: u64 = 1_000_000_000_000_000_000;
 
-// Whether the bytes are one digit or more.
-fn are_digits(bytes: &[u8]) -> bool
+/// Whether the bytes are one digit or more. Takes no memory.
+pub fn are_digits(bytes: &[u8]) -> bool
     ensures { result ≡ are_digits bytes.now }
 {
     !bytes.is_empty() && all_digits(bytes)
@@ -26,8 +26,9 @@ fn all_digits(bytes: &[u8]) -> bool
     bytes.iter().all(|byte| byte.is_ascii_digit())
 }
 
-// The number of the digits, where it is within the limit.
-fn whole_part(digits: &[u8]) -> Option<u64>
+/// The number that the digits spell, where it is at most a trillion; None of other bytes, and of
+/// none. Takes no memory.
+pub fn whole_part(digits: &[u8]) -> Option<u64>
     ensures value { result ≡ (if are_digits digits.now && nat_le (decimal digits.now) 1000000000000 then Some (decimal digits.now) else None) }
     ensures small { IfSome result (λ n. n ≤ 1000000000000) }
 {

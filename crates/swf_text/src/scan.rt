@@ -45,8 +45,8 @@ fn word_len(bytes: &[u8]) -> usize
     bytes.len()
 }
 
-// The bytes without the carriage returns at their end.
-pub(crate) fn without_returns(bytes: &[u8]) -> &[u8]
+/// The bytes without the carriage returns at their end. Takes no memory.
+pub fn without_returns(bytes: &[u8]) -> &[u8]
     ensures { result.now ≡ without_returns bytes.now }
 {
     let mut end = bytes.len();
@@ -56,8 +56,8 @@ pub(crate) fn without_returns(bytes: &[u8]) -> &[u8]
     &bytes[..end]
 }
 
-// The bytes from the first that is no blank.
-pub(crate) fn from_first(bytes: &[u8]) -> &[u8]
+/// The bytes from the first that is no blank, a space or a tab. Takes no memory.
+pub fn from_first(bytes: &[u8]) -> &[u8]
     ensures { result.now ≡ from_first bytes.now }
 {
     &bytes[blank_count(bytes)..]
@@ -70,8 +70,9 @@ fn has_high(bytes: &[u8]) -> bool
     bytes.iter().any(|byte| *byte >= 128)
 }
 
-// The first word and what follows it; both are empty where only blanks are left.
-fn next_word(bytes: &[u8]) -> (&[u8], &[u8])
+/// The first word between blanks and what follows it; both are empty where only blanks are left.
+/// Takes no memory.
+pub fn next_word(bytes: &[u8]) -> (&[u8], &[u8])
     ensures word { result.0.now ≡ first_word bytes.now }
     ensures rest { result.1.now ≡ after_word bytes.now }
 {

@@ -29,7 +29,7 @@ impl Model for Value {
 
 impl Value {
     /// The value 0.
-    pub(crate) const ZERO: Value = Value { millionths: 0 };
+    pub const ZERO: Value = Value { millionths: 0 };
 
     /// The value that the bytes spell: an optional `-`, digits, and optionally a point with digits
     /// behind it. Digits after the sixth decimal are cut, towards zero. None where the bytes are

@@ -1,4 +1,4 @@
-ghost use Rattle.std.specs.Prelude.{◌≡◌, ◌∷◌, ◌++◌, ◌+◌, ◌*◌, ◌≤◌, ◌<◌, take, drop, length, min, IfSome, IsTrue, List, ℕ, true};
+ghost use Rattle.std.specs.Prelude.{◌≡◌, ◌∷◌, ◌++◌, ◌+◌, ◌*◌, ◌≤◌, ◌<◌, take, drop, length, IfSome, IsTrue, List, ℕ, true};
 ghost use Rattle.std.specs.List.{list_all};
 ghost use Rattle.std.specs.Char.{is_ascii_digit};
 ghost use Rattle.swf_text.specs.Number.{decimal, greatest, millionths_of};
@@ -7,24 +7,29 @@ ghost use Rattle.swf_text.specs.Header.{digit_len};
 ghost use Rattle.swf_text.specs.Line.{job_line, job_of_values};
 ghost use Rattle.std.specs.Prelude.{Ok};
 
-use crate::number::{LIMIT, WHOLE_LIMIT, millionths, split_sign};
+use crate::number::{LIMIT, millionths, split_sign};
 use crate::scan::from_first;
 use crate::value::{Value, signed_value};
 
-// The number of the digits that the bytes begin with, cut off past the limit, and how many they are.
+/// The most digits that the walk takes for a whole part.
+const DIGITS: usize = 12;
+
+// The number of the digits that the bytes begin with, of at most twelve, and how many they are.
 fn leading_digits(bytes: &[u8]) -> (u64, usize)
     ensures within { result.1 ≤ length bytes.now }
     ensures digits { list_all is_ascii_digit (take result.1 bytes.now) ≡ true }
-    ensures value { result.0 ≡ min 1000000000001 (decimal (take result.1 bytes.now)) }
+    ensures value { result.0 ≡ decimal (take result.1 bytes.now) }
+    ensures limit { result.0 < 1000000000000 }
 {
+    let front = &bytes[..bytes.len().min(DIGITS)];
     let mut value = 0u64;
-    for (place, byte) in bytes.iter().enumerate() {
+    for (place, byte) in front.iter().enumerate() {
         if !byte.is_ascii_digit() {
             return (value, place);
         }
-        value = (value * 10 + u64::from(byte.saturating_sub(b'0'))).min(WHOLE_LIMIT + 1);
+        value = value * 10 + u64::from(byte.saturating_sub(b'0'));
     }
-    (value, bytes.len())
+    (value, front.len())
 }
 
 // How many digits the bytes begin with.
@@ -67,7 +72,7 @@ fn word_at(bytes: &[u8]) -> Option<(Value, &[u8])>
 {
     let (is_negative, unsigned) = split_sign(bytes);
     let (whole, count) = leading_digits(unsigned);
-    if count == 0 || whole > WHOLE_LIMIT {
+    if count == 0 {
         return None;
     }
     let rest = &unsigned[count..];

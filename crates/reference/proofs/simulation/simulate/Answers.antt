@@ -3,10 +3,10 @@ use Rattle.scenarios.specs.Plan.{Plan}
 use Rattle.cluster_state.specs.State.{State}
 use Rattle.easy_rule.specs.Rule.{state_after}
 use Rattle.easy_rule.specs.Simulation.{before, starts_before, last_submit, bound}
-use Rattle.reference.proofs.Facts.{sound-arrivals, second-is, machine-is, before-more, starts_before-more}
-use Rattle.reference.proofs.Short.{short-plan, bound-is}
-use Rattle.reference.proofs.Rest.{all-started}
-use Rattle.reference.proofs.Seconds.{all-start-early}
+use Rattle.timeline.proofs.Facts.{sound-arrivals, second-is, machine-is, before-more, starts_before-more}
+use Rattle.timeline.proofs.Short.{short-plan, bound-is}
+use Rattle.timeline.proofs.Rest.{all-started}
+use Rattle.timeline.proofs.Seconds.{all-start-early}
 use Rattle.reference.proofs.simulation.simulate.Goals as goal
 
 pub total_of-requires : goal.total_of-requires

@@ -1,0 +1,117 @@
+-- The comments that tell of scenarios, as they are written, read and kept.
+use Rattle.std.proofs.Common.{◌≡◌, ℕ, ◌+◌, ◌-◌, ◌*◌, ◌%◌, ◌<◌, ◌≤◌, ◌^◌, Bool, true, false, ◌&&◌, ltb, leb, List, [], ◌∷◌, ◌++◌, length, get_or, take, drop, Some, refl, sym, ap, ◌∙◌, length-append, arith}
+use Rattle.std.specs.List.{list_all, position_or_len}
+use Rattle.std.specs.Char.{is_ascii_digit}
+use Rattle.std.specs.Fmt.{decimal as decimal_text}
+use Rattle.std.proofs.lemmas.Bool.{lt-ltb}
+use Rattle.std.proofs.lemmas.Bool.Decides.{nat_tests}
+use Rattle.std.proofs.lemmas.Fmt.{decimal_by_steps, decimal_nonempty, length-decimal-le}
+use Rattle.std.proofs.lemmas.Grind.{common_steps}
+use Rattle.std.proofs.lemmas.List.{append-nil, take_at, drop_at}
+use Rattle.std.proofs.lemmas.List.Sums.{fold-append}
+use Rattle.std.proofs.lemmas.List.Folds.{list_all-append}
+use Rattle.swf_text.specs.Number.{decimal}
+use Rattle.swf_text.specs.Line.{is_blank, fields}
+use Rattle.swf_text.specs.Scan.{ends}
+use Rattle.swf_text.proofs.Numbers.{and_first, and_second}
+use Rattle.swf_text.proofs.Words.{fields-word, fields-blank}
+use Rattle.scenarios.specs.declared.order.Order.{Order}
+use Rattle.scenarios.specs.declared.order.Order.TheVariants.{Arrival, Shortest}
+use Rattle.scenarios.specs.Name.{is_name, is_name_byte}
+use Rattle.scenarios.specs.Scenario.{Setting, IsSetting}
+use Rattle.commands.specs.declared.comment.ScenarioLine.{ScenarioLine}
+use Rattle.commands.specs.Words.{order_of}
+use Rattle.commands.specs.ScenarioLine.{short_number, line_of_words, scenario_line, order_text, scenario_comment}
+use Rattle.commands.proofs.LineWords.{name_bytes}
+
+-- ---- words without blanks
+
+module _ (p : ℕ → Bool) (solid : (b : ℕ) → p b ≡ true → is_blank b ≡ false) where
+  word_end : (w rest : List ℕ) → list_all p w ≡ true → ends rest ≡ true → position_or_len is_blank (w ++ rest) ≡ length w
+  word_end [] [] all end = refl
+  word_end [] (b ∷ bs) all end = rw end refl
+  word_end (b ∷ w) rest all end = let other = solid b (and_first _ _ all) in rw other (omega (arith, word_end w rest (and_second (p b) (list_all p w) all) end))
+
+  front_solid : (w rest : List ℕ) → list_all p w ≡ true → 0 < length w → is_blank (get_or (w ++ rest) 0 0) ≡ false
+  front_solid [] rest all some = absurd (omega arith)
+  front_solid (b ∷ w) rest all some = solid b (and_first _ _ all)
+
+  pub solid_fields : (w rest : List ℕ) → list_all p w ≡ true → 0 < length w → ends rest ≡ true → fields (w ++ rest) ≡ w ∷ fields rest
+  solid_fields w rest all some end =
+      let place = word_end w rest all end in
+      fields-word (w ++ rest) (omega (arith, length-append w rest)) (front_solid w rest all some)
+      ∙ ap (λ (k : ℕ). take k (w ++ rest) ∷ fields (drop k (w ++ rest))) place
+      ∙ rw (take_at w rest (length w) refl, drop_at w rest (length w) refl) refl
+
+name_solid : (b : ℕ) → is_name_byte b ≡ true → is_blank b ≡ false
+name_solid b h = grind (arith, common_steps)
+
+digit_solid : (b : ℕ) → is_ascii_digit b ≡ true → is_blank b ≡ false
+digit_solid b h = grind (arith, common_steps)
+
+-- ---- numbers in digits
+
+digit_tests : (n : ℕ) → n < 10 → is_ascii_digit (48 + n) ≡ true
+digit_tests n lt = grind (arith, common_steps)
+
+abbrev Spelled : ℕ → List ℕ → Type 0
+Spelled n ds = (list_all is_ascii_digit ds ≡ true) × (decimal ds ≡ n)
+
+pub spelled : (n : ℕ) → n < 2 ^ 64 → Spelled n (decimal_text n)
+spelled n lt = decimal_by_steps Spelled
+    (λ n small. (rw (digit_tests n small) refl, omega arith))
+    (λ n ds big below. (
+      rw (list_all-append is_ascii_digit ds ((48 + n % 10) ∷ []), below.0, digit_tests (n % 10) (omega arith)) refl,
+      fold-append (λ m digit. 10 * m + (digit - 48)) 0 ds ((48 + n % 10) ∷ []) ∙ rw (below.1) (omega arith),
+    ))
+    n lt
+
+short_decimal : (n : ℕ) → n < 100000000 → short_number (decimal_text n) ≡ Some n
+short_decimal n lt =
+    let digits = spelled n (omega arith) in
+    let some : ltb 0 (length (decimal_text n)) ≡ true = lt-ltb 0 (length (decimal_text n)) (decimal_nonempty n (omega arith)) in
+    let few : length (decimal_text n) ≤ 8 = length-decimal-le 8 n (omega arith) (omega arith) (omega arith) in
+    let short : leb (length (decimal_text n)) 18 ≡ true = grind (arith, nat_tests) in
+    rw (some, digits.0, short, digits.1) refl
+
+-- ---- the comment of a scenario is read as it
+
+order_word : (o : Order) → (list_all is_name_byte (order_text o) ≡ true) × (0 < length (order_text o)) × (order_of (order_text o) ≡ Some o)
+order_word Arrival = (refl, omega arith, refl)
+order_word Shortest = (refl, omega arith, refl)
+
+some_name : (name : List ℕ) → is_name name ≡ true → 0 < length name
+some_name name h =
+    let both = and_first (leb 1 (length name) && leb (length name) 16) (list_all is_name_byte name) h in
+    le-leb 1 (length name) (and_first (leb 1 (length name)) (leb (length name) 16) both)
+  where
+    le-leb : (a b : ℕ) → leb a b ≡ true → a ≤ b
+    le-leb a b e = grind (arith, common_steps)
+
+comment_fields : (name : List ℕ) (setting : Setting) → is_name name ≡ true → IsSetting setting → fields (32 ∷ (name ++ 32 ∷ (decimal_text setting.procs ++ 32 ∷ (decimal_text setting.factor ++ 32 ∷ order_text setting.order)))) ≡ name ∷ decimal_text setting.procs ∷ decimal_text setting.factor ∷ order_text setting.order ∷ []
+comment_fields name setting called set =
+    let procs = decimal_text setting.procs in
+    let factor = decimal_text setting.factor in
+    let order = order_text setting.order in
+    let p = set.procs_fit in
+    let f = set.factor_fits in
+    let last : fields order ≡ order ∷ [] = ap fields (sym (append-nil order)) ∙ solid_fields is_name_byte name_solid order [] (order_word setting.order).0 (order_word setting.order).1 refl in
+    let third : fields (factor ++ 32 ∷ order) ≡ factor ∷ order ∷ [] = solid_fields is_ascii_digit digit_solid factor (32 ∷ order) (spelled setting.factor (omega arith)).0 (decimal_nonempty setting.factor (omega arith)) refl ∙ ap (λ (l : List (List ℕ)). factor ∷ l) (fields-blank 32 order refl ∙ last) in
+    let second : fields (procs ++ 32 ∷ (factor ++ 32 ∷ order)) ≡ procs ∷ factor ∷ order ∷ [] = solid_fields is_ascii_digit digit_solid procs (32 ∷ (factor ++ 32 ∷ order)) (spelled setting.procs (omega arith)).0 (decimal_nonempty setting.procs (omega arith)) refl ∙ ap (λ (l : List (List ℕ)). procs ∷ l) (fields-blank 32 (factor ++ 32 ∷ order) refl ∙ third) in
+    fields-blank 32 (name ++ 32 ∷ (procs ++ 32 ∷ (factor ++ 32 ∷ order))) refl
+    ∙ solid_fields is_name_byte name_solid name (32 ∷ (procs ++ 32 ∷ (factor ++ 32 ∷ order))) (name_bytes name called) (some_name name called) refl
+    ∙ ap (λ (l : List (List ℕ)). name ∷ l) (fields-blank 32 (procs ++ 32 ∷ (factor ++ 32 ∷ order)) refl ∙ second)
+
+-- the line of a scenario
+abbrev pub line_for : List ℕ → Setting → ScenarioLine
+line_for name setting = record { name = name; procs = setting.procs; factor = setting.factor; order = setting.order }
+
+pub scenario_line-comment : (name : List ℕ) (setting : Setting) → is_name name ≡ true → IsSetting setting → scenario_line (scenario_comment name setting) ≡ Some (line_for name setting)
+scenario_line-comment name setting called set =
+    let p = set.procs_fit in
+    let f = set.factor_fits in
+    let procs = short_decimal setting.procs (omega arith) in
+    let factor = short_decimal setting.factor (omega arith) in
+    let order = (order_word setting.order).2 in
+    let words = comment_fields name setting called set in
+    ap line_of_words words ∙ rw (called, procs, factor, order) refl

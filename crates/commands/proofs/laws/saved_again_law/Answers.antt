@@ -1,0 +1,8 @@
+use Rattle.commands.proofs.SavedAgain.{saves_sound, saves_same}
+use Rattle.commands.proofs.laws.saved_again_law.Goals as goal
+
+pub returns-clause-sound : goal.returns-clause-sound
+returns-clause-sound c = saves_sound
+
+pub returns-clause-same : goal.returns-clause-same
+returns-clause-same c = saves_same

@@ -1,0 +1,5 @@
+pub mod Words
+pub mod Commands
+pub mod ScenarioLine
+pub mod Opening
+pub mod Laws

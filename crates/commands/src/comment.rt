@@ -1,0 +1,88 @@
+ghost use Rattle.std.specs.Prelude.{◌≡◌, map};
+ghost use Rattle.commands.specs.ScenarioLine.{short_number, line_made, line_of_words, after_mark, scenario_line};
+
+use crate::name::Name;
+use crate::values::order_of;
+use crate::words::words_of;
+use scenarios::Order;
+use swf_text::{are_digits, decimal, from_first};
+
+/// What a comment that tells of a scenario has behind its `;`.
+const MARK: &[u8] = b"Scenario:";
+
+/// The most digits of a number on such a comment.
+const DIGIT_LIMIT: usize = 18;
+
+/// A scenario as a comment of a log tells it: `; Scenario: NAME PROCS FACTOR ORDER`. The numbers
+/// may lie outside the limits of a scenario.
+#[derive(Drop)]
+pub struct ScenarioLine {
+    pub name: Name,
+    pub procs: u64,
+    pub factor: u64,
+    pub order: Order,
+}
+
+// The number of one to eighteen digits.
+fn short_number(word: &[u8]) -> Option<u64>
+    ensures { result ≡ short_number word.now }
+{
+    if are_digits(word) && word.len() <= DIGIT_LIMIT {
+        Some(decimal(word))
+    } else {
+        None
+    }
+}
+
+// The line of a name, processors, a factor and an order.
+fn line_made(name: &[u8], procs: &[u8], factor: &[u8], order: Option<Order>) -> Option<ScenarioLine>
+    ensures { result ≡ line_made name.now procs.now factor.now order }
+{
+    let name = Name::new(name)?;
+    let procs = short_number(procs)?;
+    let factor = short_number(factor)?;
+    let order = order?;
+    Some(ScenarioLine {
+        name,
+        procs,
+        factor,
+        order,
+    })
+}
+
+// The line of the words behind the mark.
+fn line_of_words(words: &[&[u8]]) -> Option<ScenarioLine>
+    ensures { result ≡ line_of_words (map (λ w. w.now) words.now) }
+{
+    if words.len() == 3 {
+        return line_made(words[0], words[1], words[2], Some(Order::Arrival));
+    }
+    if words.len() == 4 {
+        return line_made(words[0], words[1], words[2], order_of(words[3]));
+    }
+    None
+}
+
+// The line of the bytes that begin with the mark.
+fn after_mark(bytes: &[u8]) -> Option<ScenarioLine>
+    ensures { result ≡ after_mark bytes.now }
+{
+    if bytes.starts_with(MARK) {
+        line_of_words(words_of(&bytes[MARK.len()..]).as_slice())
+    } else {
+        None
+    }
+}
+
+/// The scenario that a comment of a log tells of; None of any other comment. Such a comment is
+/// `;`, blanks or none, `Scenario:`, blanks or none, and then three or four words between blanks: a
+/// name, processors and a factor in one to eighteen digits, and `arrival` or `shortest`; without
+/// this word the order is that of arrival. Takes no memory.
+pub fn scenario_line(comment: &[u8]) -> Option<ScenarioLine>
+    ensures { result ≡ scenario_line comment.now }
+{
+    match comment {
+        [b';', rest @ ..] => after_mark(from_first(rest)),
+        _ => None,
+    }
+}

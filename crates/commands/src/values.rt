@@ -1,0 +1,91 @@
+ghost use Rattle.std.specs.Prelude.{◌≡◌, ◌≤◌, IfOk, map, length};
+ghost use Rattle.swf_text.specs.Number.{number_of};
+ghost use Rattle.commands.specs.Words.{number_between, order_of, entry_value, may_stand, entry_values, job_value};
+
+use scenarios::Order;
+use swf_text::{Value, whole_part};
+
+/// The greatest job number.
+pub(crate) const JOB_LIMIT: u64 = 1_000_000_000_000;
+
+// The number that the digits of a word spell, where it is within these limits.
+pub(crate) fn number_between(word: &[u8], least: u64, most: u64) -> Option<u64>
+    requires { most ≤ 1000000000000 }
+    ensures { result ≡ number_between least most word.now }
+{
+    let number = whole_part(word)?;
+    if number < least || number > most {
+        return None;
+    }
+    Some(number)
+}
+
+// The order that a word names.
+pub(crate) fn order_of(word: &[u8]) -> Option<Order>
+    ensures { result ≡ order_of word.now }
+{
+    if word == b"arrival".as_slice() {
+        return Some(Order::Arrival);
+    }
+    if word == b"shortest".as_slice() {
+        return Some(Order::Shortest);
+    }
+    None
+}
+
+// The value of a number of a log.
+pub(crate) fn value_of(word: &[u8]) -> Option<Value>
+    ensures { result ≡ number_of word.now }
+{
+    Value::from_bytes(word)
+}
+
+// The value of a job number in digits.
+fn job_value(word: &[u8]) -> Option<Value>
+    ensures { result ≡ job_value word.now }
+{
+    number_between(word, 0, JOB_LIMIT)?;
+    value_of(word)
+}
+
+// Whether a value may stand at this place behind `insert`.
+fn may_stand(place: u8, value: &Value) -> bool
+    ensures { result ≡ may_stand place value.now }
+{
+    match place {
+        2 => value.millionths() >= 0,
+        11 => !matches!(value.millionths(), 2_000_000 | 3_000_000 | 4_000_000),
+        _ => true,
+    }
+}
+
+// The value of the word at this place behind `insert`, if it may stand there.
+fn entry_value(place: u8, word: &[u8]) -> Option<Value>
+    ensures { result ≡ entry_value place word.now }
+{
+    if place == 1 {
+        return job_value(word);
+    }
+    let value = value_of(word)?;
+    if may_stand(place, &value) {
+        Some(value)
+    } else {
+        None
+    }
+}
+
+// The values of the eighteen words behind `insert`, or the place of the first that can't stand
+// there.
+pub(crate) fn entry_values(words: &[&[u8]]) -> Result<[Value; 18], u8>
+    requires { length words.now ≡ 18 }
+    ensures { result ≡ entry_values 1 (map (λ w. w.now) words.now) }
+{
+    let mut values = [Value::ZERO; 18];
+    for place in 0..18u8 {
+        match entry_value(place + 1, words[place as usize]) {
+            Some(value) => values[place as usize] = value,
+            None => return Err(place + 1),
+        }
+    }
+    Ok(values)
+}

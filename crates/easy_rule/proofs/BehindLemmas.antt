@@ -1,0 +1,108 @@
+-- A decision behind those who are known to wait.
+use Rattle.std.proofs.Common.{◌≡◌, ℕ, zero, suc, ◌≤◌, ◌<◌, false, nat_le, List, [], ◌∷◌, get_or, take, drop, Some, None, All, find, refl, sym, ◌∙◌, ap, subst, ⊎_elim}
+use Rattle.std.specs.List.{list_any}
+use Rattle.std.proofs.lemmas.List.Folds.{list_any_at, list_any_none}
+use Rattle.std.proofs.lemmas.List.Elements.{All-tail, All-nil, All-cons, All-append}
+use Rattle.std.proofs.lemmas.List.{take-append-drop}
+use Rattle.std.proofs.lemmas.Bool.{le-leb, lt-leb, cond-true, cond-false, false_from_ne_true, cases_lt, true≢false}
+use Rattle.scenarios.specs.Job.{EffectiveJob}
+use Rattle.scenarios.specs.declared.order.Order.{Order}
+use Rattle.scenarios.specs.declared.order.Order.TheVariants.{Arrival, Shortest}
+use Rattle.cluster_state.specs.State.{State, free}
+use Rattle.cluster_state.specs.Row.{in_order}
+use Rattle.cluster_state.proofs.RowLemmas.{All-by_estimate, in_order-All}
+use Rattle.easy_rule.specs.declared.shadow_time.Shadow.{Shadow}
+use Rattle.easy_rule.specs.Rule.{shadow_of, shadow_for, next, next_of, may_backfill, shadow_at, shadow_time}
+use Rattle.easy_rule.specs.Pass.{row, front, IsPass}
+use Rattle.easy_rule.proofs.NextLemmas.{next-row, too-large}
+use Rattle.easy_rule.proofs.PassLemmas.{find-none, none-passes}
+
+-- what the order lets go by: if none of the queue may start, none of the row may
+All-in_order : (P : EffectiveJob → Type 0) (o : Order) (js : List EffectiveJob) → All P js → All P (in_order o js)
+All-in_order P Arrival js a = a
+All-in_order P Shortest js a = All-by_estimate P js a
+
+known-is : (s : State) (head : EffectiveJob) (rest : List EffectiveJob) (w : Shadow) → free s < head.size → shadow_for s (head ∷ rest) ≡ Some w → w ≡ shadow_at s head.size
+known-is s head rest w waits e =
+    let k : Some (shadow_at s head.size) ≡ Some w = sym (cond-false (nat_le head.size (free s)) None (Some (shadow_at s head.size)) (lt-leb head.size (free s) waits)) ∙ e in
+    cc
+
+-- where the shadow is known, the first waiting job does not fit
+pub record IsBehind (s : State) (now : ℕ) (w : Shadow) (settled : ℕ) : Type 0 where
+  pub head : EffectiveJob
+  pub later : List EffectiveJob
+  pub queue : s.waiting ≡ head ∷ later
+  pub waits : free s < head.size
+  pub shadow : w ≡ shadow_at s head.size
+  pub refused : All (λ j. may_backfill now (free s) w j ≡ false) (take settled s.waiting)
+
+-- the settled front of a queue whose first job does not fit
+front-refused : (s : State) (now n : ℕ) (w : Shadow) (head : EffectiveJob) (rest : List EffectiveJob) → free s < head.size → w ≡ shadow_at s head.size → next_of (front s n) now (take n (head ∷ rest)) ≡ None
+    → All (λ j. may_backfill now (free s) w j ≡ false) (take n (head ∷ rest))
+unfolding shadow_time
+front-refused s now zero w head rest waits is e = All-nil (λ j. may_backfill now (free s) w j ≡ false)
+front-refused s now (suc n) w head rest waits is e =
+    let q = may_backfill now (free s) (shadow_at s head.size) in
+    let none : find q (in_order s.order (take n rest)) ≡ None =
+    sym (cond-false (nat_le head.size (free s)) (Some head) (find q (in_order s.order (take n rest))) (lt-leb head.size (free s) waits)) ∙ e in
+    subst (λ v. All (λ j. may_backfill now (free s) v j ≡ false) (head ∷ take n rest)) (sym is)
+    (All-cons (λ j. q j ≡ false) head (take n rest) (too-large now (free s) (shadow_at s head.size) head waits)
+    (in_order-All (λ j. q j ≡ false) s.order (take n rest) (none-passes q (in_order s.order (take n rest)) none)))
+
+pub behind-is : (s : State) (now n : ℕ) (w : Shadow) → shadow_of s ≡ Some w → next (front s n) now ≡ None → IsBehind s now w n
+behind-is s now n w known settled = go s.waiting refl known settled
+  where
+    go : (js : List EffectiveJob) → s.waiting ≡ js → shadow_for s js ≡ Some w → next_of (front s n) now (take n js) ≡ None → IsBehind s now w n
+    go [] queue known e = cc
+    go (head ∷ rest) queue known e =
+        ⊎_elim
+        (λ (waits : free s < head.size).
+        let is = known-is s head rest w waits known in
+        record {
+          head = head;
+          later = rest;
+          queue = queue;
+          waits = waits;
+          shadow = is;
+          refused = subst (λ js. All (λ j. may_backfill now (free s) w j ≡ false) (take n js)) (sym queue) (front-refused s now n w head rest waits is e);
+        })
+        (λ (fits : head.size ≤ free s).
+        let never : None ≡ Some w = sym (cond-true (nat_le head.size (free s)) None (Some (shadow_at s head.size)) (le-leb head.size (free s) fits)) ∙ known in
+        cc)
+        (cases_lt (free s) head.size)
+
+-- where none behind the settled ones may start either, nobody is next
+pub behind-done : (s : State) (now n : ℕ) (w : Shadow) → IsBehind s now w n → list_any (may_backfill now (free s) w) (drop n s.waiting) ≡ false → next s now ≡ None
+behind-done s now n w b none =
+    let q = may_backfill now (free s) w in
+    let fresh : All (λ j. q j ≡ false) (drop n s.waiting) = (λ k d l. false_from_ne_true (q (get_or (drop n s.waiting) k d)) (λ yes'. true≢false (sym (list_any_at q (drop n s.waiting) k d l yes') ∙ none))) in
+    let all : All (λ j. q j ≡ false) s.waiting = subst (λ js. All (λ j. q j ≡ false) js) (take-append-drop n s.waiting) (All-append (λ j. q j ≡ false) (take n s.waiting) (drop n s.waiting) b.refused fresh) in
+    next-row s now b.head b.later b.queue b.waits ∙ ap (λ v. find (may_backfill now (free s) v) (row s)) (sym b.shadow)
+    ∙ find-none q (row s) (All-in_order (λ j. q j ≡ false) s.order s.waiting all)
+
+-- the pass begins behind the settled ones in order of arrival, and at the front of the row by estimate
+pub behind-first : (s : State) (now n : ℕ) (w : Shadow) → IsBehind s now w n → IsPass s now w 0
+behind-first s now n w b = record { head = b.head; later = b.later; queue = b.queue; waits = b.waits; shadow = b.shadow; refused = All-nil (λ j. may_backfill now (free s) w j ≡ false) }
+
+pub behind-pass : (s : State) (now n : ℕ) (w : Shadow) → s.order ≡ Arrival → IsBehind s now w n → IsPass s now w n
+behind-pass s now n w by b = record {
+  head = b.head;
+  later = b.later;
+  queue = b.queue;
+  waits = b.waits;
+  shadow = b.shadow;
+  refused = subst (λ o. All (λ j. may_backfill now (free s) w j ≡ false) (take n (in_order o s.waiting))) (sym by) b.refused;
+}
+
+-- and where nobody is next, none behind them may start
+pub behind-none : (s : State) (now n : ℕ) (w : Shadow) → IsBehind s now w n → next s now ≡ None → list_any (may_backfill now (free s) w) (drop n s.waiting) ≡ false
+behind-none s now n w b e =
+    let q = may_backfill now (free s) w in
+    let none : find q (row s) ≡ None = sym (next-row s now b.head b.later b.queue b.waits ∙ ap (λ v. find (may_backfill now (free s) v) (row s)) (sym b.shadow)) ∙ e in
+    let all = in_order-All (λ j. q j ≡ false) s.order s.waiting (none-passes q (row s) none) in
+    list_any_none q (drop n s.waiting) (All-drop n s.waiting all)
+  where
+    All-drop : (n : ℕ) (xs : List EffectiveJob) → All (λ j. may_backfill now (free s) w j ≡ false) xs → All (λ j. may_backfill now (free s) w j ≡ false) (drop n xs)
+    All-drop zero xs a = a
+    All-drop (suc n) [] a = a
+    All-drop (suc n) (x ∷ xs) a = All-drop n xs (All-tail (λ j. may_backfill now (free s) w j ≡ false) x xs a)

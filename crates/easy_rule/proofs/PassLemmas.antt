@@ -1,0 +1,241 @@
+-- One pass over the row, against the search that begins again after each start.
+use Rattle.std.proofs.Common.{◌≡◌, ℕ, zero, suc, ◌+◌, ◌-◌, ◌≤◌, ◌<◌, Bool, true, false, cond, ◌||◌, nat_le, nat_eq, List, [], ◌∷◌, length, get_or, take, drop, remove, Some, None, All, find, count_by, sum_by, refl, sym, ◌∙◌, ap, arith, subst, inl, inr, ⊎_elim, ◌⊎◌}
+use Rattle.std.proofs.lemmas.List.Sums.{sum_by-cons, get_or-le-sum_by}
+use Rattle.std.proofs.lemmas.List.Elements.{All-head, All-tail, All-nil, All-cons, All-weaker}
+use Rattle.std.proofs.lemmas.List.{drop_more, nil_from_length, take_at, length-take}
+use Rattle.std.proofs.lemmas.Bool.{leb-true, le-leb, cases_Bool, cond-true, cond-false, eq-eqb, and_parts, or_cases, and_from, or_left, or_right, false_from_ne_true, cond_both, true≢false}
+use Rattle.scenarios.specs.Job.{EffectiveJob}
+use Rattle.scenarios.specs.declared.order.Order.{Order}
+use Rattle.scenarios.specs.declared.order.Order.TheVariants.{Arrival, Shortest}
+use Rattle.cluster_state.specs.declared.running.Running.{Running}
+use Rattle.cluster_state.specs.State.{State, IsSound, free, busy, available, back_by, waiting_job, started, without}
+use Rattle.cluster_state.specs.Row.{put, by_estimate, in_order}
+use Rattle.cluster_state.proofs.StateLemmas.{sum_by-placed}
+use Rattle.cluster_state.proofs.RowLemmas.{without-by_estimate}
+use Rattle.easy_rule.specs.declared.shadow_time.Shadow.{Shadow}
+use Rattle.easy_rule.specs.Rule.{next, next_of, may_backfill, shadow_at, shadow_time, decided, decisions, state_after, starts_at}
+use Rattle.easy_rule.specs.Pass.{most_starts, less, row, IsFirstPlace, IsPass}
+use Rattle.easy_rule.proofs.RuleLemmas.{shadow_time-IsLeast, back_by-le}
+use Rattle.easy_rule.proofs.NextLemmas.{next-facts, next-found, next-row, free-next, length-without, decided-start, decisions-start, decided-stop, decisions-stop}
+
+-- what a start changes of what is available
+pub available-started : (s : State) (job : EffectiveJob) (now t : ℕ) → busy s.running ≤ s.machine → job.size ≤ free s → available (started s job now) t + job.size ≡ available s t + back_by t (record { job = job; start = now })
+available-started s job now t fits small =
+    let r : Running = record { job = job; start = now } in
+    omega (arith, sum_by-placed (back_by t) r s.running, sum_by-placed (λ (x : Running). x.job.size) r s.running)
+
+-- the two ways to be backfilled
+pub ways : (now room : ℕ) (w : Shadow) (job : EffectiveJob) → may_backfill now room w job ≡ true → (job.size ≤ room) × ((now + job.estimate ≤ w.time) ⊎ (job.size ≤ w.extra))
+ways now room w job h =
+    let p = and_parts (nat_le job.size room) (nat_le (now + job.estimate) w.time || nat_le job.size w.extra) h in (
+      leb-true job.size room p.0,
+      ⊎_elim
+          (λ (e : nat_le (now + job.estimate) w.time ≡ true). inl (leb-true (now + job.estimate) w.time e))
+          (λ (e : nat_le job.size w.extra ≡ true). inr (leb-true job.size w.extra e))
+          (or_cases (nat_le (now + job.estimate) w.time) (nat_le job.size w.extra) p.1),
+    )
+
+-- a backfilled job leaves the head its time
+pub time-kept : (s : State) (need now : ℕ) (job : EffectiveJob) → busy s.running ≤ s.machine → need ≤ s.machine → may_backfill now (free s) (shadow_at s need) job ≡ true → shadow_time (started s job now) need ≡ shadow_time s need
+time-kept s need now job fits within may =
+    let r : Running = record { job = job; start = now } in
+    let s' = started s job now in
+    let w = ways now (free s) (shadow_at s need) job may in
+    let small : job.size ≤ free s = w.0 in
+    let old = shadow_time-IsLeast s need fits within in
+    let new = shadow_time-IsLeast s' need (omega (arith, sum_by-placed (λ (x : Running). x.job.size) r s.running)) within in
+    let t = shadow_time s need in
+    let t' = shadow_time s' need in
+    let at = available-started s job now t fits small in
+    let at' = available-started s job now t' fits small in
+    let enough : need ≤ available s' t =
+    ⊎_elim
+    (λ (e : now + job.estimate ≤ t). let all = cond-true {A = ℕ} (nat_le (now + job.estimate) t) job.size 0 (le-leb (now + job.estimate) t e) in omega (arith, at, all, old.holds))
+    (λ (e : job.size ≤ available s t - need). omega (arith, at, old.holds))
+    w.1 in
+    let down : t' ≤ t = new.least t enough in
+    let up : t ≤ t' = old.least t' (omega (arith, at', back_by-le t' r, new.holds)) in
+    omega arith
+
+-- and takes from the extra processors where it runs past it
+pub shadow-kept : (s : State) (need now : ℕ) (job : EffectiveJob) → busy s.running ≤ s.machine → need ≤ s.machine → may_backfill now (free s) (shadow_at s need) job ≡ true → shadow_at (started s job now) need ≡ less (shadow_at s need) now job
+shadow-kept s need now job fits within may =
+    let r : Running = record { job = job; start = now } in
+    let s' = started s job now in
+    let w = ways now (free s) (shadow_at s need) job may in
+    let t = shadow_time s need in
+    let same : shadow_time s' need ≡ t = time-kept s need now job fits within may in
+    let at = available-started s job now t fits w.0 in
+    let extra : available s' t - need ≡ cond (nat_le (now + job.estimate) t) (available s t - need) (available s t - need - job.size) =
+    ⊎_elim
+    (λ (e : nat_le (now + job.estimate) t ≡ true).
+    let all = cond-true {A = ℕ} (nat_le (now + job.estimate) t) job.size 0 e in
+    let k : available s' t - need ≡ available s t - need = omega (arith, at, all) in
+    k ∙ sym (cond-true (nat_le (now + job.estimate) t) (available s t - need) (available s t - need - job.size) e))
+    (λ (e : nat_le (now + job.estimate) t ≡ false).
+    let nothing = cond-false {A = ℕ} (nat_le (now + job.estimate) t) job.size 0 e in
+    let k : available s' t - need ≡ available s t - need - job.size = omega (arith, at, nothing) in
+    k ∙ sym (cond-false (nat_le (now + job.estimate) t) (available s t - need) (available s t - need - job.size) e))
+    (cases_Bool (nat_le (now + job.estimate) t)) in
+    let P : ℕ → ℕ → Shadow = λ a b. record { time = a; extra = b } in
+    ap (λ x. P x (available s' x - need)) same ∙ ap (P t) extra
+
+-- who was refused stays refused
+pub still-refused : (now room room' : ℕ) (w w' : Shadow) (job : EffectiveJob) → room' ≤ room → w'.time ≤ w.time → w'.extra ≤ w.extra → may_backfill now room w job ≡ false → may_backfill now room' w' job ≡ false
+still-refused now room room' w w' job a b c no' =
+    false_from_ne_true (may_backfill now room' w' job) (λ yes'.
+    let v = ways now room' w' job yes' in
+    let t = nat_le (now + job.estimate) w.time in
+    let x = nat_le job.size w.extra in
+    let either : (t || x) ≡ true =
+    ⊎_elim
+    (λ (e : now + job.estimate ≤ w'.time). or_left t x (le-leb (now + job.estimate) w.time (omega arith)))
+    (λ (e : job.size ≤ w'.extra). or_right t x (le-leb job.size w.extra (omega arith)))
+    v.1 in
+    let again : may_backfill now room w job ≡ true = and_from (nat_le job.size room) (t || x) (le-leb job.size room (let z = v.0 in omega arith)) either in
+    true≢false (sym again ∙ no'))
+
+less-extra : (w : Shadow) (now : ℕ) (job : EffectiveJob) → (less w now job).extra ≤ w.extra
+less-extra w now job = cond_both (nat_le (now + job.estimate) w.time) w.extra (w.extra - job.size) (λ x. x ≤ w.extra) (λ _. omega arith) (λ _. omega arith)
+
+-- the first that passes
+find-at : {X : Type 0} (q : X → Bool) (xs : List X) (i : ℕ) (d : X) → i < length xs → All (λ x. q x ≡ false) (take i xs) → q (get_or xs i d) ≡ true → find q xs ≡ Some (get_or xs i d)
+find-at q [] i d l a h = absurd (omega arith)
+find-at q (x ∷ xs) zero d l a h = cond-true (q x) (Some x) (find q xs) h
+find-at q (x ∷ xs) (suc i) d l a h =
+    cond-false (q x) (Some x) (find q xs) (All-head (λ x. q x ≡ false) x (take i xs) a) ∙ find-at q xs i d (omega arith) (All-tail (λ x. q x ≡ false) x (take i xs) a) h
+
+pub find-none : {X : Type 0} (q : X → Bool) (xs : List X) → All (λ x. q x ≡ false) xs → find q xs ≡ None
+find-none q [] a = refl
+find-none q (x ∷ xs) a = cond-false (q x) (Some x) (find q xs) (All-head (λ x. q x ≡ false) x xs a) ∙ find-none q xs (All-tail (λ x. q x ≡ false) x xs a)
+
+pub none-passes : {X : Type 0} (q : X → Bool) (xs : List X) → find q xs ≡ None → All (λ x. q x ≡ false) xs
+none-passes q [] e = All-nil (λ x. q x ≡ false)
+none-passes q (x ∷ xs) e =
+    ⊎_elim
+    (λ (y : q x ≡ true). let k : Some x ≡ None = sym (cond-true (q x) (Some x) (find q xs) y) ∙ e in cc)
+    (λ (n : q x ≡ false). All-cons (λ x. q x ≡ false) x xs n (none-passes q xs (sym (cond-false (q x) (Some x) (find q xs) n) ∙ e)))
+    (cases_Bool (q x))
+
+-- sums over the queue are those over the row
+sum_by-put : (f : EffectiveJob → ℕ) (j : EffectiveJob) (xs : List EffectiveJob) → sum_by f (put j xs) ≡ f j + sum_by f xs
+sum_by-put f j [] = omega arith
+sum_by-put f j (x ∷ xs) =
+    cond_both (nat_le j.estimate x.estimate) (j ∷ x ∷ xs) (x ∷ put j xs) (λ l. sum_by f l ≡ f j + sum_by f (x ∷ xs))
+    (λ _. sum_by-cons f j (x ∷ xs))
+    (λ _. sum_by-cons f x (put j xs) ∙ omega (arith, sum_by-put f j xs, sum_by-cons f x xs))
+
+sum_by-by_estimate : (f : EffectiveJob → ℕ) (js : List EffectiveJob) → sum_by f (by_estimate js) ≡ sum_by f js
+sum_by-by_estimate f [] = refl
+sum_by-by_estimate f (j ∷ js) = omega (arith, sum_by-put f j (by_estimate js), sum_by-by_estimate f js, sum_by-cons f j js)
+
+pub sum_by-in_order : (f : EffectiveJob → ℕ) (o : Order) (js : List EffectiveJob) → sum_by f (in_order o js) ≡ sum_by f js
+sum_by-in_order f Arrival js = refl
+sum_by-in_order f Shortest js = sum_by-by_estimate f js
+
+pub without-in_order : (n : ℕ) (o : Order) (js : List EffectiveJob) → count_by (λ (j : EffectiveJob). nat_eq j.number n) js ≤ 1 → without n (in_order o js) ≡ in_order o (without n js)
+without-in_order n Arrival js once = refl
+without-in_order n Shortest js once = without-by_estimate n js once
+
+-- a job whose number stands once leaves its own place
+without-unique : (js : List EffectiveJob) (i : ℕ) (d : EffectiveJob) → i < length js → count_by (λ (j : EffectiveJob). nat_eq j.number (get_or js i d).number) js ≤ 1 → without (get_or js i d).number js ≡ remove js i
+without-unique [] i d l once = absurd (omega arith)
+without-unique (j ∷ js) zero d l once = cond-true (nat_eq j.number j.number) js (j ∷ without j.number js) (eq-eqb j.number j.number refl)
+without-unique (j ∷ js) (suc i) d l once =
+    let job = get_or js i d in
+    let p : EffectiveJob → ℕ = λ x. cond (nat_eq x.number job.number) 1 0 in
+    let e = sum_by-cons p j js in
+    let here = get_or-le-sum_by p js i d (omega arith) in
+    let one = cond-true {A = ℕ} (nat_eq job.number job.number) 1 0 (eq-eqb job.number job.number refl) in
+    ⊎_elim
+    (λ (h : nat_eq j.number job.number ≡ true). let two = cond-true {A = ℕ} (nat_eq j.number job.number) 1 0 h in absurd (omega (arith, e, here, one, two)))
+    (λ (h : nat_eq j.number job.number ≡ false). cond-false (nat_eq j.number job.number) js (j ∷ without job.number js) h ∙ ap (λ l. j ∷ l) (without-unique js i d (omega arith) (omega (arith, e))))
+    (cases_Bool (nat_eq j.number job.number))
+
+-- the decision goes on after the next start
+pub state_after-started : (s : State) (now : ℕ) (job : EffectiveJob) → next s now ≡ Some job → state_after (started s job now) now ≡ state_after s now
+state_after-started s now job e =
+    let n = length-without s.waiting job (next-facts s now job s.waiting e).0 in
+    let k : length s.waiting - 1 ≡ length (without job.number s.waiting) = omega (arith, n) in
+    sym (decided-start (length s.waiting) s job now (omega (arith, n)) e ∙ ap (λ m. decided m (started s job now) now) k)
+
+pub starts_at-started : (s : State) (now : ℕ) (job : EffectiveJob) → next s now ≡ Some job → starts_at s now ≡ record { number = job.number; at = now } ∷ starts_at (started s job now) now
+starts_at-started s now job e =
+    let n = length-without s.waiting job (next-facts s now job s.waiting e).0 in
+    let k : length s.waiting - 1 ≡ length (without job.number s.waiting) = omega (arith, n) in
+    decisions-start (length s.waiting) s job now (omega (arith, n)) e ∙ ap (λ m. record { number = job.number; at = now } ∷ decisions m (started s job now) now) k
+
+-- nothing more is decided
+pub state_after-done : (s : State) (now : ℕ) → next s now ≡ None → state_after s now ≡ s
+state_after-done s now e = decided-stop (length s.waiting) s now e
+
+pub starts_at-done : (s : State) (now : ℕ) → next s now ≡ None → starts_at s now ≡ []
+starts_at-done s now e = decisions-stop (length s.waiting) s now e
+
+pub next-empty : (s : State) (now : ℕ) → length s.waiting < 1 → next s now ≡ None
+next-empty s now l = ap (λ js. next_of s now js) (nil_from_length s.waiting (omega arith))
+
+-- where a pass begins
+pub pass-first : (s : State) (now : ℕ) (w : Shadow) (d : EffectiveJob) → 1 ≤ length s.waiting → free s < (get_or s.waiting 0 d).size → w ≡ shadow_at s (get_or s.waiting 0 d).size → IsPass s now w 0
+pass-first s now w d some waits is = record {
+  head = get_or s.waiting 0 d;
+  later = drop 1 s.waiting;
+  queue = drop_more s.waiting 0 d (omega arith);
+  waits = waits;
+  shadow = is;
+  refused = All-nil (λ j. may_backfill now (free s) w j ≡ false);
+}
+
+pass-row : (s : State) (now : ℕ) (w : Shadow) (place : ℕ) (p : IsPass s now w place) → next s now ≡ find (may_backfill now (free s) w) (row s)
+pass-row s now w place p = next-row s now p.head p.later p.queue p.waits ∙ ap (λ v. find (may_backfill now (free s) v) (row s)) (sym p.shadow)
+
+pub pass-next : (s : State) (now : ℕ) (w : Shadow) (place at : ℕ) (d : EffectiveJob) → IsPass s now w place → IsFirstPlace (may_backfill now (free s) w) (row s) at → next s now ≡ Some (get_or (row s) at d)
+pass-next s now w place at d p f = pass-row s now w place p ∙ find-at (may_backfill now (free s) w) (row s) at d f.within f.refused (f.passed d)
+
+pub pass-done : (s : State) (now : ℕ) (w : Shadow) (place : ℕ) → IsPass s now w place → All (λ j. may_backfill now (free s) w j ≡ false) (row s) → next s now ≡ None
+pass-done s now w place p a = pass-row s now w place p ∙ find-none (may_backfill now (free s) w) (row s) a
+
+-- a job that fits where the head does not is another job
+pub other-job : (s : State) (head job : EffectiveJob) (rest : List EffectiveJob) → s.waiting ≡ head ∷ rest → free s < head.size → job.size ≤ free s → waiting_job s job.number ≡ Some job → nat_eq head.number job.number ≡ false
+other-job s head job rest queue waits small found =
+    false_from_ne_true (nat_eq head.number job.number) (λ same.
+    let e : Some head ≡ Some job = sym (cond-true (nat_eq head.number job.number) (Some head) (find (λ (j : EffectiveJob). nat_eq j.number job.number) rest) same) ∙ sym (ap (λ js. find (λ (j : EffectiveJob). nat_eq j.number job.number) js) queue) ∙ found in
+    let k : head ≡ job = cc in
+    let sizes = ap (λ (j : EffectiveJob). j.size) k in
+    omega arith)
+
+-- a step of the pass
+pub pass-started : (s : State) (now : ℕ) (w : Shadow) (place at : ℕ) (d : EffectiveJob) → IsSound s → IsPass s now w place → IsFirstPlace (may_backfill now (free s) w) (row s) at
+    → IsPass (started s (get_or (row s) at d) now) now (less w now (get_or (row s) at d)) at
+pass-started s now w place at d h p f =
+    let job = get_or (row s) at d in
+    let s' = started s job now in
+    let small = (ways now (free s) w job (f.passed d)).0 in
+    let need = p.head.size in
+    let r : Running = record { job = job; start = now } in
+    let freed : free s' ≤ free s = omega (arith, sum_by-placed (λ (x : Running). x.job.size) r s.running) in
+    let within : need ≤ s.machine = subst (λ (js : List EffectiveJob). All (λ j. j.size ≤ s.machine) js) p.queue h.waiting_fit 0 d (omega arith) in
+    let once : count_by (λ (j : EffectiveJob). nat_eq j.number job.number) s.waiting ≤ 1 = omega (arith, h.once job.number) in
+    let gone : row s' ≡ remove (row s) at =
+    sym (without-in_order job.number s.order s.waiting once)
+    ∙ without-unique (row s) at d f.within (omega (arith, once, sum_by-in_order (λ (j : EffectiveJob). cond (nat_eq j.number job.number) 1 0) s.order s.waiting)) in
+    let found = next-found s now job h (pass-next s now w place at d p f) in
+    record {
+      head = p.head;
+      later = without job.number p.later;
+      queue = ap (without job.number) p.queue ∙ cond-false (nat_eq p.head.number job.number) p.later (p.head ∷ without job.number p.later) (other-job s p.head job p.later p.queue p.waits small found);
+      waits = let z = p.waits in omega arith;
+      shadow = ap (λ v. less v now job) p.shadow ∙ sym (shadow-kept s need now job h.fits within (subst (λ v. may_backfill now (free s) v job ≡ true) p.shadow (f.passed d)));
+      refused =
+          let same : take at (row s') ≡ take at (row s) = ap (take at) gone ∙ take_at (take at (row s)) (drop (suc at) (row s)) at (omega (arith, length-take at (row s), f.within)) in
+          subst (λ js. All (λ j. may_backfill now (free s') (less w now job) j ≡ false) js) (sym same)
+          (All-weaker (λ j. may_backfill now (free s) w j ≡ false) (λ j. may_backfill now (free s') (less w now job) j ≡ false)
+          (λ j. still-refused now (free s) (free s') w (less w now job) j freed (omega arith) (less-extra w now job)) (take at (row s)) f.refused);
+    }
+
+-- each start leaves room for one start less
+pub one-fewer : (s : State) (now : ℕ) (job : EffectiveJob) → IsSound s → next s now ≡ Some job → most_starts (started s job now) + 1 ≤ most_starts s
+one-fewer s now job h e =
+    let waits = length-without s.waiting job (next-facts s now job s.waiting e).0 in
+    let freed = free-next s now job h e in
+    omega (arith, waits, freed)

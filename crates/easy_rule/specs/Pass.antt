@@ -1,0 +1,38 @@
+-- One pass over the waiting jobs, with what is left at each step of it.
+use Rattle.std.specs.Prelude.{◌≡◌, ℕ, ◌+◌, ◌-◌, ◌<◌, min, Bool, true, false, nat_le, if◌then◌else◌, List, ◌∷◌, length, take, All, slice_index_or}
+use Rattle.scenarios.specs.Job.{EffectiveJob}
+use Rattle.cluster_state.specs.State.{State, free}
+use Rattle.cluster_state.specs.Row.{in_order}
+use Rattle.easy_rule.specs.declared.shadow_time.Shadow.{Shadow}
+use Rattle.easy_rule.specs.Rule.{may_backfill, shadow_at}
+
+-- no more jobs can start at once: each is a waiting one, and takes a processor at least
+abbrev pub most_starts : State → ℕ
+most_starts s = min (length s.waiting) (free s)
+
+-- what the head leaves once this later job runs too: one that runs past the shadow time takes from the extra processors
+abbrev pub less : Shadow → ℕ → EffectiveJob → Shadow
+less w now job = record { time = w.time; extra = if nat_le (now + job.estimate) w.time then w.extra else w.extra - job.size }
+
+-- the waiting jobs in the order in which they are looked at, the head among them
+abbrev pub row : State → List EffectiveJob
+row s = in_order s.order s.waiting
+
+-- the state with the first n of the queue alone
+abbrev pub front : State → ℕ → State
+front s n = record { machine = s.machine; order = s.order; waiting = take n s.waiting; running = s.running }
+
+-- the job at this place of a row passes, and none before it does
+pub record IsFirstPlace (passes : EffectiveJob → Bool) (jobs : List EffectiveJob) (place : ℕ) : Type 0 where
+  pub within : place < length jobs
+  pub passed : (d : EffectiveJob) → passes (slice_index_or jobs place d) ≡ true
+  pub refused : All (λ j. passes j ≡ false) (take place jobs)
+
+-- what the pass knows at a place of the row: the head does not fit, w is what it leaves, and no job before the place may start
+pub record IsPass (s : State) (now : ℕ) (w : Shadow) (place : ℕ) : Type 0 where
+  pub head : EffectiveJob
+  pub later : List EffectiveJob
+  pub queue : s.waiting ≡ head ∷ later
+  pub waits : free s < head.size
+  pub shadow : w ≡ shadow_at s head.size
+  pub refused : All (λ j. may_backfill now (free s) w j ≡ false) (take place (row s))

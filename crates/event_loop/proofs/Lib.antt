@@ -1,0 +1,5 @@
+pub mod Plans
+pub mod ToCome
+pub mod EventLemmas
+pub mod Kept
+pub mod RunOn

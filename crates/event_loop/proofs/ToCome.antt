@@ -1,0 +1,221 @@
+-- Which jobs are still to come.
+use Rattle.std.proofs.Common.{◌≡◌, ℕ, ◌+◌, ◌≤◌, ◌<◌, true, false, cond, nat_eq, nat_le, List, [], ◌∷◌, ◌++◌, append-nil, append_assoc, Option, Some, None, Ok, All, filter, refl, sym, ◌∙◌, ap, arith, subst, ⊎_elim}
+use Rattle.std.specs.List.{cons_option}
+use Rattle.std.specs.Result.{result_ok}
+use Rattle.scenarios.specs.Effective.{effective}
+use Rattle.std.proofs.lemmas.List.Sums.{sum_by-cons, sum_by-append}
+use Rattle.std.proofs.lemmas.List.Elements.{All-nil, All-cons, All-head, All-tail, All-weaker, All-filter}
+use Rattle.std.proofs.lemmas.Bool.{cases_Bool, cases_lt, cond-true, cond-false, le-leb, lt-leb, leb-true, leb-false, eq-eqb, ne_eqb}
+use Rattle.swf_text.specs.Entry.{LogEntry, submit_of}
+use Rattle.job_table.specs.Table.{entries_from}
+use Rattle.scenarios.specs.Job.{EffectiveJob}
+use Rattle.scenarios.specs.Scenario.{Setting}
+use Rattle.scenarios.specs.Plan.{Plan, jobs_of}
+use Rattle.cluster_state.specs.State.{State, IsSound, holders, arrived}
+use Rattle.easy_rule.specs.Simulation.{joined, submitted}
+use Rattle.cluster_state.proofs.EffectiveLemmas.{kept, takes}
+use Rattle.timeline.specs.SoundPlan.{IsPlan}
+use Rattle.event_loop.specs.Events.{from_on, first_submit}
+use Rattle.event_loop.proofs.Plans.{NonFalling, non-falling}
+
+-- those of second t
+abbrev pub at_second : ℕ → List EffectiveJob → List EffectiveJob
+at_second t js = filter (λ (j : EffectiveJob). nat_eq j.submit t) js
+
+pub from-in : (t : ℕ) (j : EffectiveJob) (js : List EffectiveJob) → t ≤ j.submit → from_on t (j ∷ js) ≡ j ∷ from_on t js
+from-in t j js l = cond-true (nat_le t j.submit) (j ∷ from_on t js) (from_on t js) (le-leb t j.submit l)
+
+pub from-out : (t : ℕ) (j : EffectiveJob) (js : List EffectiveJob) → j.submit < t → from_on t (j ∷ js) ≡ from_on t js
+from-out t j js l = cond-false (nat_le t j.submit) (j ∷ from_on t js) (from_on t js) (lt-leb t j.submit l)
+
+pub at-in : (t : ℕ) (j : EffectiveJob) (js : List EffectiveJob) → j.submit ≡ t → at_second t (j ∷ js) ≡ j ∷ at_second t js
+at-in t j js e = cond-true (nat_eq j.submit t) (j ∷ at_second t js) (at_second t js) (eq-eqb j.submit t e)
+
+pub at-out : (t : ℕ) (j : EffectiveJob) (js : List EffectiveJob) → (j.submit ≡ t → ⊥) → at_second t (j ∷ js) ≡ at_second t js
+at-out t j js e = cond-false (nat_eq j.submit t) (j ∷ at_second t js) (at_second t js) (ne_eqb j.submit t e)
+
+-- the jobs of the entries from a second on
+pub jobs-from : (s : Setting) (t : ℕ) (es : List LogEntry) → jobs_of (entries_from t es) s ≡ from_on t (jobs_of es s)
+jobs-from s t [] = refl
+jobs-from s t (e ∷ es) =
+    let i = jobs-from s t es in
+    ⊎_elim
+    (λ (y : nat_le t (submit_of e) ≡ true).
+    ap (λ xs. jobs_of xs s) (cond-true (nat_le t (submit_of e)) (e ∷ entries_from t es) (entries_from t es) y)
+    ∙ stays (kept s e) refl y i)
+    (λ (n : nat_le t (submit_of e) ≡ false).
+    ap (λ xs. jobs_of xs s) (cond-false (nat_le t (submit_of e)) (e ∷ entries_from t es) (entries_from t es) n)
+    ∙ goes (kept s e) refl n i)
+    (cases_Bool (nat_le t (submit_of e)))
+  where
+    stays : (o : Option EffectiveJob) → kept s e ≡ o → nat_le t (submit_of e) ≡ true → jobs_of (entries_from t es) s ≡ from_on t (jobs_of es s) → cons_option o (jobs_of (entries_from t es) s) ≡ from_on t (cons_option o (jobs_of es s))
+    stays None h y i = i
+    stays (Some job) h y i = ap (λ js. job ∷ js) i ∙ sym (from-in t job (jobs_of es s) (leb-true t job.submit (ap (nat_le t) (takes e s job h).submit ∙ y)))
+
+    goes : (o : Option EffectiveJob) → kept s e ≡ o → nat_le t (submit_of e) ≡ false → jobs_of (entries_from t es) s ≡ from_on t (jobs_of es s) → jobs_of (entries_from t es) s ≡ from_on t (cons_option o (jobs_of es s))
+    goes None h n i = i
+    goes (Some job) h n i = i ∙ sym (from-out t job (jobs_of es s) (leb-false t job.submit (ap (nat_le t) (takes e s job h).submit ∙ n)))
+
+pub from-All : (t : ℕ) (js : List EffectiveJob) → All (λ (j : EffectiveJob). t ≤ j.submit) (from_on t js)
+from-All t [] = All-nil (λ (j : EffectiveJob). t ≤ j.submit)
+from-All t (j ∷ js) =
+    ⊎_elim
+    (λ (l : j.submit < t). subst (λ xs. All (λ (j : EffectiveJob). t ≤ j.submit) xs) (sym (from-out t j js l)) (from-All t js))
+    (λ (l : t ≤ j.submit). subst (λ xs. All (λ (j : EffectiveJob). t ≤ j.submit) xs) (sym (from-in t j js l)) (All-cons (λ (j : EffectiveJob). t ≤ j.submit) j (from_on t js) l (from-All t js)))
+    (cases_lt j.submit t)
+
+pub from-falling : (t : ℕ) (js : List EffectiveJob) → NonFalling js → NonFalling (from_on t js)
+from-falling t [] r = tt
+from-falling t (j ∷ js) r =
+    ⊎_elim
+    (λ (l : j.submit < t). subst NonFalling (sym (from-out t j js l)) (from-falling t js r.1))
+    (λ (l : t ≤ j.submit). subst NonFalling (sym (from-in t j js l)) (All-filter (λ (k : EffectiveJob). nat_le t k.submit) (λ (k : EffectiveJob). j.submit ≤ k.submit) js r.0, from-falling t js r.1))
+    (cases_lt j.submit t)
+
+-- of those from t on, those from a later second on are all of these
+pub from-later : (t u : ℕ) (js : List EffectiveJob) → t ≤ u → from_on u (from_on t js) ≡ from_on u js
+from-later t u [] le = refl
+from-later t u (j ∷ js) le =
+    ⊎_elim
+    (λ (l : j.submit < t). ap (from_on u) (from-out t j js l) ∙ from-later t u js le ∙ sym (from-out u j js (omega arith)))
+    (λ (l : t ≤ j.submit).
+    ap (from_on u) (from-in t j js l)
+    ∙ ⊎_elim
+    (λ (m : j.submit < u). from-out u j (from_on t js) m ∙ from-later t u js le ∙ sym (from-out u j js m))
+    (λ (m : u ≤ j.submit). from-in u j (from_on t js) m ∙ ap (λ xs. j ∷ xs) (from-later t u js le) ∙ sym (from-in u j js m))
+    (cases_lt j.submit u))
+    (cases_lt j.submit t)
+
+-- those of second u are among those from an earlier one on
+pub at-from : (t u : ℕ) (js : List EffectiveJob) → t ≤ u → at_second u (from_on t js) ≡ at_second u js
+at-from t u [] le = refl
+at-from t u (j ∷ js) le =
+    ⊎_elim
+    (λ (l : j.submit < t). ap (at_second u) (from-out t j js l) ∙ at-from t u js le ∙ sym (at-out u j js (λ e. omega arith)))
+    (λ (l : t ≤ j.submit).
+    ap (at_second u) (from-in t j js l)
+    ∙ elim (nat_eq j.submit u) as (λ b. cond b (j ∷ at_second u (from_on t js)) (at_second u (from_on t js)) ≡ cond b (j ∷ at_second u js) (at_second u js)) [
+      | true ↦ ap (λ xs. j ∷ xs) (at-from t u js le)
+      | false ↦ at-from t u js le
+    ])
+    (cases_lt j.submit t)
+
+pub at-none : (t : ℕ) (js : List EffectiveJob) → All (λ (j : EffectiveJob). t < j.submit) js → at_second t js ≡ []
+at-none t [] a = refl
+at-none t (j ∷ js) a =
+    let l : t < j.submit = All-head (λ (j : EffectiveJob). t < j.submit) j js a in
+    at-out t j js (λ e. omega arith) ∙ at-none t js (All-tail (λ (j : EffectiveJob). t < j.submit) j js a)
+
+pub from-same : (t : ℕ) (js : List EffectiveJob) → All (λ (j : EffectiveJob). t ≤ j.submit) js → from_on t js ≡ js
+from-same t [] a = refl
+from-same t (j ∷ js) a =
+    from-in t j js (All-head (λ (j : EffectiveJob). t ≤ j.submit) j js a) ∙ ap (λ xs. j ∷ xs) (from-same t js (All-tail (λ (j : EffectiveJob). t ≤ j.submit) j js a))
+
+-- where the first is submitted later, so are all
+later-all : (t : ℕ) (j : EffectiveJob) (js : List EffectiveJob) → t < j.submit → NonFalling (j ∷ js) → All (λ (k : EffectiveJob). t < k.submit) (j ∷ js)
+later-all t j js l r = All-cons (λ (k : EffectiveJob). t < k.submit) j js l (All-weaker (λ (k : EffectiveJob). j.submit ≤ k.submit) (λ (k : EffectiveJob). t < k.submit) (λ k m. omega arith) js r.0)
+
+some-same : (a b : ℕ) → a ≡ b → ◌≡◌ {A = Option ℕ} (Some a) (Some b)
+some-same a b e = ap Some e
+
+-- where the next submit second is another one, nobody is submitted
+pub nobody-arrives : (plan : Plan) (next : Option ℕ) (t : ℕ) → IsPlan plan → next ≡ first_submit (from_on t plan.jobs) → (next ≡ Some t → ⊥)
+    → (submitted plan t ≡ []) × (next ≡ first_submit (from_on (t + 1) plan.jobs))
+nobody-arrives plan next t p is other = go (from_on t plan.jobs) refl
+  where
+    go : (js : List EffectiveJob) → from_on t plan.jobs ≡ js → (submitted plan t ≡ []) × (next ≡ first_submit (from_on (t + 1) plan.jobs))
+    go [] e = (sym (at-from t t plan.jobs (omega arith)) ∙ ap (at_second t) e, is ∙ ap first_submit (e ∙ sym (sym (from-later t (t + 1) plan.jobs (omega arith)) ∙ ap (from_on (t + 1)) e)))
+    go (j ∷ js) e =
+        let first : next ≡ Some j.submit = is ∙ ap first_submit e in
+        let from : t ≤ j.submit = All-head (λ (j : EffectiveJob). t ≤ j.submit) j js (subst (λ xs. All (λ (j : EffectiveJob). t ≤ j.submit) xs) e (from-All t plan.jobs)) in
+        let falling : NonFalling (j ∷ js) = subst NonFalling e (from-falling t plan.jobs (non-falling plan.jobs p.rising)) in
+        let later : t < j.submit =
+        ⊎_elim (λ (l : t < j.submit). l) (λ (l : j.submit ≤ t). absurd (other (first ∙ some-same j.submit t (omega arith)))) (cases_lt t j.submit) in
+        let all = later-all t j js later falling in (
+          sym (at-from t t plan.jobs (omega arith)) ∙ ap (at_second t) e ∙ at-none t (j ∷ js) all,
+          is ∙ ap first_submit (e ∙ sym (from-same (t + 1) (j ∷ js) (All-weaker (λ (k : EffectiveJob). t < k.submit) (λ (k : EffectiveJob). t + 1 ≤ k.submit) (λ k m. omega arith) (j ∷ js) all)) ∙ ap (from_on (t + 1)) (sym e) ∙ from-later t (t + 1) plan.jobs (omega arith)),
+        )
+
+-- ---- the loop over those that arrive
+
+abbrev with_queue : State → List EffectiveJob → State
+with_queue s js = record { machine = s.machine; order = s.order; waiting = js; running = s.running }
+
+pub joined-none : (s : State) → joined s [] ≡ s
+joined-none s = ap (with_queue s) (append-nil s.waiting)
+
+joined-more : (s : State) (job : EffectiveJob) (js : List EffectiveJob) → joined (arrived s job) js ≡ joined s (job ∷ js)
+joined-more s job js = ap (with_queue s) (append_assoc s.waiting (job ∷ []) js)
+
+-- what the loop knows: with those that are left the state will be the wanted one
+pub record Arriving (s z : State) (t : ℕ) (jobs left : List EffectiveJob) : Type 0 where
+  pub state : joined z (at_second t left) ≡ joined s (at_second t jobs)
+  pub later : from_on (t + 1) left ≡ from_on (t + 1) jobs
+  pub from : All (λ (j : EffectiveJob). t ≤ j.submit) left
+  pub falling : NonFalling left
+
+pub arriving-first : (s : State) (t : ℕ) (jobs left : List EffectiveJob) → NonFalling jobs → left ≡ from_on t jobs → Arriving s s t jobs left
+arriving-first s t jobs left r e =
+    subst (Arriving s s t jobs) (sym e) (record {
+      state = ap (joined s) (at-from t t jobs (omega arith));
+      later = from-later t (t + 1) jobs (omega arith);
+      from = from-All t jobs;
+      falling = from-falling t jobs r;
+    })
+
+pub arriving-skip : (s z : State) (t : ℕ) (jobs left rest : List EffectiveJob) → Arriving s z t jobs left → left ≡ rest → Arriving s z t jobs rest
+arriving-skip s z t jobs left rest h e = subst (Arriving s z t jobs) e h
+
+pub arriving-here : (s z : State) (t : ℕ) (jobs left rest : List EffectiveJob) (job : EffectiveJob) → Arriving s z t jobs left → left ≡ job ∷ rest → job.submit ≤ t → job.submit ≡ t
+arriving-here s z t jobs left rest job h e low =
+    let from : t ≤ job.submit = All-head (λ (j : EffectiveJob). t ≤ j.submit) job rest (subst (λ xs. All (λ (j : EffectiveJob). t ≤ j.submit) xs) e h.from) in
+    omega (arith, from, low)
+
+pub arriving-more : (s z z' : State) (t : ℕ) (jobs left rest : List EffectiveJob) (job : EffectiveJob) → Arriving s z t jobs left → left ≡ job ∷ rest → job.submit ≤ t → z' ≡ arrived z job → Arriving s z' t jobs rest
+arriving-more s z z' t jobs left rest job h e low is =
+    let h' = subst (Arriving s z t jobs) e h in
+    let here = arriving-here s z t jobs left rest job h e low in
+    record {
+      state = ap (λ (y : State). joined y (at_second t rest)) is ∙ joined-more z job (at_second t rest) ∙ ap (joined z) (sym (at-in t job rest here)) ∙ h'.state;
+      later = sym (from-out (t + 1) job rest (omega arith)) ∙ h'.later;
+      from = All-tail (λ (j : EffectiveJob). t ≤ j.submit) job rest h'.from;
+      falling = h'.falling.1;
+    }
+
+-- who comes next is not there yet, and fits the machine
+pub can-arrive : (s z : State) (t : ℕ) (jobs left rest : List EffectiveJob) (job : EffectiveJob) → Arriving s z t jobs left → left ≡ job ∷ rest → job.submit ≤ t → IsSound (joined s (at_second t jobs))
+    → (holders z job.number ≡ 0) × (job.size ≤ z.machine)
+can-arrive s z t jobs left rest job h e low sound =
+    let here = arriving-here s z t jobs left rest job h e low in
+    let same : joined s (at_second t jobs) ≡ joined z (job ∷ at_second t rest) = sym h.state ∙ ap (λ xs. joined z (at_second t xs)) e ∙ ap (joined z) (at-in t job rest here) in
+    let there : IsSound (joined z (job ∷ at_second t rest)) = subst IsSound same sound in
+    let f : EffectiveJob → ℕ = λ j. cond (nat_eq j.number job.number) 1 0 in
+    let one = cond-true {A = ℕ} (nat_eq job.number job.number) 1 0 (eq-eqb job.number job.number refl) in
+    let fit : All (λ (j : EffectiveJob). j.size ≤ z.machine) (job ∷ at_second t rest) = behind z.waiting (job ∷ at_second t rest) there.waiting_fit in (
+      omega (arith, there.once job.number, one, sum_by-append f z.waiting (job ∷ at_second t rest), sum_by-cons f job (at_second t rest)),
+      All-head (λ (j : EffectiveJob). j.size ≤ z.machine) job (at_second t rest) fit,
+    )
+  where
+    behind : (xs ys : List EffectiveJob) → All (λ (j : EffectiveJob). j.size ≤ z.machine) (xs ++ ys) → All (λ (j : EffectiveJob). j.size ≤ z.machine) ys
+    behind [] ys a = a
+    behind (x ∷ xs) ys a = behind xs ys (All-tail (λ (j : EffectiveJob). j.size ≤ z.machine) x (xs ++ ys) a)
+
+-- at the first that is submitted later
+pub arriving-stop : (s z : State) (t : ℕ) (jobs left rest : List EffectiveJob) (job : EffectiveJob) → Arriving s z t jobs left → left ≡ job ∷ rest → t < job.submit
+    → (z ≡ joined s (at_second t jobs)) × (◌≡◌ {A = Option ℕ} (Some job.submit) (first_submit (from_on (t + 1) jobs)))
+arriving-stop s z t jobs left rest job h e later =
+    let h' = subst (Arriving s z t jobs) e h in
+    let none = at-none t (job ∷ rest) (later-all t job rest later h'.falling) in
+    (sym (joined-none z) ∙ ap (joined z) (sym none) ∙ h'.state, ap first_submit (sym (from-in (t + 1) job rest (omega arith))) ∙ ap first_submit h'.later)
+
+-- at the end
+pub arriving-end : (s z : State) (t : ℕ) (jobs left : List EffectiveJob) → Arriving s z t jobs left → left ≡ []
+    → (z ≡ joined s (at_second t jobs)) × (◌≡◌ {A = Option ℕ} None (first_submit (from_on (t + 1) jobs)))
+arriving-end s z t jobs left h e =
+    let h' = subst (Arriving s z t jobs) e h in
+    (sym (joined-none z) ∙ h'.state, ap first_submit h'.later)
+
+-- ---- the entries that are left
+
+pub left-some : (s : Setting) (es rest : List LogEntry) (e : LogEntry) (job : EffectiveJob) → es ≡ e ∷ rest → Ok job ≡ effective e s → jobs_of es s ≡ job ∷ jobs_of rest s
+left-some s es rest e job at is = ap (λ xs. jobs_of xs s) at ∙ ap (λ r. cons_option (result_ok r) (jobs_of rest s)) (sym is)

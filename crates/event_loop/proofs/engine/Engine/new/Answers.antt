@@ -1,0 +1,12 @@
+use Rattle.std.proofs.Common.{arith}
+use Rattle.easy_rule.specs.Simulation.{before}
+use Rattle.event_loop.proofs.engine.Engine.new.Goals as goal
+
+pub invariant_of-result : goal.invariant_of-result
+unfolding before
+invariant_of-result g c = record {
+  is_plan = rw c.deref.ensures at c.next_submit-coming.ensures.plan;
+  counted = omega arith;
+  state_is = λ _. c.for_scenario.ensures;
+  coming_is = λ _. rw c.deref.ensures at c.next_submit-coming.ensures.next;
+}

@@ -1,0 +1,13 @@
+use Rattle.std.specs.Arc.{arc_value}
+use Rattle.scenarios.specs.Plan.{Plan, plan_of}
+use Rattle.event_loop.proofs.EventLemmas.{next-submit, next-earlier}
+use Rattle.event_loop.proofs.engine.Engine.next_event.Goals as goal
+
+pub returns-clause-going : goal.returns-clause-going
+returns-clause-going g c = λ _.
+    let e = c.self.invariant in
+    let plan : Plan = plan_of (arc_value c.self.inside.table) c.self.inside.scenario in
+    let a = c.self.inside.position in
+    rw (← c.self.view_is, c.earlier.ensures)
+    (next-earlier plan a c.self.inside.cluster.state c.self.inside.coming c.next_end.result e.is_plan (e.state_is c.if-self.false)
+    (next-submit plan a c.self.inside.coming e.is_plan (e.coming_is c.if-self.false)) c.next_end.ensures.none.0 c.next_end.ensures.found c.next_end.ensures.least)

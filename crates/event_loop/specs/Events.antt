@@ -1,0 +1,55 @@
+-- The event seconds of a plan, and what an engine holds.
+use Rattle.std.specs.Prelude.{◌≡◌, false, ℕ, zero, suc, ◌+◌, ◌≤◌, min, nat_eq, nat_le, nat_lt, Bool, if◌then◌else◌, List, [], ◌∷◌, length, filter, count_by, Option, Some, None}
+use Rattle.scenarios.specs.Job.{EffectiveJob}
+use Rattle.scenarios.specs.Plan.{Plan}
+use Rattle.cluster_state.specs.State.{State, real_end}
+use Rattle.easy_rule.specs.Simulation.{IsEvent, before, submitted}
+use Rattle.timeline.specs.SoundPlan.{IsPlan}
+use Rattle.timeline.specs.Laws.{IsQuiet}
+
+-- the next event second, from a position on
+abbrev pub IsNextEvent : Plan → ℕ → Option ℕ → Type 0
+IsNextEvent plan position None = (t : ℕ) → position ≤ t → IsEvent plan t → ⊥
+IsNextEvent plan position (Some t) = (position ≤ t) × IsEvent plan t × IsQuiet plan position t
+
+-- whether t is an event second: how many are submitted or end then is not 0
+abbrev pub has_event : Plan → ℕ → Bool
+has_event plan t = nat_lt 0 (length (submitted plan t) + count_by (λ r. nat_eq (real_end r) t) (before plan t).running)
+
+-- how many event seconds lie before t
+unfoldable pub events_before : Plan → ℕ → ℕ
+events_before plan zero = 0
+events_before plan (suc t) = events_before plan t + (if has_event plan t then 1 else 0)
+
+-- What callers see of an engine: what it simulates, the second before which it stands, the event seconds that it worked, and whether it met want of memory.
+pub record Progress : Type 0 where
+  pub plan : Plan
+  pub position : ℕ
+  pub handled : ℕ
+  pub failed : Bool
+
+-- an engine before a second, which has worked none
+abbrev pub begun : Plan → ℕ → Progress
+begun plan position = record { plan = plan; position = position; handled = 0; failed = false }
+
+-- the jobs that are submitted at a second or later
+abbrev pub from_on : ℕ → List EffectiveJob → List EffectiveJob
+from_on t jobs = filter (λ j. nat_le t j.submit) jobs
+
+-- the submit second of the first job
+abbrev pub first_submit : List EffectiveJob → Option ℕ
+first_submit [] = None
+first_submit (j ∷ js) = Some j.submit
+
+-- what the fields keep: unless the engine failed, its state is the model's, and it knows the next submit second
+pub record IsEngine (plan : Plan) (state : State) (coming : Option ℕ) (position handled : ℕ) (failed : Bool) : Type 0 where
+  pub is_plan : IsPlan plan
+  pub counted : handled ≤ position
+  pub state_is : failed ≡ false → state ≡ before plan position
+  pub coming_is : failed ≡ false → coming ≡ first_submit (from_on position plan.jobs)
+
+-- the earlier of two seconds that may be missing
+abbrev pub earlier : Option ℕ → Option ℕ → Option ℕ
+earlier None b = b
+earlier (Some a) None = Some a
+earlier (Some a) (Some b) = Some (min a b)

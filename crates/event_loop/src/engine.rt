@@ -1,0 +1,263 @@
+ghost use Rattle.std.specs.Prelude.{◌≡◌, ◌+◌, ◌++◌, ◌≤◌, ◌<◌, Some, None, IfOk, OnOk, OnErr, IfSome, IfErr, IfNone, true, false};
+ghost use Rattle.event_loop.specs.Events.{earlier};
+
+use crate::arrivals::{arrive_at, next_submit};
+use crate::fault::EngineFault;
+use crate::stepped::Stepped;
+use cluster_state::{Cluster, Snapshot};
+use easy_rule::{Start, decide};
+use job_table::JobTable;
+use scenarios::Scenario;
+use std::alloc::Allocator;
+use std::marker::Model;
+use std::sync::Arc;
+use swf_text::Memory;
+
+/// Simulates a table of jobs under a scenario, one event second after another.
+///
+/// An event second is one at which a job ends or is submitted. An engine stands at a position: its
+/// jobs are those that wait and run before that second, and each earlier second is done with.
+#[derive(Drop)]
+pub struct Engine<A: Allocator + Copy> {
+    alloc: A,
+    table: Arc<JobTable<A>, A>,
+    scenario: Scenario,
+    cluster: Cluster<A>,
+    coming: Option<u64>,
+    position: u64,
+    handled: u64,
+    failed: bool,
+}
+
+impl<A: Allocator + Copy> Model for Engine<A> {
+    ghost use Rattle.std.specs.Arc.{arc_value};
+    ghost use Rattle.scenarios.specs.Plan.{plan_of};
+    ghost use Rattle.event_loop.specs.Events.{Progress, IsEngine};
+
+    ghost Value = { Progress };
+
+    ghost view = { λ e. record { plan = plan_of (arc_value e.table) e.scenario; position = e.position; handled = e.handled; failed = e.failed } };
+
+    ghost invariant = { λ e. IsEngine (plan_of (arc_value e.table) e.scenario) e.cluster.state e.coming e.position e.handled e.failed };
+}
+
+impl<A: Allocator + Copy> Engine<A> {
+    ghost use Rattle.std.specs.Arc.{arc_value};
+    ghost use Rattle.scenarios.specs.Plan.{plan_of};
+    ghost use Rattle.cluster_state.specs.Snapshot.{numbers_of};
+    ghost use Rattle.easy_rule.specs.Simulation.{before, starts_before, starts_in, sim};
+    ghost use Rattle.timeline.specs.Laws.{IsQuiet};
+    ghost use Rattle.event_loop.specs.Events.{Progress, IsNextEvent, begun};
+    ghost use Rattle.event_loop.specs.Going.{IsStepFault, IsRunFault, IsRunOn, IsLast};
+
+    /// An engine before second 0.
+    pub fn new(alloc: A, table: Arc<JobTable<A>, A>, scenario: Scenario) -> Engine<A>
+        ensures { result ≡ begun (plan_of (arc_value table) scenario) 0 }
+    {
+        let coming = next_submit(&table, &scenario, 0);
+        Engine {
+            alloc,
+            table,
+            scenario,
+            cluster: Cluster::for_scenario(alloc, &scenario),
+            coming,
+            position: 0,
+            handled: 0,
+            failed: false,
+        }
+    }
+
+    /// An engine before a second, at which the jobs of a snapshot wait and run. It has worked no
+    /// event second yet. Memory where a growth was refused.
+    pub fn resume(
+        alloc: A,
+        snapshot: &Snapshot<A>,
+        second: u64,
+        table: Arc<JobTable<A>, A>,
+        scenario: Scenario,
+    ) -> Result<Engine<A>, Memory>
+        requires { snapshot.now ≡ numbers_of (before (plan_of (arc_value table) scenario) second) }
+        ensures { IfOk result (λ e. e ≡ begun (plan_of (arc_value table) scenario) second) }
+    {
+        let coming = next_submit(&table, &scenario, second);
+        let cluster = Cluster::restore(alloc, snapshot, &table, &scenario)?;
+        Ok(Engine {
+            alloc,
+            table,
+            scenario,
+            cluster,
+            coming,
+            position: second,
+            handled: 0,
+            failed: false,
+        })
+    }
+
+    /// The second before which the engine stands: 0 or `resume`'s second at first, the second given
+    /// after `advance_to`, and one past the last second worked after `step` and `finish`.
+    pub fn position(&self) -> u64
+        ensures { result ≡ self.now.position }
+    {
+        self.position
+    }
+
+    /// How many event seconds were worked.
+    pub fn handled(&self) -> u64
+        ensures { result ≡ self.now.handled }
+    {
+        self.handled
+    }
+
+    /// The next event second, from the position on; None where there is none, and in an engine that
+    /// has failed.
+    pub fn next_event(&self) -> Option<u64>
+        ensures going { self.now.failed ≡ false → IsNextEvent self.now.plan self.now.position result }
+        ensures failed { self.now.failed ≡ true → result ≡ None }
+    {
+        if self.failed {
+            return None;
+        }
+        earlier(self.coming, self.cluster.next_end())
+    }
+
+    /// The numbers of the jobs that wait and run before the position.
+    ///
+    /// Failed in an engine that has failed; Memory where a growth was refused.
+    pub fn snapshot(&self) -> Result<Snapshot<A>, EngineFault>
+        ensures ok { IfOk result (λ s. (self.now.failed ≡ false) × (s ≡ numbers_of (before self.now.plan self.now.position))) }
+        ensures failed { self.now.failed ≡ true → result ≡ Err EngineFault.Failed }
+        ensures memory { self.now.failed ≡ false → IfErr result (λ f. f ≡ EngineFault.Memory) }
+    {
+        if self.failed {
+            return Err(EngineFault::Failed);
+        }
+        let snapshot = self.cluster.snapshot()?;
+        Ok(snapshot)
+    }
+
+    /// Works the next event second, where there is one.
+    ///
+    /// Failed in an engine that has failed. Memory where a growth was refused; the engine has failed
+    /// then, with that second not worked.
+    pub fn step(&mut self) -> Result<Option<Stepped<A>>, EngineFault>
+        ensures none { IfOk result (λ o. IfNone o ((self.old.failed ≡ false) × IsNextEvent self.old.plan self.old.position None × (self.new ≡ self.old))) }
+        ensures some { IfOk result (λ o. IfSome o (λ s. (self.old.failed ≡ false) × IsNextEvent self.old.plan self.old.position (Some s.second) × (s.starts ≡ starts_in self.old.plan s.second) × (self.new ≡ record self.old { position = s.second + 1; handled = self.old.handled + 1 }))) }
+        ensures fault { IfErr result (λ f. IsStepFault self.old self.new f) }
+    {
+        if self.failed {
+            return Err(EngineFault::Failed);
+        }
+        let Some(second) = self.next_event() else {
+            return Ok(None);
+        };
+        let starts = self.work(second)?;
+        Ok(Some(Stepped::new(second, starts)))
+    }
+
+    /// Works each event second before `second`, and answers the starts in order.
+    ///
+    /// Failed in an engine that has failed. Memory where a growth was refused; the engine has failed
+    /// then, one past the last event second that it worked whole.
+    pub fn advance_to(&mut self, second: u64) -> Result<Vec<Start, A>, EngineFault>
+        requires { self.old.position ≤ second }
+        ensures position { OnOk result (self.new.position ≡ second) }
+        ensures starts { IfOk result (λ starts. IsRunOn self.old self.new starts.items) }
+        ensures fault { IfErr result (λ f. IsRunFault self.old self.new f) }
+    {
+        let starts = self.work_until(second)?;
+        self.position = second;
+        Ok(starts)
+    }
+
+    /// Works all event seconds that are left, and answers the starts in order.
+    ///
+    /// Failed in an engine that has failed. Memory where a growth was refused; the engine has failed
+    /// then, one past the last event second that it worked whole.
+    pub fn finish(&mut self) -> Result<Vec<Start, A>, EngineFault>
+        ensures done { OnOk result (IsNextEvent self.new.plan self.new.position None) }
+        ensures all { IfOk result (λ starts. starts_before self.old.plan self.old.position ++ starts.items ≡ sim self.old.plan) }
+        ensures starts { IfOk result (λ starts. IsRunOn self.old self.new starts.items) }
+        ensures last { OnOk result (IsLast self.old self.new) }
+        ensures fault { IfErr result (λ f. IsRunFault self.old self.new f) }
+    {
+        prove!(self.position() <= u64::MAX);
+        let _ = &self.table;
+        let starts = self.work_until(u64::MAX)?;
+        Ok(starts)
+    }
+
+    // Works the event seconds before `end`.
+    fn work_until(&mut self, end: u64) -> Result<Vec<Start, A>, EngineFault>
+        requires { self.old.position ≤ end }
+        ensures quiet { OnOk result (IsQuiet self.old.plan self.new.position end) }
+        ensures within { self.new.position ≤ end }
+        ensures starts { IfOk result (λ starts. IsRunOn self.old self.new starts.items) }
+        ensures last { OnOk result (IsLast self.old self.new) }
+        ensures fault { IfErr result (λ f. IsRunFault self.old self.new f) }
+    {
+        if self.failed {
+            return Err(EngineFault::Failed);
+        }
+        let mut all = Vec::new(self.alloc);
+        'events: while let Some(second) = self.event_before(end) {
+            let starts = self.work(second)?;
+            let Ok(()) = all.extend_from_slice(starts.as_slice()) else {
+                self.failed = true;
+                return Err(EngineFault::Memory);
+            };
+        }
+        Ok(all)
+    }
+
+    // The next event second, where it comes before `end`.
+    fn event_before(&self, end: u64) -> Option<u64>
+        requires { self.now.failed ≡ false }
+        ensures none { IfNone result (IsQuiet self.now.plan self.now.position end) }
+        ensures some { IfSome result (λ t. IsNextEvent self.now.plan self.now.position (Some t) × (t < end)) }
+    {
+        let Some(second) = self.next_event() else {
+            return None;
+        };
+        if end <= second {
+            return None;
+        }
+        Some(second)
+    }
+
+    // Works the event second that comes next.
+    fn work(&mut self, second: u64) -> Result<Vec<Start, A>, EngineFault>
+        requires going { self.old.failed ≡ false }
+        requires next { IsNextEvent self.old.plan self.old.position (Some second) }
+        ensures starts { IfOk result (λ starts. starts.items ≡ starts_in self.old.plan second) }
+        ensures ok { OnOk result (self.new ≡ record self.old { position = second + 1; handled = self.old.handled + 1 }) }
+        ensures err { OnErr result (self.new ≡ record self.old { failed = true }) }
+        ensures memory { IfErr result (λ f. f ≡ EngineFault.Memory) }
+    {
+        self.failed = true;
+        self.cluster.finish_until(second);
+        let coming = arrive_at(
+            &mut self.cluster,
+            &self.table,
+            &self.scenario,
+            self.coming,
+            second,
+        )?;
+        let starts = decide(self.alloc, &mut self.cluster, second)?;
+        self.failed = false;
+        self.coming = coming;
+        self.position = second + 1;
+        self.handled += 1;
+        Ok(starts)
+    }
+}
+
+// The earlier of two seconds that may be missing.
+fn earlier(a: Option<u64>, b: Option<u64>) -> Option<u64>
+    ensures { result ≡ earlier a b }
+{
+    match (a, b) {
+        (None, b) => b,
+        (Some(a), None) => Some(a),
+        (Some(a), Some(b)) => Some(a.min(b)),
+    }
+}

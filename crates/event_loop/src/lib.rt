@@ -1,0 +1,13 @@
+//! The event loop: simulates a table of jobs under a scenario, one event second after another.
+#![tactic(auto)]
+
+mod arrivals;
+mod engine;
+mod fault;
+mod stepped;
+#[cfg(test)]
+mod tests;
+
+pub use engine::Engine;
+pub use fault::EngineFault;
+pub use stepped::Stepped;

@@ -1,0 +1,4 @@
+pub mod Edit
+pub mod Table
+pub mod Arranged
+pub mod Accepted

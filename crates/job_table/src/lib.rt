@@ -1,0 +1,17 @@
+//! The table of a log's jobs, in their order, and its edits.
+#![tactic(auto)]
+
+mod cursor;
+mod edit;
+mod fault;
+pub mod laws;
+mod rows;
+mod table;
+
+pub use cursor::Cursor;
+pub use edit::Edit;
+pub use fault::EditFault;
+pub use table::JobTable;
+
+#[cfg(test)]
+mod tests;

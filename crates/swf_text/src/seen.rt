@@ -1,0 +1,71 @@
+ghost use Rattle.std.specs.Prelude.{◌≡◌, ◌||◌, ◌<◌, ℕ, length, OnOk, OnErr, IsTrue, nat_eq, slice_index_or, false};
+ghost use Rattle.std.specs.List.{list_any};
+ghost use Rattle.swf_text.specs.Seen.{AreRising, has_seen};
+
+use std::alloc::{AllocFailed, Allocator};
+use std::collections::HashSet;
+use std::hash::{BuildHasherDefault, FoldHasher};
+
+/// The job numbers of the entries that were read. Those of most logs rise, and need no table.
+#[derive(Drop)]
+pub(crate) struct SeenNumbers<A: Allocator + Copy> {
+    rising: Vec<u64, A>,
+    others: HashSet<u64, BuildHasherDefault<FoldHasher>, A>,
+}
+
+// Whether a number is greater than all of those that rise.
+fn is_greater(rising: &[u64], number: u64) -> bool
+    requires { AreRising rising.now }
+    ensures { IsTrue result → (k : ℕ) → k < length rising.now → slice_index_or rising.now k 0 < number }
+{
+    match rising.last() {
+        Some(last) => *last < number,
+        None => true,
+    }
+}
+
+// Whether a number is one of those that rise.
+fn is_among(rising: &[u64], number: u64) -> bool
+    requires { AreRising rising.now }
+    ensures { result ≡ list_any (λ m. nat_eq m number) rising.now }
+{
+    if is_greater(rising, number) {
+        return false;
+    }
+    rising.binary_search(&number).is_ok()
+}
+
+impl<A: Allocator + Copy> SeenNumbers<A> {
+    // None yet.
+    pub(crate) fn new(alloc: A) -> SeenNumbers<A>
+        ensures none { (n : ℕ) → has_seen result.rising.items result.others n ≡ false }
+        ensures rising { AreRising result.rising.items }
+    {
+        SeenNumbers {
+            rising: Vec::new(alloc),
+            others: HashSet::new(alloc),
+        }
+    }
+
+    // Whether a number is one of them.
+    pub(crate) fn contains(&self, number: u64) -> bool
+        requires { AreRising self.now.rising.items }
+        ensures { result ≡ has_seen self.now.rising.items self.now.others number }
+    {
+        is_among(self.rising.as_slice(), number) || self.others.contains(&number)
+    }
+
+    // Adds a number.
+    pub(crate) fn insert(&mut self, number: u64) -> Result<(), AllocFailed<u64>>
+        requires { AreRising self.old.rising.items }
+        ensures rising { AreRising self.new.rising.items }
+        ensures added { OnOk result ((n : ℕ) → has_seen self.new.rising.items self.new.others n ≡ (nat_eq number n || has_seen self.old.rising.items self.old.others n)) }
+        ensures kept { OnErr result ((n : ℕ) → has_seen self.new.rising.items self.new.others n ≡ has_seen self.old.rising.items self.old.others n) }
+    {
+        if is_greater(self.rising.as_slice(), number) {
+            return self.rising.push(number);
+        }
+        self.others.insert(number)?;
+        Ok(())
+    }
+}

@@ -1,0 +1,11 @@
+pub mod Facts
+pub mod Short
+pub mod Rest
+pub mod Bound
+pub mod Once
+pub mod Seconds
+pub mod Quiet
+pub mod Sound
+pub mod Promise
+pub mod Promises
+pub mod Events

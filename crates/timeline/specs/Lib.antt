@@ -1,0 +1,2 @@
+pub mod SoundPlan
+pub mod Laws
