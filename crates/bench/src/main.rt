@@ -1,14 +1,28 @@
-//! Times the reading of a log that its first word names, and prints how long it took and how many
-//! entries there are. Without a word it prints one fixed line.
+//! Times a plain run of the log that its first word names, on a machine of as many processors as its
+//! second word says: reading, opening, simulating and printing, and a thousand edits of its table.
+//! Without both words it prints one fixed line.
 #![tactic(auto)]
 
 ghost use Rattle.std.specs.Prelude.{◌≡◌, ◌/◌, max};
 
-use anyhow::{Context, Result};
+use anyhow::{Context, Result, bail};
+use checkpoints::{Run, simulate};
+use commands::open_text;
+use job_table::{Edit, JobTable};
+use report::schedule_text;
+use scenarios::Scenario;
+use std::alloc::{Allocator, Global};
 use std::rt::{Clock, Env, Files};
-use std::time::Instant;
+use std::sync::Arc;
+use std::time::{Duration, Instant};
 use std::{env, fs};
-use swf_text::read_swf;
+use swf_text::{SwfText, Value, read_swf};
+
+/// The most event seconds of a segment.
+const SPACING: u32 = 256;
+
+/// How many edits are timed.
+const EDITS: u64 = 1_000;
 
 // The share of one entry.
 fn per_entry(nanoseconds: u64, entries: u64) -> u64
@@ -17,28 +31,113 @@ fn per_entry(nanoseconds: u64, entries: u64) -> u64
     nanoseconds / entries.max(1)
 }
 
+// Prints what a part of the run took.
+fn tell<R: Print>(rt: &R, what: &str, took: Duration, entries: u64) -> Result<()> {
+    let nanoseconds = u64::try_from(took.as_nanos()).unwrap_or(u64::MAX);
+    let share = per_entry(nanoseconds, entries);
+    println!(rt; "{what} {} ms, {share} ns each", took.as_millis()).context("the output")
+}
+
+// Changes the user of jobs all over the table, one after another: how many were changed.
+fn edit_all_over<A: Allocator + Copy>(table: &mut JobTable<A>) -> u64 {
+    let step = table.len() as u64 / EDITS + 1;
+    let mut changed = 0u64;
+    for place in 0..EDITS {
+        let edit = Edit::Change {
+            number: place.wrapping_mul(step).wrapping_add(1),
+            field: 12,
+            value: Value::ZERO,
+        };
+        if table.apply(&edit).is_ok() {
+            changed = changed.wrapping_add(1);
+        }
+    }
+    changed
+}
+
+// Times the edits of a copy of the table.
+fn time_edits<R: AllocGlobal + Clock + Print>(rt: &R, table: &JobTable<Global>) -> Result<()> {
+    let begun = Instant::now(rt)?;
+    let mut edited = table.copy()?;
+    tell(rt, "copy the table", begun.elapsed(rt)?, table.len() as u64)?;
+    let begun = Instant::now(rt)?;
+    let changed = edit_all_over(&mut edited);
+    let took = begun.elapsed(rt)?;
+    println!(rt; "{changed} edits").context("the output")?;
+    tell(rt, "edit", took, EDITS)
+}
+
+// Reads the log.
+fn read<R: AllocGlobal + Clock + Print>(rt: &R, log: &[u8]) -> Result<SwfText<Global>> {
+    let begun = Instant::now(rt)?;
+    let text = read_swf(rt.alloc(), log)?;
+    tell(rt, "read", begun.elapsed(rt)?, text.entries().len() as u64)?;
+    Ok(text)
+}
+
+// Opens a text: its table.
+fn open<R: AllocGlobal + Clock + Print>(
+    rt: &R,
+    text: SwfText<Global>,
+    procs: u64,
+) -> Result<JobTable<Global>> {
+    let begun = Instant::now(rt)?;
+    let opening = open_text(rt.alloc(), text, Some(procs))?;
+    let took = begun.elapsed(rt)?;
+    let table = opening.table;
+    tell(rt, "open", took, table.len() as u64)?;
+    Ok(table)
+}
+
+// Simulates a table.
+fn run_of<R: AllocGlobal + Clock + Print>(
+    rt: &R,
+    table: JobTable<Global>,
+    scenario: Scenario,
+) -> Result<Run<Global>> {
+    let entries = table.len() as u64;
+    let table = Arc::new(rt.alloc(), table)?;
+    let begun = Instant::now(rt)?;
+    let run = simulate(rt.alloc(), table, scenario, SPACING)?;
+    tell(rt, "simulate", begun.elapsed(rt)?, entries)?;
+    Ok(run)
+}
+
+// Makes the text of a run's schedule.
+fn print<R: AllocGlobal + Clock + Print>(rt: &R, run: &Run<Global>) -> Result<()> {
+    let begun = Instant::now(rt)?;
+    let text = schedule_text(rt.alloc(), "base", 0, run)?;
+    let took = begun.elapsed(rt)?;
+    tell(rt, "print", took, run.table().len() as u64)?;
+    println!(rt; "{} segments, {} bytes", run.segments().len(), text.len()).context("the output")
+}
+
+// Reads, opens, simulates and prints the log, and tells how long each took.
+fn time_run<R: AllocGlobal + Clock + Print>(rt: &R, log: &[u8], procs: u64) -> Result<()> {
+    let Some(scenario) = Scenario::new(procs, 1000) else {
+        bail!("no such machine");
+    };
+    let table = open(rt, read(rt, log)?, procs)?;
+    time_edits(rt, &table)?;
+    let run = run_of(rt, table, scenario)?;
+    print(rt, &run)
+}
+
 fn run<R: AllocGlobal + Clock + Env + Files + Print>(rt: &R) -> Result<()> {
-    let Some(name) = env::args(rt)?.nth(1) else {
-        println!(rt; "name a log to time its reading")?;
+    let mut words = env::args(rt)?.skip(1);
+    let (Some(name), Some(procs)) = (words.next(), words.next()) else {
+        println!(rt; "name a log and a number of processors")?;
         return Ok(());
     };
+    let procs = procs.parse().context("the number of processors")?;
     let begun = Instant::now(rt)?;
-    let bytes = fs::read(rt, name.as_str()).context("the log")?;
-    let read = begun.elapsed(rt)?.as_millis();
-    println!(rt; "file {read} ms, {} bytes", bytes.len())?;
-    let begun = Instant::now(rt)?;
-    let text = read_swf(rt.alloc(), bytes.as_slice())?;
-    let parsed = begun.elapsed(rt)?;
-    let entries = text.entries().len() as u64;
-    let share = per_entry(
-        u64::try_from(parsed.as_nanos()).unwrap_or(u64::MAX),
-        entries,
-    );
+    let log = fs::read(rt, name.as_str()).context("the log")?;
     println!(rt;
-        "read_swf {} ms, {entries} entries, {share} ns each",
-        parsed.as_millis()
-    )
-    .context("the output")
+        "file {} ms, {} bytes",
+        begun.elapsed(rt)?.as_millis(),
+        log.len()
+    )?;
+    time_run(rt, log.as_slice(), procs)
 }
 
 fn main(rt: HostRuntime) -> Result<()> {

@@ -35,58 +35,66 @@ fn a_table_its_copy_and_its_log_tell_memory(rt: HostRuntime) -> Result<(), Fail>
     Err("always refused")?
 }
 
-// Inserts a job into the table of the log: what was told, and whether the table is as it was; none
+/// An edit of the table of the log.
+#[derive(Clone, Copy)]
+enum Kind {
+    Insertion,
+    Removal,
+    Change,
+}
+
+// The edit of a kind: job 5 joins, job 1 leaves, or job 3 is submitted in second 300.
+fn edit_of<A: Allocator + Copy>(alloc: A, kind: Kind) -> Option<Edit<A>> {
+    match kind {
+        Kind::Insertion => {
+            let fifth = read_swf(alloc, FIFTH).ok()?;
+            let entry = fifth.entries().first()?;
+            Some(Edit::Insert(entry.copy().ok()?))
+        }
+        Kind::Removal => Some(Edit::Remove(1)),
+        Kind::Change => Some(Edit::Change {
+            number: 3,
+            field: 2,
+            value: Value::from_bytes(b"300")?,
+        }),
+    }
+}
+
+// Applies an edit to the table of the log: what was told, and whether the table is as it was; none
 // where it did not come to that.
-fn told_of_an_insertion<A: Allocator + Copy>(alloc: A) -> Option<(Result<(), EditFault>, bool)> {
+fn told_of<A: Allocator + Copy>(alloc: A, kind: Kind) -> Option<(Result<(), EditFault>, bool)> {
     let text = read_swf(alloc, LOG).ok()?;
-    let fifth = read_swf(alloc, FIFTH).ok()?;
+    let edit = edit_of(alloc, kind)?;
     let mut table = JobTable::from_text(alloc, &text).ok()?;
     let before = table.copy().ok()?;
-    let edit = Edit::Insert(fifth.entries().first()?.copy().ok()?);
-    let again = edit.copy().ok()?;
-    let told = table.apply(&again);
-    Some((told, table.same(&before) && table.get(5).is_none()))
+    let told = table.apply(&edit);
+    Some((told, table.same(&before)))
+}
+
+// Refuses each call of the allocator in turn: whether some edit was told Memory, each that was left
+// the table as it was, and the edit was accepted at last.
+fn stays_on_memory(rt: &HostRuntime, kind: Kind) -> bool {
+    let mut was_told = false;
+    for nth in 1..MANY {
+        let heap = Refusing::new(rt.alloc(), nth);
+        let answer = told_of(&heap, kind);
+        if !heap.refused() {
+            return was_told && answer == Some((Ok(()), false));
+        }
+        if let Some(answer) = answer {
+            if answer != (Err(EditFault::Memory), true) {
+                return false;
+            }
+            was_told = true;
+        }
+    }
+    false
 }
 
 #[test]
 fn a_table_is_as_it_was_after_memory(rt: HostRuntime) -> Result<(), Fail> {
-    let mut was_told = false;
-    for nth in 1..MANY {
-        let heap = Refusing::new(rt.alloc(), nth);
-        let answer = told_of_an_insertion(&heap);
-        if !heap.refused() {
-            assert_eq!(rt; answer, Some((Ok(()), false)));
-            assert!(rt; was_told);
-            return Ok(());
-        }
-        if let Some((told, is_as_it_was)) = answer {
-            assert_eq!(rt; told, Err(EditFault::Memory));
-            assert!(rt; is_as_it_was);
-            was_told = true;
-        }
-    }
-    Err("always refused")?
-}
-
-// Removes and changes jobs of the log's table, and answers how many calls of the allocator that took.
-fn calls_of_edits<A: Allocator + Copy>(heap: &Refusing<A>) -> Option<u64> {
-    let text = read_swf(heap, LOG).ok()?;
-    let mut table = JobTable::from_text(heap, &text).ok()?;
-    let value = Value::from_bytes(b"300")?;
-    let before = heap.calls();
-    table.apply(&Edit::Remove(1)).ok()?;
-    let change = Edit::Change {
-        number: 3,
-        field: 2,
-        value,
-    };
-    table.apply(&change).ok()?;
-    heap.calls().checked_sub(before)
-}
-
-#[test]
-fn a_removal_and_a_change_take_no_memory(rt: HostRuntime) -> Result<(), Fail> {
-    let heap = Refusing::new(rt.alloc(), 0);
-    assert_eq!(rt; calls_of_edits(&heap), Some(0));
+    assert!(rt; stays_on_memory(&rt, Kind::Insertion));
+    assert!(rt; stays_on_memory(&rt, Kind::Removal));
+    assert!(rt; stays_on_memory(&rt, Kind::Change));
     Ok(())
 }

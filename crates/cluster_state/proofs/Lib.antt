@@ -3,3 +3,4 @@ pub mod RowLemmas
 pub mod SnapshotLemmas
 pub mod EffectiveLemmas
 pub mod LookupLemmas
+pub mod EndLemmas

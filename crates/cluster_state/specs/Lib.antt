@@ -1,5 +1,6 @@
 pub mod State
 pub mod Row
+pub mod Ends
 pub mod Parts
 pub mod Snapshot
 pub mod Laws

@@ -2,13 +2,17 @@ ghost use Rattle.std.specs.Prelude.{◌≡◌, ◌-◌, ◌<◌, ◌≤◌, ◌+
 ghost use Rattle.std.specs.Option.{option_copied};
 ghost use Rattle.scenarios.specs.declared.order.Order.TheVariants.{Arrival};
 
+use crate::ends::{drop_until, first_end, heap_of_ends, is_by};
+use crate::join::join;
 use crate::lookup::{job_in, running_in};
 use crate::queue::{find_job, put_job, remove_job};
-use crate::running::{Running, drop_ended, first_end, held, run};
+use crate::running::{Running, drop_ended, held, row_by_end};
 use crate::snapshot::Snapshot;
 use job_table::JobTable;
 use scenarios::{Job, Order, Scenario};
 use std::alloc::Allocator;
+use std::cmp::Reverse;
+use std::collections::BinaryHeap;
 use std::marker::Model;
 use swf_text::Memory;
 
@@ -23,6 +27,8 @@ pub struct Cluster<A: Allocator + Copy> {
     waiting: Vec<Job, A>,
     shortest: Vec<Job, A>,
     running: Vec<Running, A>,
+    by_end: Vec<Running, A>,
+    ends: BinaryHeap<Reverse<u64>, A>,
 }
 
 impl<A: Allocator + Copy> Model for Cluster<A> {
@@ -41,6 +47,7 @@ impl<A: Allocator + Copy> Cluster<A> {
     ghost use Rattle.cluster_state.specs.State.{empty, free, real_end, arrived, after_start};
     ghost use Rattle.cluster_state.specs.State.{ended_until, holders, CanArrive, CanStart, IsSound};
     ghost use Rattle.cluster_state.specs.Row.{in_order};
+    ghost use Rattle.cluster_state.specs.Ends.{by_end};
     ghost use Rattle.scenarios.specs.Plan.{plan_of};
     ghost use Rattle.cluster_state.specs.Snapshot.{numbers_of, restored, Fits};
 
@@ -71,22 +78,33 @@ impl<A: Allocator + Copy> Cluster<A> {
             waiting: Vec::new(alloc),
             shortest: Vec::new(alloc),
             running: Vec::new(alloc),
+            by_end: Vec::new(alloc),
+            ends: BinaryHeap::new(alloc),
         }
     }
 
     // A machine on which these jobs run and none waits.
-    fn with_running(alloc: A, procs: u64, order: Order, running: Vec<Running, A>) -> Cluster<A>
+    fn with_running(
+        alloc: A,
+        procs: u64,
+        order: Order,
+        running: Vec<Running, A>,
+    ) -> Result<Cluster<A>, Memory>
         requires { IsSound (record { machine = procs; order = order; waiting = []; running = running.items }) }
-        ensures { result.state ≡ record { machine = procs; order = order; waiting = []; running = running.items } }
+        ensures { IfOk result (λ c. c.state ≡ record { machine = procs; order = order; waiting = []; running = running.items }) }
     {
-        Cluster {
+        let by_end = row_by_end(alloc, &running)?;
+        let ends = heap_of_ends(alloc, &running)?;
+        Ok(Cluster {
             procs,
             order,
             free: procs - held(&running),
             waiting: Vec::new(alloc),
             shortest: Vec::new(alloc),
             running,
-        }
+            by_end,
+            ends,
+        })
     }
 
     /// The cluster of a snapshot: each number stands for the job of its entry in the table under the
@@ -103,7 +121,12 @@ impl<A: Allocator + Copy> Cluster<A> {
         ensures { IfOk result (λ c. c.state ≡ restored snapshot.now (plan_of table.now scenario.now)) }
     {
         let running = running_in(alloc, snapshot.running(), table, scenario)?;
-        let mut cluster = Cluster::with_running(alloc, scenario.procs(), scenario.order(), running);
+        let mut cluster = Cluster::with_running(
+            alloc,
+            scenario.procs(),
+            scenario.order(),
+            running,
+        )?;
         for number in snapshot.waiting() {
             if let Some(job) = job_in(table, scenario, *number) {
                 cluster.arrive(job)?;
@@ -161,13 +184,23 @@ impl<A: Allocator + Copy> Cluster<A> {
         self.waiting.get(place)
     }
 
-    /// The running job at this place, counted from 0, with the second of its start; none past the
-    /// end. They rise by number.
-    pub fn running_at(&self, place: usize) -> Option<(&Job, u64)>
-        ensures { MatchOption result (slice_get self.now.state.running place ≡ None)
-            (λ p. slice_get self.now.state.running place ≡ Some (record { job = p.0.now; start = p.1 })) }
+    /// The running jobs with their starts, rising by the second by which they have surely ended (start
+    /// plus estimate), and of one second by number.
+    pub fn running_by_end(&self) -> &[Running]
+        ensures order { result.now ≡ by_end self.now.state.running }
+        ensures sound { IsSound self.now.state }
     {
-        match self.running.get(place) {
+        self.by_end.as_slice()
+    }
+
+    /// The running job at this place, counted from 0, with the second of its start; none past the
+    /// end. They rise by the second by which they have surely ended (start plus estimate), and of
+    /// one second by number.
+    pub fn running_at(&self, place: usize) -> Option<(&Job, u64)>
+        ensures order { MatchOption result (slice_get (by_end self.now.state.running) place ≡ None)
+            (λ p. slice_get (by_end self.now.state.running) place ≡ Some (record { job = p.0.now; start = p.1 })) }
+    {
+        match self.by_end.get(place) {
             None => None,
             Some(r) => Some((&r.job, r.start)),
         }
@@ -203,7 +236,10 @@ impl<A: Allocator + Copy> Cluster<A> {
     pub fn spare_starts(&self) -> usize
         ensures { result ≡ self.now.spare }
     {
-        self.running.capacity() - self.running.len()
+        let running = self.running.capacity() - self.running.len();
+        let by_end = self.by_end.capacity() - self.by_end.len();
+        let ends = self.ends.capacity() - self.ends.len();
+        running.min(by_end.min(ends))
     }
 
     /// Makes room for so many starts.
@@ -215,6 +251,8 @@ impl<A: Allocator + Copy> Cluster<A> {
         ensures kept { self.old.spare ≤ self.new.spare }
     {
         self.running.reserve(count)?;
+        self.by_end.reserve(count)?;
+        self.ends.reserve(count)?;
         Ok(())
     }
 
@@ -243,7 +281,11 @@ impl<A: Allocator + Copy> Cluster<A> {
         let Some(job) = find_job(&self.waiting, number) else {
             unreachable!()
         };
-        run(&mut self.running, Running { job, start: now })?;
+        self.running.reserve(1)?;
+        self.by_end.reserve(1)?;
+        self.ends.reserve(1)?;
+        let r = Running { job, start: now };
+        join(&mut self.running, &mut self.by_end, &mut self.ends, r);
         remove_job(&mut self.waiting, number);
         remove_job(&mut self.shortest, number);
         self.free -= job.size();
@@ -255,6 +297,11 @@ impl<A: Allocator + Copy> Cluster<A> {
         ensures state { self.new.state ≡ ended_until self.old.state t }
         ensures spare { self.old.spare ≤ self.new.spare }
     {
+        if !is_by(first_end(&self.ends), t) {
+            return;
+        }
+        drop_until(&mut self.ends, t);
+        drop_ended(&mut self.by_end, t);
         drop_ended(&mut self.running, t);
         self.free = self.procs - held(&self.running);
     }
@@ -265,7 +312,7 @@ impl<A: Allocator + Copy> Cluster<A> {
         ensures found { IfSome result (λ t. Any (λ r. real_end r ≡ t) self.now.state.running) }
         ensures least { IfSome result (λ t. All (λ r. t ≤ real_end r) self.now.state.running) }
     {
-        first_end(&self.running)
+        first_end(&self.ends)
     }
 
     /// The numbers of the jobs that wait and run now; Memory where a growth was refused.

@@ -2,6 +2,8 @@
 #![tactic(auto)]
 
 mod cluster;
+mod ends;
+mod join;
 pub mod laws;
 mod lookup;
 mod queue;

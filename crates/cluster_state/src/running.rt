@@ -1,5 +1,6 @@
-ghost use Rattle.std.specs.Prelude.{◌≡◌, ◌+◌, ◌-◌, ◌<◌, ◌≤◌, ◌^◌, ◌↔◌, [], OnOk, OnErr, IfSome, IsNone, IsOk, All, Any, nat_lt, position, filter, vec_len, vec_capacity};
-ghost use Rattle.cluster_state.specs.State.{busy, real_end, placed};
+ghost use Rattle.std.specs.Prelude.{◌≡◌, ◌+◌, ◌-◌, ◌<◌, ◌≤◌, ◌^◌, ◌↔◌, [], OnOk, OnErr, IfOk, IsOk, All, nat_lt, position, filter, vec_len, vec_capacity};
+ghost use Rattle.cluster_state.specs.State.{busy, expected_end, real_end, placed};
+ghost use Rattle.cluster_state.specs.Ends.{by_end, entered, is_sooner};
 
 use scenarios::Job;
 use std::alloc::Allocator;
@@ -15,7 +16,7 @@ pub struct Running {
 }
 
 // The second at which it ends.
-fn end_of(r: &Running) -> u64
+pub(crate) fn end_of(r: &Running) -> u64
     requires { r.now.start < 2 ^ 49 }
     ensures { result ≡ real_end r.now }
 {
@@ -27,16 +28,6 @@ fn outlasts(r: &Running, t: u64) -> bool
     ensures { result ≡ nat_lt t (real_end r.now) }
 {
     t < r.start || t - r.start < r.job.length()
-}
-
-// The least second at which one of these ends.
-pub(crate) fn first_end(running: &[Running]) -> Option<u64>
-    requires { All (λ r. r.start < 2 ^ 49) running.now }
-    ensures none { IsNone result ↔ (running.now ≡ []) }
-    ensures found { IfSome result (λ t. Any (λ r. real_end r ≡ t) running.now) }
-    ensures least { IfSome result (λ t. All (λ r. t ≤ real_end r) running.now) }
-{
-    running.iter().map(|r| end_of(r)).min()
 }
 
 // The processors that these hold.
@@ -66,6 +57,59 @@ pub(crate) fn run<A: Allocator>(running: &mut Vec<Running, A>, r: Running) -> Re
     let place = place_after(running, r.job.number()).unwrap_or(running.len());
     running.insert(place, r)?;
     Ok(())
+}
+
+// The second by which it has surely ended, as a number that holds each such sum.
+fn expected_end_of(r: &Running) -> u128
+    ensures { result ≡ expected_end r.now }
+{
+    u128::from(r.start) + u128::from(r.job.estimate())
+}
+
+// Whether one is expected to end earlier than the other, or at the same second and has the smaller
+// number.
+fn is_sooner(a: &Running, b: &Running) -> bool
+    ensures { result ≡ is_sooner a.now b.now }
+{
+    let end = expected_end_of(a);
+    let other = expected_end_of(b);
+    end < other || end == other && a.job.number() < b.job.number()
+}
+
+// The place of the first that a running job is sooner than.
+fn place_by_end(row: &[Running], r: &Running) -> Option<usize>
+    ensures { result ≡ position (λ x. is_sooner r.now x) row.now }
+{
+    row.iter().position(|x| is_sooner(r, x))
+}
+
+// Puts a running job in its place by (start + estimate, number).
+pub(crate) fn enter<A: Allocator>(row: &mut Vec<Running, A>, r: Running) -> Result<(), Memory>
+    ensures ok { OnOk result (row.new.items ≡ entered r row.old.items) }
+    ensures err { OnErr result (row.new.items ≡ row.old.items) }
+    ensures len { OnOk result (vec_len row.new ≡ vec_len row.old + 1) }
+    ensures kept { OnErr result (vec_len row.new ≡ vec_len row.old) }
+    ensures capacity { vec_capacity row.old ≤ vec_capacity row.new }
+    ensures room { vec_len row.old < vec_capacity row.old → IsOk result }
+{
+    let place = place_by_end(row, &r).unwrap_or(row.len());
+    row.insert(place, r)?;
+    Ok(())
+}
+
+// These jobs by (start + estimate, number).
+pub(crate) fn row_by_end<A: Allocator>(
+    alloc: A,
+    running: &[Running],
+) -> Result<Vec<Running, A>, Memory>
+    ensures { IfOk result (λ row. row.items ≡ by_end running.now) }
+{
+    let mut row = Vec::with_capacity(alloc, running.len())?;
+    for i in 0..running.len() {
+        let r = running[running.len() - 1 - i];
+        enter(&mut row, r)?;
+    }
+    Ok(row)
 }
 
 // Drops those that end by second t.

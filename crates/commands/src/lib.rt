@@ -23,8 +23,3 @@ pub use opening::{Opening, open_text};
 pub use opening_fault::OpenTextFault;
 pub use parse::parse_command;
 pub use saving::save_text;
-
-#[cfg(test)]
-mod opening_tests;
-#[cfg(test)]
-mod tests;

@@ -132,7 +132,8 @@ pub fn open_text<A: Allocator + Copy>(
 {
     let scenarios = opened(alloc, &text, procs)?;
     let comments = kept(alloc, text.comments())?;
-    let table = JobTable::from_text(alloc, &text)?;
+    let (_lines, entries) = text.into_parts();
+    let table = JobTable::of_entries(alloc, entries)?;
     Ok(Opening {
         comments,
         table,

@@ -1,4 +1,5 @@
 pub mod RuleLemmas
+pub mod WalkLemmas
 pub mod NextLemmas
 pub mod PassLemmas
 pub mod BehindLemmas

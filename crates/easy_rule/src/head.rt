@@ -1,42 +1,65 @@
-ghost use Rattle.std.specs.Prelude.{◌≡◌, ◌<◌, ◌≤◌, IfSome};
+ghost use Rattle.std.specs.Prelude.{◌≡◌, ◌<◌, ◌≤◌, IfSome, length};
 ghost use Rattle.cluster_state.specs.State.{available, free};
 ghost use Rattle.easy_rule.specs.Rule.{IsLeast, IsShadow, shadow_of, shadow_at};
 
-use crate::available::available_at;
 use crate::shadow_time::Shadow;
 use cluster_state::Cluster;
 use std::alloc::Allocator;
 
-// The least second at which so much is available, and what is over then.
+// The least second at which so much is available, and what is over then; and how often it read a
+// running job's expected end.
 //
-// It narrows the seconds between one at which too little is available and one at which enough is.
+// It walks over the running jobs in the order of their expected ends, until they have given back
+// enough, and past all that are expected to end at that same second.
+fn walk<A: Allocator + Copy>(cluster: &Cluster<A>, need: u64) -> (Shadow, u64)
+    requires wants { free cluster.now.state < need }
+    requires within { need ≤ cluster.now.state.machine }
+    ensures shadow { result.0 ≡ shadow_at cluster.now.state need }
+    ensures least { IsLeast (λ t. need ≤ available cluster.now.state t) result.0.time }
+    ensures reads { result.1 ≤ length cluster.now.state.running }
+{
+    let mut room = cluster.free();
+    let mut time = 0;
+    let mut reads = 0;
+    for r in cluster.running_by_end() {
+        let end = r.start + r.job.estimate();
+        reads += 1;
+        if need <= room && time < end {
+            let extra = room - need;
+            return (Shadow { time, extra }, reads);
+        }
+        time = end;
+        room += r.job.size();
+    }
+    let extra = room - need;
+    (Shadow { time, extra }, reads)
+}
+
+// The least second at which so much is available, and what is over then.
 pub(crate) fn shadow_for<A: Allocator + Copy>(cluster: &Cluster<A>, need: u64) -> Shadow
     requires wants { free cluster.now.state < need }
     requires within { need ≤ cluster.now.state.machine }
     ensures shadow { result ≡ shadow_at cluster.now.state need }
     ensures least { IsLeast (λ t. need ≤ available cluster.now.state t) result.time }
 {
-    let running = cluster.running();
-    let mut short = 0;
-    let mut time = u64::MAX;
-    for r in running {
-        let end = r.start + r.job.estimate();
-        if end <= short {
-            continue;
-        }
-        if time <= end {
-            continue;
-        }
-        if need <= available_at(cluster, end) {
-            time = end;
-        } else {
-            short = end;
-        }
+    let (shadow, _) = walk(cluster, need);
+    shadow
+}
+
+/// As `shadow`, and how often it read a running job's expected end: at most once of each.
+pub fn shadow_counted<A: Allocator + Copy>(cluster: &Cluster<A>) -> (Option<Shadow>, u64)
+    ensures value { result.0 ≡ shadow_of cluster.now.state }
+    ensures least { IfSome result.0 (λ w. IsShadow cluster.now.state w) }
+    ensures reads { result.1 ≤ length cluster.now.state.running }
+{
+    let [head, ..] = cluster.waiting() else {
+        return (None, 0);
+    };
+    if head.size() <= cluster.free() {
+        return (None, 0);
     }
-    Shadow {
-        time,
-        extra: available_at(cluster, time) - need,
-    }
+    let (shadow, reads) = walk(cluster, head.size());
+    (Some(shadow), reads)
 }
 
 /// When the first waiting job can start at the latest, and what it leaves over then, if each running
@@ -48,11 +71,6 @@ pub fn shadow<A: Allocator + Copy>(cluster: &Cluster<A>) -> Option<Shadow>
     ensures value { result ≡ shadow_of cluster.now.state }
     ensures least { IfSome result (λ w. IsShadow cluster.now.state w) }
 {
-    let [head, ..] = cluster.waiting() else {
-        return None;
-    };
-    if head.size() <= cluster.free() {
-        return None;
-    }
-    Some(shadow_for(cluster, head.size()))
+    let (shadow, _) = shadow_counted(cluster);
+    shadow
 }

@@ -1,7 +1,6 @@
 //! EASY backfilling: which waiting jobs start now, and when the first one can start at the latest.
 #![tactic(auto)]
 
-mod available;
 mod backfill;
 mod behind;
 mod decision;
@@ -14,6 +13,6 @@ mod start;
 
 pub use behind::decide_behind;
 pub use decision::{decide, decide_with_shadow};
-pub use head::shadow;
+pub use head::{shadow, shadow_counted};
 pub use shadow_time::Shadow;
 pub use start::Start;

@@ -6,15 +6,12 @@ use Rattle.swf_text.specs.Entry.{LogEntry}
 use Rattle.swf_text.specs.Log.{log_of}
 use Rattle.swf_text.specs.Text.{LogText, lines}
 use Rattle.swf_text.specs.Grammar.{IsText}
-use Rattle.scenarios.specs.Job.{EffectiveJob}
-use Rattle.scenarios.specs.Plan.{Plan, plan_of}
+use Rattle.scenarios.specs.Plan.{plan_of}
 use Rattle.scenarios.specs.Scenario.{Setting, setting_of}
 use Rattle.scenarios.specs.ScenarioList.{Listed, Listing}
 use Rattle.commands.specs.Opening.{base_on, of_setting, machine_of, opened, told}
 use Rattle.commands.specs.declared.opening_fault.OpenTextFault.{OpenTextFault}
-use Rattle.easy_rule.specs.declared.start.Start.{Start}
-use Rattle.easy_rule.specs.Simulation.{sim}
-use Rattle.easybook.specs.Schedule.{lines_text, schedule_text}
+use Rattle.report.specs.Schedule.{schedule_text}
 use Rattle.easybook.specs.Plain.{IsScheduleOf, log_limit}
 
 -- a list has a first scenario, if there is a list
@@ -52,7 +49,7 @@ pub schedule-is : (log : List ℕ) (procs : Option ℕ) (text : List ℕ) (read 
 schedule-is log procs text read scenarios first table within is_text opened_with is_first arranged schedule =
     record { within = within; read = read; is_text = is_text; scenarios = scenarios; opened_with = opened_with; first = first; is_first = is_first; schedule = schedule ∙ ap (λ (es : List LogEntry). schedule_text first.name 0 (plan_of es first.setting)) arranged }
 
--- the text of a plan's jobs with the starts that are its simulation's
-pub of-plan : (text name : List ℕ) (jobs : List EffectiveJob) (starts : List Start) (plan : Plan) → text ≡ lines_text name 0 jobs starts → jobs ≡ plan.jobs → starts ≡ sim plan → text ≡ schedule_text name 0 plan
-of-plan text name jobs starts plan is same_jobs same_starts =
-    is ∙ ap (λ (js : List EffectiveJob). lines_text name 0 js starts) same_jobs ∙ ap (λ (ss : List Start). lines_text name 0 plan.jobs ss) same_starts
+-- the schedule of the plan of this log and scenario, where they are these
+pub of-plan : {text : List ℕ} {log table : List LogEntry} {setting scenario : Setting} → (name : List ℕ) → text ≡ schedule_text name 0 (plan_of log setting) → log ≡ table → setting ≡ scenario → text ≡ schedule_text name 0 (plan_of table scenario)
+of-plan {text} {log} {table} {setting} {scenario} name is same_log same_scenario =
+    is ∙ ap (λ (es : List LogEntry). schedule_text name 0 (plan_of es setting)) same_log ∙ ap (λ (s : Setting). schedule_text name 0 (plan_of table s)) same_scenario

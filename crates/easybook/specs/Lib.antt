@@ -1,4 +1,2 @@
 pub mod Fault
-pub mod Row
-pub mod Schedule
 pub mod Plain

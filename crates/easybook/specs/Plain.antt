@@ -11,7 +11,7 @@ use Rattle.commands.specs.declared.opening_fault.OpenTextFault.{OpenTextFault}
 use Rattle.commands.specs.declared.opening_fault.OpenTextFault.TheVariants as openings
 use Rattle.easybook.specs.declared.fault.ProgramFault.{ProgramFault}
 use Rattle.easybook.specs.declared.fault.ProgramFault.TheVariants as faults
-use Rattle.easybook.specs.Schedule.{schedule_text}
+use Rattle.report.specs.Schedule.{schedule_text}
 
 -- a log has at most so many bytes
 abbrev pub log_limit : ℕ

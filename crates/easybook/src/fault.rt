@@ -2,7 +2,6 @@ ghost use Rattle.std.specs.Prelude.{◌≡◌};
 ghost use Rattle.easybook.specs.declared.fault.ProgramFault.TheVariants.{Memory as OutOfMemory, Write as WriteFailed};
 
 use commands::OpenTextFault;
-use event_loop::EngineFault;
 use std::alloc::{AllocError, AllocFailed};
 use swf_text::{FaultKind, Memory, SwfFault, WriteFault};
 use thiserror::Error;
@@ -59,15 +58,6 @@ impl From<OpenTextFault> for ProgramFault {
             OpenTextFault::BadMachine => ProgramFault::BadMachine,
             OpenTextFault::Memory => ProgramFault::Memory,
         }
-    }
-}
-
-impl From<EngineFault> for ProgramFault {
-    ghost from_gives = { λ _ fault. fault ≡ OutOfMemory };
-
-    // An engine fails for want of memory alone.
-    fn from(_fault: EngineFault) -> ProgramFault {
-        ProgramFault::Memory
     }
 }
 

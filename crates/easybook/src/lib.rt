@@ -5,9 +5,6 @@ mod fault;
 mod input;
 mod options;
 mod plain;
-mod row;
-mod schedule;
-mod starts;
 mod words;
 
 pub use fault::ProgramFault;

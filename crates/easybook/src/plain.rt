@@ -1,59 +1,41 @@
-ghost use Rattle.std.specs.Prelude.{◌≡◌, ◌<◌, ◌^◌, All, IfOk, IfErr, string_bytes};
-ghost use Rattle.std.specs.Arc.{arc_value};
-ghost use Rattle.scenarios.specs.Plan.{jobs_of, plan_of};
-ghost use Rattle.easy_rule.specs.Simulation.{sim};
+ghost use Rattle.std.specs.Prelude.{◌≡◌, IfOk, IfErr};
+ghost use Rattle.scenarios.specs.Plan.{plan_of};
+ghost use Rattle.checkpoints.specs.Spacing.{IsSpacing};
+ghost use Rattle.report.specs.Schedule.{schedule_text};
 ghost use Rattle.easybook.specs.Plain.{IsTextOrFault, Answers};
-ghost use Rattle.easybook.specs.Schedule.{schedule_text};
 
 use crate::fault::ProgramFault;
 use crate::options::Options;
-use crate::schedule::lines_text;
+use checkpoints::{Run, RunFault, simulate};
 use commands::{Opening, open_text};
-use easy_rule::Start;
-use event_loop::{Engine, EngineFault};
 use job_table::JobTable;
-use scenarios::{Job, Scenario, effective};
+use report::schedule_text;
+use scenarios::Scenario;
 use std::alloc::Allocator;
 use std::io::Write;
 use std::sync::Arc;
-use swf_text::{Memory, read_swf, write_bytes};
+use swf_text::{read_swf, write_bytes};
 
 /// The most bytes of a log.
 const LOG_LIMIT: usize = 1_073_741_824;
 
-// The jobs of a table under a scenario, in its order.
-fn jobs_of<A: Allocator + Copy>(
+// The run of a table under a scenario, in segments of up to `spacing` event seconds.
+fn run_of<A: Allocator + Copy>(
     alloc: A,
-    table: &JobTable<A>,
-    scenario: &Scenario,
-) -> Result<Vec<Job, A>, Memory>
-    ensures { IfOk result (λ jobs. jobs.items ≡ jobs_of table.now scenario.now) }
-{
-    let mut coming = table.from_second(0);
-    let mut jobs = Vec::new(alloc);
-    'entries: while let Some(entry) = coming.next() {
-        let Ok(job) = effective(entry, scenario) else {
-            continue;
-        };
-        jobs.push(job)?;
-    }
-    Ok(jobs)
-}
-
-// The starts of all jobs of a table under a scenario.
-fn starts_of<A: Allocator + Copy>(
-    alloc: A,
-    table: Arc<JobTable<A>, A>,
+    table: JobTable<A>,
     scenario: Scenario,
-) -> Result<Vec<Start, A>, EngineFault>
-    ensures starts { IfOk result (λ starts. starts.items ≡ sim (plan_of (arc_value table) scenario)) }
-    ensures within { IfOk result (λ starts. All (λ start. start.at < 2 ^ 49) starts.items) }
+    spacing: u32,
+) -> Result<Run<A>, ProgramFault>
+    requires { IsSpacing spacing }
+    ensures log { IfOk result (λ run. run.log ≡ table) }
+    ensures setting { IfOk result (λ run. run.setting ≡ scenario) }
+    ensures memory { IfErr result (λ fault. fault ≡ ProgramFault.Memory) }
 {
-    let _entries = table.len();
-    let _procs = scenario.procs();
-    let mut engine = Engine::new(alloc, table, scenario);
-    let starts = engine.finish()?;
-    Ok(starts)
+    match simulate(alloc, Arc::new(alloc, table)?, scenario, spacing) {
+        Ok(run) => Ok(run),
+        Err(RunFault::Memory) => Err(ProgramFault::Memory),
+        Err(RunFault::BadSpacing) => unreachable!(),
+    }
 }
 
 // The text of the schedule of a table under a scenario of this name.
@@ -62,22 +44,23 @@ fn schedule_under<A: Allocator + Copy>(
     name: &str,
     scenario: Scenario,
     table: JobTable<A>,
-) -> Result<String<A>, ProgramFault>
-    ensures text { IfOk result (λ text. string_bytes text ≡ schedule_text name.now 0 (plan_of table scenario)) }
+    spacing: u32,
+) -> Result<Vec<u8, A>, ProgramFault>
+    requires { IsSpacing spacing }
+    ensures text { IfOk result (λ text. text.items ≡ schedule_text name.now 0 (plan_of table scenario)) }
     ensures memory { IfErr result (λ fault. fault ≡ ProgramFault.Memory) }
 {
-    let jobs = jobs_of(alloc, &table, &scenario)?;
-    let starts = starts_of(alloc, Arc::new(alloc, table)?, scenario)?;
-    Ok(lines_text(alloc, name, 0, jobs.as_slice(), starts.as_slice())?)
+    let run = run_of(alloc, table, scenario, spacing)?;
+    Ok(schedule_text(alloc, name, 0, &run)?)
 }
 
 // The text of the schedule of the log's first scenario.
 fn schedule_of<A: Allocator + Copy>(
     alloc: A,
     log: &[u8],
-    procs: Option<u64>,
-) -> Result<String<A>, ProgramFault>
-    ensures { IsTextOrFault string_bytes log.now procs result }
+    options: Options,
+) -> Result<Vec<u8, A>, ProgramFault>
+    ensures { IsTextOrFault (λ text. text.items) log.now options.procs result }
 {
     if log.len() > LOG_LIMIT {
         return Err(ProgramFault::TooLong);
@@ -87,11 +70,11 @@ fn schedule_of<A: Allocator + Copy>(
         comments: _comments,
         table,
         scenarios,
-    } = open_text(alloc, text, procs)?;
+    } = open_text(alloc, text, options.procs)?;
     let Some(first) = scenarios.at(0) else {
         unreachable!()
     };
-    let schedule = schedule_under(alloc, first.0, first.2, table)?;
+    let schedule = schedule_under(alloc, first.0, first.2, table, options.spacing)?;
     Ok(schedule)
 }
 
@@ -113,7 +96,7 @@ pub fn run_plain<W: Write, A: Allocator + Copy>(
 ) -> Result<(), ProgramFault>
     ensures { Answers log.now options.procs (W.contents writer.old) (W.contents writer.new) result }
 {
-    let text = schedule_of(alloc, log, options.procs)?;
-    write_bytes(writer, text.as_bytes())?;
+    let text = schedule_of(alloc, log, options)?;
+    write_bytes(writer, text.as_slice())?;
     Ok(())
 }

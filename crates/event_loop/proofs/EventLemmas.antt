@@ -7,7 +7,10 @@ use Rattle.scenarios.specs.Job.{EffectiveJob}
 use Rattle.scenarios.specs.Plan.{Plan}
 use Rattle.cluster_state.specs.declared.running.Running.{Running}
 use Rattle.cluster_state.specs.State.{State, IsSound, real_end, ended_until}
-use Rattle.easy_rule.specs.Simulation.{before, submitted, IsEvent, bound, last_submit, joined}
+use Rattle.easy_rule.specs.declared.shadow_time.Shadow.{Shadow}
+use Rattle.easy_rule.specs.Rule.{next, shadow_of}
+use Rattle.easy_rule.specs.Pass.{front}
+use Rattle.easy_rule.specs.Simulation.{before, ready, submitted, IsEvent, bound, last_submit, joined}
 use Rattle.timeline.specs.SoundPlan.{IsPlan}
 use Rattle.timeline.specs.Laws.{IsQuiet}
 use Rattle.timeline.proofs.Facts.{run-before, sound-arrivals}
@@ -15,6 +18,7 @@ use Rattle.timeline.proofs.Quiet.{quiet-seconds-change-nothing}
 use Rattle.timeline.proofs.Bound.{all-have-ended, all-end-by-the-bound}
 use Rattle.timeline.proofs.Short.{short-plan}
 use Rattle.timeline.proofs.Rest.{submitted-none}
+use Rattle.timeline.proofs.Quiet.{only-ends-unsettle}
 use Rattle.event_loop.specs.Events.{IsNextEvent, from_on, first_submit, earlier, IsEngine, Progress}
 use Rattle.event_loop.proofs.Plans.{NonFalling, non-falling}
 use Rattle.event_loop.proofs.ToCome.{at_second, at-in, at-from, at-none, from-in, from-out, from-All, from-falling, from-later}
@@ -195,8 +199,8 @@ pub record Ready (plan : Plan) (s : State) (coming : Option ℕ) (a t : ℕ) : T
 abbrev pub seen : Plan → ℕ → ℕ → Bool → Progress
 seen plan a h f = record { plan = plan; position = a; handled = h; failed = f }
 
-pub ready-at : (now : Progress) (plan : Plan) (s : State) (coming : Option ℕ) (a h t : ℕ) (f : Bool) → seen plan a h f ≡ now → IsEngine plan s coming a h f → now.failed ≡ false → IsNextEvent now.plan now.position (Some t) → Ready plan s coming a t
-ready-at now plan s coming a h t f view engine going next =
+pub ready-at : (now : Progress) (plan : Plan) (s : State) (coming : Option ℕ) (known : Option Shadow) (a h t : ℕ) (f : Bool) → seen plan a h f ≡ now → IsEngine plan s coming known a h f → now.failed ≡ false → IsNextEvent now.plan now.position (Some t) → Ready plan s coming a t
+ready-at now plan s coming known a h t f view engine going next =
     let next' : IsNextEvent plan a (Some t) = subst (λ (p : Progress). IsNextEvent p.plan p.position (Some t)) (sym view) next in
     let going' : f ≡ false = ap (λ (p : Progress). p.failed) view ∙ going in
     record {
@@ -205,6 +209,31 @@ ready-at now plan s coming a h t f view engine going next =
       first = next'.0;
       next = engine.coming_is going' ∙ coming-quiet plan a t next'.0 next'.2 engine.is_plan;
     }
+
+-- where no job ends at second t, the queue of before is a settled front of the state of t, and the shadow of before is that state's
+pub stands-at : (plan : Plan) (s ready' : State) (t : ℕ) → s ≡ before plan t → ready' ≡ ready plan (before plan t) t → All (λ r. t < real_end r) s.running
+    → (next (front ready' (length s.waiting)) t ≡ None) × ((w : Shadow) → shadow_of s ≡ Some w → shadow_of ready' ≡ Some w)
+stands-at plan s ready' t is at later =
+    let none : Any (λ r. real_end r ≡ t) (before plan t).running → ⊥ = λ (k, x, l, same, here).
+    let all : All (λ r. t < real_end r) (before plan t).running = subst (λ (z : State). All (λ r. t < real_end r) z.running) is later in
+    let h = all k x l in
+    let e = ap (λ (r : Running). real_end r) same in
+    omega (arith, h, e, here) in
+    let law = only-ends-unsettle plan t none in (
+      ap (λ (z : State). next (front z (length s.waiting)) t) at ∙ ap (λ (z : State). next (front (ready plan (before plan t) t) (length z.waiting)) t) is ∙ law.0,
+      λ w known. ap shadow_of at ∙ law.1 w (ap shadow_of (sym is) ∙ known),
+    )
+
+-- so for the shadow that is known, where it stands
+pub known-settled : (plan : Plan) (s ready' : State) (t n : ℕ) (o : Option Shadow) → s ≡ before plan t → ready' ≡ ready plan (before plan t) t → n ≡ length s.waiting → IfSome o (λ _. All (λ r. t < real_end r) s.running)
+    → IfSome o (λ _. next (front ready' n) t ≡ None)
+known-settled plan s ready' t n None is at many later = tt
+known-settled plan s ready' t n (Some w) is at many later = subst (λ m. next (front ready' m) t ≡ None) (sym many) (stands-at plan s ready' t is at later).0
+
+pub known-stands : (plan : Plan) (s ready' : State) (t : ℕ) (known o : Option Shadow) → s ≡ before plan t → ready' ≡ ready plan (before plan t) t → IfSome known (λ w. shadow_of s ≡ Some w) → IfSome o (λ w. known ≡ Some w) → IfSome o (λ _. All (λ r. t < real_end r) s.running)
+    → IfSome o (λ w. shadow_of ready' ≡ Some w)
+known-stands plan s ready' t known None is at holds same later = tt
+known-stands plan s ready' t known (Some w) is at holds same later = (stands-at plan s ready' t is at later).1 w (subst (λ k. IfSome k (λ w. shadow_of s ≡ Some w)) same holds)
 
 -- after the jobs that end have left, those that arrive make a sound state
 pub sound-ready : (plan : Plan) (s s' : State) (t : ℕ) → IsPlan plan → t < 2 ^ 49 - 1 → s ≡ before plan t → s' ≡ ended_until s t → IsSound (joined s' (submitted plan t))

@@ -6,6 +6,7 @@ use Rattle.std.proofs.lemmas.Bool.{cases_lt, cond-true, cond-false, lt-ltb, le-l
 use Rattle.scenarios.specs.Plan.{Plan}
 use Rattle.cluster_state.specs.declared.running.Running.{Running}
 use Rattle.cluster_state.specs.State.{State, real_end}
+use Rattle.easy_rule.specs.declared.shadow_time.Shadow.{Shadow}
 use Rattle.easy_rule.specs.declared.start.Start.{Start}
 use Rattle.easy_rule.specs.Simulation.{IsEvent, before, starts_before, starts_in, submitted, bound, sim}
 use Rattle.timeline.specs.SoundPlan.{IsPlan}
@@ -175,9 +176,9 @@ last-same old now new (inl e) k = inl (k ∙ e)
 last-same old now new (inr (t, e, v)) k = inr (t, k ∙ e, v)
 
 -- an engine at the end of quiet seconds
-pub engine-on : (old now : Progress) (plan : Plan) (s : State) (coming : Option ℕ) (a h b : ℕ) (f : Bool) → seen plan a h f ≡ now → IsEngine plan s coming a h f → now.plan ≡ old.plan → IsQuiet old.plan now.position b → now.position ≤ b
-    → IsEngine plan s coming b h f
-engine-on old now plan s coming a h b f view e same quiet le =
+pub engine-on : (old now : Progress) (plan : Plan) (s : State) (coming : Option ℕ) (known : Option Shadow) (a h b : ℕ) (f : Bool) → seen plan a h f ≡ now → IsEngine plan s coming known a h f → now.plan ≡ old.plan → IsQuiet old.plan now.position b → now.position ≤ b
+    → IsEngine plan s coming known b h f
+engine-on old now plan s coming known a h b f view e same quiet le =
     let here : a ≡ now.position = ap (λ (p : Progress). p.position) view in
     let plan-same : plan ≡ old.plan = ap (λ (p : Progress). p.plan) view ∙ same in
     let quiet' : IsQuiet plan a b = (λ u l k v. quiet u (omega (arith, here, l)) k (subst (λ (p : Plan). IsEvent p u) plan-same v)) in
@@ -187,12 +188,13 @@ engine-on old now plan s coming a h b f view e same quiet le =
       counted = let k = e.counted in omega (arith, k, le');
       state_is = λ g. e.state_is g ∙ sym (quiet-between plan a b le' quiet').0;
       coming_is = λ g. e.coming_is g ∙ coming-quiet plan a b le' quiet' e.is_plan;
+      known_is = e.known_is;
     }
 
 -- no event second is left
-pub none-left : (old now : Progress) (plan : Plan) (s : State) (coming : Option ℕ) (a h : ℕ) (f : Bool) → seen plan a h f ≡ old → IsEngine plan s coming a h f → now.plan ≡ old.plan → IsQuiet old.plan now.position 18446744073709551615
+pub none-left : (old now : Progress) (plan : Plan) (s : State) (coming : Option ℕ) (known : Option Shadow) (a h : ℕ) (f : Bool) → seen plan a h f ≡ old → IsEngine plan s coming known a h f → now.plan ≡ old.plan → IsQuiet old.plan now.position 18446744073709551615
     → IsPlan old.plan × IsNextEvent now.plan now.position None
-none-left old now plan s coming a h f view e same quiet =
+none-left old now plan s coming known a h f view e same quiet =
     let p : IsPlan old.plan = subst IsPlan (ap (λ (p : Progress). p.plan) view) e.is_plan in (
       p,
       λ u l v.

@@ -3,9 +3,10 @@ ghost use Rattle.event_loop.specs.Events.{earlier};
 
 use crate::arrivals::{arrive_at, next_submit};
 use crate::fault::EngineFault;
+use crate::known::{decide_knowing, standing_at};
 use crate::stepped::Stepped;
 use cluster_state::{Cluster, Snapshot};
-use easy_rule::{Start, decide};
+use easy_rule::{Shadow, Start};
 use job_table::JobTable;
 use scenarios::Scenario;
 use std::alloc::Allocator;
@@ -24,6 +25,7 @@ pub struct Engine<A: Allocator + Copy> {
     scenario: Scenario,
     cluster: Cluster<A>,
     coming: Option<u64>,
+    known: Option<Shadow>,
     position: u64,
     handled: u64,
     failed: bool,
@@ -38,7 +40,7 @@ impl<A: Allocator + Copy> Model for Engine<A> {
 
     ghost view = { λ e. record { plan = plan_of (arc_value e.table) e.scenario; position = e.position; handled = e.handled; failed = e.failed } };
 
-    ghost invariant = { λ e. IsEngine (plan_of (arc_value e.table) e.scenario) e.cluster.state e.coming e.position e.handled e.failed };
+    ghost invariant = { λ e. IsEngine (plan_of (arc_value e.table) e.scenario) e.cluster.state e.coming e.known e.position e.handled e.failed };
 }
 
 impl<A: Allocator + Copy> Engine<A> {
@@ -61,6 +63,7 @@ impl<A: Allocator + Copy> Engine<A> {
             scenario,
             cluster: Cluster::for_scenario(alloc, &scenario),
             coming,
+            known: None,
             position: 0,
             handled: 0,
             failed: false,
@@ -87,6 +90,7 @@ impl<A: Allocator + Copy> Engine<A> {
             scenario,
             cluster,
             coming,
+            known: None,
             position: second,
             handled: 0,
             failed: false,
@@ -157,10 +161,11 @@ impl<A: Allocator + Copy> Engine<A> {
     /// Works each event second before `second`, and answers the starts in order.
     ///
     /// Failed in an engine that has failed. Memory where a growth was refused; the engine has failed
-    /// then, one past the last event second that it worked whole.
+    /// then, one past the last event second that it worked whole, and never past `second`.
     pub fn advance_to(&mut self, second: u64) -> Result<Vec<Start, A>, EngineFault>
         requires { self.old.position ≤ second }
         ensures position { OnOk result (self.new.position ≡ second) }
+        ensures within { self.new.position ≤ second }
         ensures starts { IfOk result (λ starts. IsRunOn self.old self.new starts.items) }
         ensures fault { IfErr result (λ f. IsRunFault self.old self.new f) }
     {
@@ -234,6 +239,8 @@ impl<A: Allocator + Copy> Engine<A> {
         ensures memory { IfErr result (λ f. f ≡ EngineFault.Memory) }
     {
         self.failed = true;
+        let settled = self.cluster.waiting().len();
+        let known = standing_at(&self.cluster, self.known, second);
         self.cluster.finish_until(second);
         let coming = arrive_at(
             &mut self.cluster,
@@ -242,8 +249,15 @@ impl<A: Allocator + Copy> Engine<A> {
             self.coming,
             second,
         )?;
-        let starts = decide(self.alloc, &mut self.cluster, second)?;
+        let (starts, known) = decide_knowing(
+            self.alloc,
+            &mut self.cluster,
+            known,
+            settled,
+            second,
+        )?;
         self.failed = false;
+        self.known = known;
         self.coming = coming;
         self.position = second + 1;
         self.handled += 1;

@@ -4,6 +4,7 @@
 mod arrivals;
 mod engine;
 mod fault;
+mod known;
 mod stepped;
 #[cfg(test)]
 mod tests;

@@ -2,10 +2,12 @@ pub mod Arrangement
 pub mod LogOrder
 pub mod Keyed
 pub mod Tables
+pub mod Numbers
 pub mod Indexed
 pub mod Versions
 pub mod Same
 pub mod Lookups
 pub mod Sorted
 pub mod Edited
+pub mod Stored
 pub mod Accepted

@@ -1,21 +1,11 @@
 -- What is read of a table.
-use Rattle.std.proofs.Common.{◌≡◌, ℕ, ◌-◌, List, [], ◌∷◌, Some, Bool, true, false, ◌==◌, not, take, drop, length, option_map, subst, ◌∙◌, arith, length-drop, get_or, remove, ◌<◌, if◌then◌else◌}
-use Rattle.std.specs.List.{AllByRecursion, position_or_len}
-use Rattle.std.proofs.lemmas.List.{take_all}
-use Rattle.swf_text.specs.Entry.{LogEntry, submit_of, number_of_entry}
-use Rattle.job_table.specs.Edit.{entry_of, without}
-use Rattle.job_table.specs.Table.{IsTable, stands_before, entries_from}
-use Rattle.job_table.proofs.Tables.{table-drop, table-rising, table-apart, dropped-from}
-use Rattle.job_table.proofs.Keyed.{get_at, at_within, taken_at, remove_at}
-
-rest-is : {X : Type 0} (k : ℕ) (xs : List X) → take (length xs - k) (drop k xs) ≡ drop k xs
-rest-is k xs = take_all (length xs - k) (drop k xs) (omega (arith, length-drop k xs))
-
-pub rest-table : (xs ys : List LogEntry) (place : ℕ) → IsTable xs → ys ≡ xs → IsTable (take (length ys - place) (drop place ys))
-rest-table xs ys place t e = rw (rest-is place ys, e) (table-drop place xs t)
-
-pub rest-from : (xs ys zs : List LogEntry) (s place : ℕ) → IsTable xs → ys ≡ xs → zs ≡ xs → place ≡ position_or_len (λ e. not (stands_before s 0 e)) ys → take (length zs - place) (drop place zs) ≡ entries_from s xs
-rest-from xs ys zs s place t a b p = rest-is place zs ∙ rw (p, a, b) (dropped-from submit_of number_of_entry s xs (table-rising xs t))
+use Rattle.std.proofs.Common.{◌≡◌, ℕ, List, [], ◌∷◌, Option, Some, None, Bool, true, false, ◌==◌, Bor, option_copied, slice_get, is_some, not, IsTrue, refl, ap, sym, subst, ◌∙◌, if◌then◌else◌}
+use Rattle.std.specs.List.{AllByRecursion}
+use Rattle.std.proofs.lemmas.Bool.{true≢false}
+use Rattle.swf_text.specs.Entry.{LogEntry, number_of_entry}
+use Rattle.job_table.specs.Edit.{entry_of}
+use Rattle.job_table.specs.Table.{IsTable}
+use Rattle.job_table.proofs.Tables.{table-drop}
 
 pub found-sound : (n : ℕ) (P : LogEntry → Type 0) (xs : List LogEntry) (e : LogEntry) → AllByRecursion P xs → entry_of n xs ≡ Some e → P e
 found-sound n P [] e a h = cc
@@ -25,13 +15,16 @@ found-sound n P (x ∷ xs) e a h = go (number_of_entry x == n) h (found-sound n 
     go true k i = let same : x ≡ e = cc in subst P same a.0
     go false k i = i k
 
--- where the entry stands that an index tells of
-module _ (n s : ℕ) (xs ys : List LogEntry) (i : ℕ) (t : IsTable xs) (known : Some s ≡ option_map submit_of (entry_of n xs)) (seen : ys ≡ xs) (at : i ≡ position_or_len (λ e. not (stands_before s n e)) ys) where
-  pub stands-within : i < length xs
-  stands-within = at_within submit_of number_of_entry n s xs i known (get_at submit_of number_of_entry n s xs ys i (table-rising xs t) known seen at)
+-- the entries after the first
+pub next-table : (es rest : List LogEntry) (e : LogEntry) → es ≡ e ∷ rest → IsTable es → IsTable rest
+next-table es rest e h t = table-drop 1 (e ∷ rest) (subst IsTable h t)
 
-  pub stands-there : (e : LogEntry) → e ≡ get_or xs i e → entry_of n xs ≡ Some e
-  stands-there e is = taken_at submit_of number_of_entry n s xs ys i e (table-rising xs t) known seen at is
-
-  pub taken-out : remove xs i ≡ without n xs
-  taken-out = remove_at submit_of number_of_entry n s xs ys i (table-rising xs t) (table-apart xs t) known seen at
+-- two lists of which one has come to its end
+pub same-end : (some others all-some all-others : List LogEntry) (p : Option (Bor LogEntry)) (r : Bool) → some ≡ [] → option_copied p ≡ slice_get others 0 → is_some p ≡ not r
+    → (some ≡ others → all-some ≡ all-others) × (all-some ≡ all-others → some ≡ others) → (IsTrue r → all-some ≡ all-others) × (all-some ≡ all-others → IsTrue r)
+same-end some [] a b None true e p k inv = ((λ t. inv.0 e), (λ t. refl))
+same-end some [] a b None false e p k inv = cc
+same-end some [] a b (Some y) r e p k inv = cc
+same-end some (x ∷ others) a b None r e p k inv = cc
+same-end some (x ∷ others) a b (Some y) true e p k inv = cc
+same-end some (x ∷ others) a b (Some y) false e p k inv = ((λ t. absurd (true≢false (sym t))), (λ t. let never : [] ≡ x ∷ others = sym e ∙ inv.1 t in cc))

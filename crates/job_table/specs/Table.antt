@@ -1,8 +1,6 @@
 -- A job table: a log in its order, and an index of its jobs.
-use Rattle.std.specs.Prelude.{◌≡◌, ℕ, ◌==◌, ◌&&◌, ◌||◌, nat_lt, nat_le, nat_eq, Bool, List, filter, option_map}
-use Rattle.std.specs.HashMap.{HashMap, get}
-use Rattle.std.specs.declared.hash.FoldHasher.{FoldHasher}
-use Rattle.std.specs.declared.hash.BuildHasherDefault.{BuildHasherDefault}
+use Rattle.std.specs.Prelude.{◌≡◌, ℕ, ◌<◌, ◌==◌, ◌&&◌, ◌||◌, nat_lt, nat_le, Bool, List, [], ◌∷◌, length, filter, find, Option, option_map}
+use Rattle.chunks.specs.declared.numbered.Numbered.{Numbered}
 use Rattle.swf_text.specs.Entry.{LogEntry, number_of_entry, submit_of}
 use Rattle.swf_text.specs.Log.{IsLog, IsRising}
 use Rattle.job_table.specs.Edit.{entry_of}
@@ -16,13 +14,41 @@ pub record IsTable (entries : List LogEntry) : Type 0 where
 abbrev pub entries_from : ℕ → List LogEntry → List LogEntry
 entries_from second log = filter (λ e. nat_le second (submit_of e)) log
 
--- a map from numbers to numbers
-abbrev pub Numbers : Type 0
-Numbers = HashMap ℕ ℕ (BuildHasherDefault FoldHasher)
+-- the job number of a pair, and its submit second
+abbrev pub number_in : Numbered → ℕ
+number_in pair = pair.number
 
--- the map gives the submit second of each entry by its job number, and has no other number
-abbrev pub IsIndex : Numbers → List LogEntry → Type 0
-IsIndex index entries = (n : ℕ) → get nat_eq index n ≡ option_map submit_of (entry_of n entries)
+abbrev pub second_in : Numbered → ℕ
+second_in pair = pair.submit
+
+-- the pair of an entry
+abbrev pub pair_of : LogEntry → Numbered
+pair_of entry = record { number = number_of_entry entry; submit = submit_of entry }
+
+-- the submit second that pairs give a job number, if any
+abbrev pub second_of : List Numbered → ℕ → Option ℕ
+second_of pairs n = option_map second_in (find (λ pair. number_in pair == n) pairs)
+
+-- the number is below those of all these pairs
+abbrev pub IsBelow : ℕ → List Numbered → Type 0
+IsBelow n [] = Unit {0}
+IsBelow n (pair ∷ pairs) = (n < number_in pair) × IsBelow n pairs
+
+-- each pair has a lower number than all later ones
+abbrev pub NumbersRise : List Numbered → Type 0
+NumbersRise [] = Unit {0}
+NumbersRise (pair ∷ pairs) = IsBelow (number_in pair) pairs × NumbersRise pairs
+
+-- the pairs rise by number, give the submit second of each entry by its job number, and have no other number
+pub record IsIndex (pairs : List Numbered) (entries : List LogEntry) : Type 0 where
+  pub rising : NumbersRise pairs
+  pub gives : (n : ℕ) → second_of pairs n ≡ option_map submit_of (entry_of n entries)
+
+-- what a table stores: a log in its order, its index and its length
+pub record IsStored (entries : List LogEntry) (pairs : List Numbered) (len : ℕ) : Type 0 where
+  pub table : IsTable entries
+  pub index : IsIndex pairs entries
+  pub count : len ≡ length entries
 
 -- the entry stands before one with this submit second and job number
 abbrev pub stands_before : ℕ → ℕ → LogEntry → Bool

@@ -2,6 +2,7 @@ ghost use Rattle.std.specs.Prelude.{◌≡◌, option_copied, slice_get};
 ghost use Rattle.std.specs.Iterator.{YieldsFirstRef, item_count};
 ghost use Rattle.job_table.specs.Table.{IsTable};
 
+use chunks::Rest;
 use std::alloc::Allocator;
 use std::marker::Model;
 use swf_text::Entry;
@@ -9,7 +10,7 @@ use swf_text::Entry;
 /// The entries of a table from a place on, in its order.
 #[derive(Drop)]
 pub struct Cursor<'a, A: Allocator + Copy> {
-    rest: &'a [Entry<A>],
+    rest: Rest<'a, Entry<A>, A>,
 }
 
 impl<'a, A: Allocator + Copy> Model for Cursor<'a, A> {
@@ -19,16 +20,16 @@ impl<'a, A: Allocator + Copy> Model for Cursor<'a, A> {
 
     ghost Value = { List LogEntry };
 
-    ghost view = { λ c. c.rest.now };
+    ghost view = { λ c. c.rest };
 
-    ghost invariant = { λ c. IsTable c.rest.now };
+    ghost invariant = { λ c. IsTable c.rest };
 }
 
 impl<'a, A: Allocator + Copy> Cursor<'a, A> {
     // A cursor before the first of these entries.
-    pub(crate) fn new(rest: &'a [Entry<A>]) -> Cursor<'a, A>
-        requires { IsTable rest.now }
-        ensures { result ≡ rest.now }
+    pub(crate) fn new(rest: Rest<'a, Entry<A>, A>) -> Cursor<'a, A>
+        requires { IsTable rest }
+        ensures { result ≡ rest.entry }
     {
         Cursor { rest }
     }
@@ -38,7 +39,7 @@ impl<'a, A: Allocator + Copy> Cursor<'a, A> {
         ensures first { option_copied result ≡ slice_get self.now 0 }
         ensures sound { IsTable self.now }
     {
-        self.rest.first()
+        self.rest.peek()
     }
 }
 
@@ -50,8 +51,7 @@ impl<'a, A: Allocator + Copy> Iterator for Cursor<'a, A> {
     ghost remaining = { item_count (λ c. c) };
 
     fn next(&mut self) -> Option<&'a Entry<A>> {
-        let (first, rest) = self.rest.split_first()?;
-        self.rest = rest;
-        Some(first)
+        let entry = self.rest.next()?;
+        Some(entry)
     }
 }

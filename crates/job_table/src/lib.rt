@@ -4,6 +4,7 @@
 mod cursor;
 mod edit;
 mod fault;
+mod index;
 pub mod laws;
 mod rows;
 mod table;

@@ -1,33 +1,15 @@
-ghost use Rattle.std.specs.Prelude.{◌≡◌, ◌≤◌, ◌↔◌, ◌&&◌, ◌||◌, ◌==◌, length, not, nat_lt, IfOk, IsTrue};
-ghost use Rattle.std.specs.List.{position_or_len};
+ghost use Rattle.std.specs.Prelude.{◌≡◌, ◌≤◌, ◌+◌, ◌↔◌, IfOk, OnOk, IsTrue, Some, None, option_copied, option_map};
 ghost use Rattle.swf_text.specs.Entry.{number_of_entry, submit_of};
-ghost use Rattle.swf_text.specs.Log.{IsRising};
-ghost use Rattle.job_table.specs.Arranged.{IsDistinct};
-ghost use Rattle.job_table.specs.Table.{IsIndex, stands_before};
+ghost use Rattle.swf_text.specs.Log.{with_entry};
+ghost use Rattle.job_table.specs.Edit.{change_fault, entry_of, with_field, without};
+ghost use Rattle.job_table.specs.Table.{IsTable, entries_from};
 
+use chunks::{Chunks, Rest};
 use std::alloc::Allocator;
-use std::collections::HashMap;
-use std::hash::{BuildHasherDefault, FoldHasher};
-use swf_text::{Entry, Memory};
+use swf_text::{Entry, Memory, Value};
 
-/// The submit second of each job, by its number.
-pub(crate) type Index<A> = HashMap<u64, u64, BuildHasherDefault<FoldHasher>, A>;
-
-// Where an entry with this submit second and job number stands, or would.
-pub(crate) fn place_of<A: Allocator + Copy>(rows: &[Entry<A>], submit: u64, number: u64) -> usize
-    requires { IsRising rows.now }
-    ensures within { result ≤ length rows.now }
-    ensures place { result ≡ position_or_len (λ e. not (stands_before submit number e)) rows.now }
-{
-    rows.partition_point(
-        |entry: &Entry<A>| -> bool
-            ensures { result ≡ stands_before submit number entry.now }
-        {
-            let at = entry.submit();
-            at < submit || (at == submit && entry.number() < number)
-        },
-    )
-}
+/// The entries of a table, in their order.
+pub(crate) type Rows<A> = Chunks<Entry<A>, A>;
 
 // The same entries once more.
 pub(crate) fn copy_of<A: Allocator + Copy>(
@@ -43,16 +25,102 @@ pub(crate) fn copy_of<A: Allocator + Copy>(
     Ok(copy)
 }
 
-// The index of these entries.
-pub(crate) fn index_of<A: Allocator + Copy>(alloc: A, rows: &[Entry<A>]) -> Result<Index<A>, Memory>
-    requires { IsDistinct rows.now }
-    ensures { IfOk result (λ index. IsIndex index rows.now) }
+// The entries that are left, once more.
+pub(crate) fn copy_rest<A: Allocator + Copy>(
+    alloc: A,
+    mut rest: Rest<'_, Entry<A>, A>,
+    len: usize,
+) -> Result<Vec<Entry<A>, A>, Memory>
+    ensures { IfOk result (λ copy. copy.items ≡ rest.entry) }
 {
-    let mut index = HashMap::with_capacity(alloc, rows.len())?;
-    for entry in rows {
-        index.insert(entry.number(), entry.submit())?;
+    let mut copy = Vec::with_capacity(alloc, len)?;
+    'entries: while let Some(entry) = rest.next() {
+        copy.push(entry.copy()?)?;
     }
-    Ok(index)
+    Ok(copy)
+}
+
+// The entry with a job number, which was submitted in this second.
+pub(crate) fn entry_at<A: Allocator + Copy>(
+    rows: &Rows<A>,
+    submit: u64,
+    number: u64,
+) -> Option<&Entry<A>>
+    requires table { IsTable rows.now }
+    requires known { Some submit ≡ option_map submit_of (entry_of number rows.now) }
+    ensures { option_copied result ≡ entry_of number rows.now }
+{
+    rows.find(submit, number)
+}
+
+// The entries with this submit second or a later one.
+pub(crate) fn rest_from<A: Allocator + Copy>(rows: &Rows<A>, second: u64) -> Rest<'_, Entry<A>, A>
+    requires { IsTable rows.now }
+    ensures { result ≡ entries_from second rows.now }
+{
+    rows.rest(second, 0)
+}
+
+// The entries with one more, at its place.
+pub(crate) fn with_one<A: Allocator + Copy>(
+    rows: &Rows<A>,
+    entry: Entry<A>,
+    count: &mut u32,
+) -> Result<Rows<A>, Memory>
+    requires table { IsTable rows.now }
+    requires room { count.old ≤ 768 }
+    ensures rows { IfOk result (λ new. new ≡ with_entry entry rows.now) }
+    ensures most { OnOk result (count.new ≤ count.old + 385) }
+{
+    Ok(rows.with(entry, count)?)
+}
+
+// The entries without that with a job number, which was submitted in this second.
+pub(crate) fn without_one<A: Allocator + Copy>(
+    rows: &Rows<A>,
+    submit: u64,
+    number: u64,
+    count: &mut u32,
+) -> Result<Rows<A>, Memory>
+    requires table { IsTable rows.now }
+    requires known { Some submit ≡ option_map submit_of (entry_of number rows.now) }
+    requires room { count.old ≤ 768 }
+    ensures rows { IfOk result (λ new. new ≡ without number rows.now) }
+    ensures most { OnOk result (count.new ≤ count.old + 256) }
+{
+    Ok(rows.without(submit, number, count)?)
+}
+
+// The entries with another one in place of that with its job number, which was submitted in this
+// second.
+pub(crate) fn with_moved<A: Allocator + Copy>(
+    rows: &Rows<A>,
+    submit: u64,
+    entry: Entry<A>,
+    count: &mut u32,
+) -> Result<Rows<A>, Memory>
+    requires table { IsTable rows.now }
+    requires known { Some submit ≡ option_map submit_of (entry_of (number_of_entry entry) rows.now) }
+    requires room { count.old ≤ 512 }
+    ensures rows { IfOk result (λ new. new ≡ with_entry entry (without (number_of_entry entry) rows.now)) }
+    ensures most { OnOk result (count.new ≤ count.old + 641) }
+{
+    let left = without_one(rows, submit, entry.number(), count)?;
+    Ok(with_one(&left, entry, count)?)
+}
+
+// An entry with another value in a field.
+pub(crate) fn changed_entry<A: Allocator + Copy>(
+    was: &Entry<A>,
+    field: u8,
+    value: Value,
+) -> Result<Entry<A>, Memory>
+    requires { change_fault field value ≡ None }
+    ensures { IfOk result (λ entry. entry ≡ with_field field value was.now) }
+{
+    let mut entry = was.copy()?;
+    entry.set_field(usize::from(field), value).unwrap();
+    Ok(entry)
 }
 
 // Whether two entries have the same lines.
@@ -62,17 +130,20 @@ fn is_same<A: Allocator + Copy>(one: &Entry<A>, other: &Entry<A>) -> bool
     *one.main() == *other.main() && one.parts() == other.parts()
 }
 
-// Whether the entries are the same, in the same order.
-pub(crate) fn are_same<A: Allocator + Copy>(some: &[Entry<A>], others: &[Entry<A>]) -> bool
-    ensures { IsTrue result ↔ (some.now ≡ others.now) }
+// Whether the entries that are left are the same, in the same order.
+pub(crate) fn are_same<A: Allocator + Copy>(
+    mut some: Rest<'_, Entry<A>, A>,
+    mut others: Rest<'_, Entry<A>, A>,
+) -> bool
+    ensures { IsTrue result ↔ (some.entry ≡ others.entry) }
 {
-    if some.len() != others.len() {
-        return false;
-    }
-    for (one, other) in some.iter().zip(others) {
+    'entries: while let Some(one) = some.next() {
+        let Some(other) = others.next() else {
+            return false;
+        };
         if !is_same(one, other) {
             return false;
         }
     }
-    true
+    others.peek().is_none()
 }

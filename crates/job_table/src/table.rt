@@ -1,13 +1,18 @@
 ghost use Rattle.std.specs.Prelude.{◌≡◌, ◌≤◌, ◌<◌, ◌↔◌, ◌∷◌, length, map, IsTrue, IfOk, IfErr, IfSome, OnOk, OnErr, Some, None, option_copied};
 ghost use Rattle.swf_text.specs.Entry.{IsEntry, number_of_entry, submit_of};
-ghost use Rattle.swf_text.specs.Log.{log_of};
+ghost use Rattle.swf_text.specs.Log.{IsLog, log_of};
 ghost use Rattle.job_table.specs.Edit.{edit_of, entry_of, holds, without, changed, applied, change_fault, fault_of, IsRefusal};
 ghost use Rattle.job_table.specs.Table.{IsTable, entries_from};
 
 use crate::cursor::Cursor;
 use crate::edit::Edit;
 use crate::fault::EditFault;
-use crate::rows::{Index, are_same, copy_of, index_of, place_of};
+use crate::index::{Index, has_number, index_of, second, with_number, with_second, without_number};
+use crate::rows::{
+    Rows, are_same, changed_entry, copy_of, copy_rest, entry_at, rest_from, with_moved, with_one,
+    without_one,
+};
+use chunks::Chunks;
 use std::alloc::Allocator;
 use std::marker::Model;
 use swf_text::{Entry, Memory, SwfText, Value};
@@ -19,20 +24,21 @@ const ENTRY_LIMIT: usize = 4_194_304;
 /// distinct, and there are at most 4,194,304 entries.
 #[derive(Drop)]
 pub struct JobTable<A: Allocator + Copy> {
-    rows: Vec<Entry<A>, A>,
+    rows: Rows<A>,
     index: Index<A>,
+    len: usize,
 }
 
 impl<A: Allocator + Copy> Model for JobTable<A> {
     ghost use Rattle.std.specs.Prelude.{List};
     ghost use Rattle.swf_text.specs.Entry.{LogEntry};
-    ghost use Rattle.job_table.specs.Table.{IsTable, IsIndex};
+    ghost use Rattle.job_table.specs.Table.{IsStored};
 
     ghost Value = { List LogEntry };
 
-    ghost view = { λ t. t.rows.items };
+    ghost view = { λ t. t.rows };
 
-    ghost invariant = { λ t. record { table : IsTable t.rows.items; index : IsIndex t.index t.rows.items } };
+    ghost invariant = { λ t. IsStored t.rows t.index t.len };
 }
 
 // Why a field may not have a value, if so.
@@ -57,10 +63,22 @@ impl<A: Allocator + Copy> JobTable<A> {
     pub fn from_text(alloc: A, text: &SwfText<A>) -> Result<JobTable<A>, Memory>
         ensures { IfOk result (λ table. table ≡ log_of text.now.entries) }
     {
-        let mut rows = copy_of(alloc, text.entries())?;
-        rows.sort_by_key(|entry| (entry.submit(), entry.number()))?;
-        let index = index_of(alloc, rows.as_slice())?;
-        Ok(JobTable { rows, index })
+        let entries = copy_of(alloc, text.entries())?;
+        Ok(JobTable::of_entries(alloc, entries)?)
+    }
+
+    /// The table of these entries, which it takes over. Its condition is what holds of every log: job
+    /// numbers are distinct, and there are at most 4,194,304 entries. Memory where a growth was
+    /// refused.
+    pub fn of_entries(alloc: A, mut entries: Vec<Entry<A>, A>) -> Result<JobTable<A>, Memory>
+        requires { IsLog entries.items }
+        ensures { IfOk result (λ table. table ≡ log_of entries.items) }
+    {
+        entries.sort_by_key(|entry| (entry.submit(), entry.number()))?;
+        let index = index_of(alloc, entries.as_slice())?;
+        let len = entries.len();
+        let rows = Chunks::of(alloc, entries)?;
+        Ok(JobTable { rows, index, len })
     }
 
     /// A log of these comments, and of the entries in the table's order. Memory where a growth was
@@ -69,24 +87,24 @@ impl<A: Allocator + Copy> JobTable<A> {
         ensures comments { IfOk result (λ text. text.comments ≡ map (λ c. c.items) comments.now) }
         ensures entries { IfOk result (λ text. text.entries ≡ self.now) }
     {
-        let alloc = *self.rows.allocator();
+        let alloc = self.rows.allocator();
         let mut lines = Vec::with_capacity(alloc, comments.len())?;
         for comment in comments {
             lines.push(Vec::from_slice(alloc, comment.as_slice())?)?;
         }
-        let entries = copy_of(alloc, self.rows.as_slice())?;
+        let entries = copy_rest(alloc, self.rows.iter(), self.len)?;
         Ok(SwfText::of_parts(lines, entries))
     }
 
-    /// The same table once more, on the allocator that this one keeps. Memory where a growth was
-    /// refused.
+    /// The same table once more, on the allocator that this one keeps. It shares all chunks of
+    /// entries, so that it costs one pointer for each chunk. Memory where a growth was refused.
     pub fn copy(&self) -> Result<JobTable<A>, Memory>
         ensures { IfOk result (λ table. table ≡ self.now) }
     {
-        let alloc = *self.rows.allocator();
-        let rows = copy_of(alloc, self.rows.as_slice())?;
-        let index = index_of(alloc, rows.as_slice())?;
-        Ok(JobTable { rows, index })
+        let rows = self.rows.copy()?;
+        let index = self.index.copy()?;
+        let len = self.len;
+        Ok(JobTable { rows, index, len })
     }
 
     /// How many entries there are, at most 4,194,304.
@@ -95,7 +113,7 @@ impl<A: Allocator + Copy> JobTable<A> {
         ensures limit { result ≤ 4194304 }
         ensures sound { IsTable self.now }
     {
-        self.rows.len()
+        self.len
     }
 
     /// The entry with this job number.
@@ -104,9 +122,8 @@ impl<A: Allocator + Copy> JobTable<A> {
         ensures numbered { IfSome result (λ entry. number_of_entry entry.now ≡ number) }
         ensures sound { IfSome result (λ entry. IsEntry entry.now) }
     {
-        let submit = *self.index.get(&number)?;
-        let place = place_of(self.rows.as_slice(), submit, number);
-        Some(&self.rows[place])
+        let submit = second(&self.index, number)?;
+        entry_at(&self.rows, submit, number)
     }
 
     /// The entries with this submit second or a later one, in order.
@@ -114,22 +131,21 @@ impl<A: Allocator + Copy> JobTable<A> {
         ensures entries { result ≡ entries_from second self.now }
         ensures sound { IsTable self.now }
     {
-        let place = place_of(self.rows.as_slice(), second, 0);
-        Cursor::new(&self.rows.as_slice()[place..])
+        Cursor::new(rest_from(&self.rows, second))
     }
 
     /// Whether both have the same entries, with all fields and partial lines.
     pub fn same(&self, other: &JobTable<A>) -> bool
         ensures { IsTrue result ↔ (self.now ≡ other.now) }
     {
-        are_same(self.rows.as_slice(), other.rows.as_slice())
+        are_same(self.rows.iter(), other.rows.iter())
     }
 
     // Whether a job has this number.
     fn knows(&self, number: u64) -> bool
         ensures { result ≡ holds number self.now }
     {
-        self.index.contains_key(&number)
+        has_number(&self.index, number)
     }
 
     /// Whether an edit would be accepted, or else its first fault in the order of `EditFault`.
@@ -167,77 +183,97 @@ impl<A: Allocator + Copy> JobTable<A> {
         }
     }
 
-    // An entry more, whose number is new.
-    fn insert(&mut self, entry: Entry<A>) -> Result<(), Memory>
-        requires new { entry_of (number_of_entry entry) self.old ≡ None }
+    // An entry more, whose number is new. Answers the count of `apply_counted`.
+    fn insert(&mut self, entry: &Entry<A>) -> Result<u32, Memory>
+        requires new { entry_of (number_of_entry entry.now) self.old ≡ None }
         requires room { length self.old < 4194304 }
-        ensures ok { OnOk result (self.new ≡ log_of (entry ∷ self.old)) }
+        ensures ok { OnOk result (self.new ≡ log_of (entry.now ∷ self.old)) }
         ensures err { OnErr result (self.new ≡ self.old) }
+        ensures most { IfOk result (λ count. count ≤ 1024) }
     {
-        self.rows.reserve(1)?;
-        let submit = entry.submit();
-        let number = entry.number();
-        let place = place_of(self.rows.as_slice(), submit, number);
-        self.index.insert(number, submit)?;
-        self.rows.insert(place, entry).unwrap();
-        Ok(())
+        let mut count = 1;
+        let copy = entry.copy()?;
+        let index = with_number(&self.index, copy.number(), copy.submit(), &mut count)?;
+        let rows = with_one(&self.rows, copy, &mut count)?;
+        self.index = index;
+        self.rows = rows;
+        self.len += 1;
+        Ok(count)
     }
 
-    // The entry with this number leaves.
-    fn remove(&mut self, number: u64)
-        ensures { self.new ≡ log_of (without number self.old) }
+    // The entry with this number leaves. Answers the count of `apply_counted`.
+    fn remove(&mut self, number: u64) -> Result<u32, Memory>
+        ensures ok { OnOk result (self.new ≡ log_of (without number self.old)) }
+        ensures err { OnErr result (self.new ≡ self.old) }
+        ensures most { IfOk result (λ count. count ≤ 1024) }
     {
-        if let Some(submit) = self.index.remove(&number) {
-            let place = place_of(self.rows.as_slice(), submit, number);
-            let _entry = self.rows.remove(place);
-        }
+        let Some(submit) = second(&self.index, number) else {
+            return Ok(0);
+        };
+        let mut count = 0;
+        let index = without_number(&self.index, number, &mut count)?;
+        let rows = without_one(&self.rows, submit, number, &mut count)?;
+        self.index = index;
+        self.rows = rows;
+        self.len -= 1;
+        Ok(count)
     }
 
-    // A field of the entry with this number gets another value.
-    fn change(&mut self, number: u64, field: u8, value: Value)
+    // A field of the entry with this number gets another value. Answers the count of
+    // `apply_counted`.
+    fn change(&mut self, number: u64, field: u8, value: Value) -> Result<u32, Memory>
         requires { change_fault field value ≡ None }
-        ensures { self.new ≡ log_of (changed number field value self.old) }
+        ensures ok { OnOk result (self.new ≡ log_of (changed number field value self.old)) }
+        ensures err { OnErr result (self.new ≡ self.old) }
+        ensures most { IfOk result (λ count. count ≤ 1024) }
     {
-        if let Some(submit) = self.index.get(&number).copied() {
-            let place = place_of(self.rows.as_slice(), submit, number);
-            let mut entry = self.rows.remove(place);
-            entry.set_field(usize::from(field), value).unwrap();
-            let at = entry.submit();
-            let indexed: Result<_, _> = self.index.insert(number, at);
-            indexed.unwrap();
-            let target = place_of(self.rows.as_slice(), at, number);
-            let placed: Result<_, _> = self.rows.insert(target, entry);
-            placed.unwrap();
-        }
+        let Some(submit) = second(&self.index, number) else {
+            return Ok(0);
+        };
+        let Some(was) = entry_at(&self.rows, submit, number) else {
+            return Ok(0);
+        };
+        let mut count = 1;
+        let entry = changed_entry(was, field, value)?;
+        let at = entry.submit();
+        let index = with_second(&self.index, number, at, &mut count)?;
+        let rows = with_moved(&self.rows, submit, entry, &mut count)?;
+        self.index = index;
+        self.rows = rows;
+        Ok(count)
     }
 
     /// Applies an edit, or refuses it with its first fault in the order of `EditFault`; then, want
     /// of memory among the faults, the table is as it was. A change to the value that is there is
-    /// accepted. A change of field 2 moves the entry to its place. Only an insertion takes memory.
+    /// accepted. A change of field 2 moves the entry to its place.
     pub fn apply(&mut self, edit: &Edit<A>) -> Result<(), EditFault>
         ensures accepted { OnOk result (fault_of (edit_of edit.now) self.old ≡ None) }
         ensures applied { OnOk result (self.new ≡ applied (edit_of edit.now) self.old) }
         ensures fault { IfErr result (λ fault. IsRefusal fault (edit_of edit.now) self.old) }
         ensures kept { OnErr result (self.new ≡ self.old) }
     {
+        let _count = self.apply_counted(edit)?;
+        Ok(())
+    }
+
+    /// As `apply`, and answers how many entries and pairs of the index it copied or moved to
+    /// another chunk: at most 1,024.
+    pub fn apply_counted(&mut self, edit: &Edit<A>) -> Result<u32, EditFault>
+        ensures accepted { OnOk result (fault_of (edit_of edit.now) self.old ≡ None) }
+        ensures applied { OnOk result (self.new ≡ applied (edit_of edit.now) self.old) }
+        ensures fault { IfErr result (λ fault. IsRefusal fault (edit_of edit.now) self.old) }
+        ensures kept { OnErr result (self.new ≡ self.old) }
+        ensures most { IfOk result (λ count. count ≤ 1024) }
+    {
         self.check(edit)?;
         match edit {
-            Edit::Insert(entry) => {
-                self.insert(entry.copy()?)?;
-                Ok(())
-            }
-            Edit::Remove(number) => {
-                self.remove(*number);
-                Ok(())
-            }
+            Edit::Insert(entry) => Ok(self.insert(entry)?),
+            Edit::Remove(number) => Ok(self.remove(*number)?),
             Edit::Change {
                 number,
                 field,
                 value,
-            } => {
-                self.change(*number, *field, *value);
-                Ok(())
-            }
+            } => Ok(self.change(*number, *field, *value)?),
         }
     }
 }

@@ -276,3 +276,128 @@ fn shows_its_faults(rt: HostRuntime) -> Result<(), Fail> {
     }
     Ok(())
 }
+
+/// How many jobs the long tests have.
+const MANY: u64 = 1000;
+
+// A job of this number, submitted in this second.
+fn job(rt: &HostRuntime, number: u64, submit: u64) -> Result<Edit<Global>, Fail> {
+    let text = format!(in rt.alloc();
+        "{number} {submit} -1 9 1 -1 -1 1 9 -1 1 7 -1 -1 -1 -1 -1 -1\n"
+    )?;
+    insertion(rt, text.as_str())
+}
+
+// The change of a job's submit time to this second.
+fn moving(rt: &HostRuntime, number: u64, submit: u64) -> Result<Edit<Global>, Fail> {
+    let word = format!(in rt.alloc(); "{submit}")?;
+    change(number, 2, word.as_str())
+}
+
+// Whether a table has just the jobs of a plain list of (submit second, number).
+fn is_plain(table: &JobTable<Global>, plain: &[(u64, u64)]) -> bool {
+    let mut coming = table.from_second(0);
+    for pair in plain {
+        match coming.next() {
+            Some(entry) if (entry.submit(), entry.number()) == *pair => {}
+            _ => return false,
+        }
+    }
+    coming.peek().is_none()
+}
+
+// Applies an edit to a table and to a plain list, where a pair leaves and another joins; whether
+// it took at most 1,024 entries and pairs, and both are alike then.
+fn edits_both(
+    table: &mut JobTable<Global>,
+    plain: &mut Vec<(u64, u64)>,
+    edit: &Edit<Global>,
+    leaves: Option<(u64, u64)>,
+    joins: Option<(u64, u64)>,
+) -> Result<bool, Fail> {
+    let count = table.apply_counted(edit)?;
+    plain.retain(|pair| Some(*pair) != leaves);
+    if let Some(pair) = joins {
+        plain.push(pair)?;
+        plain.sort()?;
+    }
+    Ok(count <= 1024 && is_plain(table, plain.as_slice()))
+}
+
+// The submit second of a job at first.
+fn first_second(number: u64, falling: bool) -> u64 {
+    if falling {
+        MANY.saturating_sub(number)
+    } else {
+        number
+    }
+}
+
+// The submit second that a job is moved to.
+fn next_second(number: u64) -> u64 {
+    number % 37
+}
+
+// Inserts a thousand jobs; whether all went as in a plain list.
+fn inserts_many(
+    rt: &HostRuntime,
+    table: &mut JobTable<Global>,
+    plain: &mut Vec<(u64, u64)>,
+    falling: bool,
+) -> Result<bool, Fail> {
+    for number in 1..=MANY {
+        let submit = first_second(number, falling);
+        let edit = job(rt, number, submit)?;
+        if !edits_both(table, plain, &edit, None, Some((submit, number)))? {
+            return Ok(false);
+        }
+    }
+    Ok(true)
+}
+
+// Moves each of the jobs once, and then removes it; whether all went as in a plain list.
+fn moves_and_removes_many(
+    rt: &HostRuntime,
+    table: &mut JobTable<Global>,
+    plain: &mut Vec<(u64, u64)>,
+    falling: bool,
+) -> Result<bool, Fail> {
+    for number in 1..=MANY {
+        let from = (first_second(number, falling), number);
+        let to = (next_second(number), number);
+        let edit = moving(rt, number, to.0)?;
+        if !edits_both(table, plain, &edit, Some(from), Some(to))? {
+            return Ok(false);
+        }
+    }
+    for number in 1..=MANY {
+        let from = (next_second(number), number);
+        if !edits_both(table, plain, &Edit::Remove(number), Some(from), None)? {
+            return Ok(false);
+        }
+    }
+    Ok(true)
+}
+
+#[test]
+fn keeps_a_thousand_jobs_that_come_by_rising_second(rt: HostRuntime) -> Result<(), Fail> {
+    let mut table = table(&rt, "")?;
+    let mut plain = Vec::new(rt.alloc());
+    assert!(rt; inserts_many(&rt, &mut table, &mut plain, false)?);
+    assert!(rt; moves_and_removes_many(&rt, &mut table, &mut plain, false)?);
+    assert_eq!(rt; table.len(), 0);
+    Ok(())
+}
+
+#[test]
+fn keeps_a_thousand_jobs_that_come_by_falling_second(rt: HostRuntime) -> Result<(), Fail> {
+    let mut table = table(&rt, "")?;
+    let mut plain = Vec::new(rt.alloc());
+    assert!(rt; inserts_many(&rt, &mut table, &mut plain, true)?);
+    let before = table.copy()?;
+    assert!(rt; is_plain(&before, plain.as_slice()));
+    assert!(rt; moves_and_removes_many(&rt, &mut table, &mut plain, true)?);
+    assert_eq!(rt; before.len(), 1000);
+    assert_eq!(rt; before.get(7).map(|entry| entry.submit()), Some(993));
+    Ok(())
+}

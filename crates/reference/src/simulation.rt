@@ -1,6 +1,6 @@
-ghost use Rattle.std.specs.Prelude.{◌≡◌, ◌↔◌, ℕ, ◌<◌, ◌≤◌, ◌^◌, [], All, IfOk, OnOk, IsTrue, nat_eq, filter, take, sum_by};
+ghost use Rattle.std.specs.Prelude.{◌≡◌, ◌↔◌, ℕ, ◌<◌, ◌≤◌, ◌^◌, [], All, IfOk, OnOk, IsTrue, nat_eq, filter, take};
 ghost use Rattle.cluster_state.specs.State.{IsSound};
-ghost use Rattle.easy_rule.specs.Simulation.{joined, last_submit, sim};
+ghost use Rattle.easy_rule.specs.Simulation.{joined, sim};
 
 use crate::plan::LogPlan;
 use cluster_state::Cluster;
@@ -8,6 +8,7 @@ use easy_rule::{Start, decide};
 use scenarios::Job;
 use std::alloc::Allocator;
 use swf_text::Memory;
+use timeline::last_second::{bound, last_submit};
 
 // The jobs that are submitted at second t join the queue.
 fn arrive_at<A: Allocator + Copy>(
@@ -27,25 +28,6 @@ fn arrive_at<A: Allocator + Copy>(
     Ok(())
 }
 
-// The greatest submit second.
-fn last_of(jobs: &[Job]) -> u64
-    ensures { result ≡ last_submit jobs.now }
-{
-    let mut last = 0;
-    for job in jobs {
-        last = job.submit().max(last);
-    }
-    last
-}
-
-// How long all of them run.
-fn total_of(jobs: &[Job]) -> u64
-    requires { sum_by (λ j. j.length) jobs.now < 2 ^ 64 }
-    ensures { result ≡ sum_by (λ j. j.length) jobs.now }
-{
-    jobs.iter().map(|job| job.length()).sum()
-}
-
 // Whether no job waits or runs.
 fn is_idle<A: Allocator + Copy>(cluster: &Cluster<A>) -> bool
     ensures { IsTrue result ↔ ((cluster.now.state.waiting ≡ []) × (cluster.now.state.running ≡ [])) }
@@ -62,10 +44,10 @@ pub fn simulate<A: Allocator + Copy>(alloc: A, plan: &LogPlan<A>) -> Result<Vec<
     ensures within { IfOk result (λ starts. All (λ start. start.at < 2 ^ 49) starts.items) }
 {
     let jobs = plan.jobs();
-    let last = last_of(jobs);
+    let last = last_submit(jobs);
     let mut cluster = Cluster::for_scenario(alloc, plan.scenario());
     let mut starts = Vec::new(alloc);
-    for t in 0..last + total_of(jobs) + 1 {
+    for t in 0..bound(jobs) + 1 {
         if t > last && is_idle(&cluster) {
             return Ok(starts);
         }

@@ -6,6 +6,7 @@ use std::alloc::Global;
 use std::process::Abort;
 use std::test::Fail;
 use swf_text::read_swf;
+use timeline::last_second::{bound, last_submit};
 
 // A job of a log: its number, submit second, size, run time and requested time.
 type Row = (u64, u64, i64, u64, u64);
@@ -233,5 +234,7 @@ fn the_order_of_the_text_is_not_that_of_the_log(rt: HostRuntime) -> Result<(), F
     assert_eq!(rt; plan.machine(), 10);
     assert_eq!(rt; plan.order(), Order::Shortest);
     assert_eq!(rt; plan.jobs().len(), 4);
+    assert_eq!(rt; last_submit(plan.jobs()), 3);
+    assert_eq!(rt; bound(plan.jobs()), 743);
     Ok(())
 }

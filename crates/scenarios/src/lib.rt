@@ -20,8 +20,3 @@ pub use scenario::Scenario;
 pub use scenario_id::ScenarioId;
 pub use scenario_list::ScenarioList;
 pub use skip::Skip;
-
-#[cfg(test)]
-mod list_tests;
-#[cfg(test)]
-mod tests;

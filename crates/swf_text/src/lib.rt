@@ -33,8 +33,3 @@ pub use scan::{from_first, next_word, read_line, without_returns};
 pub use text::SwfText;
 pub use value::Value;
 pub use writer::{write_bytes, write_swf};
-
-#[cfg(test)]
-mod tests;
-#[cfg(test)]
-mod writing_tests;

@@ -50,4 +50,14 @@ impl<A: Allocator + Copy> SwfText<A> {
     {
         self.entries.as_slice()
     }
+
+    /// The comments and the entries, taken out of the log: each comment from its `;` on, the entries in
+    /// the order of their summary lines.
+    pub fn into_parts(self) -> (Vec<Vec<u8, A>, A>, Vec<Entry<A>, A>)
+        ensures comments { map (λ c. c.items) result.0.items ≡ self.comments }
+        ensures entries { result.1.items ≡ self.entries }
+        ensures log { IsLog self.entries }
+    {
+        (self.comments, self.entries)
+    }
 }

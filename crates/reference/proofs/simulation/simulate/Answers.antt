@@ -4,26 +4,18 @@ use Rattle.cluster_state.specs.State.{State}
 use Rattle.easy_rule.specs.Rule.{state_after}
 use Rattle.easy_rule.specs.Simulation.{before, starts_before, last_submit, bound}
 use Rattle.timeline.proofs.Facts.{sound-arrivals, second-is, machine-is, before-more, starts_before-more}
-use Rattle.timeline.proofs.Short.{short-plan, bound-is}
+use Rattle.timeline.proofs.Short.{short-plan}
 use Rattle.timeline.proofs.Rest.{all-started}
 use Rattle.timeline.proofs.Seconds.{all-start-early}
 use Rattle.reference.proofs.simulation.simulate.Goals as goal
 
-pub total_of-requires : goal.total_of-requires
-total_of-requires g c =
-    let s = short-plan c.args.plan.now c.jobs-jobs.ensures.plan in
-    rw c.jobs-jobs.ensures.jobs (omega (arith, s))
+pub bound-t-end-requires : goal.bound-t-end-requires
+bound-t-end-requires g c = rw c.jobs-jobs.ensures.jobs c.jobs-jobs.ensures.plan.few
 
 pub overflow_add-t-end : goal.overflow_add-t-end
 overflow_add-t-end g c =
     let s = short-plan c.args.plan.now c.jobs-jobs.ensures.plan in
-    let ends = bound-is c.args.plan.now c.jobs-jobs.result.now c.last_of-last.result c.total_of.result c.jobs-jobs.ensures.jobs c.last_of-last.ensures c.total_of.ensures in
-    omega (arith, s, ends)
-
-pub overflow_add-t-end-2 : goal.overflow_add-t-end-2
-overflow_add-t-end-2 g c =
-    let s = short-plan c.args.plan.now c.jobs-jobs.ensures.plan in
-    let ends = bound-is c.args.plan.now c.jobs-jobs.result.now c.last_of-last.result c.total_of.result c.jobs-jobs.ensures.jobs c.last_of-last.ensures c.total_of.ensures in
+    let ends = c.bound-t-end.ensures.value c.args.plan.now (sym c.jobs-jobs.ensures.jobs) in
     omega (arith, s, ends)
 
 pub loop-t-init : goal.loop-t-init
@@ -33,34 +25,34 @@ loop-t-init g c =
 
 pub returns-then-is_idle : goal.returns-then-is_idle
 returns-then-is_idle g c =
-    let ends = bound-is c.args.plan.now c.jobs-jobs.result.now c.last_of-last.result c.total_of.result c.jobs-jobs.ensures.jobs c.last_of-last.ensures c.total_of.ensures in
+    let ends = c.bound-t-end.ensures.value c.args.plan.now (sym c.jobs-jobs.ensures.jobs) in
     let idle = c.is_idle.ensures.0 c.if-is_idle.true in
-    let late : last_submit c.args.plan.now.jobs < c.loop-t.t = rw c.jobs-jobs.ensures.jobs at (rw c.last_of-last.ensures at c.if-t-last.true) in
+    let late : last_submit c.args.plan.now.jobs < c.loop-t.t = rw c.jobs-jobs.ensures.jobs at (rw c.last_submit-last.ensures.value at c.if-t-last.true) in
     let all = c.loop-t.invariant.starts ∙ all-started c.args.plan.now c.loop-t.t (bound c.args.plan.now + 1) c.loop-t.cluster.state c.loop-t.invariant.state late (omega (arith, ends)) idle.0 idle.1 in
     record { starts = all; within = all-start-early c.args.plan.now c.loop-t.starts.items c.jobs-jobs.ensures.plan all }
 
 pub arrive_at-requires-clause-sound : goal.arrive_at-requires-clause-sound
 arrive_at-requires-clause-sound g c =
     let s = short-plan c.args.plan.now c.jobs-jobs.ensures.plan in
-    let ends = bound-is c.args.plan.now c.jobs-jobs.result.now c.last_of-last.result c.total_of.result c.jobs-jobs.ensures.jobs c.last_of-last.ensures c.total_of.ensures in
+    let ends = c.bound-t-end.ensures.value c.args.plan.now (sym c.jobs-jobs.ensures.jobs) in
     rw c.jobs-jobs.ensures.jobs (λ k. sound-arrivals c.args.plan.now c.loop-t.cluster.state c.finish_until.new.self.state c.loop-t.t k (omega (arith, s, ends)) c.jobs-jobs.ensures.plan c.loop-t.invariant.state c.finish_until.ensures.state)
 
 pub arrive_at-requires-clause-sizes : goal.arrive_at-requires-clause-sizes
 arrive_at-requires-clause-sizes g c =
     let s = short-plan c.args.plan.now c.jobs-jobs.ensures.plan in
-    let ends = bound-is c.args.plan.now c.jobs-jobs.result.now c.last_of-last.result c.total_of.result c.jobs-jobs.ensures.jobs c.last_of-last.ensures c.total_of.ensures in
+    let ends = c.bound-t-end.ensures.value c.args.plan.now (sym c.jobs-jobs.ensures.jobs) in
     rw (c.jobs-jobs.ensures.jobs, machine-is c.args.plan.now c.loop-t.cluster.state c.finish_until.new.self.state c.loop-t.t (omega (arith, s, ends)) c.jobs-jobs.ensures.plan c.loop-t.invariant.state c.finish_until.ensures.state) c.jobs-jobs.ensures.plan.sizes
 
 pub decide-requires : goal.decide-requires
 decide-requires g c =
     let s = short-plan c.args.plan.now c.jobs-jobs.ensures.plan in
-    let ends = bound-is c.args.plan.now c.jobs-jobs.result.now c.last_of-last.result c.total_of.result c.jobs-jobs.ensures.jobs c.last_of-last.ensures c.total_of.ensures in
+    let ends = c.bound-t-end.ensures.value c.args.plan.now (sym c.jobs-jobs.ensures.jobs) in
     omega (arith, s, ends)
 
 pub loop-t-preserved : goal.loop-t-preserved
 loop-t-preserved g c =
     let s = short-plan c.args.plan.now c.jobs-jobs.ensures.plan in
-    let ends = bound-is c.args.plan.now c.jobs-jobs.result.now c.last_of-last.result c.total_of.result c.jobs-jobs.ensures.jobs c.last_of-last.ensures c.total_of.ensures in
+    let ends = c.bound-t-end.ensures.value c.args.plan.now (sym c.jobs-jobs.ensures.jobs) in
     let plan : Plan = c.args.plan.now in
     let t = c.loop-t.t in
     let arrived = rw c.jobs-jobs.ensures.jobs at c.in_ok-arrive_at.ensures in
@@ -72,7 +64,7 @@ loop-t-preserved g c =
 
 pub returns : goal.returns
 returns g c =
-    let ends = bound-is c.args.plan.now c.jobs-jobs.result.now c.last_of-last.result c.total_of.result c.jobs-jobs.ensures.jobs c.last_of-last.ensures c.total_of.ensures in
+    let ends = c.bound-t-end.ensures.value c.args.plan.now (sym c.jobs-jobs.ensures.jobs) in
     let end : c.loop-t.t ≡ bound c.args.plan.now + 1 = omega (arith, ends) in
     let all = c.loop-t.invariant.starts ∙ ap (starts_before c.args.plan.now) end in
     record { starts = all; within = all-start-early c.args.plan.now c.loop-t.starts.items c.jobs-jobs.ensures.plan all }

@@ -12,4 +12,7 @@ invariant_of-self-2 g c =
       sound = rw (c.in-Ok.ensures.items, c.reserve.ensures.items)
           (sound-arrived _ c.args.job c.self.invariant.sound (rw (← c.self.view_is) at c.requires.absent) (rw (← c.self.view_is) at c.requires.fits) c.put_job.ensures.limits);
       kept_row = rw (c.in-Ok.ensures.items, c.reserve.ensures.items) row;
+      kept_by_end = c.self.invariant.kept_by_end;
+      heap = c.self.invariant.heap;
+      kept_ends = c.self.invariant.kept_ends;
     }

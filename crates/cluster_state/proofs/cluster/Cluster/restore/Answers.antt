@@ -6,8 +6,8 @@ use Rattle.cluster_state.proofs.LookupLemmas.{sound-running, absent-next, restor
 use Rattle.cluster_state.proofs.cluster.Cluster.restore.Goals.{in-Some+in_ok-arrive, in_default}
 use Rattle.cluster_state.proofs.cluster.Cluster.restore.Goals as goal
 
-pub with_running-cluster-requires : goal.with_running-cluster-requires
-with_running-cluster-requires g c =
+pub with_running-requires : goal.with_running-requires
+with_running-requires g c =
     let p : Numbers = c.args.snapshot.now in
     let plan : Plan = plan_of c.args.table.now c.args.scenario.now in
     let small = c.procs.ensures.setting.procs_fit in

@@ -9,4 +9,5 @@ invariant_of-result g c = record {
   counted = omega arith;
   state_is = λ _. c.for_scenario.ensures;
   coming_is = λ _. rw c.deref.ensures at c.next_submit-coming.ensures.next;
+  known_is = λ _. tt;
 }

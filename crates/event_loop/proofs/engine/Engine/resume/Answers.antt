@@ -20,4 +20,5 @@ invariant_of-result g c =
       counted = omega arith;
       state_is = λ _. (rw c.deref-2.ensures at c.in_ok-cluster.ensures) ∙ (before-fits plan c.args.second c.args.snapshot.now sound c.requires).1;
       coming_is = λ _. rw c.deref.ensures at c.next_submit-coming.ensures.next;
+      known_is = λ _. tt;
     }

@@ -1,4 +1,6 @@
-use Rattle.std.proofs.Common.{◌∙◌, ap, sym, arith}
+use Rattle.std.proofs.Common.{◌≡◌, ◌∙◌, ap, sym, arith, false, List, length}
+use Rattle.std.proofs.lemmas.Bool.{true≢false}
+use Rattle.scenarios.specs.Job.{EffectiveJob}
 use Rattle.std.specs.Arc.{arc_value}
 use Rattle.scenarios.specs.Plan.{Plan, plan_of}
 use Rattle.cluster_state.specs.State.{State}
@@ -6,39 +8,67 @@ use Rattle.easy_rule.specs.Rule.{state_after, starts_at}
 use Rattle.easy_rule.specs.Simulation.{starts_in}
 use Rattle.timeline.proofs.Facts.{second-is, before-more}
 use Rattle.event_loop.specs.Events.{Progress}
-use Rattle.event_loop.proofs.EventLemmas.{ready-at, sound-ready}
+use Rattle.event_loop.proofs.EventLemmas.{ready-at, sound-ready, known-settled, known-stands}
 use Rattle.event_loop.proofs.engine.Engine.work.Goals as goal
 
 pub arrive_at-requires-clause-next : goal.arrive_at-requires-clause-next
 arrive_at-requires-clause-next g c =
     let plan : Plan = plan_of (arc_value c.self.inside.table) c.self.inside.scenario in
-    let r = ready-at c.args.self.now plan c.self.inside.cluster.state c.self.inside.coming c.self.inside.position c.self.inside.handled c.args.second c.self.inside.failed c.self.view_is c.self.invariant c.requires.going c.requires.next in
+    let r = ready-at c.args.self.now plan c.self.inside.cluster.state c.self.inside.coming c.self.inside.known c.self.inside.position c.self.inside.handled c.args.second c.self.inside.failed c.self.view_is c.self.invariant c.requires.going c.requires.next in
     rw c.deref.ensures r.next
 
 pub arrive_at-requires-clause-sound : goal.arrive_at-requires-clause-sound
 arrive_at-requires-clause-sound g c =
     let plan : Plan = plan_of (arc_value c.self.inside.table) c.self.inside.scenario in
-    let r = ready-at c.args.self.now plan c.self.inside.cluster.state c.self.inside.coming c.self.inside.position c.self.inside.handled c.args.second c.self.inside.failed c.self.view_is c.self.invariant c.requires.going c.requires.next in
+    let r = ready-at c.args.self.now plan c.self.inside.cluster.state c.self.inside.coming c.self.inside.known c.self.inside.position c.self.inside.handled c.args.second c.self.inside.failed c.self.view_is c.self.invariant c.requires.going c.requires.next in
     rw c.deref.ensures (sound-ready plan c.self.inside.cluster.state c.finish_until.new.self.state c.args.second c.self.invariant.is_plan r.small r.is c.finish_until.ensures.state)
 
-pub decide-requires : goal.decide-requires
-decide-requires g c =
+pub decide_knowing-requires-clause-now : goal.decide_knowing-requires-clause-now
+decide_knowing-requires-clause-now g c =
     let plan : Plan = plan_of (arc_value c.self.inside.table) c.self.inside.scenario in
-    let r = ready-at c.args.self.now plan c.self.inside.cluster.state c.self.inside.coming c.self.inside.position c.self.inside.handled c.args.second c.self.inside.failed c.self.view_is c.self.invariant c.requires.going c.requires.next in
+    let r = ready-at c.args.self.now plan c.self.inside.cluster.state c.self.inside.coming c.self.inside.known c.self.inside.position c.self.inside.handled c.args.second c.self.inside.failed c.self.view_is c.self.invariant c.requires.going c.requires.next in
     let l = r.small in
     omega (arith, l)
+
+pub decide_knowing-requires-clause-settled : goal.decide_knowing-requires-clause-settled
+decide_knowing-requires-clause-settled g c =
+    let plan : Plan = plan_of (arc_value c.self.inside.table) c.self.inside.scenario in
+    let t = c.args.second in
+    let r = ready-at c.args.self.now plan c.self.inside.cluster.state c.self.inside.coming c.self.inside.known c.self.inside.position c.self.inside.handled t c.self.inside.failed c.self.view_is c.self.invariant c.requires.going c.requires.next in
+    let l = r.small in
+    let ready-is = second-is plan c.self.inside.cluster.state c.finish_until.new.self.state c.arrive_at.new.cluster.state t (omega (arith, l)) c.self.invariant.is_plan r.is c.finish_until.ensures.state (rw c.deref.ensures at c.in_ok-coming.ensures.state) in
+    known-settled plan c.self.inside.cluster.state c.arrive_at.new.cluster.state t (length c.waiting-settled.result.now) c.standing_at-known.result r.is ready-is (ap (λ (js : List EffectiveJob). length js) c.waiting-settled.ensures.jobs) c.standing_at-known.ensures.stands
+
+pub decide_knowing-requires-clause-known : goal.decide_knowing-requires-clause-known
+decide_knowing-requires-clause-known g c =
+    let plan : Plan = plan_of (arc_value c.self.inside.table) c.self.inside.scenario in
+    let t = c.args.second in
+    let r = ready-at c.args.self.now plan c.self.inside.cluster.state c.self.inside.coming c.self.inside.known c.self.inside.position c.self.inside.handled t c.self.inside.failed c.self.view_is c.self.invariant c.requires.going c.requires.next in
+    let l = r.small in
+    let ready-is = second-is plan c.self.inside.cluster.state c.finish_until.new.self.state c.arrive_at.new.cluster.state t (omega (arith, l)) c.self.invariant.is_plan r.is c.finish_until.ensures.state (rw c.deref.ensures at c.in_ok-coming.ensures.state) in
+    let going : c.self.inside.failed ≡ false = ap (λ (p : Progress). p.failed) c.self.view_is ∙ c.requires.going in
+    known-stands plan c.self.inside.cluster.state c.arrive_at.new.cluster.state t c.self.inside.known c.standing_at-known.result r.is ready-is (c.self.invariant.known_is going) c.standing_at-known.ensures.known c.standing_at-known.ensures.stands
+
+pub invariant_of-self-in_err-starts : goal.invariant_of-self-in_err-starts
+invariant_of-self-in_err-starts g c = record {
+  is_plan = c.self.invariant.is_plan;
+  counted = c.self.invariant.counted;
+  state_is = λ e. absurd (true≢false e);
+  coming_is = λ e. absurd (true≢false e);
+  known_is = λ e. absurd (true≢false e);
+}
 
 pub overflow_add-self : goal.overflow_add-self
 overflow_add-self g c =
     let plan : Plan = plan_of (arc_value c.self.inside.table) c.self.inside.scenario in
-    let r = ready-at c.args.self.now plan c.self.inside.cluster.state c.self.inside.coming c.self.inside.position c.self.inside.handled c.args.second c.self.inside.failed c.self.view_is c.self.invariant c.requires.going c.requires.next in
+    let r = ready-at c.args.self.now plan c.self.inside.cluster.state c.self.inside.coming c.self.inside.known c.self.inside.position c.self.inside.handled c.args.second c.self.inside.failed c.self.view_is c.self.invariant c.requires.going c.requires.next in
     let l = r.small in
     omega (arith, l)
 
 pub overflow_add-self-2 : goal.overflow_add-self-2
 overflow_add-self-2 g c =
     let plan : Plan = plan_of (arc_value c.self.inside.table) c.self.inside.scenario in
-    let r = ready-at c.args.self.now plan c.self.inside.cluster.state c.self.inside.coming c.self.inside.position c.self.inside.handled c.args.second c.self.inside.failed c.self.view_is c.self.invariant c.requires.going c.requires.next in
+    let r = ready-at c.args.self.now plan c.self.inside.cluster.state c.self.inside.coming c.self.inside.known c.self.inside.position c.self.inside.handled c.args.second c.self.inside.failed c.self.view_is c.self.invariant c.requires.going c.requires.next in
     let l = r.small in
     let f = r.first in
     let k = c.self.invariant.counted in
@@ -48,7 +78,7 @@ pub invariant_of-self-2 : goal.invariant_of-self-2
 invariant_of-self-2 g c =
     let plan : Plan = plan_of (arc_value c.self.inside.table) c.self.inside.scenario in
     let t = c.args.second in
-    let r = ready-at c.args.self.now plan c.self.inside.cluster.state c.self.inside.coming c.self.inside.position c.self.inside.handled t c.self.inside.failed c.self.view_is c.self.invariant c.requires.going c.requires.next in
+    let r = ready-at c.args.self.now plan c.self.inside.cluster.state c.self.inside.coming c.self.inside.known c.self.inside.position c.self.inside.handled t c.self.inside.failed c.self.view_is c.self.invariant c.requires.going c.requires.next in
     let l = r.small in
     let f = r.first in
     let k = c.self.invariant.counted in
@@ -58,13 +88,14 @@ invariant_of-self-2 g c =
       counted = omega (arith, f, k);
       state_is = λ _. c.in_ok-starts.ensures.state ∙ ap (λ (s : State). state_after s t) ready-is ∙ sym (before-more plan t);
       coming_is = λ _. rw c.deref.ensures at c.in_ok-coming.ensures.next;
+      known_is = λ _. c.in_ok-starts.ensures.shadow;
     }
 
 pub returns-clause-starts : goal.returns-clause-starts
 returns-clause-starts g c =
     let plan : Plan = plan_of (arc_value c.self.inside.table) c.self.inside.scenario in
     let t = c.args.second in
-    let r = ready-at c.args.self.now plan c.self.inside.cluster.state c.self.inside.coming c.self.inside.position c.self.inside.handled t c.self.inside.failed c.self.view_is c.self.invariant c.requires.going c.requires.next in
+    let r = ready-at c.args.self.now plan c.self.inside.cluster.state c.self.inside.coming c.self.inside.known c.self.inside.position c.self.inside.handled t c.self.inside.failed c.self.view_is c.self.invariant c.requires.going c.requires.next in
     let l = r.small in
     let ready-is = second-is plan c.self.inside.cluster.state c.finish_until.new.self.state c.arrive_at.new.cluster.state t (omega (arith, l)) c.self.invariant.is_plan r.is c.finish_until.ensures.state (rw c.deref.ensures at c.in_ok-coming.ensures.state) in
     c.in_ok-starts.ensures.starts ∙ ap (λ (s : State). starts_at s t) ready-is ∙ ap (λ (p : Progress). starts_in p.plan t) c.self.view_is

@@ -1,7 +1,5 @@
-use Rattle.std.proofs.Common.{◌∷◌, subst}
-use Rattle.job_table.specs.Table.{IsTable}
-use Rattle.job_table.proofs.Tables.{table-drop}
+use Rattle.job_table.proofs.Lookups.{next-table}
 use Rattle.job_table.proofs.cursor.CursorIterator.next.Goals as goal
 
-pub invariant_of-self : goal.invariant_of-self
-invariant_of-self g c = table-drop 1 (c.in_ok-first.first.now ∷ c.in_ok-first.rest.now) (subst IsTable c.in_ok-first.ensures.cases.0 c.self.invariant)
+pub invariant_of-self-2 : goal.invariant_of-self-2
+invariant_of-self-2 g c = next-table c.self.inside.rest c.next.new.self c.in_ok-entry.entry.now c.in_ok-entry.ensures.steps c.self.invariant

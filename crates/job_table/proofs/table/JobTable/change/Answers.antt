@@ -1,72 +1,41 @@
-use Rattle.std.proofs.Common.{◌≡◌, ℕ, ◌≤◌, Some, List, option_map, length, vec_len, nat_eq, sym, ap, subst, ◌∙◌, arith, rules}
-use Rattle.std.specs.HashMap.{get}
-use Rattle.swf_text.specs.Entry.{LogEntry, submit_of, number_of_entry, field_change}
-use Rattle.swf_text.specs.Log.{IsRising, log_of}
-use Rattle.job_table.specs.Edit.{entry_of, with_field, without, changed}
-use Rattle.job_table.specs.Table.{IsTable, IsIndex}
-use Rattle.job_table.proofs.Keyed.{placed, indexes-moved}
-use Rattle.job_table.proofs.Tables.{table-left, table-moved}
-use Rattle.job_table.proofs.Lookups.{stands-within, stands-there, taken-out}
-use Rattle.job_table.proofs.Edited.{put-at, change-places, change-taken, log-changed, number-stays, log-unchanged}
+use Rattle.std.proofs.Common.{◌≡◌, ◌≤◌, ℕ, Some, None, List, option_map, ap, sym, subst, ◌∙◌}
+use Rattle.swf_text.specs.Entry.{LogEntry, submit_of, number_of_entry}
+use Rattle.swf_text.specs.Log.{log_of, with_entry}
+use Rattle.job_table.specs.Edit.{entry_of, without, changed}
+use Rattle.job_table.proofs.Edited.{change-places, number-stays, log-changed, log-unchanged}
+use Rattle.job_table.proofs.Stored.{stored-moved}
+use Rattle.job_table.proofs.Tables.{placed-is}
 use Rattle.job_table.proofs.table.JobTable.change.Goals as goal
 
-pub remove-entry-requires : goal.remove-entry-requires
-remove-entry-requires g c =
-    let rows : List LogEntry = c.self.inside.rows.items in
-    let known : Some c.in-Some.submit ≡ option_map submit_of (entry_of c.args.number rows) = sym c.in-Some.is ∙ c.copied.ensures ∙ c.get.ensures.value ∙ c.self.invariant.index c.args.number in
-    let same : length rows ≡ vec_len c.self.inside.rows = sym (ap length c.as_slice.ensures.value) ∙ c.as_slice.ensures.len in
-    rw (← same) (stands-within c.args.number c.in-Some.submit rows c.as_slice.result.now c.place_of-place.result c.self.invariant.table known c.as_slice.ensures.value c.place_of-place.ensures.place)
+pub returns-in_default-clause-ok : goal.returns-in_default-clause-ok
+returns-in_default-clause-ok g c = rw (← c.self.view_is) (log-unchanged c.args.number c.args.field c.args.value c.self.inside.rows c.self.invariant.table (c.in_default.ensures ∙ c.self.invariant.index.gives c.args.number))
 
-pub place_of-target-requires : goal.place_of-target-requires
-place_of-target-requires g c =
-    let rows : List LogEntry = c.self.inside.rows.items in
-    let known : Some c.in-Some.submit ≡ option_map submit_of (entry_of c.args.number rows) = sym c.in-Some.is ∙ c.copied.ensures ∙ c.get.ensures.value ∙ c.self.invariant.index c.args.number in
-    let left : c.remove-entry.new.self.items ≡ without c.args.number rows = c.remove-entry.ensures.items ∙ taken-out c.args.number c.in-Some.submit rows c.as_slice.result.now c.place_of-place.result c.self.invariant.table known c.as_slice.ensures.value c.place_of-place.ensures.place in
-    subst IsRising (sym (c.as_slice-in-Some.ensures.value ∙ left)) (table-left c.args.number rows c.self.invariant.table).rising
-
-pub unwrap-requires : goal.unwrap-requires
-unwrap-requires g c =
-    let taken = c.set_field.ensures.answer ∙ ap (λ (p : ℕ). field_change p c.args.value) c.from.ensures ∙ change-taken c.args.field c.args.value c.requires in
-    rw taken (search rules)
-
-pub unwrap-requires-in-Some-2 : goal.unwrap-requires-in-Some-2
-unwrap-requires-in-Some-2 g c = c.insert-placed.ensures.succeeds (omega (arith, c.remove-entry.ensures.len, c.remove-entry.ensures.capacity, c.self.inside.rows.ok.0, c.self.inside.rows.ok.1))
+pub with_moved-requires-clause-known : goal.with_moved-requires-clause-known
+with_moved-requires-clause-known g c =
+    let rows = c.self.inside.rows in
+    let known : Some c.in-Some.submit ≡ option_map submit_of (entry_of c.args.number rows) = c.in-Some.ensures ∙ c.self.invariant.index.gives c.args.number in
+    let later : 2 ≤ c.args.field = change-places c.args.field c.args.value c.requires in
+    let number : number_of_entry c.in_ok-entry.entry ≡ c.args.number = number-stays c.args.number c.args.field c.args.value rows c.in-Some-entry_at.was.now c.in_ok-entry.entry later (sym c.in-Some-entry_at.ensures) c.in_ok-entry.ensures in
+    subst (λ (m : ℕ). Some c.in-Some.submit ≡ option_map submit_of (entry_of m rows)) (sym number) known
 
 pub invariant_of-self : goal.invariant_of-self
 invariant_of-self g c =
-    let rows : List LogEntry = c.self.inside.rows.items in
-    let known : Some c.in-Some.submit ≡ option_map submit_of (entry_of c.args.number rows) = sym c.in-Some.is ∙ c.copied.ensures ∙ c.get.ensures.value ∙ c.self.invariant.index c.args.number in
-    let left : c.remove-entry.new.self.items ≡ without c.args.number rows = c.remove-entry.ensures.items ∙ taken-out c.args.number c.in-Some.submit rows c.as_slice.result.now c.place_of-place.result c.self.invariant.table known c.as_slice.ensures.value c.place_of-place.ensures.place in
-    let was : LogEntry = c.remove-entry.result in
-    let now : LogEntry = c.set_field.new.self in
-    let there : entry_of c.args.number rows ≡ Some was = stands-there c.args.number c.in-Some.submit rows c.as_slice.result.now c.place_of-place.result c.self.invariant.table known c.as_slice.ensures.value c.place_of-place.ensures.place was c.remove-entry.ensures.value in
-    let set = rw c.unwrap.ensures at c.set_field.ensures.changed in
-    let is : now ≡ with_field c.args.field c.args.value was = set ∙ ap (λ (p : ℕ). with_field p c.args.value was) c.from.ensures in
+    let rows = c.self.inside.rows in
+    let n = c.args.number in
+    let entry : LogEntry = c.in_ok-entry.entry in
     let later : 2 ≤ c.args.field = change-places c.args.field c.args.value c.requires in
-    let number : number_of_entry now ≡ c.args.number = number-stays c.args.number c.args.field c.args.value rows was now later there is in
-    let done = rw c.unwrap-in-Some-2.ensures at c.insert-placed.ensures.items in
-    let put : c.insert-placed.new.self.items ≡ placed submit_of number_of_entry now (without c.args.number rows) = done ∙ put-at now (without c.args.number rows) c.remove-entry.new.self.items c.as_slice-in-Some.result.now c.submit-at.result c.args.number c.place_of-target.result left c.as_slice-in-Some.ensures.value c.submit-at.ensures.second (sym number) c.place_of-target.ensures.place in
-    let indexed = rw c.unwrap-in-Some.ensures at c.insert-indexed.ensures.updates in
-    record {
-      table = subst IsTable (sym put) (table-moved c.args.number was now rows c.self.invariant.table there c.submit-at.ensures.entry number);
-      index = subst (IsIndex c.insert-indexed.new.self) (sym put) (indexes-moved submit_of number_of_entry c.args.number c.submit-at.result rows now (get nat_eq c.self.inside.index) (get nat_eq c.insert-indexed.new.self) c.self.invariant.index number c.submit-at.ensures.second indexed.0);
-    }
+    let there : entry_of n rows ≡ Some c.in-Some-entry_at.was.now = sym c.in-Some-entry_at.ensures in
+    let number : number_of_entry entry ≡ n = number-stays n c.args.field c.args.value rows c.in-Some-entry_at.was.now entry later there c.in_ok-entry.ensures in
+    let moved : c.in_ok-rows.rows ≡ with_entry entry (without n rows) = c.in_ok-rows.ensures.rows ∙ ap (λ (m : ℕ). with_entry entry (without m rows)) number in
+    stored-moved rows c.in_ok-rows.rows c.self.inside.index c.in_ok-index.index c.self.inside.len c.self.invariant n c.submit-at.result c.in-Some-entry_at.was.now entry there c.submit-at.ensures.entry number moved c.submit-at.ensures.second c.in_ok-index.ensures.rising c.in_ok-index.ensures.seconds
 
-pub returns-in-Some : goal.returns-in-Some
-returns-in-Some g c =
-    let rows : List LogEntry = c.self.inside.rows.items in
-    let known : Some c.in-Some.submit ≡ option_map submit_of (entry_of c.args.number rows) = sym c.in-Some.is ∙ c.copied.ensures ∙ c.get.ensures.value ∙ c.self.invariant.index c.args.number in
-    let left : c.remove-entry.new.self.items ≡ without c.args.number rows = c.remove-entry.ensures.items ∙ taken-out c.args.number c.in-Some.submit rows c.as_slice.result.now c.place_of-place.result c.self.invariant.table known c.as_slice.ensures.value c.place_of-place.ensures.place in
-    let was : LogEntry = c.remove-entry.result in
-    let now : LogEntry = c.set_field.new.self in
-    let there : entry_of c.args.number rows ≡ Some was = stands-there c.args.number c.in-Some.submit rows c.as_slice.result.now c.place_of-place.result c.self.invariant.table known c.as_slice.ensures.value c.place_of-place.ensures.place was c.remove-entry.ensures.value in
-    let set = rw c.unwrap.ensures at c.set_field.ensures.changed in
-    let is : now ≡ with_field c.args.field c.args.value was = set ∙ ap (λ (p : ℕ). with_field p c.args.value was) c.from.ensures in
+pub returns-clause-ok : goal.returns-clause-ok
+returns-clause-ok g c =
+    let rows = c.self.inside.rows in
+    let n = c.args.number in
+    let entry : LogEntry = c.in_ok-entry.entry in
     let later : 2 ≤ c.args.field = change-places c.args.field c.args.value c.requires in
-    let number : number_of_entry now ≡ c.args.number = number-stays c.args.number c.args.field c.args.value rows was now later there is in
-    let done = rw c.unwrap-in-Some-2.ensures at c.insert-placed.ensures.items in
-    let put : c.insert-placed.new.self.items ≡ placed submit_of number_of_entry now (without c.args.number rows) = done ∙ put-at now (without c.args.number rows) c.remove-entry.new.self.items c.as_slice-in-Some.result.now c.submit-at.result c.args.number c.place_of-target.result left c.as_slice-in-Some.ensures.value c.submit-at.ensures.second (sym number) c.place_of-target.ensures.place in
-    put ∙ log-changed c.args.number c.args.field c.args.value rows was now later c.self.invariant.table there is ∙ ap (λ (es : List LogEntry). log_of (changed c.args.number c.args.field c.args.value es)) c.self.view_is
-
-pub returns-in_default : goal.returns-in_default
-returns-in_default g c = rw (← c.self.view_is) (log-unchanged c.args.number c.args.field c.args.value c.self.inside.rows.items c.self.invariant.table (sym c.in_default.is ∙ c.copied.ensures ∙ c.get.ensures.value ∙ c.self.invariant.index c.args.number))
+    let there : entry_of n rows ≡ Some c.in-Some-entry_at.was.now = sym c.in-Some-entry_at.ensures in
+    let number : number_of_entry entry ≡ n = number-stays n c.args.field c.args.value rows c.in-Some-entry_at.was.now entry later there c.in_ok-entry.ensures in
+    let moved : c.in_ok-rows.rows ≡ with_entry entry (without n rows) = c.in_ok-rows.ensures.rows ∙ ap (λ (m : ℕ). with_entry entry (without m rows)) number in
+    moved ∙ sym (placed-is entry (without n rows)) ∙ log-changed n c.args.field c.args.value rows c.in-Some-entry_at.was.now entry later c.self.invariant.table there c.in_ok-entry.ensures ∙ ap (λ (es : List LogEntry). log_of (changed n c.args.field c.args.value es)) c.self.view_is

@@ -1,34 +1,22 @@
-use Rattle.std.proofs.Common.{◌≡◌, Some, List, ap, sym, ◌∙◌, length, vec_len, option_map}
-use Rattle.swf_text.specs.Entry.{LogEntry, IsEntry, submit_of, number_of_entry}
+use Rattle.std.proofs.Common.{ap, ◌∙◌}
 use Rattle.job_table.specs.Edit.{entry_of}
-use Rattle.job_table.proofs.Keyed.{found-number}
-use Rattle.job_table.proofs.Lookups.{found-sound, stands-within, stands-there}
+use Rattle.job_table.proofs.Stored.{get-numbered, get-sound}
 use Rattle.job_table.proofs.table.JobTable.get.Goals as goal
 
-pub index-requires : goal.index-requires
-index-requires g c =
-    let rows : List LogEntry = c.self.inside.rows.items in
-    let known : Some c.in_ok-submit.field-0.now ≡ option_map submit_of (entry_of c.args.number rows) = c.in_ok-submit.ensures.value ∙ c.self.invariant.index c.args.number in
-    let same : length rows ≡ vec_len c.self.inside.rows = sym (ap length c.as_slice.ensures.value) ∙ c.as_slice.ensures.len in
-    rw (← same) (stands-within c.args.number c.in_ok-submit.field-0.now rows c.as_slice.result.now c.place_of-place.result c.self.invariant.table known c.as_slice.ensures.value c.place_of-place.ensures.place)
+pub second-requires : goal.second-requires
+second-requires g c = c.self.invariant.index.rising
+
+pub entry_at-requires-clause-table : goal.entry_at-requires-clause-table
+entry_at-requires-clause-table g c = c.self.invariant.table
+
+pub entry_at-requires-clause-known : goal.entry_at-requires-clause-known
+entry_at-requires-clause-known g c = c.in_ok-submit.ensures ∙ c.self.invariant.index.gives c.args.number
 
 pub returns-clause-entry : goal.returns-clause-entry
-returns-clause-entry g c =
-    let rows : List LogEntry = c.self.inside.rows.items in
-    let known : Some c.in_ok-submit.field-0.now ≡ option_map submit_of (entry_of c.args.number rows) = c.in_ok-submit.ensures.value ∙ c.self.invariant.index c.args.number in
-    sym (stands-there c.args.number c.in_ok-submit.field-0.now rows c.as_slice.result.now c.place_of-place.result c.self.invariant.table known c.as_slice.ensures.value c.place_of-place.ensures.place c.index.result.now c.index.ensures)
-    ∙ ap (entry_of c.args.number) c.self.view_is
+returns-clause-entry g c = c.entry_at.ensures ∙ ap (entry_of c.args.number) c.self.view_is
 
 pub returns-clause-numbered : goal.returns-clause-numbered
-returns-clause-numbered g c =
-    let rows : List LogEntry = c.self.inside.rows.items in
-    let known : Some c.in_ok-submit.field-0.now ≡ option_map submit_of (entry_of c.args.number rows) = c.in_ok-submit.ensures.value ∙ c.self.invariant.index c.args.number in
-    found-number submit_of number_of_entry c.args.number rows c.index.result.now
-    (stands-there c.args.number c.in_ok-submit.field-0.now rows c.as_slice.result.now c.place_of-place.result c.self.invariant.table known c.as_slice.ensures.value c.place_of-place.ensures.place c.index.result.now c.index.ensures)
+returns-clause-numbered g c = get-numbered c.args.number c.self.inside.rows c.entry_at.result c.entry_at.ensures
 
 pub returns-clause-sound : goal.returns-clause-sound
-returns-clause-sound g c =
-    let rows : List LogEntry = c.self.inside.rows.items in
-    let known : Some c.in_ok-submit.field-0.now ≡ option_map submit_of (entry_of c.args.number rows) = c.in_ok-submit.ensures.value ∙ c.self.invariant.index c.args.number in
-    found-sound c.args.number IsEntry rows c.index.result.now c.self.invariant.table.log.sound
-    (stands-there c.args.number c.in_ok-submit.field-0.now rows c.as_slice.result.now c.place_of-place.result c.self.invariant.table known c.as_slice.ensures.value c.place_of-place.ensures.place c.index.result.now c.index.ensures)
+returns-clause-sound g c = get-sound c.args.number c.self.inside.rows c.entry_at.result c.self.invariant.table c.entry_at.ensures

@@ -1,0 +1,39 @@
+use Rattle.std.proofs.Common.{◌∙◌, ap, sym, map, subst, List}
+use Rattle.std.specs.Arc.{arc_value}
+use Rattle.swf_text.specs.Entry.{LogEntry}
+use Rattle.scenarios.specs.Plan.{Plan, plan_of}
+use Rattle.timeline.specs.SoundPlan.{IsPlan}
+use Rattle.checkpoints.specs.Segment.{SegmentView}
+use Rattle.checkpoints.proofs.Worked.{Cutting, cutting-first, cutting-more, cutting-down, cut-done, comes, none-comes, push-seen}
+use Rattle.checkpoints.proofs.simulation.segments_of.Goals as goal
+
+pub segments-init : goal.segments-init
+segments-init g c =
+    let plan : Plan = plan_of (arc_value c.args.table.now) c.args.scenario in
+    cutting-first plan (plan_of (arc_value c.in_ok-clone.field-0) c.args.scenario) c.args.spacing c.new-engine.result _ c.new-engine.ensures (ap (λ (log : List LogEntry). plan_of log c.args.scenario) c.in_ok-clone.ensures.cases) (ap (map arc_value) c.new-segments.ensures.items)
+
+pub next_segment-requires-clause-plan : goal.next_segment-requires-clause-plan
+next_segment-requires-clause-plan g c = c.segments.invariant.same ∙ ap (λ (log : List LogEntry). plan_of log c.args.scenario) (sym c.deref-in-segments.ensures)
+
+pub next_segment-requires-clause-going : goal.next_segment-requires-clause-going
+next_segment-requires-clause-going g c = c.segments.invariant.going
+
+pub next_segment-requires-clause-coming : goal.next_segment-requires-clause-coming
+next_segment-requires-clause-coming g c = comes c.segments.engine c.next_event.result (c.next_event.ensures.going c.segments.invariant.going) (sym c.is_some.ensures ∙ c.segments-test.true)
+
+pub segments-preserved : goal.segments-preserved
+segments-preserved g c =
+    let plan : Plan = plan_of (arc_value c.args.table.now) c.args.scenario in
+    let more = cutting-more plan c.args.spacing c.segments.engine c.next_segment.new.engine (map arc_value c.segments.segments.items) c.in_ok-segment.segment c.segments.invariant c.in_ok-segment.ensures.plan c.in_ok-segment.ensures.going c.in_ok-segment.ensures.spans c.in_ok-segment.ensures.short in
+    subst (λ (ss : List SegmentView). Cutting plan c.args.spacing c.next_segment.new.engine ss) (sym (push-seen arc_value c.segments.segments.items c.push.new.self.items c.in_ok-new.field-0 c.in_ok-segment.segment c.in_ok-push.ensures.items c.in_ok-new.ensures.ok)) more
+
+pub segments-smaller : goal.segments-smaller
+segments-smaller g c =
+    let plan : Plan = plan_of (arc_value c.args.table.now) c.args.scenario in
+    let p : IsPlan plan = rw c.deref.ensures at c.is_plan.ensures in
+    cutting-down plan c.segments.engine c.next_segment.new.engine c.in_ok-segment.segment p c.segments.invariant.same c.in_ok-segment.ensures.spans
+
+pub returns-clause-cut : goal.returns-clause-cut
+returns-clause-cut g c =
+    cut-done (plan_of (arc_value c.args.table.now) c.args.scenario) c.args.spacing c.segments.engine (map arc_value c.segments.segments.items) c.segments.invariant
+    (none-comes c.segments.engine c.next_event.result (c.next_event.ensures.going c.segments.invariant.going) (sym c.is_some.ensures ∙ c.segments-test.false))

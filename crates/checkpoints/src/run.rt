@@ -1,0 +1,132 @@
+ghost use Rattle.std.specs.Prelude.{◌≡◌, map, IfOk};
+ghost use Rattle.std.specs.Arc.{arc_value};
+
+use crate::parts::{is_plan, job_in};
+use crate::row::Row;
+use crate::schedule::{rows_of, start_in, starts_in};
+use crate::segment::Segment;
+use crate::sums::tables_of;
+use job_table::JobTable;
+use metrics::Tables;
+use scenarios::Scenario;
+use std::alloc::Allocator;
+use std::marker::Model;
+use std::sync::Arc;
+use swf_text::Memory;
+
+/// A table's simulation under a scenario: its segments, one after another, and its tables.
+///
+/// The schedule and tables of a run are those that the simulation, second by second, gives its own
+/// table and scenario.
+#[derive(Drop)]
+pub struct Run<A: Allocator + Copy> {
+    alloc: A,
+    table: Arc<JobTable<A>, A>,
+    scenario: Scenario,
+    segments: Vec<Arc<Segment<A>, A>, A>,
+    tables: Tables<A>,
+}
+
+impl<A: Allocator + Copy> Model for Run<A> {
+    ghost use Rattle.std.specs.Prelude.{map};
+    ghost use Rattle.std.specs.Arc.{arc_value};
+    ghost use Rattle.checkpoints.specs.RunView.{RunView, IsRun};
+
+    ghost Value = { RunView };
+
+    ghost view = { λ r. record { log = arc_value r.table; setting = r.scenario; segments = map arc_value r.segments.items; tables = r.tables } };
+
+    ghost invariant = { λ r. IsRun (record { log = arc_value r.table; setting = r.scenario; segments = map arc_value r.segments.items; tables = r.tables }) };
+}
+
+impl<A: Allocator + Copy> Run<A> {
+    ghost use Rattle.scenarios.specs.Plan.{plan_of};
+    ghost use Rattle.scenarios.specs.Scenario.{IsSetting};
+    ghost use Rattle.job_table.specs.Table.{IsTable};
+    ghost use Rattle.easy_rule.specs.Simulation.{sim, start_of};
+    ghost use Rattle.checkpoints.specs.Cut.{IsCut};
+    ghost use Rattle.checkpoints.specs.Sums.{IsTablesOf};
+    ghost use Rattle.checkpoints.specs.Schedule.{rows_of};
+    ghost use Rattle.checkpoints.specs.RunView.{IsRun};
+
+    /// The run of these segments, which are those of the table's simulation under the scenario.
+    /// Its tables and its counts of skipped entries are made anew. Memory where a growth was
+    /// refused.
+    pub fn of_segments(
+        alloc: A,
+        table: Arc<JobTable<A>, A>,
+        scenario: Scenario,
+        segments: Vec<Arc<Segment<A>, A>, A>,
+    ) -> Result<Run<A>, Memory>
+        requires { IsCut (plan_of (arc_value table) scenario) (map arc_value segments.items) }
+        ensures log { IfOk result (λ run. run.log ≡ arc_value table) }
+        ensures setting { IfOk result (λ run. run.setting ≡ scenario) }
+        ensures segments { IfOk result (λ run. run.segments ≡ map arc_value segments.items) }
+        ensures sound { IfOk result IsRun }
+    {
+        let tables = tables_of(alloc, &table, &scenario, segments.as_slice())?;
+        Ok(Run {
+            alloc,
+            table,
+            scenario,
+            segments,
+            tables,
+        })
+    }
+
+    /// The table.
+    pub fn table(&self) -> &Arc<JobTable<A>, A>
+        ensures { arc_value result.now ≡ self.now.log }
+    {
+        &self.table
+    }
+
+    /// The scenario.
+    pub fn scenario(&self) -> Scenario
+        ensures { result ≡ self.now.setting }
+    {
+        self.scenario
+    }
+
+    /// The tables: plain sums over all jobs of the table under the scenario, each at its start.
+    pub fn tables(&self) -> &Tables<A>
+        ensures value { result.now ≡ self.now.tables }
+        ensures sound { IsTablesOf self.now.log self.now.setting self.now.tables }
+    {
+        &self.tables
+    }
+
+    /// The segments, in order: the first begins at second 0, each next one a second after the last
+    /// event second of the one before. Without jobs there is none.
+    pub fn segments(&self) -> &[Arc<Segment<A>, A>]
+        ensures value { map arc_value result.now ≡ self.now.segments }
+        ensures sound { IsCut (plan_of self.now.log self.now.setting) self.now.segments }
+    {
+        self.segments.as_slice()
+    }
+
+    /// The second at which the job of this number starts; None where it is not simulated.
+    ///
+    /// It looks the job up by its number, finds the segment of its submit second, and goes on from
+    /// there.
+    pub fn start_of(&self, number: u64) -> Option<u64>
+        ensures { result ≡ start_of (sim (plan_of self.now.log self.now.setting)) number }
+    {
+        is_plan(&self.table, &self.scenario);
+        let job = job_in(&self.table, &self.scenario, number)?;
+        let submit = job.submit();
+        let later = self.segments.partition_point(|s| s.first() <= submit);
+        start_in(&self.segments.as_slice()[later.saturating_sub(1)..], number)
+    }
+
+    /// The schedule: a row for each job that is simulated, in the order of the log. Memory where a
+    /// growth was refused.
+    pub fn schedule(&self) -> Result<Vec<Row, A>, Memory>
+        ensures { IfOk result (λ rows. rows.items ≡ rows_of (plan_of self.now.log self.now.setting)) }
+    {
+        is_plan(&self.table, &self.scenario);
+        let starts = starts_in(self.alloc, self.segments.as_slice())?;
+        let rows = rows_of(self.alloc, &self.table, &self.scenario, starts.as_slice())?;
+        Ok(rows)
+    }
+}

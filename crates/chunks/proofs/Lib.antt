@@ -1,0 +1,4 @@
+pub mod Rows
+pub mod Changes
+pub mod Places
+pub mod Lists

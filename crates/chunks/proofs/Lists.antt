@@ -1,0 +1,94 @@
+-- A list in chunks, read as one list.
+use Rattle.std.proofs.Common.{◌≡◌, ℕ, zero, suc, ◌+◌, ◌-◌, ◌<◌, ◌≤◌, Bool, true, false, nat_lt, List, [], ◌∷◌, ◌++◌, length, length-append, length-drop, take, drop, get_or, slice_get, Some, refl, ap, sym, subst, ◌∙◌, arith, append_assoc}
+use Rattle.std.specs.List.Sorted.{IsPartitionedBy}
+use Rattle.std.proofs.Math.Seq.{drop-append-add}
+use Rattle.std.proofs.lemmas.Bool.{ltb-false}
+use Rattle.std.proofs.lemmas.Bool.Decides.{nat_tests}
+use Rattle.std.proofs.lemmas.List.{drop-append-le, take_all, get_or-append-add, get_or_append_left, append-nil}
+use Rattle.std.proofs.lemmas.List.Concat.{flat_map-append}
+use Rattle.std.proofs.lemmas.Option.{slice_get_past, slice_get-get_or}
+use Rattle.std.specs.declared.sync.Arc.{Arc}
+use Rattle.std.specs.declared.vec.Vec.{Vec}
+use Rattle.chunks.specs.Chunks.{flat, contents, start, stands, place_in, IsFront, IsSized, AreSized}
+use Rattle.chunks.proofs.Changes.{flat_at}
+
+module _ {X : Type 0} where
+  -- ---- one chunk more at the end
+  pub flat_push : (cs : List (List X)) (c : List X) → flat (cs ++ c ∷ []) ≡ flat cs ++ c
+  flat_push cs c = flat_map-append (λ (x : List X). x) cs (c ∷ []) ∙ ap (λ (x : List X). flat cs ++ x) (append-nil c)
+
+  pub sized_push : (cs : List (List X)) (c : List X) → AreSized cs → 1 ≤ length c → length c ≤ 256 → AreSized (cs ++ c ∷ [])
+  sized_push [] c s low high = (record { low = low; high = high }, tt)
+  sized_push (d ∷ cs) c s low high = (s.0, sized_push cs c s.1 low high)
+
+  pub sized_full : (cs ds : List (List X)) (c : List X) → ds ≡ cs ++ c ∷ [] → AreSized cs → 1 ≤ length c → length c ≤ 256 → AreSized ds
+  sized_full cs ds c e s low high = subst AreSized (sym e) (sized_push cs c s low high)
+
+  pub flat_open : (cs : List (List X)) (kept new : List X) (item : X) → new ≡ kept ++ item ∷ [] → flat cs ++ new ≡ flat cs ++ kept ++ item ∷ []
+  flat_open cs kept new item e = ap (λ (x : List X). flat cs ++ x) e ∙ sym (append_assoc (flat cs) kept (item ∷ []))
+
+  pub flat_full : (cs ds : List (List X)) (kept none new : List X) (item : X) → ds ≡ cs ++ kept ∷ [] → none ≡ [] → new ≡ none ++ item ∷ [] → flat ds ++ new ≡ flat cs ++ kept ++ item ∷ []
+  flat_full cs ds kept none new item e f h =
+      ap (λ (r : List (List X)). flat r ++ new) e ∙ ap (λ (x : List X). x ++ new) (flat_push cs kept) ∙ ap (λ (x : List X). flat cs ++ kept ++ x) (h ∙ ap (λ (x : List X). x ++ item ∷ []) f)
+
+  -- ---- the element at a place
+  pub slice_get-drop : (n : ℕ) (xs : List X) → slice_get (drop n xs) 0 ≡ slice_get xs n
+  slice_get-drop zero [] = refl
+  slice_get-drop zero (x ∷ xs) = refl
+  slice_get-drop (suc n) [] = refl
+  slice_get-drop (suc n) (x ∷ xs) = slice_get-drop n xs
+
+  -- ---- the elements from a place on
+  pub rest_at : (k at n : ℕ) (cs later : List (List X)) (chunk : List X) → chunk ≡ get_or cs k [] → at ≤ length (get_or cs k []) → n ≡ length chunk → later ≡ drop (k + 1) cs
+      → take (n - at) (drop at chunk) ++ flat later ≡ drop (start k cs + at) (flat cs)
+  rest_at k at n cs later chunk e le whole f =
+      let next : k + 1 ≡ suc k = omega arith in
+      let front : take (n - at) (drop at chunk) ≡ drop at chunk = take_all (n - at) (drop at chunk) (omega (arith, length-drop at chunk, whole)) in
+      ap (λ (x : List X). x ++ flat later) (front ∙ ap (drop at) e) ∙ ap (λ (r : List (List X)). drop at (get_or cs k []) ++ flat r) (f ∙ ap (λ (m : ℕ). drop m cs) next)
+      ∙ sym (drop-append-le at (get_or cs k []) (flat (drop (suc k) cs)) le)
+      ∙ sym (ap (drop (start k cs + at)) (flat_at k cs) ∙ drop-append-add (flat (take k cs)) (get_or cs k [] ++ flat (drop (suc k) cs)) at)
+
+  -- ---- elements before those of some chunks
+  pub front_some : (xs : List X) (cs : List (List X)) → 1 ≤ length xs → IsFront xs cs
+  front_some [] cs low = absurd (omega (arith, low))
+  front_some (x ∷ xs) cs low = tt
+
+  pub front_first : (cs later : List (List X)) (chunk : List X) → AreSized cs → chunk ≡ get_or cs 0 [] → later ≡ drop (0 + 1) cs → IsFront chunk later
+  front_first cs later chunk s e f = subst (λ (c : List X). IsFront c later) (sym e) (subst (λ (r : List (List X)). IsFront (get_or cs 0 []) r) (sym f) (go cs s))
+    where
+      go : (ds : List (List X)) → AreSized ds → IsFront (get_or ds 0 []) (drop 1 ds)
+      go [] t = tt
+      go (d ∷ ds) t = front_some d ds t.0.low
+
+  pub flat_first : (xs : List X) (cs later : List (List X)) (chunk : List X) → length xs ≡ 0 → chunk ≡ get_or cs 0 [] → later ≡ drop (0 + 1) cs → chunk ++ flat later ≡ xs ++ flat cs
+  flat_first [] cs later chunk none e f = ap (λ (c : List X). c ++ flat later) e ∙ ap (λ (r : List (List X)). get_or cs 0 [] ++ flat r) f ∙ go cs
+    where
+      go : (ds : List (List X)) → get_or ds 0 [] ++ flat (drop 1 ds) ≡ flat ds
+      go [] = refl
+      go (d ∷ ds) = refl
+  flat_first (x ∷ xs) cs later chunk none e f = absurd (omega (arith, none))
+
+  pub first_is : (xs : List X) (cs : List (List X)) → IsFront xs cs → slice_get xs 0 ≡ slice_get (xs ++ flat cs) 0
+  first_is [] [] h = refl
+  first_is [] (c ∷ cs) h = absurd h
+  first_is (x ∷ xs) cs h = refl
+
+  pub none_left : (cs : List (List X)) → IsFront [] cs → flat cs ≡ []
+  none_left [] h = refl
+  none_left (c ∷ cs) h = absurd h
+
+  -- ---- what a search wants and gives
+  module _ {A : Type 0} (first second : X → ℕ) (a b p q : ℕ) (rows inside : List (Arc (Vec X A) A)) (xs : List X) (same : rows ≡ inside) (view : flat (contents inside) ≡ xs) (one : a ≡ p) (two : b ≡ q) where
+    seen : flat (contents rows) ≡ xs
+    seen = ap (λ (r : List (Arc (Vec X A) A)). flat (contents r)) same ∙ view
+
+    pub parted_for : IsPartitionedBy (stands first second p q) xs → IsPartitionedBy (stands first second a b) (flat (contents rows))
+    parted_for h =
+        subst (λ (ys : List X). IsPartitionedBy (stands first second a b) ys) (sym seen)
+        (subst (λ (n : ℕ). IsPartitionedBy (stands first second n b) xs) (sym one) (subst (λ (n : ℕ). IsPartitionedBy (stands first second p n) xs) (sym two) h))
+
+    pub inside_for : (n : ℕ) → n ≡ place_in first second a b (flat (contents rows)) → place_in first second p q xs < length xs → n < length (flat (contents rows))
+    inside_for n e h =
+        let there : n ≡ place_in first second p q xs = e ∙ ap (λ (k : ℕ). place_in first second k b (flat (contents rows))) one ∙ ap (λ (k : ℕ). place_in first second p k (flat (contents rows))) two ∙ ap (place_in first second p q) seen in
+        let long : length (flat (contents rows)) ≡ length xs = ap length seen in
+        omega (arith, there, long, h)

@@ -1,0 +1,7 @@
+use Rattle.std.proofs.Common.{refl}
+use Rattle.chunks.proofs.Lists.{parted_for}
+use Rattle.chunks.proofs.list.Chunks.rest.Goals as goal
+
+pub place_of-requires-clause-parted : goal.place_of-requires-clause-parted
+place_of-requires-clause-parted g c =
+    parted_for g.T.Keyed.first g.T.Keyed.second c.args.first c.args.second c.args.first c.args.second c.as_slice-rows.result.now c.self.inside.row.items c.args.self.now c.as_slice-rows.ensures.value c.self.view_is refl refl c.requires

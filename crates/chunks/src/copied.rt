@@ -1,0 +1,25 @@
+ghost use Rattle.std.specs.Prelude.{◌≡◌, ℕ, IfOk};
+
+use swf_text::Memory;
+
+/// What can be copied, where memory may be wanting.
+pub trait Copied: Drop {
+    /// The same value once more.
+    fn copied(&self) -> Result<Self, Memory>
+        ensures { IfOk result (λ copy. copy ≡ self.now) };
+}
+
+/// What stands in the order of two numbers: by the first, and of one first number by the second.
+pub trait Keyed: Copied {
+    ghost first: { Self → ℕ };
+
+    ghost second: { Self → ℕ };
+
+    /// The number that orders first.
+    fn first(&self) -> u64
+        ensures { result ≡ first self.now };
+
+    /// The number that orders those of one first number.
+    fn second(&self) -> u64
+        ensures { result ≡ second self.now };
+}

@@ -1,0 +1,53 @@
+ghost use Rattle.std.specs.Prelude.{◌≡◌, ◌≤◌, IfOk};
+ghost use Rattle.swf_text.specs.Entry.{number_of_entry, submit_of};
+
+use crate::copied::{Copied, Keyed};
+use std::alloc::Allocator;
+use swf_text::{Entry, Memory};
+
+/// A job number, and the second in which that job was submitted.
+#[derive(Clone, Copy, Drop)]
+pub struct Numbered {
+    pub number: u64,
+    pub submit: u64,
+}
+
+impl Copied for Numbered {
+    fn copied(&self) -> Result<Numbered, Memory> {
+        Ok(*self)
+    }
+}
+
+impl Keyed for Numbered {
+    ghost first = { λ pair. pair.number };
+
+    ghost second = { λ pair. pair.number };
+
+    fn first(&self) -> u64 {
+        self.number
+    }
+
+    fn second(&self) -> u64 {
+        self.number
+    }
+}
+
+impl<A: Allocator + Copy> Copied for Entry<A> {
+    fn copied(&self) -> Result<Entry<A>, Memory> {
+        self.copy()
+    }
+}
+
+impl<A: Allocator + Copy> Keyed for Entry<A> {
+    ghost first = { submit_of };
+
+    ghost second = { number_of_entry };
+
+    fn first(&self) -> u64 {
+        self.submit()
+    }
+
+    fn second(&self) -> u64 {
+        self.number()
+    }
+}

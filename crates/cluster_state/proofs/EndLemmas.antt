@@ -1,0 +1,409 @@
+-- Running jobs in the order in which they are expected to end.
+use Rattle.std.proofs.Common.{◌≡◌, ◌≢◌, ℕ, suc, ◌+◌, ◌≤◌, ◌<◌, Bool, true, false, cond, ◌||◌, ◌&&◌, ◌==◌, nat_eq, nat_lt, not, List, [], ◌∷◌, All, Any, get_or, take, filter, sum_by, count_by, length, insert, position, unwrap_or, one-add, Option, Some, None, IfSome, IsNone, IsSomeAnd, slice_get, refl, sym, ◌∙◌, ap, arith, subst, inl, inr, ⊎_elim, ◌⊎◌}
+use Rattle.std.specs.List.{position_or_len}
+use Rattle.std.specs.Option.{option_map}
+use Rattle.std.proofs.lemmas.List.Sums.{sum_by-cons, sum_by_more, get_or-le-sum_by}
+use Rattle.std.specs.List.Sorted.{IsPermutation}
+use Rattle.std.proofs.lemmas.List.{nil_from_length}
+use Rattle.std.proofs.lemmas.List.Sorted.{sum_by_popped, sum_by_pushed}
+use Rattle.std.proofs.lemmas.List.Elements.{All-cons, All-head, All-tail, All-nil, All-weaker, All-filter}
+use Rattle.std.proofs.lemmas.Bool.{cond_both, cond-true, cond-false, cases_Bool, cases_lt, cases_eq, lt-ltb, ltb-true, ltb-false, le-ltb, eq-eqb, eqb-true, ne_eqb, and_from, and_parts, or_left, or_right, true≢false}
+use Rattle.scenarios.specs.Job.{EffectiveJob}
+use Rattle.cluster_state.specs.declared.running.Running.{Running}
+use Rattle.cluster_state.specs.State.{State, IsSound, expected_end, real_end, placed, waiting_job, ended_until}
+use Rattle.cluster_state.specs.Ends.{is_sooner, entered, by_end}
+use Rattle.cluster_state.proofs.StateLemmas.{position-is, sum_by-placed, sum_by-without}
+
+-- ---- the order
+abbrev pub Sooner : Running → Running → Type 0
+Sooner a b = (expected_end a < expected_end b) ⊎ ((expected_end a ≡ expected_end b) × (a.job.number < b.job.number))
+
+-- a is not later than b
+abbrev pub NotLater : Running → Running → Type 0
+NotLater a b = (expected_end a < expected_end b) ⊎ ((expected_end a ≡ expected_end b) × (a.job.number ≤ b.job.number))
+
+sooner-is : (a b : Running) → is_sooner a b ≡ true → Sooner a b
+sooner-is a b h =
+    let l = nat_lt (expected_end a) (expected_end b) in
+    let e = expected_end a == expected_end b && nat_lt a.job.number b.job.number in
+    ⊎_elim
+    (λ (y : l ≡ true). inl (ltb-true (expected_end a) (expected_end b) y))
+    (λ (n : l ≡ false).
+    let rest : e ≡ true = ap (λ x. x || e) (sym n) ∙ h in
+    let p = and_parts (expected_end a == expected_end b) (nat_lt a.job.number b.job.number) rest in
+    inr (eqb-true (expected_end a) (expected_end b) p.0, ltb-true a.job.number b.job.number p.1))
+    (cases_Bool l)
+
+is-sooner : (a b : Running) → Sooner a b → is_sooner a b ≡ true
+is-sooner a b (inl l) = or_left (nat_lt (expected_end a) (expected_end b)) (expected_end a == expected_end b && nat_lt a.job.number b.job.number) (lt-ltb (expected_end a) (expected_end b) l)
+is-sooner a b (inr p) =
+    or_right (nat_lt (expected_end a) (expected_end b)) (expected_end a == expected_end b && nat_lt a.job.number b.job.number)
+    (and_from (expected_end a == expected_end b) (nat_lt a.job.number b.job.number) (eq-eqb (expected_end a) (expected_end b) p.0) (lt-ltb a.job.number b.job.number p.1))
+
+-- one of two is sooner, or the other is not later
+sooner-or : (a b : Running) → Sooner a b ⊎ NotLater b a
+sooner-or a b =
+    ⊎_elim
+    (λ (l : expected_end a < expected_end b). inl (inl l))
+    (λ (l : expected_end b ≤ expected_end a).
+    ⊎_elim
+    (λ (m : expected_end b < expected_end a). inr (inl m))
+    (λ (m : expected_end a ≤ expected_end b).
+    let same : expected_end a ≡ expected_end b = omega arith in
+    ⊎_elim
+    (λ (n : a.job.number < b.job.number). inl (inr (same, n)))
+    (λ (n : b.job.number ≤ a.job.number). inr (inr (sym same, n)))
+    (cases_lt a.job.number b.job.number))
+    (cases_lt (expected_end b) (expected_end a)))
+    (cases_lt (expected_end a) (expected_end b))
+
+sooner-never : (a b : Running) → Sooner a b → NotLater b a → ⊥
+sooner-never a b (inl l) (inl m) = omega arith
+sooner-never a b (inl l) (inr m) = let k = m.0 in omega (arith, k)
+sooner-never a b (inr l) (inl m) = let k = l.0 in omega (arith, k)
+sooner-never a b (inr l) (inr m) = let k = l.1 in let n = m.1 in omega (arith, k, n)
+
+not-sooner : (a b : Running) → NotLater b a → is_sooner a b ≡ false
+not-sooner a b h = ⊎_elim (λ (y : is_sooner a b ≡ true). absurd (sooner-never a b (sooner-is a b y) h)) (λ (n : is_sooner a b ≡ false). n) (cases_Bool (is_sooner a b))
+
+not-later : (a b : Running) → is_sooner a b ≡ false → NotLater b a
+not-later a b n = ⊎_elim (λ (s : Sooner a b). absurd (true≢false (sym (is-sooner a b s) ∙ n))) (λ (h : NotLater b a). h) (sooner-or a b)
+
+-- of two numbers one is sooner
+strictly : (a b : Running) → a.job.number ≢ b.job.number → NotLater a b → Sooner a b
+strictly a b ne (inl l) = inl l
+strictly a b ne (inr p) = inr (p.0, (let k = p.1 in ⊎_elim (λ (l : a.job.number < b.job.number). l) (λ (l : b.job.number ≤ a.job.number). absurd (ne (omega (arith, k)))) (cases_lt a.job.number b.job.number)))
+
+sooner-than : (a b c : Running) → Sooner a b → NotLater b c → Sooner a c
+sooner-than a b c (inl l) (inl m) = inl (omega arith)
+sooner-than a b c (inl l) (inr m) = inl (let k = m.0 in omega (arith, k))
+sooner-than a b c (inr l) (inl m) = inl (let k = l.0 in omega (arith, k))
+sooner-than a b c (inr l) (inr m) = inr ((let k = l.0 in let n = m.0 in omega (arith, k, n)), (let k = l.1 in let n = m.1 in omega (arith, k, n)))
+
+weaker : (a b : Running) → Sooner a b → NotLater a b
+weaker a b (inl l) = inl l
+weaker a b (inr p) = inr (p.0, (let k = p.1 in omega (arith, k)))
+
+no-later-than : (a b c : Running) → NotLater a b → NotLater b c → NotLater a c
+no-later-than a b c (inl l) (inl m) = inl (omega arith)
+no-later-than a b c (inl l) (inr m) = inl (let k = m.0 in omega (arith, k))
+no-later-than a b c (inr l) (inl m) = inl (let k = l.0 in omega (arith, k))
+no-later-than a b c (inr l) (inr m) = inr ((let k = l.0 in let n = m.0 in omega (arith, k, n)), (let k = l.1 in let n = m.1 in omega (arith, k, n)))
+
+-- ---- one more
+enters-before : (r x : Running) (xs : List Running) → Sooner r x → entered r (x ∷ xs) ≡ r ∷ x ∷ xs
+enters-before r x xs s = cond-true (is_sooner r x) (r ∷ x ∷ xs) (x ∷ entered r xs) (is-sooner r x s)
+
+enters-behind : (r x : Running) (xs : List Running) → NotLater x r → entered r (x ∷ xs) ≡ x ∷ entered r xs
+enters-behind r x xs n = cond-false (is_sooner r x) (r ∷ x ∷ xs) (x ∷ entered r xs) (not-sooner r x n)
+
+pub sum_by-entered : (f : Running → ℕ) (r : Running) (xs : List Running) → sum_by f (entered r xs) ≡ f r + sum_by f xs
+sum_by-entered f r [] = omega arith
+sum_by-entered f r (x ∷ xs) =
+    cond_both (is_sooner r x) (r ∷ x ∷ xs) (x ∷ entered r xs) (λ l. sum_by f l ≡ f r + sum_by f (x ∷ xs))
+    (λ _. sum_by-cons f r (x ∷ xs))
+    (λ _. sum_by-cons f x (entered r xs) ∙ omega (arith, sum_by-entered f r xs, sum_by-cons f x xs))
+
+pub sum_by-by_end : (f : Running → ℕ) (rs : List Running) → sum_by f (by_end rs) ≡ sum_by f rs
+sum_by-by_end f [] = refl
+sum_by-by_end f (r ∷ rs) = omega (arith, sum_by-entered f r (by_end rs), sum_by-by_end f rs, sum_by-cons f r rs)
+
+pub All-entered : (P : Running → Type 0) (r : Running) (xs : List Running) → P r → All P xs → All P (entered r xs)
+All-entered P r [] h a = All-cons P r [] h a
+All-entered P r (x ∷ xs) h a =
+    cond_both (is_sooner r x) (r ∷ x ∷ xs) (x ∷ entered r xs) (λ l. All P l)
+    (λ _. All-cons P r (x ∷ xs) h a)
+    (λ _. All-cons P x (entered r xs) (All-head P x xs a) (All-entered P r xs h (All-tail P x xs a)))
+
+pub All-by_end : (P : Running → Type 0) (rs : List Running) → All P rs → All P (by_end rs)
+All-by_end P [] a = a
+All-by_end P (r ∷ rs) a = All-entered P r (by_end rs) (All-head P r rs a) (All-by_end P rs (All-tail P r rs a))
+
+pub length-entered : (r : Running) (xs : List Running) → length (entered r xs) ≡ length xs + 1
+length-entered r [] = refl
+length-entered r (x ∷ xs) =
+    cond_both (is_sooner r x) (r ∷ x ∷ xs) (x ∷ entered r xs) (λ l. length l ≡ length (x ∷ xs) + 1)
+    (λ _. omega arith)
+    (λ _. let k = length-entered r xs in omega (arith, k))
+
+pub length-by_end : (rs : List Running) → length (by_end rs) ≡ length rs
+length-by_end [] = refl
+length-by_end (r ∷ rs) = let k = length-entered r (by_end rs) in let i = length-by_end rs in omega (arith, k, i)
+
+-- none ends sooner than one before it
+abbrev pub Rises : List Running → Type 0
+Rises [] = Unit {0}
+Rises (x ∷ xs) = All (NotLater x) xs × Rises xs
+
+rises-entered : (r : Running) (xs : List Running) → Rises xs → Rises (entered r xs)
+rises-entered r [] h = (All-nil (NotLater r), tt)
+rises-entered r (x ∷ xs) h =
+    ⊎_elim
+    (λ (s : Sooner r x). subst Rises (sym (enters-before r x xs s)) (All-cons (NotLater r) x xs (weaker r x s) (All-weaker (NotLater x) (NotLater r) (λ y n. no-later-than r x y (weaker r x s) n) xs h.0), h))
+    (λ (n : NotLater x r). subst Rises (sym (enters-behind r x xs n)) (All-entered (NotLater x) r xs n h.0, rises-entered r xs h.1))
+    (sooner-or r x)
+
+pub rises-by_end : (rs : List Running) → Rises (by_end rs)
+rises-by_end [] = tt
+rises-by_end (r ∷ rs) = rises-entered r (by_end rs) (rises-by_end rs)
+
+-- ---- who enters first makes no difference
+entered-entered : (a b : Running) (xs : List Running) → a.job.number ≢ b.job.number → entered a (entered b xs) ≡ entered b (entered a xs)
+entered-entered a b [] ne =
+    ⊎_elim
+    (λ (s : Sooner a b). enters-before a b [] s ∙ sym (enters-behind b a [] (weaker a b s)))
+    (λ (n : NotLater b a). enters-behind a b [] n ∙ sym (enters-before b a [] (strictly b a (λ e. ne (sym e)) n)))
+    (sooner-or a b)
+entered-entered a b (x ∷ xs) ne =
+    ⊎_elim
+    (λ (p : Sooner a x).
+    ⊎_elim
+    (λ (q : Sooner b x).
+    ap (entered a) (enters-before b x xs q)
+    ∙ ⊎_elim
+    (λ (s : Sooner a b). enters-before a b (x ∷ xs) s ∙ sym (ap (entered b) (enters-before a x xs p) ∙ enters-behind b a (x ∷ xs) (weaker a b s) ∙ ap (λ l. a ∷ l) (enters-before b x xs q)))
+    (λ (n : NotLater b a). enters-behind a b (x ∷ xs) n ∙ ap (λ l. b ∷ l) (enters-before a x xs p) ∙ sym (ap (entered b) (enters-before a x xs p) ∙ enters-before b a (x ∷ xs) (strictly b a (λ e. ne (sym e)) n)))
+    (sooner-or a b))
+    (λ (q : NotLater x b).
+    ap (entered a) (enters-behind b x xs q) ∙ enters-before a x (entered b xs) p
+    ∙ sym (ap (entered b) (enters-before a x xs p) ∙ enters-behind b a (x ∷ xs) (weaker a b (sooner-than a x b p q)) ∙ ap (λ l. a ∷ l) (enters-behind b x xs q)))
+    (sooner-or b x))
+    (λ (p : NotLater x a).
+    ⊎_elim
+    (λ (q : Sooner b x).
+    ap (entered a) (enters-before b x xs q) ∙ enters-behind a b (x ∷ xs) (weaker b a (sooner-than b x a q p)) ∙ ap (λ l. b ∷ l) (enters-behind a x xs p)
+    ∙ sym (ap (entered b) (enters-behind a x xs p) ∙ enters-before b x (entered a xs) q))
+    (λ (q : NotLater x b).
+    ap (entered a) (enters-behind b x xs q) ∙ enters-behind a x (entered b xs) p ∙ ap (λ l. x ∷ l) (entered-entered a b xs ne)
+    ∙ sym (ap (entered b) (enters-behind a x xs p) ∙ enters-behind b x (entered a xs) q))
+    (sooner-or b x))
+    (sooner-or a x)
+
+-- who starts enters the row
+pub by_end-placed : (r : Running) (rs : List Running) → count_by (λ (x : Running). nat_eq x.job.number r.job.number) rs ≡ 0 → by_end (placed r rs) ≡ entered r (by_end rs)
+by_end-placed r [] none = refl
+by_end-placed r (x ∷ rs) none =
+    let k = sum_by-cons (λ (x : Running). cond {A = ℕ} (nat_eq x.job.number r.job.number) 1 0) x rs in
+    let other : r.job.number ≢ x.job.number = λ e. (let one = cond-true {A = ℕ} (nat_eq x.job.number r.job.number) 1 0 (eq-eqb x.job.number r.job.number (sym e)) in omega (arith, none, k, one)) in
+    cond_both (nat_lt r.job.number x.job.number) (r ∷ x ∷ rs) (x ∷ placed r rs) (λ l. by_end l ≡ entered r (entered x (by_end rs)))
+    (λ _. refl)
+    (λ _. ap (entered x) (by_end-placed r rs (omega (arith, none, k))) ∙ sym (entered-entered r x (by_end rs) other))
+
+-- ---- who ends leaves the row
+enters-first : (r : Running) (xs : List Running) → All (Sooner r) xs → entered r xs ≡ r ∷ xs
+enters-first r [] a = refl
+enters-first r (x ∷ xs) a = enters-before r x xs (All-head (Sooner r) x xs a)
+
+filter-entered : (p : Running → Bool) (r : Running) (xs : List Running) → Rises xs → filter p (entered r xs) ≡ cond (p r) (entered r (filter p xs)) (filter p xs)
+filter-entered p r [] h = refl
+filter-entered p r (x ∷ xs) h =
+    ⊎_elim
+    (λ (s : Sooner r x).
+    let all : All (Sooner r) (x ∷ xs) = All-cons (Sooner r) x xs s (All-weaker (NotLater x) (Sooner r) (λ y n. sooner-than r x y s n) xs h.0) in
+    let first : entered r (filter p (x ∷ xs)) ≡ r ∷ filter p (x ∷ xs) = enters-first r (filter p (x ∷ xs)) (All-filter p (Sooner r) (x ∷ xs) all) in
+    ap (filter p) (enters-before r x xs s) ∙ ap (λ l. cond (p r) l (filter p (x ∷ xs))) (sym first))
+    (λ (n : NotLater x r).
+    ap (filter p) (enters-behind r x xs n)
+    ∙ ap (λ l. cond (p x) (x ∷ l) l) (filter-entered p r xs h.1)
+    ∙ go (p x) (p r) n)
+    (sooner-or r x)
+  where
+    go : (c d : Bool) → NotLater x r → cond c (x ∷ cond d (entered r (filter p xs)) (filter p xs)) (cond d (entered r (filter p xs)) (filter p xs))
+        ≡ cond d (entered r (cond c (x ∷ filter p xs) (filter p xs))) (cond c (x ∷ filter p xs) (filter p xs))
+    go true true n = sym (enters-behind r x (filter p xs) n)
+    go true false n = refl
+    go false true n = refl
+    go false false n = refl
+
+pub by_end-filter : (p : Running → Bool) (rs : List Running) → by_end (filter p rs) ≡ filter p (by_end rs)
+by_end-filter p [] = refl
+by_end-filter p (r ∷ rs) =
+    cond_both (p r) (r ∷ filter p rs) (filter p rs) (λ l. by_end l ≡ cond (p r) (entered r (filter p (by_end rs))) (filter p (by_end rs)))
+    (λ y. ap (entered r) (by_end-filter p rs) ∙ sym (cond-true (p r) (entered r (filter p (by_end rs))) (filter p (by_end rs)) y))
+    (λ n. by_end-filter p rs ∙ sym (cond-false (p r) (entered r (filter p (by_end rs))) (filter p (by_end rs)) n))
+    ∙ sym (filter-entered p r (by_end rs) (rises-by_end rs))
+
+-- ---- the code's place
+entered-at : (r : Running) (rs : List Running) → entered r rs ≡ insert rs (position_or_len (λ (x : Running). is_sooner r x) rs) r
+entered-at r [] = refl
+entered-at r (x ∷ rs) =
+    elim (is_sooner r x) as (λ b. cond b (r ∷ x ∷ rs) (x ∷ entered r rs) ≡ insert (x ∷ rs) (cond (not b) (1 + position_or_len (λ (x : Running). is_sooner r x) rs) 0) r) [
+      | true ↦ refl
+      | false ↦ rw one-add (ap (λ l. x ∷ l) (entered-at r rs))
+    ]
+
+pub entered-position : (r : Running) (rs : List Running) → entered r rs ≡ insert rs (unwrap_or (position (λ (x : Running). is_sooner r x) rs) (length rs)) r
+entered-position r rs = entered-at r rs ∙ ap (λ i. insert rs i r) (sym (position-is (λ (x : Running). is_sooner r x) rs))
+
+-- ---- the seconds at which they end
+-- what is added up only where the test passes
+pub sum_by-filter : {X : Type 0} (f : X → ℕ) (p : X → Bool) (xs : List X) → sum_by f (filter p xs) ≡ sum_by (λ x. cond (p x) (f x) 0) xs
+sum_by-filter f p [] = refl
+sum_by-filter f p (x ∷ xs) =
+    cond_both (p x) (x ∷ filter p xs) (filter p xs) (λ l. sum_by f l ≡ sum_by (λ x. cond (p x) (f x) 0) (x ∷ xs))
+    (λ y. let one = cond-true (p x) (f x) 0 y in omega (arith, one, sum_by-cons f x (filter p xs), sum_by-cons (λ x. cond (p x) (f x) 0) x xs, sum_by-filter f p xs))
+    (λ n. let none = cond-false (p x) (f x) 0 n in omega (arith, none, sum_by-cons (λ x. cond (p x) (f x) 0) x xs, sum_by-filter f p xs))
+
+-- where all pass, the whole is added up
+pub sum_by-all : {X : Type 0} (f : X → ℕ) (p : X → Bool) (xs : List X) → All (λ x. p x ≡ true) xs → sum_by (λ x. cond (p x) (f x) 0) xs ≡ sum_by f xs
+sum_by-all f p [] a = refl
+sum_by-all f p (x ∷ xs) a =
+    let one = cond-true (p x) (f x) 0 (All-head (λ x. p x ≡ true) x xs a) in
+    omega (arith, one, sum_by-cons f x xs, sum_by-cons (λ x. cond (p x) (f x) 0) x xs, sum_by-all f p xs (All-tail (λ x. p x ≡ true) x xs a))
+
+pub sum_by-ones : {X : Type 0} (xs : List X) → sum_by (λ x. 1) xs ≡ length xs
+sum_by-ones [] = refl
+sum_by-ones (x ∷ xs) = let k = sum_by-cons (λ x. 1) x xs in let i = sum_by-ones xs in omega (arith, k, i)
+
+-- none adds anything: none passes
+none-adds : {X : Type 0} (p : X → Bool) (xs : List X) → sum_by (λ x. cond (p x) 1 0) xs ≡ 0 → All (λ x. p x ≡ false) xs
+none-adds p [] e = All-nil (λ x. p x ≡ false)
+none-adds p (x ∷ xs) e =
+    let k = sum_by-cons (λ x. cond {A = ℕ} (p x) 1 0) x xs in
+    ⊎_elim
+    (λ (y : p x ≡ true). let one = cond-true {A = ℕ} (p x) 1 0 y in absurd (omega (arith, e, k, one)))
+    (λ (n : p x ≡ false). All-cons (λ x. p x ≡ false) x xs n (none-adds p xs (omega (arith, e, k))))
+    (cases_Bool (p x))
+
+adds-none : {X : Type 0} (p : X → Bool) (xs : List X) → All (λ x. p x ≡ false) xs → sum_by (λ x. cond (p x) 1 0) xs ≡ 0
+adds-none p [] a = refl
+adds-none p (x ∷ xs) a =
+    let k = sum_by-cons (λ x. cond {A = ℕ} (p x) 1 0) x xs in
+    let none = cond-false {A = ℕ} (p x) 1 0 (All-head (λ x. p x ≡ false) x xs a) in
+    omega (arith, k, none, adds-none p xs (All-tail (λ x. p x ≡ false) x xs a))
+
+Any-first : {X : Type 0} (P : X → Type 0) (x : X) (xs : List X) → P x → Any P (x ∷ xs)
+Any-first P x xs h = (0, x, omega arith, refl, h)
+
+Any-later : {X : Type 0} (P : X → Type 0) (x : X) (xs : List X) → Any P xs → Any P (x ∷ xs)
+Any-later P x xs (k, y, l, e, h) = (suc k, y, omega (arith, l), e, h)
+
+one-adds : {X : Type 0} (P : X → Type 0) (p : X → Bool) (xs : List X) → ((x : X) → p x ≡ true → P x) → 1 ≤ sum_by (λ x. cond (p x) 1 0) xs → Any P xs
+one-adds P p [] f l = absurd (omega (arith, l))
+one-adds P p (x ∷ xs) f l =
+    let k = sum_by-cons (λ x. cond {A = ℕ} (p x) 1 0) x xs in
+    ⊎_elim
+    (λ (y : p x ≡ true). Any-first P x xs (f x y))
+    (λ (n : p x ≡ false). let none = cond-false {A = ℕ} (p x) 1 0 n in Any-later P x xs (one-adds P p xs f (omega (arith, l, k, none))))
+    (cases_Bool (p x))
+
+module _ {E : Type 0} (at : E → ℕ) where
+  -- these are the ends of the running jobs
+  abbrev pub EndsOf : List E → List Running → Type 0
+  EndsOf ends rs = (f : ℕ → ℕ) → sum_by (λ e. f (at e)) ends ≡ sum_by (λ r. f (real_end r)) rs
+
+  pub as-many : (ends : List E) (rs : List Running) → EndsOf ends rs → length ends ≡ length rs
+  as-many ends rs h = sym (sum_by-ones ends) ∙ h (λ _. 1) ∙ sum_by-ones rs
+
+  pub one-ends : (ends : List E) (rs : List Running) (t i : ℕ) (d : E) → EndsOf ends rs → i < length ends → at (get_or ends i d) ≡ t → Any (λ r. real_end r ≡ t) rs
+  one-ends ends rs t i d h l here =
+      let f : ℕ → ℕ = λ n. cond (nat_eq n t) 1 0 in
+      let one = cond-true {A = ℕ} (nat_eq (at (get_or ends i d)) t) 1 0 (eq-eqb (at (get_or ends i d)) t here) in
+      let some = get_or-le-sum_by (λ e. f (at e)) ends i d l in
+      let k = h f in
+      one-adds (λ (r : Running). real_end r ≡ t) (λ r. nat_eq (real_end r) t) rs (λ r e. eqb-true (real_end r) t e) (omega (arith, one, some, k))
+
+  pub none-sooner : (ends : List E) (rs : List Running) (t : ℕ) → EndsOf ends rs → All (λ e. t ≤ at e) ends → All (λ r. t ≤ real_end r) rs
+  none-sooner ends rs t h a =
+      let f : ℕ → ℕ = λ n. cond (nat_lt n t) 1 0 in
+      let zero' = adds-none (λ e. nat_lt (at e) t) ends (All-weaker (λ e. t ≤ at e) (λ e. nat_lt (at e) t ≡ false) (λ e l. le-ltb (at e) t l) ends a) in
+      All-weaker (λ (r : Running). nat_lt (real_end r) t ≡ false) (λ r. t ≤ real_end r) (λ r n. ltb-false (real_end r) t n) rs
+      (none-adds (λ (r : Running). nat_lt (real_end r) t) rs (sym (h f) ∙ zero'))
+
+  -- those that end by second t leave on both sides
+  pub ends-left : (ends ends' : List E) (rs : List Running) (t : ℕ) → EndsOf ends rs → ((f : ℕ → ℕ) → sum_by (λ e. f (at e)) ends' ≡ sum_by (λ e. cond (nat_lt t (at e)) (f (at e)) 0) ends) → EndsOf ends' (filter (λ r. nat_lt t (real_end r)) rs)
+  ends-left ends ends' rs t h k = λ f. k f ∙ h (λ n. cond (nat_lt t n) (f n) 0) ∙ sym (sum_by-filter (λ r. f (real_end r)) (λ (r : Running). nat_lt t (real_end r)) rs)
+
+-- the first of the heap
+pub first-is : {E : Type 0} (at : E → ℕ) (ends : List E) (x : E) (t : ℕ) → Some t ≡ option_map at (slice_get ends 0) → x ≡ get_or ends 0 x → at x ≡ t
+first-is at [] x t e i = cc
+first-is at (y ∷ ys) x t e i = let k : Some t ≡ Some (at y) = e in let same : t ≡ at y = cc in ap at i ∙ sym same
+
+pub first-none : {E : Type 0} (at : E → ℕ) (ends : List E) → option_map at (slice_get ends 0) ≡ None → ends ≡ []
+first-none at [] e = refl
+first-none at (y ∷ ys) e = let k : Some (at y) ≡ None = e in cc
+
+pub first-some : {E : Type 0} (at : E → ℕ) (ends : List E) (t : ℕ) → option_map at (slice_get ends 0) ≡ Some t → (rs : List Running) → ((f : ℕ → ℕ) → sum_by (λ e. f (at e)) ends ≡ sum_by (λ r. f (real_end r)) rs) → Any (λ r. real_end r ≡ t) rs
+first-some at [] t e rs h = let k : None ≡ Some t = e in cc
+first-some at (y ∷ ys) t e rs h = let k : Some (at y) ≡ Some t = e in let same : at y ≡ t = cc in one-ends at (y ∷ ys) rs t 0 y h (omega arith) same
+
+-- a heap whose least second comes later than t is left as it is
+pub kept-later : {E : Type 0} (at : E → ℕ) (ends : List E) (t : ℕ) (f : ℕ → ℕ) → All (λ e. t < at e) ends → sum_by (λ e. cond (nat_lt t (at e)) (f (at e)) 0) ends ≡ sum_by (λ e. f (at e)) ends
+kept-later at ends t f a = sum_by-all (λ e. f (at e)) (λ e. nat_lt t (at e)) ends (All-weaker (λ e. t < at e) (λ e. nat_lt t (at e) ≡ true) (λ e l. lt-ltb t (at e) l) ends a)
+
+-- who outlasts t stays
+pub filter-later : (t : ℕ) (rs : List Running) → All (λ r. t < real_end r) rs → filter (λ r. nat_lt t (real_end r)) rs ≡ rs
+filter-later t [] a = refl
+filter-later t (r ∷ rs) a =
+    cond-true (nat_lt t (real_end r)) (r ∷ filter (λ r. nat_lt t (real_end r)) rs) (filter (λ r. nat_lt t (real_end r)) rs) (lt-ltb t (real_end r) (All-head (λ r. t < real_end r) r rs a))
+    ∙ ap (λ l. r ∷ l) (filter-later t rs (All-tail (λ r. t < real_end r) r rs a))
+
+-- nobody of the number of a waiting job runs
+pub not-running : (s : State) (n : ℕ) (job : EffectiveJob) → IsSound s → waiting_job s n ≡ Some job → job.number ≡ n → count_by (λ (x : Running). nat_eq x.job.number n) s.running ≡ 0
+not-running s n job h found same =
+    let one = cond-true {A = ℕ} (nat_eq job.number n) 1 0 (eq-eqb job.number n same) in
+    omega (arith, one, h.once n, sum_by-without (λ (j : EffectiveJob). cond (nat_eq j.number n) 1 0) n s.waiting job found)
+
+-- ---- what the first of the heap tells of the running jobs
+pub next-end-none : {E : Type 0} (at : E → ℕ) (ends : List E) (rs : List Running) (o : Option ℕ) → o ≡ option_map at (slice_get ends 0) → EndsOf at ends rs → (IsNone o → rs ≡ []) × (rs ≡ [] → IsNone o)
+next-end-none at ends rs None e h = (
+  λ _. nil_from_length rs (sym (as-many at ends rs h) ∙ ap length (first-none at ends (sym e))),
+  λ _. refl,
+)
+next-end-none at ends rs (Some t) e h = (
+  λ n. absurd (true≢false n),
+  λ n. let none : ends ≡ [] = nil_from_length ends (as-many at ends rs h ∙ ap length n) in
+      let k : Some t ≡ None = e ∙ ap (λ es. option_map at (slice_get es 0)) none in
+      cc,
+)
+
+pub next-end-found : {E : Type 0} (at : E → ℕ) (ends : List E) (rs : List Running) (o : Option ℕ) → o ≡ option_map at (slice_get ends 0) → EndsOf at ends rs → IfSome o (λ t. Any (λ r. real_end r ≡ t) rs)
+next-end-found at ends rs None e h = tt
+next-end-found at ends rs (Some t) e h = first-some at ends t (sym e) rs h
+
+pub next-end-least : {E : Type 0} (at : E → ℕ) (ends : List E) (rs : List Running) (o : Option ℕ) → IfSome o (λ t. All (λ e. t ≤ at e) ends) → EndsOf at ends rs → IfSome o (λ t. All (λ r. t ≤ real_end r) rs)
+next-end-least at ends rs None a h = tt
+next-end-least at ends rs (Some t) a h = none-sooner at ends rs t h a
+
+-- where the first does not come by t, all come later
+pub all-later : {E : Type 0} (at : E → ℕ) (ends : List E) (o : Option ℕ) (t : ℕ) → o ≡ option_map at (slice_get ends 0) → IfSome o (λ u. All (λ e. u ≤ at e) ends) → (IsSomeAnd o (λ u. u ≤ t) → ⊥) → All (λ e. t < at e) ends
+all-later at ends None t e a n = subst (All (λ e. t < at e)) (sym (first-none at ends (sym e))) (All-nil (λ e. t < at e))
+all-later at ends (Some u) t e a n =
+    let l : t < u = ⊎_elim (λ (m : t < u). m) (λ (m : u ≤ t). absurd (n m)) (cases_lt t u) in
+    All-weaker (λ e. u ≤ at e) (λ e. t < at e) (λ e m. omega arith) ends a
+
+pub ended-later : {E : Type 0} (at : E → ℕ) (ends : List E) (s : State) (t : ℕ) → EndsOf at ends s.running → All (λ e. t < at e) ends → s ≡ ended_until s t
+ended-later at ends s t h a =
+    let more : All (λ e. suc t ≤ at e) ends = All-weaker (λ e. t < at e) (λ e. suc t ≤ at e) (λ e l. omega arith) ends a in
+    let later = none-sooner at ends s.running (suc t) h more in
+    let all : All (λ r. t < real_end r) s.running = All-weaker (λ r. suc t ≤ real_end r) (λ r. t < real_end r) (λ r l. omega arith) s.running later in
+    sym (ap (λ (rs : List Running). let z : State = record { machine = s.machine; order = s.order; waiting = s.waiting; running = rs } in z) (filter-later t s.running all))
+
+-- who starts joins the ends
+pub ends-joined : {E : Type 0} (at : E → ℕ) (ends ends' : List E) (r : Running) (rs : List Running) → EndsOf at ends rs → ((f : ℕ → ℕ) → sum_by (λ e. f (at e)) ends' ≡ f (real_end r) + sum_by (λ e. f (at e)) ends) → EndsOf at ends' (placed r rs)
+ends-joined at ends ends' r rs h k = λ f. (let a = k f in let b = h f in let c = sum_by-placed (λ r. f (real_end r)) r rs in omega (arith, a, b, c))
+
+-- ---- the steps of the heap
+pub step-left : {E : Type 0} (at : E → ℕ) (ends ends' : List E) (x : E) (t u : ℕ) (f : ℕ → ℕ) → Some u ≡ option_map at (slice_get ends 0) → u ≤ t → x ≡ get_or ends 0 x → IsPermutation ends (x ∷ ends')
+    → sum_by (λ e. cond (nat_lt t (at e)) (f (at e)) 0) ends' ≡ sum_by (λ e. cond (nat_lt t (at e)) (f (at e)) 0) ends
+step-left at ends ends' x t u f first by is p =
+    let here = first-is at ends x u first is in
+    let none = cond-false {A = ℕ} (nat_lt t (at x)) (f (at x)) 0 (le-ltb t (at x) (omega (arith, here))) in
+    let k = sum_by_popped (λ e. cond {A = ℕ} (nat_lt t (at e)) (f (at e)) 0) x ends ends' p in
+    omega (arith, k, none)
+
+pub due : {E : Type 0} (at : E → ℕ) (ends ends' : List E) (x : E) (o : Option ℕ) (t : ℕ) → o ≡ option_map at (slice_get ends 0) → IsSomeAnd o (λ u. u ≤ t) → x ≡ get_or ends 0 x → IsPermutation ends (x ∷ ends') → (f : ℕ → ℕ)
+    → sum_by (λ e. cond (nat_lt t (at e)) (f (at e)) 0) ends' ≡ sum_by (λ e. cond (nat_lt t (at e)) (f (at e)) 0) ends
+due at ends ends' x None t e by is p f = absurd by
+due at ends ends' x (Some u) t e by is p f = step-left at ends ends' x t u f e by is p
+
+pub pushed : {E : Type 0} (at : E → ℕ) (ends ends' : List E) (x : E) (n : ℕ) (f : ℕ → ℕ) → IsPermutation (x ∷ ends) ends' → at x ≡ n → sum_by (λ e. f (at e)) ends' ≡ f n + sum_by (λ e. f (at e)) ends
+pushed at ends ends' x n f p here = (let k = sum_by_pushed (λ e. f (at e)) x ends ends' p in let e = ap f here in omega (arith, k, e))
+
+pub pushed-more : {E : Type 0} (at : E → ℕ) (ends ends' : List E) (x : E) (i : ℕ) (r : Running) (rs : List Running) (f : ℕ → ℕ) → sum_by (λ e. f (at e)) ends ≡ sum_by (λ r. f (real_end r)) (take i rs)
+    → IsPermutation (x ∷ ends) ends' → at x ≡ real_end r → i < length rs → r ≡ get_or rs i r → sum_by (λ e. f (at e)) ends' ≡ sum_by (λ r. f (real_end r)) (take (i + 1) rs)
+pushed-more at ends ends' x i r rs f h p here l is =
+    let a = pushed at ends ends' x (real_end r) f p here in
+    let b = sum_by_more (λ (r : Running). f (real_end r)) rs i r l in
+    let e = ap (λ (r : Running). f (real_end r)) is in
+    omega (arith, a, b, e, h)

@@ -1,0 +1,18 @@
+-- The order in which running jobs are expected to end.
+use Rattle.std.specs.Prelude.{◌≡◌, ℕ, ◌||◌, ◌&&◌, ◌==◌, Bool, nat_lt, if◌then◌else◌, List, [], ◌∷◌}
+use Rattle.cluster_state.specs.declared.running.Running.{Running}
+use Rattle.cluster_state.specs.State.{expected_end}
+
+-- a is expected to end earlier than b, or at the same second and has the smaller number
+abbrev pub is_sooner : Running → Running → Bool
+is_sooner a b = nat_lt (expected_end a) (expected_end b) || (expected_end a == expected_end b && nat_lt a.job.number b.job.number)
+
+-- one more running job among others, before the first that it is sooner than
+abbrev pub entered : Running → List Running → List Running
+entered r [] = r ∷ []
+entered r (x ∷ xs) = if is_sooner r x then r ∷ x ∷ xs else x ∷ entered r xs
+
+-- running jobs in the order of (start + estimate, number)
+abbrev pub by_end : List Running → List Running
+by_end [] = []
+by_end (r ∷ rs) = entered r (by_end rs)

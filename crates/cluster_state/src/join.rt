@@ -1,0 +1,46 @@
+ghost use Rattle.std.specs.Prelude.{◌≡◌, ◌+◌, ◌≤◌, ◌<◌, ◌^◌, ℕ, sum_by, vec_len, vec_capacity};
+ghost use Rattle.std.specs.BinaryHeap.{heap_items, heap_len, heap_capacity, IsHeap};
+ghost use Rattle.std.specs.Ordering.{nat_cmp};
+ghost use Rattle.cluster_state.specs.State.{placed, real_end};
+ghost use Rattle.cluster_state.specs.Ends.{entered};
+
+use crate::running::{Running, end_of, enter, run};
+use std::alloc::Allocator;
+use std::cmp::Reverse;
+use std::collections::BinaryHeap;
+
+// A running job joins the others, where there is room: in the list by number, in the row by
+// (start + estimate, number), and in the heap of ends.
+pub(crate) fn join<A: Allocator>(
+    running: &mut Vec<Running, A>,
+    by_end: &mut Vec<Running, A>,
+    ends: &mut BinaryHeap<Reverse<u64>, A>,
+    r: Running,
+)
+    requires room { vec_len running.old < vec_capacity running.old }
+    requires row_room { vec_len by_end.old < vec_capacity by_end.old }
+    requires heap_room { heap_len ends.old < heap_capacity ends.old }
+    requires heap { IsHeap (λ x y. nat_cmp y.0 x.0) (heap_items ends.old) }
+    requires start { r.start < 2 ^ 49 }
+    ensures running { running.new.items ≡ placed r running.old.items }
+    ensures by_end { by_end.new.items ≡ entered r by_end.old.items }
+    ensures heap { IsHeap (λ x y. nat_cmp y.0 x.0) (heap_items ends.new) }
+    ensures ends { (f : ℕ → ℕ) → sum_by (λ e. f e.0) (heap_items ends.new) ≡ f (real_end r) + sum_by (λ e. f e.0) (heap_items ends.old) }
+    ensures len { vec_len running.new ≡ vec_len running.old + 1 }
+    ensures row_len { vec_len by_end.new ≡ vec_len by_end.old + 1 }
+    ensures heap_len { heap_len ends.new ≡ heap_len ends.old + 1 }
+    ensures capacity { vec_capacity running.old ≤ vec_capacity running.new }
+    ensures row_capacity { vec_capacity by_end.old ≤ vec_capacity by_end.new }
+    ensures heap_capacity { heap_capacity ends.old ≤ heap_capacity ends.new }
+{
+    let end = end_of(&r);
+    let Ok(()) = run(running, r) else {
+        unreachable!()
+    };
+    let Ok(()) = enter(by_end, r) else {
+        unreachable!()
+    };
+    let Ok(()) = ends.push(Reverse(end)) else {
+        unreachable!()
+    };
+}

@@ -1,9 +1,0 @@
-use Rattle.std.proofs.Common.{◌≡◌, ◌++◌, length}
-use Rattle.scenarios.specs.Plan.{jobs_of}
-use Rattle.easybook.proofs.plain.jobs_of.Given as goal
-
-abbrev pub invariant-entries : goal.invariant-entries
-invariant-entries g l = l.jobs.items ++ jobs_of l.coming l.scenario ≡ jobs_of l.table l.scenario
-
-abbrev pub decreases-entries : goal.decreases-entries
-decreases-entries g l = length l.coming

@@ -1,0 +1,105 @@
+-- What a table stores, after an edit.
+use Rattle.std.proofs.Common.{◌≡◌, ℕ, zero, suc, ◌+◌, ◌-◌, ◌<◌, ◌≤◌, List, [], ◌∷◌, Option, Some, None, Bool, true, false, ◌==◌, not, length, Bor, option_map, option_copied, is_some, IfSome, IsTrue, refl, ap, sym, subst, ◌∙◌, arith, if◌then◌else◌}
+use Rattle.std.specs.List.{position_or_len}
+use Rattle.chunks.specs.declared.numbered.Numbered.{Numbered}
+use Rattle.swf_text.specs.Entry.{LogEntry, IsEntry, submit_of, number_of_entry}
+use Rattle.swf_text.specs.Log.{with_entry, log_of}
+use Rattle.job_table.specs.Edit.{entry_of, holds, without}
+use Rattle.job_table.specs.Table.{IsTable, IsIndex, IsStored, NumbersRise, entries_from, second_of}
+use Rattle.job_table.proofs.Keyed.{Apart, Lacks, found, found-number, stands, left, placed, same_number, without-Lacks, Lacks-from_none, indexes_at, indexes-without, indexes-moved}
+use Rattle.job_table.proofs.Tables.{table-apart, table-placed, table-left, table-moved, table-drop, table-rising, dropped-from, placed-is, length-placed}
+use Rattle.job_table.proofs.Lookups.{found-sound}
+use Rattle.job_table.proofs.Edited.{log-more}
+
+-- one element less
+length-less : (n : ℕ) (es : List LogEntry) (e : LogEntry) → Apart submit_of number_of_entry es → entry_of n es ≡ Some e → length (without n es) + 1 ≡ length es
+length-less n [] e a h = cc
+length-less n (x ∷ es) e a h = go (number_of_entry x == n) refl h (length-less n es e a.1)
+  where
+    go : (b : Bool) → (number_of_entry x == n) ≡ b → (if b then Some x else entry_of n es) ≡ Some e → (entry_of n es ≡ Some e → length (without n es) + 1 ≡ length es) → length (without n (x ∷ es)) + 1 ≡ length (x ∷ es)
+    go true t k i =
+        let same : number_of_entry x ≡ n = same_number (number_of_entry x) n t in
+        let all : without n es ≡ es = without-Lacks submit_of number_of_entry n es (subst (λ (m : ℕ). Lacks submit_of number_of_entry m es) same a.0) in
+        rw t (omega (arith, ap length all))
+    go false t k i = rw t (omega (arith, i k))
+
+module _ (old new : List LogEntry) (ps qs : List Numbered) (len : ℕ) (st : IsStored old ps len) where
+  pub stored-more : (e : LogEntry) (n s : ℕ) → IsEntry e → entry_of (number_of_entry e) old ≡ None → length old < 4194304 → new ≡ with_entry e old → n ≡ number_of_entry e → s ≡ submit_of e
+      → NumbersRise qs → ((q : ℕ) → second_of qs q ≡ (if n == q then Some s else second_of ps q)) → IsStored new qs (len + 1)
+  stored-more e n s h none room f a b up u =
+      let lacks = Lacks-from_none submit_of number_of_entry (number_of_entry e) old none in
+      let put : placed submit_of number_of_entry e old ≡ new = placed-is e old ∙ sym f in
+      record {
+        table = subst IsTable put (table-placed e old st.table h lacks room);
+        index = record {
+          rising = up;
+          gives = subst (λ (es : List LogEntry). (q : ℕ) → second_of qs q ≡ option_map submit_of (entry_of q es)) put (indexes_at submit_of number_of_entry e old (second_of ps) (second_of qs) n s st.index.gives lacks a b u);
+        };
+        count = omega (arith, st.count, length-placed submit_of number_of_entry e old, ap length put);
+      }
+
+  pub stored-less : (n : ℕ) (e : LogEntry) → entry_of n old ≡ Some e → new ≡ without n old
+      → NumbersRise qs → ((q : ℕ) → second_of qs q ≡ (if n == q then None else second_of ps q)) → IsStored new qs (len - 1)
+  stored-less n e there f up u = record {
+    table = subst IsTable (sym f) (table-left n old st.table);
+    index = record {
+      rising = up;
+      gives = subst (λ (es : List LogEntry). (q : ℕ) → second_of qs q ≡ option_map submit_of (entry_of q es)) (sym f) (indexes-without submit_of number_of_entry n old (second_of ps) (second_of qs) st.index.gives u);
+    };
+    count = omega (arith, st.count, length-less n old e (table-apart old st.table) there, ap length f);
+  }
+
+  pub stored-moved : (n s : ℕ) (was now : LogEntry) → entry_of n old ≡ Some was → IsEntry now → number_of_entry now ≡ n → new ≡ with_entry now (without n old) → s ≡ submit_of now
+      → NumbersRise qs → ((q : ℕ) → second_of qs q ≡ (if n == q then Some s else second_of ps q)) → IsStored new qs len
+  stored-moved n s was now there h same f at up u =
+      let put : placed submit_of number_of_entry now (without n old) ≡ new = placed-is now (without n old) ∙ sym f in
+      record {
+        table = subst IsTable put (table-moved n was now old st.table there h same);
+        index = record {
+          rising = up;
+          gives = subst (λ (es : List LogEntry). (q : ℕ) → second_of qs q ≡ option_map submit_of (entry_of q es)) put (indexes-moved submit_of number_of_entry n s old now (second_of ps) (second_of qs) st.index.gives same at u);
+        };
+        count = omega (arith, st.count, length-less n old was (table-apart old st.table) there, length-placed submit_of number_of_entry now (without n old), ap length put);
+      }
+
+-- the entry that the index tells of
+pub entry-there : (n s : ℕ) (es : List LogEntry) → Some s ≡ option_map submit_of (entry_of n es) → (e : LogEntry) × (entry_of n es ≡ Some e)
+entry-there n s es h = go (entry_of n es) refl h
+  where
+    go : (o : Option LogEntry) → entry_of n es ≡ o → Some s ≡ option_map submit_of o → (e : LogEntry) × (entry_of n es ≡ Some e)
+    go None t k = cc
+    go (Some e) t k = (e, t)
+
+-- ---- what is read of it
+pub get-numbered : (n : ℕ) (es : List LogEntry) (r : Option (Bor LogEntry)) → option_copied r ≡ entry_of n es → IfSome r (λ e. number_of_entry e.now ≡ n)
+get-numbered n es None h = tt
+get-numbered n es (Some e) h = found-number submit_of number_of_entry n es e.now (sym h)
+
+pub get-sound : (n : ℕ) (es : List LogEntry) (r : Option (Bor LogEntry)) → IsTable es → option_copied r ≡ entry_of n es → IfSome r (λ e. IsEntry e.now)
+get-sound n es None t h = tt
+get-sound n es (Some e) t h = found-sound n IsEntry es e.now t.log.sound (sym h)
+
+pub from-table : (s : ℕ) (es : List LogEntry) → IsTable es → IsTable (entries_from s es)
+from-table s es t = subst IsTable (dropped-from submit_of number_of_entry s es (table-rising es t)) (table-drop (position_or_len (λ e. not (stands submit_of number_of_entry s 0 e)) es) es t)
+
+pub known-is : (n : ℕ) (es old : List LogEntry) (ps : List Numbered) → IsIndex ps es → es ≡ old → is_some (second_of ps n) ≡ holds n old
+known-is n es old ps i e = ap is_some (i.gives n) ∙ go (entry_of n es) ∙ ap (holds n) e
+  where
+    go : (o : Option LogEntry) → is_some (option_map submit_of o) ≡ is_some o
+    go None = refl
+    go (Some x) = refl
+
+pub same-by : (r : Bool) (a b x y : List LogEntry) → a ≡ x → b ≡ y → (IsTrue r → a ≡ b) × (a ≡ b → IsTrue r) → (IsTrue r → x ≡ y) × (x ≡ y → IsTrue r)
+same-by r a b x y e f h = ((λ t. sym e ∙ h.0 t ∙ f), (λ t. h.1 (e ∙ t ∙ sym f)))
+
+-- ---- an entry more
+module _ (e copy : LogEntry) (es old : List LogEntry) (ps : List Numbered) (t : IsTable es) (i : IsIndex ps es) (view : es ≡ old) (same : copy ≡ e) (new : entry_of (number_of_entry e) old ≡ None) where
+  pub lacks-it : entry_of (number_of_entry copy) es ≡ None
+  lacks-it = ap (λ (x : LogEntry). entry_of (number_of_entry x) es) same ∙ ap (entry_of (number_of_entry e)) view ∙ new
+
+  pub second-new : (n : ℕ) → n ≡ number_of_entry copy → second_of ps n ≡ None
+  second-new n h = ap (second_of ps) h ∙ i.gives (number_of_entry copy) ∙ ap (option_map submit_of) lacks-it
+
+  pub log-with : (rows : List LogEntry) → rows ≡ with_entry copy es → rows ≡ log_of (e ∷ old)
+  log-with rows h =
+      h ∙ sym (placed-is copy es) ∙ log-more copy es t ∙ ap (λ (x : LogEntry). with_entry x (log_of es)) same ∙ ap (λ (l : List LogEntry). with_entry e (log_of l)) view

@@ -1,0 +1,117 @@
+ghost use Rattle.std.specs.Prelude.{◌≡◌, ◌≤◌, ◌+◌, ◌==◌, ℕ, IfOk, OnOk, Some, None, true, is_some, map, if◌then◌else◌};
+ghost use Rattle.job_table.specs.Arranged.{IsDistinct};
+ghost use Rattle.job_table.specs.Table.{IsIndex, NumbersRise, pair_of, second_of};
+
+use chunks::{Chunks, Numbered};
+use std::alloc::Allocator;
+use swf_text::{Entry, Memory};
+
+/// The submit second of each job, by its number.
+pub(crate) type Index<A> = Chunks<Numbered, A>;
+
+// The number and the submit second of each of these entries.
+fn pairs_of<A: Allocator + Copy>(alloc: A, rows: &[Entry<A>]) -> Result<Vec<Numbered, A>, Memory>
+    ensures { IfOk result (λ pairs. pairs.items ≡ map pair_of rows.now) }
+{
+    let mut pairs = Vec::with_capacity(alloc, rows.len())?;
+    for entry in rows {
+        let pair = Numbered {
+            number: entry.number(),
+            submit: entry.submit(),
+        };
+        pairs.push(pair)?;
+    }
+    Ok(pairs)
+}
+
+// The index of these entries.
+pub(crate) fn index_of<A: Allocator + Copy>(alloc: A, rows: &[Entry<A>]) -> Result<Index<A>, Memory>
+    requires { IsDistinct rows.now }
+    ensures { IfOk result (λ index. IsIndex index rows.now) }
+{
+    let mut pairs = pairs_of(alloc, rows)?;
+    pairs.sort_by_key(|pair| pair.number)?;
+    Ok(Chunks::of(alloc, pairs)?)
+}
+
+// Whether an index has a job number.
+pub(crate) fn has_number<A: Allocator + Copy>(index: &Index<A>, number: u64) -> bool
+    requires { NumbersRise index.now }
+    ensures { result ≡ is_some (second_of index.now number) }
+{
+    match index.find(number, number) {
+        Some(pair) => pair.number == number,
+        None => false,
+    }
+}
+
+// The submit second of a pair, where it has this number.
+fn second_if(pair: &Numbered, number: u64) -> Option<u64>
+    ensures { result ≡ (if pair.now.number == number then Some pair.now.submit else None) }
+{
+    if pair.number == number {
+        return Some(pair.submit);
+    }
+    None
+}
+
+// The submit second of a job number.
+pub(crate) fn second<A: Allocator + Copy>(index: &Index<A>, number: u64) -> Option<u64>
+    requires { NumbersRise index.now }
+    ensures { result ≡ second_of index.now number }
+{
+    match index.find(number, number) {
+        Some(pair) => second_if(pair, number),
+        None => None,
+    }
+}
+
+// The index with one number more.
+pub(crate) fn with_number<A: Allocator + Copy>(
+    index: &Index<A>,
+    number: u64,
+    submit: u64,
+    count: &mut u32,
+) -> Result<Index<A>, Memory>
+    requires rising { NumbersRise index.now }
+    requires new { second_of index.now number ≡ None }
+    requires room { count.old ≤ 768 }
+    ensures rising { IfOk result (λ new. NumbersRise new) }
+    ensures seconds { IfOk result (λ new. (n : ℕ) → second_of new n ≡ (if number == n then Some submit else second_of index.now n)) }
+    ensures most { OnOk result (count.new ≤ count.old + 385) }
+{
+    Ok(index.with(Numbered { number, submit }, count)?)
+}
+
+// The index without a number that it has.
+pub(crate) fn without_number<A: Allocator + Copy>(
+    index: &Index<A>,
+    number: u64,
+    count: &mut u32,
+) -> Result<Index<A>, Memory>
+    requires rising { NumbersRise index.now }
+    requires there { is_some (second_of index.now number) ≡ true }
+    requires room { count.old ≤ 768 }
+    ensures rising { IfOk result (λ new. NumbersRise new) }
+    ensures seconds { IfOk result (λ new. (n : ℕ) → second_of new n ≡ (if number == n then None else second_of index.now n)) }
+    ensures most { OnOk result (count.new ≤ count.old + 256) }
+{
+    Ok(index.without(number, number, count)?)
+}
+
+// The index with another submit second of a number that it has.
+pub(crate) fn with_second<A: Allocator + Copy>(
+    index: &Index<A>,
+    number: u64,
+    submit: u64,
+    count: &mut u32,
+) -> Result<Index<A>, Memory>
+    requires rising { NumbersRise index.now }
+    requires there { is_some (second_of index.now number) ≡ true }
+    requires room { count.old ≤ 768 }
+    ensures rising { IfOk result (λ new. NumbersRise new) }
+    ensures seconds { IfOk result (λ new. (n : ℕ) → second_of new n ≡ (if number == n then Some submit else second_of index.now n)) }
+    ensures most { OnOk result (count.new ≤ count.old + 256) }
+{
+    Ok(index.exchanged(Numbered { number, submit }, count)?)
+}

@@ -1,0 +1,58 @@
+-- The sums over few jobs fit their types.
+use Rattle.std.proofs.Common.{◌≡◌, ℕ, ℤ, ◌+◌, ◌-◌, ◌*◌, ◌/◌, ◌^◌, ◌<◌, ◌≤◌, Bool, true, false, cond, List, All, filter, length, sum_by, count_by, max, min, ap, arith, ◌∙◌}
+use Rattle.std.proofs.Math.Nat.{mul-le-mul, mul-le-mul_left, div-le_self}
+use Rattle.std.proofs.lemmas.List.Sums.{sum_by-le, length-filter, count_by-le-length}
+use Rattle.std.proofs.lemmas.List.Elements.{All-filter}
+use Rattle.metrics.specs.declared.placed.Placed.{Placed}
+use Rattle.metrics.specs.Measures.{wait, slowdown, busy, overlap, busy_in, end_of}
+use Rattle.metrics.specs.Placed.{IsPlaced}
+use Rattle.metrics.specs.Totals.{totals, FitsJoined}
+use Rattle.metrics.specs.Users.{sums_of, is_of, CanAdd}
+use Rattle.metrics.specs.Days.{busy_on}
+
+wait_small : (p : Placed) → IsPlaced p → wait p ≤ 2 ^ 60
+wait_small p h = omega arith
+
+length_small : (p : Placed) → IsPlaced p → p.job.length ≤ 2 ^ 60
+length_small p h = omega arith
+
+slowdown_small : (p : Placed) → IsPlaced p → slowdown p ≤ 2 ^ 60
+slowdown_small p h = let d = div-le_self ((wait p + p.job.length) * 1000) (max p.job.length 10) in omega (arith, d)
+
+pub busy_small : (p : Placed) → IsPlaced p → busy p ≤ 2 ^ 60
+busy_small p h = let d : busy p ≤ 16777216 * 100000000 = mul-le-mul h.fits_some h.within_limit in omega (arith, d)
+
+pub busy_in_small : (q : ℕ) (p : Placed) → IsPlaced p → busy_in q p ≤ 2 ^ 60
+busy_in_small q p h =
+    let o : overlap q p ≤ 100000000 = omega arith in
+    let d : busy_in q p ≤ 16777216 * 100000000 = mul-le-mul h.fits_some o in omega (arith, d)
+
+pub small_sum : (f : Placed → ℕ) (ps : List Placed) → ((p : Placed) → IsPlaced p → f p ≤ 2 ^ 60) → All IsPlaced ps → sum_by f ps ≤ length ps * 2 ^ 60
+small_sum f ps s h = sum_by-le f (2 ^ 60) ps (λ k d l. s _ (h k d l))
+
+pub totals_fit : (xs ys : List Placed) → All IsPlaced xs → All IsPlaced ys → length xs + length ys ≤ 4194304 → FitsJoined (totals xs) (totals ys)
+totals_fit xs ys h k l = record {
+  count = omega arith;
+  killed = let a = count_by-le-length (λ p. p.job.killed) xs in let b = count_by-le-length (λ p. p.job.killed) ys in omega (arith, a, b);
+  wait = let a = small_sum wait xs wait_small h in let b = small_sum wait ys wait_small k in omega (arith, a, b);
+  length = let a = small_sum (λ p. p.job.length) xs length_small h in let b = small_sum (λ p. p.job.length) ys length_small k in omega (arith, a, b);
+  slowdown = let a = small_sum slowdown xs slowdown_small h in let b = small_sum slowdown ys slowdown_small k in omega (arith, a, b);
+  busy = let a = small_sum busy xs busy_small h in let b = small_sum busy ys busy_small k in omega (arith, a, b);
+}
+
+own_few : (u : ℤ) (ps : List Placed) → length (filter (is_of u) ps) ≤ length ps
+own_few u ps = let a = length-filter (is_of u) ps in let b = count_by-le-length (is_of u) ps in omega (arith, a, b)
+
+pub sums_fit : (u : ℤ) (xs ys : List Placed) → All IsPlaced xs → All IsPlaced ys → length xs + length ys ≤ 4194304 → CanAdd (sums_of u xs) (sums_of u ys)
+sums_fit u xs ys h k l =
+    let m = own_few u xs in let n = own_few u ys in
+    let i = All-filter (is_of u) IsPlaced xs h in let j = All-filter (is_of u) IsPlaced ys k in
+    record {
+      count = omega (arith, m, n);
+      wait = let a = small_sum wait _ wait_small i in let b = small_sum wait _ wait_small j in omega (arith, a, b, m, n);
+      slowdown = let a = small_sum slowdown _ slowdown_small i in let b = small_sum slowdown _ slowdown_small j in omega (arith, a, b, m, n);
+      busy = let a = small_sum busy _ busy_small i in let b = small_sum busy _ busy_small j in omega (arith, a, b, m, n);
+    }
+
+pub days_fit : (q : ℕ) (xs ys : List Placed) → All IsPlaced xs → All IsPlaced ys → length xs + length ys ≤ 4194304 → busy_on q xs + busy_on q ys < 2 ^ 128
+days_fit q xs ys h k l = let a = small_sum (busy_in q) xs (busy_in_small q) h in let b = small_sum (busy_in q) ys (busy_in_small q) k in omega (arith, a, b)

@@ -1,0 +1,29 @@
+-- A job takes nothing of the days before it starts and after it ends.
+use Rattle.std.proofs.Common.{◌≡◌, ℕ, ◌+◌, ◌-◌, ◌*◌, ◌/◌, ◌<◌, ◌≤◌, Bool, true, false, cond, eqb, min, max, ap, arith, ◌∙◌, inl, inr}
+use Rattle.std.proofs.lemmas.Bool.{cases_Bool}
+use Rattle.std.proofs.lemmas.Bool.Decides.{nat_tests, Decides-eqb}
+use Rattle.metrics.specs.declared.placed.Placed.{Placed}
+use Rattle.metrics.specs.Measures.{overlap, busy_in, end_of}
+
+pub idle_before : (q : ℕ) (p : Placed) → q < p.start / 86400 → busy_in q p ≡ 0
+idle_before q p h = let e : overlap q p ≡ 0 = omega arith in ap (λ n. p.job.size * n) e ∙ omega arith
+
+pub idle_after : (q : ℕ) (p : Placed) → end_of p / 86400 < q → busy_in q p ≡ 0
+idle_after q p h = let e : overlap q p ≡ 0 = omega arith in ap (λ n. p.job.size * n) e ∙ omega arith
+
+-- a day more is counted
+pub day_done : (q k : ℕ) (f : ℕ → ℕ) (old cur next : ℕ) → (q < k → cur ≡ old + f q) → (k ≤ q → cur ≡ old) → next ≡ cur + cond (eqb k q) (f k) 0 → q < k + 1 → next ≡ old + f q
+day_done q k f old cur next d a n h = elim (cases_Bool (eqb k q)) [
+  | inl t ↦ let s : k ≡ q = (Decides-eqb k q).0 t in
+      let m : next ≡ cur + f k = rw t at n in
+      let b : cur ≡ old = a (omega (arith, s)) in
+      let e : f k ≡ f q = ap f s in omega (arith, m, b, e)
+  | inr t ↦ let m : next ≡ cur + 0 = rw t at n in
+      let b : cur ≡ old + f q = d (grind (arith, nat_tests, t, h)) in omega (arith, m, b)
+]
+
+-- the days behind it are as before
+pub day_ahead : (q k busy old cur next : ℕ) → cur ≡ old → next ≡ cur + cond (eqb k q) busy 0 → k + 1 ≤ q → next ≡ old
+day_ahead q k busy old cur next a n h =
+    let t : eqb k q ≡ false = grind (arith, nat_tests, h) in
+    let m : next ≡ cur + 0 = rw t at n in omega (arith, m, a)

@@ -1,0 +1,96 @@
+//! The tables of a part.
+
+ghost use Rattle.std.specs.Prelude.{◌≡◌, ℕ, ◌≤◌, ◌<◌, ◌^◌, map, IfOk, All};
+ghost use Rattle.metrics.specs.Tables.{user_row_of, day_row_of, tables_of};
+
+use crate::days::Days;
+use crate::part::Part;
+use crate::rows::{DayRow, Overall, Skips, UserRow, day_row, over_all, user_row};
+use crate::users::Users;
+use std::alloc::{AllocError, Allocator};
+use std::marker::Model;
+use swf_text::Memory;
+
+/// The tables of some jobs on a machine: numbers over all, a row a user and a row a day.
+#[derive(Drop)]
+pub struct Tables<A: Allocator + Copy> {
+    overall: Overall,
+    users: Vec<UserRow, A>,
+    days: Vec<DayRow, A>,
+}
+
+impl<A: Allocator + Copy> Model for Tables<A> {
+    ghost use Rattle.metrics.specs.Tables.{TableRows};
+
+    ghost Value = { TableRows };
+
+    ghost view = { λ t. record { overall = t.overall; users = t.users.items; days = t.days.items } };
+}
+
+impl<A: Allocator + Copy> Tables<A> {
+    /// The numbers over all jobs.
+    pub fn overall(&self) -> Overall
+        ensures { result ≡ self.now.overall }
+    {
+        self.overall
+    }
+
+    /// A row for each user who has a job, by rising user.
+    pub fn users(&self) -> &[UserRow]
+        ensures { result.now ≡ self.now.users }
+    {
+        &self.users
+    }
+
+    /// A row for each day in which processor-seconds are taken, by rising day.
+    pub fn days(&self) -> &[DayRow]
+        ensures { result.now ≡ self.now.days }
+    {
+        &self.days
+    }
+}
+
+// A row a user.
+fn user_rows<A: Allocator + Copy>(alloc: A, users: &Users<A>) -> Result<Vec<UserRow, A>, AllocError>
+    ensures { IfOk result (λ rows. rows.items ≡ map user_row_of users.now.entries) }
+{
+    let mut rows = Vec::with_capacity(alloc, users.len())?;
+    'users: for (user, sums) in users {
+        rows.push(user_row(*user, sums))?;
+    }
+    Ok(rows)
+}
+
+// A row a day.
+fn day_rows<A: Allocator + Copy>(
+    alloc: A,
+    procs: u64,
+    days: &Days<A>,
+) -> Result<Vec<DayRow, A>, AllocError>
+    requires { All (λ e. e.1 < 2 ^ 100) days.now.entries }
+    ensures { IfOk result (λ rows. rows.items ≡ map (day_row_of procs) days.now.entries) }
+{
+    let mut rows = Vec::with_capacity(alloc, days.len())?;
+    'days: for (day, busy) in days {
+        rows.push(day_row(procs, *day, *busy))?;
+    }
+    Ok(rows)
+}
+
+impl<A: Allocator + Copy> Part<A> {
+    /// The tables of the part's jobs, on a machine of `procs` processors and with these counts of
+    /// skipped entries. Means are cut down, and 0 where there is no job.
+    pub fn tables(&self, procs: u64, skips: Skips) -> Result<Tables<A>, Memory>
+        ensures { IfOk result (λ tables. tables ≡ tables_of procs skips self.now) }
+    {
+        self.tally.is_in_order();
+        let alloc = self.tally.alloc;
+        let users = user_rows(alloc, &self.tally.users)?;
+        let days = day_rows(alloc, procs, &self.tally.days)?;
+        Ok(Tables {
+            overall: over_all(procs, skips, &self.tally.totals),
+            users,
+            days,
+        })
+    }
+}

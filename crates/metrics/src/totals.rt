@@ -1,0 +1,99 @@
+//! Sums over all jobs.
+
+ghost use Rattle.std.specs.Prelude.{◌≡◌, ℕ, ◌+◌, ◌^◌, ◌<◌, ◌≤◌};
+ghost use Rattle.metrics.specs.Totals.{earlier_of, later_of, no_totals, totals_alone, joined, FitsJoined};
+ghost use Rattle.metrics.specs.Placed.{CanStart, IsPlaced};
+
+use crate::Placed;
+
+/// Sums over all jobs: seconds of waiting and running, slowdowns in thousandths, processor-seconds.
+#[derive(Clone, Copy, Debug, PartialEq, Eq)]
+pub struct Totals {
+    pub count: u64,
+    pub killed: u64,
+    pub wait: u128,
+    pub length: u128,
+    pub slowdown: u128,
+    pub busy: u128,
+    pub greatest_wait: u64,
+    pub least_submit: Option<u64>,
+    pub greatest_end: Option<u64>,
+}
+
+// The lesser of two seconds that may be missing.
+fn earlier(a: Option<u64>, b: Option<u64>) -> Option<u64>
+    ensures { result ≡ earlier_of a b }
+{
+    match (a, b) {
+        (Some(a), Some(b)) => Some(a.min(b)),
+        (Some(a), None) => Some(a),
+        (None, b) => b,
+    }
+}
+
+// The greater of two seconds that may be missing.
+fn later(a: Option<u64>, b: Option<u64>) -> Option<u64>
+    ensures { result ≡ later_of a b }
+{
+    match (a, b) {
+        (Some(a), Some(b)) => Some(a.max(b)),
+        (Some(a), None) => Some(a),
+        (None, b) => b,
+    }
+}
+
+impl Totals {
+    // The sums over no job.
+    pub(crate) fn none() -> Totals
+        ensures { result ≡ no_totals }
+    {
+        Totals {
+            count: 0,
+            killed: 0,
+            wait: 0,
+            length: 0,
+            slowdown: 0,
+            busy: 0,
+            greatest_wait: 0,
+            least_submit: None,
+            greatest_end: None,
+        }
+    }
+
+    // The sums over one job.
+    pub(crate) fn of_job(placed: &Placed) -> Totals
+        requires { CanStart placed.now }
+        ensures value { result ≡ totals_alone placed.now }
+        ensures limits { IsPlaced placed.now }
+    {
+        Totals {
+            count: 1,
+            killed: u64::from(placed.job.killed()),
+            wait: u128::from(placed.wait()),
+            length: u128::from(placed.job.length()),
+            slowdown: u128::from(placed.slowdown()),
+            busy: u128::from(placed.busy()),
+            greatest_wait: placed.wait(),
+            least_submit: Some(placed.job.submit()),
+            greatest_end: Some(placed.end()),
+        }
+    }
+
+    // The sums over the jobs of both.
+    pub(crate) fn plus(&self, other: &Totals) -> Totals
+        requires { FitsJoined self.now other.now }
+        ensures { result ≡ joined self.now other.now }
+    {
+        Totals {
+            count: self.count + other.count,
+            killed: self.killed + other.killed,
+            wait: self.wait + other.wait,
+            length: self.length + other.length,
+            slowdown: self.slowdown + other.slowdown,
+            busy: self.busy + other.busy,
+            greatest_wait: self.greatest_wait.max(other.greatest_wait),
+            least_submit: earlier(self.least_submit, other.least_submit),
+            greatest_end: later(self.greatest_end, other.greatest_end),
+        }
+    }
+}

@@ -1,0 +1,20 @@
+//! The texts of reports, byte for byte: a schedule, the tables of a run, scenarios side by side,
+//! and a log.
+#![tactic(auto)]
+
+mod days;
+mod entries;
+mod heading;
+mod pieces;
+mod schedule;
+mod side;
+mod table;
+mod texts;
+mod users;
+
+pub use entries::log_text;
+pub use side::{SideLine, side_text};
+pub use texts::{days_text, schedule_text, table_text, users_text};
+
+#[cfg(test)]
+mod tests;

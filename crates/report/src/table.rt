@@ -1,0 +1,115 @@
+//! The report on all jobs.
+
+ghost use Rattle.std.specs.Prelude.{◌≡◌, ◌++◌, OnOk, IfOk, codes};
+ghost use Rattle.report.specs.Table.{told, jobs_line, skips_line, wait_line, length_line, slowdown_line, busy_line, utilization_line, table_text};
+
+use crate::heading::push_title;
+use crate::pieces::{push_number, push_percent, push_thousandths};
+use itoa::Integer;
+use metrics::{Overall, Skips};
+use std::alloc::{AllocError, Allocator};
+
+// A word, and the number that it names.
+fn push_told<N: Integer, A: Allocator + Copy>(
+    text: &mut Vec<u8, A>,
+    word: &str,
+    number: N,
+) -> Result<(), AllocError>
+    ensures { OnOk result (text.new.items ≡ text.old.items ++ (word.now ++ codes " " ++ N.text number)) }
+{
+    text.extend_from_slice(word.as_bytes())?;
+    text.push(b' ')?;
+    push_number(text, number)
+}
+
+fn push_jobs<A: Allocator + Copy>(text: &mut Vec<u8, A>, all: &Overall) -> Result<(), AllocError>
+    ensures { OnOk result (text.new.items ≡ text.old.items ++ jobs_line all.now) }
+{
+    push_told(text, "jobs", all.jobs)?;
+    push_told(text, " killed", all.killed)?;
+    text.push(b'\n')?;
+    Ok(())
+}
+
+fn push_skips<A: Allocator + Copy>(text: &mut Vec<u8, A>, skips: &Skips) -> Result<(), AllocError>
+    ensures { OnOk result (text.new.items ≡ text.old.items ++ skips_line skips.now) }
+{
+    push_told(text, "skipped size", skips.size)?;
+    push_told(text, " run", skips.run)?;
+    push_told(text, " large", skips.large)?;
+    push_told(text, " long", skips.long)?;
+    text.push(b'\n')?;
+    Ok(())
+}
+
+fn push_wait<A: Allocator + Copy>(text: &mut Vec<u8, A>, all: &Overall) -> Result<(), AllocError>
+    ensures { OnOk result (text.new.items ≡ text.old.items ++ wait_line all.now) }
+{
+    push_told(text, "wait mean", all.wait)?;
+    push_told(text, " greatest", all.greatest_wait)?;
+    text.push(b'\n')?;
+    Ok(())
+}
+
+fn push_length<A: Allocator + Copy>(text: &mut Vec<u8, A>, all: &Overall) -> Result<(), AllocError>
+    ensures { OnOk result (text.new.items ≡ text.old.items ++ length_line all.now) }
+{
+    push_told(text, "length mean", all.length)?;
+    text.push(b'\n')?;
+    Ok(())
+}
+
+fn push_slowdown<A: Allocator + Copy>(
+    text: &mut Vec<u8, A>,
+    all: &Overall,
+) -> Result<(), AllocError>
+    ensures { OnOk result (text.new.items ≡ text.old.items ++ slowdown_line all.now) }
+{
+    text.extend_from_slice(b"slowdown mean ")?;
+    push_thousandths(text, all.slowdown, 0)?;
+    text.push(b'\n')?;
+    Ok(())
+}
+
+fn push_busy<A: Allocator + Copy>(text: &mut Vec<u8, A>, all: &Overall) -> Result<(), AllocError>
+    ensures { OnOk result (text.new.items ≡ text.old.items ++ busy_line all.now) }
+{
+    push_told(text, "busy", all.busy)?;
+    push_told(text, " span", all.span)?;
+    text.push(b'\n')?;
+    Ok(())
+}
+
+fn push_utilization<A: Allocator + Copy>(
+    text: &mut Vec<u8, A>,
+    all: &Overall,
+) -> Result<(), AllocError>
+    ensures { OnOk result (text.new.items ≡ text.old.items ++ utilization_line all.now) }
+{
+    text.extend_from_slice(b"utilization ")?;
+    push_percent(text, all.utilization, 0)?;
+    text.push(b'\n')?;
+    Ok(())
+}
+
+// The report on all jobs.
+pub(crate) fn table_report<A: Allocator + Copy>(
+    alloc: A,
+    name: &str,
+    version: u64,
+    all: &Overall,
+) -> Result<Vec<u8, A>, AllocError>
+    ensures { IfOk result (λ text. text.items ≡ table_text name.now version all.now) }
+{
+    let mut text = Vec::new(alloc);
+    push_title(&mut text, "table", name, version)?;
+    text.push(b'\n')?;
+    push_jobs(&mut text, all)?;
+    push_skips(&mut text, &all.skips)?;
+    push_wait(&mut text, all)?;
+    push_length(&mut text, all)?;
+    push_slowdown(&mut text, all)?;
+    push_busy(&mut text, all)?;
+    push_utilization(&mut text, all)?;
+    Ok(text)
+}

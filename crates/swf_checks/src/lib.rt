@@ -1,0 +1,18 @@
+//! Tests of `swf_text`, in a crate of their own so that the library is proved once: numbers, lines
+//! and whole logs as they are read, and as they are written.
+#![tactic(auto)]
+
+#[cfg(test)]
+mod entries;
+#[cfg(test)]
+mod faults;
+#[cfg(test)]
+mod lines;
+#[cfg(test)]
+mod numbers;
+#[cfg(test)]
+mod pieces;
+#[cfg(test)]
+mod texts;
+#[cfg(test)]
+mod writing;
