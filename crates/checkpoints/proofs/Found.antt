@@ -1,10 +1,10 @@
 -- The starts of jobs by their numbers.
-use Rattle.std.proofs.Common.{◌≡◌, ℕ, ◌+◌, ◌<◌, ◌^◌, Bool, true, false, cond, eqb, nat_eq, nat_le, List, [], ◌∷◌, ◌++◌, length, take, get_or, Option, Some, None, Ok, All, refl, sym, ap, arith, append_assoc, ◌∙◌}
-use Rattle.std.specs.Prelude.{is_some, IfSome, find}
-use Rattle.std.specs.Option.{option_map, option_or}
-use Rattle.std.proofs.lemmas.Bool.{eqb-true, true≢false, cond-true, le-leb}
-use Rattle.std.proofs.lemmas.List.{take_more}
-use Rattle.std.proofs.lemmas.List.Folds.{find-append}
+use Rattle.std.proofs.Common.{◌≡◌, ℕ, ◌≤◌, ◌<◌, ◌^◌, ◌&&◌, Bool, true, false, cond, eqb, not, nat_eq, nat_le, List, [], ◌∷◌, ◌++◌, Option, Some, None, Ok, All, filter, refl, sym, ap, arith, append_assoc, ◌∙◌, ⊎_elim}
+use Rattle.std.specs.Prelude.{IfSome, find}
+use Rattle.std.specs.List.Sorted.{IsStableByKey, ties}
+use Rattle.std.specs.Option.{option_map}
+use Rattle.std.specs.Ordering.{nat_cmp, is_lt}
+use Rattle.std.proofs.lemmas.Bool.{cond-true, le-leb, cases_eq, cases_lt, eq-eqb, ne_eqb, lt-ltb, le-ltb}
 use Rattle.std.proofs.lemmas.List.Elements.{All-head, All-tail}
 use Rattle.std.specs.List.{filter_map}
 use Rattle.std.specs.Result.{result_ok}
@@ -20,46 +20,45 @@ use Rattle.checkpoints.specs.Schedule.{row_at, row_of}
 use Rattle.easy_rule.specs.declared.start.Start.{Start}
 use Rattle.easy_rule.specs.Simulation.{start_of}
 
--- the start of the number among starts of which one stands behind the others
-one : ℕ → Start → Option ℕ
-one n s = cond (eqb s.number n) (Some s.at) None
-
-or-map : (o : Option Start) (s : Start) (n : ℕ) → option_map (λ (x : Start). x.at) (option_or o (cond (eqb s.number n) (Some s) None)) ≡ option_or (option_map (λ (x : Start). x.at) o) (one n s)
-unfolding one
-or-map (Some x) s n = refl
-or-map None s n = go (eqb s.number n) where
-  go : (b : Bool) → option_map (λ (x : Start). x.at) (cond b (Some s) None) ≡ cond b (Some s.at) None
-  go true = refl
-  go false = refl
-
-start-end : (xs : List Start) (s : Start) (n : ℕ) → start_of (xs ++ s ∷ []) n ≡ option_or (start_of xs n) (one n s)
-start-end xs s n = ap (option_map (λ (x : Start). x.at)) (find-append (λ (x : Start). nat_eq x.number n) xs (s ∷ [])) ∙ or-map (find (λ (x : Start). nat_eq x.number n) xs) s n
-
--- where the number has a start, another one of it changes nothing
-pub again : (f : ℕ → Option ℕ) (k v : ℕ) → is_some (f k) ≡ true → (n : ℕ) → f n ≡ option_or (f n) (cond (eqb k n) (Some v) None)
-again f k v there n = go (eqb k n) (f n) (λ same. ap (λ (q : ℕ). is_some (f q)) (sym (eqb-true k n same)) ∙ there)
+-- what is found is the first of those that pass
+find-filter : {X : Type 0} (p : X → Bool) (xs ys : List X) → filter p xs ≡ filter p ys → find p xs ≡ find p ys
+find-filter p xs ys e = first p xs ∙ ap head e ∙ sym (first p ys)
   where
-    go : (b : Bool) (o : Option ℕ) → (b ≡ true → is_some o ≡ true) → o ≡ option_or o (cond b (Some v) None)
-    go b (Some a) h = refl
-    go true None h = absurd (true≢false (sym (h refl)))
-    go false None h = refl
+    head : {X : Type 0} → List X → Option X
+    head [] = None
+    head (x ∷ xs) = Some x
 
--- and where it has none, it is found by it
-pub fresh : (f g : ℕ → Option ℕ) (k v : ℕ) → is_some (f k) ≡ false → ((n : ℕ) → g n ≡ cond (eqb k n) (Some v) (f n)) → (n : ℕ) → g n ≡ option_or (f n) (cond (eqb k n) (Some v) None)
-fresh f g k v none put n = put n ∙ go (eqb k n) (f n) (λ same. ap (λ (q : ℕ). is_some (f q)) (sym (eqb-true k n same)) ∙ none)
-  where
-    go : (b : Bool) (o : Option ℕ) → (b ≡ true → is_some o ≡ false) → cond b (Some v) o ≡ option_or o (cond b (Some v) None)
-    go true (Some a) h = absurd (true≢false (h refl))
-    go true None h = refl
-    go false (Some a) h = refl
-    go false None h = refl
+    first : {X : Type 0} (p : X → Bool) (xs : List X) → find p xs ≡ head (filter p xs)
+    first p [] = refl
+    first p (x ∷ xs) = go (p x) (first p xs) where
+      go : (b : Bool) → find p xs ≡ head (filter p xs) → cond b (Some x) (find p xs) ≡ head (cond b (x ∷ filter p xs) (filter p xs))
+      go true i = refl
+      go false i = i
 
--- one start more
-pub starts-more : (xs : List Start) (k : ℕ) (d x : Start) (old new : ℕ → Option ℕ) → k < length xs → x ≡ get_or xs k d → ((n : ℕ) → old n ≡ start_of (take k xs) n) → ((n : ℕ) → new n ≡ option_or (old n) (cond (eqb x.number n) (Some x.at) None)) → (n : ℕ) → new n ≡ start_of (take (k + 1) xs) n
-unfolding one
-starts-more xs k d x old new l is before more n =
-    let next : take (k + 1) xs ≡ take k xs ++ x ∷ [] = take_more xs k d l ∙ ap (λ (y : Start). take k xs ++ y ∷ []) (sym is) in
-    more n ∙ ap (λ (o : Option ℕ). option_or o (cond (eqb x.number n) (Some x.at) None)) (before n) ∙ sym (start-end (take k xs) x n) ∙ ap (λ (ys : List Start). start_of ys n) (sym next)
+-- neither number comes before the other where they are the same
+same-number : (m n : ℕ) → (not (is_lt (nat_cmp n m)) && not (is_lt (nat_cmp m n))) ≡ nat_eq m n
+same-number m n =
+    ⊎_elim
+    (λ (l : m < n). rw (le-ltb n m (omega arith), lt-ltb m n l, ne_eqb n m (λ e. omega (arith, l, e)), ne_eqb m n (λ e. omega (arith, l, e))) refl)
+    (λ (le : n ≤ m).
+    ⊎_elim
+    (λ (e : m ≡ n). rw (le-ltb n m (omega arith), le-ltb m n le, eq-eqb m n e, eq-eqb n m (sym e)) refl)
+    (λ (ne : m ≡ n → ⊥). rw (lt-ltb n m (omega (arith, le, ne)), ne_eqb m n ne) refl)
+    (cases_eq m n))
+    (cases_lt m n)
+
+filter-agree : {X : Type 0} (p q : X → Bool) → ((x : X) → p x ≡ q x) → (xs : List X) → filter p xs ≡ filter q xs
+filter-agree p q h [] = refl
+filter-agree p q h (x ∷ xs) = ap (λ b. cond b (x ∷ filter p xs) (filter p xs)) (h x) ∙ ap (λ l. cond (q x) (x ∷ l) l) (filter-agree p q h xs)
+
+-- in order of their numbers, where those of one number stay as they stand, the same starts are found
+pub sorted-starts : (xs ys : List Start) → IsStableByKey (λ (x : Start). x.number) nat_cmp xs ys → (n : ℕ) → start_of ys n ≡ start_of xs n
+sorted-starts xs ys stable n =
+    let at : Start = record { number = n; at = 0 } in
+    let by : Start → Bool = ties (λ x y. is_lt (nat_cmp x.number y.number)) at in
+    let mine : Start → Bool = λ x. nat_eq x.number n in
+    let agree : (zs : List Start) → filter by zs ≡ filter mine zs = filter-agree by mine (λ x. same-number x.number n) in
+    ap (λ (o : Option Start). option_map (λ (x : Start). x.at) o) (find-filter mine ys xs (sym (agree ys) ∙ stable at ∙ agree xs))
 
 -- no start is late, so none that is found is
 early-first : (b : Bool) (x : Start) (xs : List Start) (n : ℕ) → eqb x.number n ≡ b → x.at < 2 ^ 49 → IfSome (start_of xs n) (λ at. at < 2 ^ 49) → IfSome (start_of (x ∷ xs) n) (λ at. at < 2 ^ 49)

@@ -2,6 +2,9 @@ pub mod Chains
 pub mod Late
 pub mod Totals
 pub mod Lookups
+pub mod Searches
 pub mod Found
 pub mod Skipping
+pub mod Placing
+pub mod Rows
 pub mod Worked

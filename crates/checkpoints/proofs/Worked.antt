@@ -2,60 +2,89 @@
 use Rattle.std.proofs.Common.{◌≡◌, ℕ, ◌+◌, ◌-◌, ◌≤◌, ◌<◌, true, false, List, [], ◌∷◌, ◌++◌, map, Option, Some, None, is_some, refl, sym, ◌∙◌, ap, arith, subst}
 use Rattle.std.proofs.lemmas.Bool.{false≢true}
 use Rattle.std.proofs.lemmas.List.{map-append}
+use Rattle.std.proofs.lemmas.List.Elements.{filter_map-append}
+use Rattle.std.specs.List.Sorted.{IsNonDecreasingBy}
 use Rattle.scenarios.specs.Plan.{Plan}
+use Rattle.cluster_state.specs.declared.running.Running.{Running}
 use Rattle.cluster_state.specs.Snapshot.{Numbers, numbers_of}
 use Rattle.easy_rule.specs.declared.start.Start.{Start}
-use Rattle.easy_rule.specs.Simulation.{IsEvent, before, starts_before, starts_in, bound}
+use Rattle.easy_rule.specs.Simulation.{IsEvent, before, starts_in, bound}
 use Rattle.timeline.specs.SoundPlan.{IsPlan}
 use Rattle.timeline.proofs.Events.{events-end-by-the-bound}
 use Rattle.event_loop.specs.Events.{Progress, IsNextEvent, begun, events_before}
 use Rattle.event_loop.specs.Going.{IsRunOn}
 use Rattle.event_loop.proofs.RunOn.{run-on-first, run-on-step}
+use Rattle.metrics.specs.declared.placed.Placed.{Placed}
 use Rattle.metrics.specs.Part.{PartSums, IsPartOf}
 use Rattle.metrics.specs.Placed.{CanSum}
 use Rattle.checkpoints.specs.Segment.{SegmentView}
-use Rattle.checkpoints.specs.Cut.{placed_of, EndsWithEvent, Spans, ShortChain, IsShortCut}
+use Rattle.checkpoints.specs.Cut.{placed_at, placed_of, EndsWithEvent, Spans, ShortChain, IsShortCut}
 use Rattle.checkpoints.proofs.Chains.{chain-push, span-bounded}
 use Rattle.checkpoints.proofs.Late.{can-sum}
+use Rattle.checkpoints.proofs.Placing.{jobs_running, starts-placed, numbers-rise}
 
--- so many event seconds were worked, with these starts, and where some were, the last one ends the stretch
-pub record Working (old now : Progress) (starts : List Start) (count : ℕ) : Type 0 where
+-- so many event seconds were worked, with these starts and their jobs, and where some were, the last one ends the stretch
+pub record Working (old now : Progress) (starts : List Start) (placed : List Placed) (count : ℕ) : Type 0 where
   pub run : IsRunOn old now starts
+  pub jobs : placed ≡ placed_of old.plan.jobs starts
   pub counted : now.handled ≡ old.handled + count
   pub none : count ≡ 0 → now ≡ old
   pub some : 0 < count → EndsWithEvent old.plan old.position now.position
+  pub plan : 0 < count → IsPlan old.plan
 
-pub working-first : (old : Progress) (starts : List Start) → old.failed ≡ false → starts ≡ [] → Working old old starts 0
-working-first old starts going none = record {
+pub working-first : (old : Progress) (starts : List Start) (placed : List Placed) → old.failed ≡ false → starts ≡ [] → placed ≡ [] → Working old old starts placed 0
+working-first old starts placed going none nobody = record {
   run = subst (IsRunOn old old) (sym none) (run-on-first old going);
+  jobs = nobody ∙ ap (placed_of old.plan.jobs) (sym none);
   counted = omega arith;
   none = λ e. refl;
   some = λ l. absurd (omega (arith, l));
+  plan = λ l. absurd (omega (arith, l));
 }
 
-pub working-more : (old now new : Progress) (xs ys zs : List Start) (t count : ℕ) → Working old now xs count → IsNextEvent now.plan now.position (Some t) → ys ≡ starts_in now.plan t → new ≡ record now { position = t + 1; handled = now.handled + 1 } → zs ≡ xs ++ ys
-    → Working old new zs (count + 1)
-working-more old now new xs ys zs t count h next is e put =
+-- the jobs of one second more
+jobs-more : (plan now new : Plan) (t position : ℕ) (xs ys zs : List Start) (ps qs : List Placed) (rs : List Running) → IsPlan plan → now ≡ plan → new ≡ now → position ≡ t + 1 → ps ≡ placed_of plan.jobs xs → ys ≡ starts_in now t → zs ≡ xs ++ ys → rs ≡ (before new position).running → qs ≡ ps ++ placed_of (jobs_running rs) ys
+    → qs ≡ placed_of plan.jobs zs
+jobs-more plan now new t position xs ys zs ps qs rs p same still at had told put running more =
+    let here : ys ≡ starts_in plan t = told ∙ ap (λ (q : Plan). starts_in q t) same in
+    let they : rs ≡ (before plan (t + 1)).running = running ∙ ap (λ (q : Plan). (before q position).running) (still ∙ same) ∙ ap (λ m. (before plan m).running) at in
+    let those : placed_of (jobs_running rs) ys ≡ placed_of plan.jobs ys =
+    ap (λ l. placed_of (jobs_running l) ys) they ∙ ap (placed_of (jobs_running (before plan (t + 1)).running)) here ∙ starts-placed plan t p ∙ ap (placed_of plan.jobs) (sym here) in
+    more ∙ ap (λ l. l ++ placed_of (jobs_running rs) ys) had ∙ ap (λ l. placed_of plan.jobs xs ++ l) those
+    ∙ sym (filter_map-append (placed_at plan.jobs) xs ys) ∙ ap (placed_of plan.jobs) (sym put)
+
+pub working-more : (old now new : Progress) (xs ys zs : List Start) (ps qs : List Placed) (rs : List Running) (t count : ℕ) → Working old now xs ps count → now.failed ≡ false → IsNextEvent now.plan now.position (Some t) → ys ≡ starts_in now.plan t → new ≡ record now { position = t + 1; handled = now.handled + 1 } → zs ≡ xs ++ ys
+    → IsPlan new.plan → (new.failed ≡ false → rs ≡ (before new.plan new.position).running) → qs ≡ ps ++ placed_of (jobs_running rs) ys → Working old new zs qs (count + 1)
+working-more old now new xs ys zs ps qs rs t count h going next is e put p running more =
     let pos : new.position ≡ t + 1 = ap (λ (p : Progress). p.position) e in
     let hand : new.handled ≡ now.handled + 1 = ap (λ (p : Progress). p.handled) e in
+    let same : new.plan ≡ now.plan = ap (λ (p : Progress). p.plan) e in
+    let sound : IsPlan old.plan = subst IsPlan (same ∙ h.run.further.plan) p in
     let onward = h.run.further.first in
     let low = next.0 in
     record {
       run = subst (IsRunOn old new) (sym put) (run-on-step old now new xs ys t h.run next is e);
+      jobs = jobs-more old.plan now.plan new.plan t new.position xs ys zs ps qs rs sound h.run.further.plan same pos h.jobs is put (running (ap (λ (p : Progress). p.failed) e ∙ going)) more;
       counted = let k = h.counted in omega (arith, k, hand);
       none = λ z. absurd (omega (arith, z));
       some = λ l. (t, omega (arith, onward, low), pos, subst (λ (p : Plan). IsEvent p t) h.run.further.plan next.1);
+      plan = λ l. sound;
     }
 
+-- who runs after a step stands by number
+pub working-rises : (now new : Progress) (rs : List Running) (t : ℕ) → now.failed ≡ false → new ≡ record now { position = t + 1; handled = now.handled + 1 } → (new.failed ≡ false → rs ≡ (before new.plan new.position).running) → IsNonDecreasingBy (λ (r : Running). r.job.number) rs
+working-rises now new rs t going e running =
+    subst (IsNonDecreasingBy (λ (r : Running). r.job.number)) (sym (running (ap (λ (p : Progress). p.failed) e ∙ going))) (numbers-rise new.plan new.position)
+
 -- where an event second comes, and up to n of them were worked, at least one was
-pub working-ends : (old now : Progress) (starts : List Start) (count : ℕ) → Working old now starts count → (count ≡ 0 → ⊥) → EndsWithEvent old.plan old.position now.position
-working-ends old now starts count h ne = h.some (omega (arith, ne))
+pub working-ends : (old now : Progress) (starts : List Start) (placed : List Placed) (count : ℕ) → Working old now starts placed count → (count ≡ 0 → ⊥) → EndsWithEvent old.plan old.position now.position
+working-ends old now starts placed count h ne = h.some (omega (arith, ne))
 
-pub working-some : (old now : Progress) (starts : List Start) (count : ℕ) → Working old now starts count → (IsNextEvent old.plan old.position None → ⊥) → IsNextEvent now.plan now.position None → count ≡ 0 → ⊥
-working-some old now starts count h coming none zero' = coming (subst (λ (p : Progress). IsNextEvent p.plan p.position None) (h.none zero') none)
+pub working-some : (old now : Progress) (starts : List Start) (placed : List Placed) (count : ℕ) → Working old now starts placed count → (IsNextEvent old.plan old.position None → ⊥) → IsNextEvent now.plan now.position None → count ≡ 0 → ⊥
+working-some old now starts placed count h coming none zero' = coming (subst (λ (p : Progress). IsNextEvent p.plan p.position None) (h.none zero') none)
 
-pub working-short : (old now : Progress) (starts : List Start) (count n : ℕ) → Working old now starts count → count ≤ n → events_before old.plan now.position ≤ events_before old.plan old.position + n
-working-short old now starts count n h l =
+pub working-short : (old now : Progress) (starts : List Start) (placed : List Placed) (count n : ℕ) → Working old now starts placed count → count ≤ n → events_before old.plan now.position ≤ events_before old.plan old.position + n
+working-short old now starts placed count n h l =
     let a = h.counted in
     let b = h.run.further.counted in
     omega (arith, a, b, l)
@@ -112,19 +141,18 @@ none-comes now None h e = h
 none-comes now (Some t) h e = absurd (false≢true (sym e))
 
 -- sums can be made over the jobs of a stretch
-pub working-can : (plan : Plan) (old new : Progress) (starts zs : List Start) → IsPlan plan → old.plan ≡ plan → IsRunOn old new starts → EndsWithEvent old.plan old.position new.position → zs ≡ starts → CanSum (placed_of plan.jobs zs)
-working-can plan old new starts zs p same run ends e =
-    let ends' : EndsWithEvent plan old.position new.position = subst (λ (q : Plan). EndsWithEvent q old.position new.position) same ends in
-    let told : starts_before plan old.position ++ starts ≡ starts_before plan new.position = subst (λ (q : Plan). starts_before q old.position ++ starts ≡ starts_before q new.position) same run.told in
-    subst (λ (xs : List Start). CanSum (placed_of plan.jobs xs)) (sym e) (can-sum plan old.position new.position starts p (ends-bounded plan old.position new.position p ends') told)
+pub working-can : (old now : Progress) (starts : List Start) (placed : List Placed) (count : ℕ) → Working old now starts placed count → (count ≡ 0 → ⊥) → CanSum placed
+working-can old now starts placed count h ne =
+    let p : IsPlan old.plan = h.plan (omega (arith, ne)) in
+    let ends = h.some (omega (arith, ne)) in
+    subst CanSum (sym h.jobs) (can-sum old.plan old.position now.position starts p (ends-bounded old.plan old.position now.position p ends) h.run.told)
 
 -- the segment of a stretch
-pub segment-spans : (plan : Plan) (old new : Progress) (s : SegmentView) (first : ℕ) (snap : Numbers) (starts zs : List Start) (part : PartSums) → s ≡ record { first = first; before = snap; starts = starts; part = part } → old.plan ≡ plan
-    → IsRunOn old new starts → EndsWithEvent old.plan old.position new.position → first ≡ old.position → snap ≡ numbers_of (before old.plan old.position) → zs ≡ starts → IsPartOf (placed_of plan.jobs zs) part → Spans old.plan s old.position new.position
-segment-spans plan old new s first snap starts zs part is same run ends at numbers e sums =
-    let sums' : IsPartOf (placed_of old.plan.jobs starts) part = subst (λ (xs : List Start). IsPartOf (placed_of old.plan.jobs xs) part) e (subst (λ (q : Plan). IsPartOf (placed_of q.jobs zs) part) (sym same) sums) in
+pub segment-spans : (old new : Progress) (s : SegmentView) (first : ℕ) (snap : Numbers) (starts : List Start) (ps qs : List Placed) (part : PartSums) → s ≡ record { first = first; before = snap; starts = starts; part = part }
+    → IsRunOn old new starts → EndsWithEvent old.plan old.position new.position → first ≡ old.position → snap ≡ numbers_of (before old.plan old.position) → qs ≡ ps → ps ≡ placed_of old.plan.jobs starts → IsPartOf qs part → Spans old.plan s old.position new.position
+segment-spans old new s first snap starts ps qs part is run ends at numbers e jobs sums =
     let v : SegmentView = record { first = first; before = snap; starts = starts; part = part } in
-    let spans : Spans old.plan v old.position new.position = working-spans old new v run ends at numbers sums' in
+    let spans : Spans old.plan v old.position new.position = working-spans old new v run ends at numbers (subst (λ (xs : List Placed). IsPartOf xs part) (e ∙ jobs) sums) in
     subst (λ (x : SegmentView). Spans old.plan x old.position new.position) (sym is) spans
 
 -- one segment more, as callers see them

@@ -1,14 +1,14 @@
-ghost use Rattle.std.specs.Prelude.{◌≡◌, IfOk};
+ghost use Rattle.std.specs.Prelude.{◌≡◌, ◌++◌, map, OnOk};
+ghost use Rattle.std.specs.List.Sorted.{IsNonDecreasingBy};
 ghost use Rattle.scenarios.specs.Plan.{jobs_of, plan_of};
 ghost use Rattle.timeline.specs.SoundPlan.{IsPlan};
 ghost use Rattle.cluster_state.specs.Snapshot.{job_numbered};
-ghost use Rattle.metrics.specs.Part.{IsPartOf};
-ghost use Rattle.metrics.specs.Placed.{CanSum};
 ghost use Rattle.checkpoints.specs.Cut.{placed_of};
 
+use cluster_state::Running;
 use easy_rule::Start;
 use job_table::JobTable;
-use metrics::{Part, Placed};
+use metrics::Placed;
 use scenarios::{Job, Scenario, effective};
 use std::alloc::Allocator;
 use swf_text::Memory;
@@ -34,37 +34,35 @@ pub(crate) fn job_in<A: Allocator + Copy>(
     effective(entry, scenario).ok()
 }
 
-// The jobs of these starts, with their seconds.
-fn placed_of<A: Allocator + Copy>(
-    alloc: A,
-    table: &JobTable<A>,
-    scenario: &Scenario,
-    starts: &[Start],
-) -> Result<Vec<Placed, A>, Memory>
-    ensures { IfOk result (λ placed. placed.items ≡ placed_of (jobs_of table.now scenario.now) starts.now) }
+// The job of this number among running ones, which rise by number.
+fn running_job(running: &[Running], number: u64) -> Option<Job>
+    requires { IsNonDecreasingBy (λ r. r.job.number) running.now }
+    ensures { result ≡ job_numbered (map (λ r. r.job) running.now) number }
 {
-    let mut placed = Vec::with_capacity(alloc, starts.len())?;
+    let place = running.partition_point(|r| r.job.number() < number);
+    let found = running.get(place)?;
+    if found.job.number() != number {
+        return None;
+    }
+    Some(found.job)
+}
+
+// Adds the jobs of these starts, with their seconds, each as it stands among running ones.
+pub(crate) fn add_placed<A: Allocator + Copy>(
+    placed: &mut Vec<Placed, A>,
+    starts: &[Start],
+    running: &[Running],
+) -> Result<(), Memory>
+    requires { IsNonDecreasingBy (λ r. r.job.number) running.now }
+    ensures { OnOk result (placed.new.items ≡ placed.old.items ++ placed_of (map (λ r. r.job) running.now) starts.now) }
+{
     for start in starts {
-        if let Some(job) = job_in(table, scenario, start.number) {
+        if let Some(job) = running_job(running, start.number) {
             placed.push(Placed {
                 job,
                 start: start.at,
             })?;
         }
     }
-    Ok(placed)
-}
-
-// The sums over the jobs of these starts.
-pub(crate) fn part_of<A: Allocator + Copy>(
-    alloc: A,
-    table: &JobTable<A>,
-    scenario: &Scenario,
-    starts: &[Start],
-) -> Result<Part<A>, Memory>
-    requires { CanSum (placed_of (jobs_of table.now scenario.now) starts.now) }
-    ensures { IfOk result (λ part. IsPartOf (placed_of (jobs_of table.now scenario.now) starts.now) part) }
-{
-    let placed = placed_of(alloc, table, scenario, starts)?;
-    Part::of(alloc, placed.as_slice())
+    Ok(())
 }

@@ -126,7 +126,7 @@ impl<A: Allocator + Copy> Run<A> {
     {
         is_plan(&self.table, &self.scenario);
         let starts = starts_in(self.alloc, self.segments.as_slice())?;
-        let rows = rows_of(self.alloc, &self.table, &self.scenario, starts.as_slice())?;
+        let rows = rows_of(self.alloc, &self.table, &self.scenario, starts)?;
         Ok(rows)
     }
 }

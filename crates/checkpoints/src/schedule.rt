@@ -1,8 +1,7 @@
-ghost use Rattle.std.specs.Prelude.{◌≡◌, ℕ, ◌<◌, ◌^◌, map, All, IfOk, OnOk, Some, None, nat_eq, if◌then◌else◌};
+ghost use Rattle.std.specs.Prelude.{◌≡◌, ℕ, ◌<◌, ◌^◌, map, All, IfOk, OnOk};
 ghost use Rattle.std.specs.Arc.{arc_value};
-ghost use Rattle.std.specs.HashMap.{get};
 ghost use Rattle.std.specs.List.{filter_map};
-ghost use Rattle.std.specs.Option.{option_or};
+ghost use Rattle.std.specs.List.Sorted.{IsNonDecreasingBy};
 ghost use Rattle.scenarios.specs.Plan.{jobs_of};
 ghost use Rattle.easy_rule.specs.Simulation.{start_of};
 ghost use Rattle.checkpoints.specs.Cut.{all_starts};
@@ -14,13 +13,8 @@ use easy_rule::Start;
 use job_table::JobTable;
 use scenarios::{Scenario, effective};
 use std::alloc::{AllocError, Allocator};
-use std::collections::HashMap;
-use std::hash::{BuildHasherDefault, FoldHasher};
 use std::sync::Arc;
 use swf_text::Memory;
-
-/// The second at which each job starts, by its number.
-type StartSeconds<A> = HashMap<u64, u64, BuildHasherDefault<FoldHasher>, A>;
 
 // The second at which a number starts among these.
 pub(crate) fn find_start(starts: &[Start], number: u64) -> Option<u64>
@@ -59,32 +53,26 @@ pub(crate) fn starts_in<A: Allocator + Copy>(
     Ok(starts)
 }
 
-// Adds a start, unless its number has one.
-fn add_start<A: Allocator + Copy>(
-    seconds: &mut StartSeconds<A>,
-    start: &Start,
-) -> Result<(), AllocError>
-    ensures { OnOk result ((n : ℕ) → get nat_eq seconds.new n ≡ option_or (get nat_eq seconds.old n) (if nat_eq start.now.number n then Some start.now.at else None)) }
+// Puts starts in order of their numbers; those of one number stay as they stand.
+fn sort_by_number<A: Allocator + Copy>(starts: &mut Vec<Start, A>) -> Result<(), AllocError>
+    ensures order { OnOk result (IsNonDecreasingBy (λ x. x.number) starts.new.items) }
+    ensures starts { OnOk result ((n : ℕ) → start_of starts.new.items n ≡ start_of starts.old.items n) }
 {
-    if seconds.contains_key(&start.number) {
-        return Ok(());
-    }
-    seconds.insert(start.number, start.at)?;
+    starts.sort_by_key(|x| x.number)?;
     Ok(())
 }
 
-// The starts by job number; of a number that starts twice, the first.
-fn seconds_of<A: Allocator + Copy>(
-    alloc: A,
-    starts: &[Start],
-) -> Result<StartSeconds<A>, AllocError>
-    ensures { IfOk result (λ seconds. (n : ℕ) → get nat_eq seconds n ≡ start_of starts.now n) }
+// The second at which a number starts among these, which rise by number.
+fn start_among(starts: &[Start], number: u64) -> Option<u64>
+    requires { IsNonDecreasingBy (λ x. x.number) starts.now }
+    ensures { result ≡ start_of starts.now number }
 {
-    let mut seconds = HashMap::with_capacity(alloc, starts.len())?;
-    for start in starts {
-        add_start(&mut seconds, start)?;
+    let place = starts.partition_point(|x| x.number < number);
+    let found = starts.get(place)?;
+    if found.number != number {
+        return None;
     }
-    Ok(seconds)
+    Some(found.at)
 }
 
 // The rows of a table's jobs that start, in its order.
@@ -92,19 +80,19 @@ pub(crate) fn rows_of<A: Allocator + Copy>(
     alloc: A,
     table: &JobTable<A>,
     scenario: &Scenario,
-    starts: &[Start],
+    mut starts: Vec<Start, A>,
 ) -> Result<Vec<Row, A>, Memory>
-    requires { All (λ x. x.at < 2 ^ 49) starts.now }
-    ensures { IfOk result (λ rows. rows.items ≡ filter_map (row_of starts.now) (jobs_of table.now scenario.now)) }
+    requires { All (λ x. x.at < 2 ^ 49) starts.items }
+    ensures { IfOk result (λ rows. rows.items ≡ filter_map (row_of starts.items) (jobs_of table.now scenario.now)) }
 {
-    let seconds = seconds_of(alloc, starts)?;
+    sort_by_number(&mut starts)?;
     let mut rows = Vec::with_capacity(alloc, starts.len())?;
     let mut coming = table.from_second(0);
     'entries: while let Some(entry) = coming.next() {
         let Ok(job) = effective(entry, scenario) else {
             continue;
         };
-        let Some(start) = seconds.get(&job.number()).copied() else {
+        let Some(start) = start_among(starts.as_slice(), job.number()) else {
             continue;
         };
         rows.push(Row::at(&job, start))?;

@@ -3,17 +3,19 @@ ghost use Rattle.std.specs.Arc.{arc_value};
 ghost use Rattle.scenarios.specs.Plan.{plan_of};
 ghost use Rattle.event_loop.specs.Events.{IsNextEvent, events_before};
 ghost use Rattle.event_loop.specs.Going.{IsRunOn};
-ghost use Rattle.checkpoints.specs.Cut.{EndsWithEvent, IsShortCut, Spans};
+ghost use Rattle.metrics.specs.Placed.{CanSum};
+ghost use Rattle.checkpoints.specs.Cut.{EndsWithEvent, IsShortCut, Spans, placed_of};
 ghost use Rattle.checkpoints.specs.RunView.{IsRun};
 ghost use Rattle.checkpoints.specs.Spacing.{IsSpacing, IsRefusal};
 
 use crate::fault::RunFault;
-use crate::parts::{is_plan, part_of};
+use crate::parts::{add_placed, is_plan};
 use crate::run::Run;
 use crate::segment::Segment;
 use easy_rule::Start;
 use event_loop::Engine;
 use job_table::JobTable;
+use metrics::{Part, Placed};
 use scenarios::Scenario;
 use std::alloc::Allocator;
 use std::sync::Arc;
@@ -21,39 +23,47 @@ use std::sync::Arc;
 /// The most event seconds that a segment may be asked to hold.
 const MAX_SPACING: u32 = 65_536;
 
-// Works up to `spacing` event seconds, of which one comes, and answers their starts.
+// The starts of some seconds, and their jobs with these seconds.
+#[derive(Drop)]
+struct Worked<A: Allocator + Copy> {
+    starts: Vec<Start, A>,
+    placed: Vec<Placed, A>,
+}
+
+// Works up to `spacing` event seconds, of which one comes, and answers their starts and jobs.
 fn work<A: Allocator + Copy>(
     alloc: A,
     engine: &mut Engine<A>,
     spacing: u32,
-) -> Result<Vec<Start, A>, RunFault>
+) -> Result<Worked<A>, RunFault>
     requires spacing { 1 ≤ spacing }
     requires going { engine.old.failed ≡ false }
     requires coming { IsNextEvent engine.old.plan engine.old.position None → ⊥ }
-    ensures starts { IfOk result (λ starts. IsRunOn engine.old engine.new starts.items) }
+    ensures starts { IfOk result (λ w. IsRunOn engine.old engine.new w.starts.items) }
+    ensures placed { IfOk result (λ w. w.placed.items ≡ placed_of engine.old.plan.jobs w.starts.items) }
     ensures ends { OnOk result (EndsWithEvent engine.old.plan engine.old.position engine.new.position) }
     ensures short { OnOk result (events_before engine.old.plan engine.new.position ≤ events_before engine.old.plan engine.old.position + spacing) }
+    ensures can { IfOk result (λ w. CanSum w.placed.items) }
     ensures fault { IfErr result (λ f. f ≡ RunFault.Memory) }
 {
     let mut starts = Vec::new(alloc);
+    let mut placed = Vec::new(alloc);
     for _ in 0..spacing {
         let Some(stepped) = engine.step()? else {
-            return Ok(starts);
+            return Ok(Worked { starts, placed });
         };
+        add_placed(&mut placed, stepped.starts(), engine.running())?;
         starts.extend_from_slice(stepped.starts())?;
     }
-    Ok(starts)
+    Ok(Worked { starts, placed })
 }
 
 // The next segment: up to `spacing` event seconds, of which one comes.
 fn next_segment<A: Allocator + Copy>(
     alloc: A,
     engine: &mut Engine<A>,
-    table: &JobTable<A>,
-    scenario: &Scenario,
     spacing: u32,
 ) -> Result<Segment<A>, RunFault>
-    requires plan { engine.old.plan ≡ plan_of table.now scenario.now }
     requires spacing { 1 ≤ spacing }
     requires going { engine.old.failed ≡ false }
     requires coming { IsNextEvent engine.old.plan engine.old.position None → ⊥ }
@@ -65,9 +75,8 @@ fn next_segment<A: Allocator + Copy>(
 {
     let first = engine.position();
     let before = engine.snapshot()?;
-    let starts = work(alloc, engine, spacing)?;
-    is_plan(table, scenario);
-    let part = part_of(alloc, table, scenario, starts.as_slice())?;
+    let Worked { starts, placed } = work(alloc, engine, spacing)?;
+    let part = Part::of(alloc, placed.as_slice())?;
     Ok(Segment::new(first, before, starts, part))
 }
 
@@ -86,7 +95,7 @@ fn segments_of<A: Allocator + Copy>(
     let mut engine = Engine::new(alloc, table.clone()?, scenario);
     let mut segments = Vec::new(alloc);
     'segments: while engine.next_event().is_some() {
-        let segment = next_segment(alloc, &mut engine, table, &scenario, spacing)?;
+        let segment = next_segment(alloc, &mut engine, spacing)?;
         segments.push(Arc::new(alloc, segment)?)?;
     }
     Ok(segments)

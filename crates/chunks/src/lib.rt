@@ -13,6 +13,3 @@ pub use copied::{Copied, Keyed};
 pub use list::Chunks;
 pub use numbered::Numbered;
 pub use rest::Rest;
-
-#[cfg(test)]
-mod tests;

@@ -4,3 +4,4 @@ pub mod SnapshotLemmas
 pub mod EffectiveLemmas
 pub mod LookupLemmas
 pub mod EndLemmas
+pub mod StartAllLemmas

@@ -1,5 +1,5 @@
 -- The order in which later jobs are looked at.
-use Rattle.std.proofs.Common.{◌≡◌, ℕ, ◌+◌, ◌≤◌, ◌<◌, Bool, true, false, cond, nat_eq, nat_lt, nat_le, List, [], ◌∷◌, ◌++◌, Some, None, All, find, count_by, insert, position, unwrap_or, length, one-add, not, refl, sym, ◌∙◌, ap, arith, subst, ⊎_elim}
+use Rattle.std.proofs.Common.{◌≡◌, ℕ, ◌+◌, ◌≤◌, ◌<◌, Bool, true, false, cond, nat_eq, nat_lt, nat_le, List, [], ◌∷◌, ◌++◌, Some, None, All, find, sum_by, count_by, insert, position, unwrap_or, length, one-add, not, refl, sym, ◌∙◌, ap, arith, subst, ⊎_elim}
 use Rattle.std.specs.List.{position_or_len}
 use Rattle.std.proofs.lemmas.List.Sums.{sum_by-cons}
 use Rattle.std.proofs.lemmas.List.Elements.{All-cons, All-head, All-tail, All-nil, All-weaker}
@@ -210,3 +210,20 @@ row-arrived Shortest js job = sym (by_estimate-arrived js job)
 pub row-started : (o : Order) (n : ℕ) (js : List EffectiveJob) → count_by (λ (j : EffectiveJob). nat_eq j.number n) js ≤ 1 → without n (row_of o js) ≡ row_of o (without n js)
 row-started Arrival n js once = refl
 row-started Shortest n js once = without-by_estimate n js once
+
+-- sums over the queue are those over the row
+sum_by-put : (f : EffectiveJob → ℕ) (j : EffectiveJob) (xs : List EffectiveJob) → sum_by f (put j xs) ≡ f j + sum_by f xs
+sum_by-put f j [] = omega arith
+sum_by-put f j (x ∷ xs) =
+    cond_both (nat_le j.estimate x.estimate) (j ∷ x ∷ xs) (x ∷ put j xs) (λ l. sum_by f l ≡ f j + sum_by f (x ∷ xs))
+    (λ _. sum_by-cons f j (x ∷ xs))
+    (λ _. sum_by-cons f x (put j xs) ∙ omega (arith, sum_by-put f j xs, sum_by-cons f x xs))
+
+pub sum_by-by_estimate : (f : EffectiveJob → ℕ) (js : List EffectiveJob) → sum_by f (by_estimate js) ≡ sum_by f js
+sum_by-by_estimate f [] = refl
+sum_by-by_estimate f (j ∷ js) = omega (arith, sum_by-put f j (by_estimate js), sum_by-by_estimate f js, sum_by-cons f j js)
+
+-- the kept row holds nobody beside the queue
+pub sum_by-row_of : (f : EffectiveJob → ℕ) (o : Order) (js : List EffectiveJob) → sum_by f (row_of o js) ≤ sum_by f js
+sum_by-row_of f Arrival js = omega arith
+sum_by-row_of f Shortest js = omega (arith, sum_by-by_estimate f js)

@@ -1,5 +1,5 @@
 -- The state of a simulated machine, apart from how the code keeps it.
-use Rattle.std.specs.Prelude.{◌≡◌, ℕ, ◌+◌, ◌-◌, ◌^◌, ◌≤◌, ◌<◌, nat_eq, nat_le, nat_lt, if◌then◌else◌, List, [], ◌∷◌, ◌++◌, Option, IsSomeAnd, filter, find, sum_by, count_by, All}
+use Rattle.std.specs.Prelude.{◌≡◌, ℕ, ◌+◌, ◌-◌, ◌^◌, ◌≤◌, ◌<◌, nat_eq, nat_le, nat_lt, if◌then◌else◌, List, [], ◌∷◌, ◌++◌, Option, Some, IsSomeAnd, filter, find, sum_by, count_by, All}
 use Rattle.std.specs.Option.{option_map_or}
 use Rattle.scenarios.specs.Job.{EffectiveJob, IsWithinLimits}
 use Rattle.scenarios.specs.declared.order.Order.{Order}
@@ -71,6 +71,11 @@ abbrev pub without : ℕ → List EffectiveJob → List EffectiveJob
 without n [] = []
 without n (j ∷ js) = if nat_eq j.number n then js else j ∷ without n js
 
+-- the jobs without the first of each of these jobs' numbers
+abbrev pub without_all : List EffectiveJob → List EffectiveJob → List EffectiveJob
+without_all [] xs = xs
+without_all (j ∷ js) xs = without_all js (without j.number xs)
+
 -- one more running job among those that rise by number
 abbrev pub placed : Running → List Running → List Running
 placed r [] = r ∷ []
@@ -83,6 +88,16 @@ started s job now = record { machine = s.machine; order = s.order; waiting = wit
 -- the waiting job of this number starts at second `now`
 abbrev pub after_start : State → ℕ → ℕ → State
 after_start s n now = option_map_or (λ job. started s job now) (waiting_job s n) s
+
+-- these jobs start at second `now`, one after another
+abbrev pub all_started : State → List EffectiveJob → ℕ → State
+all_started s [] now = s
+all_started s (j ∷ js) now = all_started (started s j now) js now
+
+-- these jobs may start, one after another: each in its turn is the waiting job of its number, and fits into what is then free
+abbrev pub CanStartAll : State → List EffectiveJob → ℕ → Type 0
+CanStartAll s [] now = Unit {0}
+CanStartAll s (j ∷ js) now = (waiting_job s j.number ≡ Some j) × (j.size ≤ free s) × CanStartAll (started s j now) js now
 
 -- those that end by second t have left
 abbrev pub ended_until : State → ℕ → State

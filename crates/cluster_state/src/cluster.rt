@@ -1,11 +1,11 @@
-ghost use Rattle.std.specs.Prelude.{◌≡◌, ◌-◌, ◌<◌, ◌≤◌, ◌+◌, ◌^◌, ◌↔◌, [], OnOk, OnErr, IfOk, IfSome, IsNone, IsOk, IsTrue, MatchOption, All, Any, slice_get, count_by, nat_eq};
+ghost use Rattle.std.specs.Prelude.{◌≡◌, ◌-◌, ◌<◌, ◌≤◌, ◌+◌, ◌^◌, ◌↔◌, [], OnOk, OnErr, IfOk, IfSome, IsNone, IsOk, IsTrue, MatchOption, All, Any, length, slice_get, count_by, nat_eq};
 ghost use Rattle.std.specs.Option.{option_copied};
 ghost use Rattle.scenarios.specs.declared.order.Order.TheVariants.{Arrival};
 
 use crate::ends::{drop_until, first_end, heap_of_ends, is_by};
-use crate::join::join;
+use crate::join::{join, join_all};
 use crate::lookup::{job_in, running_in};
-use crate::queue::{find_job, put_job, remove_job};
+use crate::queue::{find_job, put_job, remove_job, remove_jobs, sizes};
 use crate::running::{Running, drop_ended, held, row_by_end};
 use crate::snapshot::Snapshot;
 use job_table::JobTable;
@@ -44,8 +44,8 @@ impl<A: Allocator + Copy> Model for Cluster<A> {
 }
 
 impl<A: Allocator + Copy> Cluster<A> {
-    ghost use Rattle.cluster_state.specs.State.{empty, free, real_end, arrived, after_start};
-    ghost use Rattle.cluster_state.specs.State.{ended_until, holders, CanArrive, CanStart, IsSound};
+    ghost use Rattle.cluster_state.specs.State.{empty, free, real_end, arrived, after_start, all_started};
+    ghost use Rattle.cluster_state.specs.State.{ended_until, holders, CanArrive, CanStart, CanStartAll, IsSound};
     ghost use Rattle.cluster_state.specs.Row.{in_order};
     ghost use Rattle.cluster_state.specs.Ends.{by_end};
     ghost use Rattle.scenarios.specs.Plan.{plan_of};
@@ -289,6 +289,34 @@ impl<A: Allocator + Copy> Cluster<A> {
         remove_job(&mut self.waiting, number);
         remove_job(&mut self.shortest, number);
         self.free -= job.size();
+        Ok(())
+    }
+
+    /// These waiting jobs start at second `now`, one after another.
+    ///
+    /// With room for so many starts it takes no memory. Memory where a growth was refused; the state is
+    /// then as it was.
+    pub fn start_all(&mut self, jobs: &[Job], now: u64) -> Result<(), Memory>
+        requires fits { CanStartAll self.old.state jobs.now now }
+        requires now { now < 2 ^ 49 }
+        ensures ok { OnOk result (self.new.state ≡ all_started self.old.state jobs.now now) }
+        ensures err { OnErr result (self.new.state ≡ self.old.state) }
+        ensures room { length jobs.now ≤ self.old.spare → IsOk result }
+        ensures spare { self.old.spare ≤ self.new.spare + length jobs.now }
+    {
+        self.running.reserve(jobs.len())?;
+        self.by_end.reserve(jobs.len())?;
+        self.ends.reserve(jobs.len())?;
+        join_all(
+            &mut self.running,
+            &mut self.by_end,
+            &mut self.ends,
+            jobs,
+            now,
+        );
+        remove_jobs(&mut self.waiting, jobs);
+        remove_jobs(&mut self.shortest, jobs);
+        self.free -= sizes(jobs);
         Ok(())
     }
 

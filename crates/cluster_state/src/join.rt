@@ -1,10 +1,11 @@
-ghost use Rattle.std.specs.Prelude.{◌≡◌, ◌+◌, ◌≤◌, ◌<◌, ◌^◌, ℕ, sum_by, vec_len, vec_capacity};
+ghost use Rattle.std.specs.Prelude.{◌≡◌, ◌+◌, ◌≤◌, ◌<◌, ◌^◌, ℕ, length, fold, sum_by, vec_len, vec_capacity};
 ghost use Rattle.std.specs.BinaryHeap.{heap_items, heap_len, heap_capacity, IsHeap};
 ghost use Rattle.std.specs.Ordering.{nat_cmp};
 ghost use Rattle.cluster_state.specs.State.{placed, real_end};
 ghost use Rattle.cluster_state.specs.Ends.{entered};
 
 use crate::running::{Running, end_of, enter, run};
+use scenarios::Job;
 use std::alloc::Allocator;
 use std::cmp::Reverse;
 use std::collections::BinaryHeap;
@@ -43,4 +44,37 @@ pub(crate) fn join<A: Allocator>(
     let Ok(()) = ends.push(Reverse(end)) else {
         unreachable!()
     };
+}
+
+// These jobs join the running ones, one after another, all at one second.
+pub(crate) fn join_all<A: Allocator>(
+    running: &mut Vec<Running, A>,
+    by_end: &mut Vec<Running, A>,
+    ends: &mut BinaryHeap<Reverse<u64>, A>,
+    jobs: &[Job],
+    now: u64,
+)
+    requires room { vec_len running.old + length jobs.now ≤ vec_capacity running.old }
+    requires row_room { vec_len by_end.old + length jobs.now ≤ vec_capacity by_end.old }
+    requires heap_room { heap_len ends.old + length jobs.now ≤ heap_capacity ends.old }
+    requires heap { IsHeap (λ x y. nat_cmp y.0 x.0) (heap_items ends.old) }
+    requires now { now < 2 ^ 49 }
+    ensures running { running.new.items ≡ fold (λ rs j. placed (record { job = j; start = now }) rs) running.old.items jobs.now }
+    ensures by_end { by_end.new.items ≡ fold (λ rs j. entered (record { job = j; start = now }) rs) by_end.old.items jobs.now }
+    ensures heap { IsHeap (λ x y. nat_cmp y.0 x.0) (heap_items ends.new) }
+    ensures ends { (f : ℕ → ℕ) → sum_by (λ e. f e.0) (heap_items ends.new) ≡ sum_by (λ j. f (now + j.length)) jobs.now + sum_by (λ e. f e.0) (heap_items ends.old) }
+    ensures len { vec_len running.new ≡ vec_len running.old + length jobs.now }
+    ensures row_len { vec_len by_end.new ≡ vec_len by_end.old + length jobs.now }
+    ensures heap_len { heap_len ends.new ≡ heap_len ends.old + length jobs.now }
+    ensures capacity { vec_capacity running.old ≤ vec_capacity running.new }
+    ensures row_capacity { vec_capacity by_end.old ≤ vec_capacity by_end.new }
+    ensures heap_capacity { heap_capacity ends.old ≤ heap_capacity ends.new }
+{
+    for job in jobs {
+        let r = Running {
+            job: *job,
+            start: now,
+        };
+        join(running, by_end, ends, r);
+    }
 }

@@ -1,6 +1,7 @@
-ghost use Rattle.std.specs.Prelude.{◌≡◌, OnOk, OnErr, nat_eq, nat_lt, find, position};
+ghost use Rattle.std.specs.Prelude.{◌≡◌, ◌≤◌, ◌<◌, ◌^◌, ℕ, OnOk, OnErr, nat_eq, nat_lt, find, position, sum_by, count_by};
+ghost use Rattle.std.specs.List.{list_any};
 ghost use Rattle.scenarios.specs.Job.{IsWithinLimits};
-ghost use Rattle.cluster_state.specs.State.{without};
+ghost use Rattle.cluster_state.specs.State.{without, without_all};
 ghost use Rattle.cluster_state.specs.Row.{row_with};
 
 use scenarios::{Job, Order};
@@ -31,6 +32,33 @@ pub(crate) fn remove_job<A: Allocator>(jobs: &mut Vec<Job, A>, number: u64)
             jobs.remove(place);
         }
     }
+}
+
+// Whether one of these jobs has this number.
+fn is_among(jobs: &[Job], number: u64) -> bool
+    ensures { result ≡ list_any (λ j. nat_eq number j.number) jobs.now }
+{
+    jobs.iter().any(|j| number == j.number())
+}
+
+// Takes these jobs out, in one walk.
+pub(crate) fn remove_jobs<A: Allocator>(queue: &mut Vec<Job, A>, jobs: &[Job])
+    requires { (n : ℕ) → count_by (λ j. nat_eq j.number n) queue.old.items ≤ 1 }
+    ensures { queue.new.items ≡ without_all jobs.now queue.old.items }
+{
+    match jobs {
+        [] => {}
+        [job] => remove_job(queue, job.number()),
+        _ => queue.retain(move |j| !is_among(jobs, j.number())),
+    }
+}
+
+// The processors that these take together.
+pub(crate) fn sizes(jobs: &[Job]) -> u64
+    requires { sum_by (λ j. j.size) jobs.now < 2 ^ 64 }
+    ensures { result ≡ sum_by (λ j. j.size) jobs.now }
+{
+    jobs.iter().map(|j| j.size()).sum()
 }
 
 // The place of the first with a longer estimate.

@@ -6,21 +6,15 @@ use Rattle.std.proofs.lemmas.List.Elements.{All-tail, All-nil, All-cons, All-app
 use Rattle.std.proofs.lemmas.List.{take-append-drop}
 use Rattle.std.proofs.lemmas.Bool.{le-leb, lt-leb, cond-true, cond-false, false_from_ne_true, cases_lt, true≢false}
 use Rattle.scenarios.specs.Job.{EffectiveJob}
-use Rattle.scenarios.specs.declared.order.Order.{Order}
-use Rattle.scenarios.specs.declared.order.Order.TheVariants.{Arrival, Shortest}
+use Rattle.scenarios.specs.declared.order.Order.TheVariants.{Arrival}
 use Rattle.cluster_state.specs.State.{State, free}
 use Rattle.cluster_state.specs.Row.{in_order}
-use Rattle.cluster_state.proofs.RowLemmas.{All-by_estimate, in_order-All}
+use Rattle.cluster_state.proofs.RowLemmas.{in_order-All}
 use Rattle.easy_rule.specs.declared.shadow_time.Shadow.{Shadow}
 use Rattle.easy_rule.specs.Rule.{shadow_of, shadow_for, next, next_of, may_backfill, shadow_at, shadow_time}
 use Rattle.easy_rule.specs.Pass.{row, front, IsPass}
 use Rattle.easy_rule.proofs.NextLemmas.{next-row, too-large}
-use Rattle.easy_rule.proofs.PassLemmas.{find-none, none-passes}
-
--- what the order lets go by: if none of the queue may start, none of the row may
-All-in_order : (P : EffectiveJob → Type 0) (o : Order) (js : List EffectiveJob) → All P js → All P (in_order o js)
-All-in_order P Arrival js a = a
-All-in_order P Shortest js a = All-by_estimate P js a
+use Rattle.easy_rule.proofs.PassLemmas.{find-none, none-passes, All-in_order}
 
 known-is : (s : State) (head : EffectiveJob) (rest : List EffectiveJob) (w : Shadow) → free s < head.size → shadow_for s (head ∷ rest) ≡ Some w → w ≡ shadow_at s head.size
 known-is s head rest w waits e =

@@ -7,3 +7,4 @@ pub mod Decisions
 pub mod EasyLaws
 pub mod FirstLemmas
 pub mod Runs
+pub mod ChoiceLemmas

@@ -144,13 +144,6 @@ unfolding decisions
 decisions-stop zero s now e = refl
 decisions-stop (suc n) s now e = ap (λ o. option_map_or (λ (job : EffectiveJob). record { number = job.number; at = now } ∷ decisions n (started s job now) now) o []) e
 
--- what the start of the next job by its number leaves
-pub started-next : (s : State) (now : ℕ) (job : EffectiveJob) → IsSound s → next s now ≡ Some job → after_start s job.number now ≡ started s job now
-started-next s now job h e = ap (λ o. option_map_or (λ j. started s j now) o s) (next-found s now job h e)
-
-pub start-allowed : (s : State) (now : ℕ) (job : EffectiveJob) → IsSound s → next s now ≡ Some job → IsSomeAnd (waiting_job s job.number) (λ (j : EffectiveJob). j.size ≤ free s)
-start-allowed s now job h e = rw (next-found s now job h e) (next-fits s now job e)
-
 -- what holds of all holds of one of them
 pub All-member : (P : EffectiveJob → Type 0) (js : List EffectiveJob) (job : EffectiveJob) → Member js job → All P js → P job
 All-member P [] job m a = absurd m
@@ -168,12 +161,6 @@ next-full s now h full = none-or (next s now) (λ job e. let l = next-takes s no
     none-or : (o : Option EffectiveJob) → ((job : EffectiveJob) → o ≡ Some job → ⊥) → o ≡ None
     none-or None k = refl
     none-or (Some job) k = absurd (k job refl)
-
--- a start leaves a free processor less at least
-pub free-next : (s : State) (now : ℕ) (job : EffectiveJob) → IsSound s → next s now ≡ Some job → free (started s job now) + 1 ≤ free s
-free-next s now job h e =
-    let taken = sum_by-placed (λ (r : Running). r.job.size) (record { job = job; start = now }) s.running in
-    omega (arith, taken, next-takes s now job h e, next-fits s now job e, h.fits)
 
 -- one job fewer waits
 pub length-without : (js : List EffectiveJob) (job : EffectiveJob) → Member js job → length (without job.number js) + 1 ≡ length js

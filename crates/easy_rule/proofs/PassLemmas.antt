@@ -9,14 +9,15 @@ use Rattle.scenarios.specs.declared.order.Order.{Order}
 use Rattle.scenarios.specs.declared.order.Order.TheVariants.{Arrival, Shortest}
 use Rattle.cluster_state.specs.declared.running.Running.{Running}
 use Rattle.cluster_state.specs.State.{State, IsSound, free, busy, available, back_by, waiting_job, started, without}
-use Rattle.cluster_state.specs.Row.{put, by_estimate, in_order}
+use Rattle.cluster_state.specs.Row.{in_order}
 use Rattle.cluster_state.proofs.StateLemmas.{sum_by-placed}
-use Rattle.cluster_state.proofs.RowLemmas.{without-by_estimate}
+use Rattle.cluster_state.proofs.RowLemmas.{without-by_estimate, sum_by-by_estimate, All-by_estimate}
+use Rattle.cluster_state.proofs.EndLemmas.{sum_by-ones}
 use Rattle.easy_rule.specs.declared.shadow_time.Shadow.{Shadow}
 use Rattle.easy_rule.specs.Rule.{next, next_of, may_backfill, shadow_at, shadow_time, decided, decisions, state_after, starts_at}
-use Rattle.easy_rule.specs.Pass.{most_starts, less, row, IsFirstPlace, IsPass}
+use Rattle.easy_rule.specs.Pass.{less, row, IsFirstPlace, IsPass}
 use Rattle.easy_rule.proofs.RuleLemmas.{shadow_time-IsLeast, back_by-le}
-use Rattle.easy_rule.proofs.NextLemmas.{next-facts, next-found, next-row, free-next, length-without, decided-start, decisions-start, decided-stop, decisions-stop}
+use Rattle.easy_rule.proofs.NextLemmas.{next-facts, next-found, next-row, length-without, decided-start, decisions-start, decided-stop, decisions-stop}
 
 -- what a start changes of what is available
 pub available-started : (s : State) (job : EffectiveJob) (now t : ℕ) → busy s.running ≤ s.machine → job.size ≤ free s → available (started s job now) t + job.size ≡ available s t + back_by t (record { job = job; start = now })
@@ -118,20 +119,17 @@ none-passes q (x ∷ xs) e =
     (cases_Bool (q x))
 
 -- sums over the queue are those over the row
-sum_by-put : (f : EffectiveJob → ℕ) (j : EffectiveJob) (xs : List EffectiveJob) → sum_by f (put j xs) ≡ f j + sum_by f xs
-sum_by-put f j [] = omega arith
-sum_by-put f j (x ∷ xs) =
-    cond_both (nat_le j.estimate x.estimate) (j ∷ x ∷ xs) (x ∷ put j xs) (λ l. sum_by f l ≡ f j + sum_by f (x ∷ xs))
-    (λ _. sum_by-cons f j (x ∷ xs))
-    (λ _. sum_by-cons f x (put j xs) ∙ omega (arith, sum_by-put f j xs, sum_by-cons f x xs))
-
-sum_by-by_estimate : (f : EffectiveJob → ℕ) (js : List EffectiveJob) → sum_by f (by_estimate js) ≡ sum_by f js
-sum_by-by_estimate f [] = refl
-sum_by-by_estimate f (j ∷ js) = omega (arith, sum_by-put f j (by_estimate js), sum_by-by_estimate f js, sum_by-cons f j js)
-
 pub sum_by-in_order : (f : EffectiveJob → ℕ) (o : Order) (js : List EffectiveJob) → sum_by f (in_order o js) ≡ sum_by f js
 sum_by-in_order f Arrival js = refl
 sum_by-in_order f Shortest js = sum_by-by_estimate f js
+
+-- what holds of the queue holds of the row
+pub All-in_order : (P : EffectiveJob → Type 0) (o : Order) (js : List EffectiveJob) → All P js → All P (in_order o js)
+All-in_order P Arrival js a = a
+All-in_order P Shortest js a = All-by_estimate P js a
+
+pub length-row : (s : State) → length (row s) ≡ length s.waiting
+length-row s = sym (sum_by-ones (row s)) ∙ sum_by-in_order (λ j. 1) s.order s.waiting ∙ sum_by-ones s.waiting
 
 pub without-in_order : (n : ℕ) (o : Order) (js : List EffectiveJob) → count_by (λ (j : EffectiveJob). nat_eq j.number n) js ≤ 1 → without n (in_order o js) ≡ in_order o (without n js)
 without-in_order n Arrival js once = refl
@@ -204,6 +202,14 @@ other-job s head job rest queue waits small found =
     let sizes = ap (λ (j : EffectiveJob). j.size) k in
     omega arith)
 
+-- who starts leaves the row
+pub row-started : (s : State) (now at : ℕ) (d : EffectiveJob) → IsSound s → at < length (row s) → row (started s (get_or (row s) at d) now) ≡ remove (row s) at
+row-started s now at d h within =
+    let job = get_or (row s) at d in
+    let once : count_by (λ (j : EffectiveJob). nat_eq j.number job.number) s.waiting ≤ 1 = omega (arith, h.once job.number) in
+    sym (without-in_order job.number s.order s.waiting once)
+    ∙ without-unique (row s) at d within (omega (arith, once, sum_by-in_order (λ (j : EffectiveJob). cond (nat_eq j.number job.number) 1 0) s.order s.waiting))
+
 -- a step of the pass
 pub pass-started : (s : State) (now : ℕ) (w : Shadow) (place at : ℕ) (d : EffectiveJob) → IsSound s → IsPass s now w place → IsFirstPlace (may_backfill now (free s) w) (row s) at
     → IsPass (started s (get_or (row s) at d) now) now (less w now (get_or (row s) at d)) at
@@ -215,10 +221,7 @@ pass-started s now w place at d h p f =
     let r : Running = record { job = job; start = now } in
     let freed : free s' ≤ free s = omega (arith, sum_by-placed (λ (x : Running). x.job.size) r s.running) in
     let within : need ≤ s.machine = subst (λ (js : List EffectiveJob). All (λ j. j.size ≤ s.machine) js) p.queue h.waiting_fit 0 d (omega arith) in
-    let once : count_by (λ (j : EffectiveJob). nat_eq j.number job.number) s.waiting ≤ 1 = omega (arith, h.once job.number) in
-    let gone : row s' ≡ remove (row s) at =
-    sym (without-in_order job.number s.order s.waiting once)
-    ∙ without-unique (row s) at d f.within (omega (arith, once, sum_by-in_order (λ (j : EffectiveJob). cond (nat_eq j.number job.number) 1 0) s.order s.waiting)) in
+    let gone : row s' ≡ remove (row s) at = row-started s now at d h f.within in
     let found = next-found s now job h (pass-next s now w place at d p f) in
     record {
       head = p.head;
@@ -232,10 +235,3 @@ pass-started s now w place at d h p f =
           (All-weaker (λ j. may_backfill now (free s) w j ≡ false) (λ j. may_backfill now (free s') (less w now job) j ≡ false)
           (λ j. still-refused now (free s) (free s') w (less w now job) j freed (omega arith) (less-extra w now job)) (take at (row s)) f.refused);
     }
-
--- each start leaves room for one start less
-pub one-fewer : (s : State) (now : ℕ) (job : EffectiveJob) → IsSound s → next s now ≡ Some job → most_starts (started s job now) + 1 ≤ most_starts s
-one-fewer s now job h e =
-    let waits = length-without s.waiting job (next-facts s now job s.waiting e).0 in
-    let freed = free-next s now job h e in
-    omega (arith, waits, freed)

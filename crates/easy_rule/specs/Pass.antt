@@ -1,9 +1,10 @@
 -- One pass over the waiting jobs, with what is left at each step of it.
-use Rattle.std.specs.Prelude.{◌≡◌, ℕ, ◌+◌, ◌-◌, ◌<◌, min, Bool, true, false, nat_le, if◌then◌else◌, List, ◌∷◌, length, take, All, slice_index_or}
+use Rattle.std.specs.Prelude.{◌≡◌, ℕ, ◌+◌, ◌-◌, ◌<◌, min, Bool, true, false, nat_le, if◌then◌else◌, List, [], ◌∷◌, length, take, All, slice_index_or}
 use Rattle.scenarios.specs.Job.{EffectiveJob}
 use Rattle.cluster_state.specs.State.{State, free}
 use Rattle.cluster_state.specs.Row.{in_order}
 use Rattle.easy_rule.specs.declared.shadow_time.Shadow.{Shadow}
+use Rattle.easy_rule.specs.declared.start.Start.{Start}
 use Rattle.easy_rule.specs.Rule.{may_backfill, shadow_at}
 
 -- no more jobs can start at once: each is a waiting one, and takes a processor at least
@@ -13,6 +14,25 @@ most_starts s = min (length s.waiting) (free s)
 -- what the head leaves once this later job runs too: one that runs past the shadow time takes from the extra processors
 abbrev pub less : Shadow → ℕ → EffectiveJob → Shadow
 less w now job = record { time = w.time; extra = if nat_le (now + job.estimate) w.time then w.extra else w.extra - job.size }
+
+-- the later jobs that one pass over these starts, where so many processors are free and the head leaves w
+abbrev pub picked : ℕ → ℕ → Shadow → List EffectiveJob → List EffectiveJob
+picked now room w [] = []
+picked now room w (j ∷ js) = if may_backfill now room w j then j ∷ picked now (room - j.size) (less w now j) js else picked now room w js
+
+-- what the head leaves once these run too
+abbrev pub left_after : ℕ → ℕ → Shadow → List EffectiveJob → Shadow
+left_after now room w [] = w
+left_after now room w (j ∷ js) = if may_backfill now room w j then left_after now (room - j.size) (less w now j) js else left_after now room w js
+
+-- the longest front of a queue that fits into so many processors, one job after another
+abbrev pub fitting : ℕ → List EffectiveJob → List EffectiveJob
+fitting room [] = []
+fitting room (j ∷ js) = if nat_le j.size room then j ∷ fitting (room - j.size) js else []
+
+-- a job's start
+abbrev pub start_at : ℕ → EffectiveJob → Start
+start_at now job = record { number = job.number; at = now }
 
 -- the waiting jobs in the order in which they are looked at, the head among them
 abbrev pub row : State → List EffectiveJob

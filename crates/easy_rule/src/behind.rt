@@ -4,7 +4,7 @@ ghost use Rattle.easy_rule.specs.Rule.{may_backfill, next, shadow_of, state_afte
 ghost use Rattle.easy_rule.specs.Pass.{front};
 
 use crate::backfill::backfills;
-use crate::pass::{pass_on, room_for_starts};
+use crate::pass::{pass_on, room_for_starts, told};
 use crate::shadow_time::Shadow;
 use crate::start::Start;
 use cluster_state::Cluster;
@@ -51,7 +51,7 @@ pub fn decide_behind<A: Allocator + Copy>(
         Order::Arrival => settled,
         Order::Shortest => 0,
     };
-    let mut starts = room_for_starts(alloc, cluster)?;
-    let left = pass_on(cluster, &mut starts, shadow, place, now);
-    Ok((starts, left))
+    let (mut chosen, starts) = room_for_starts(alloc, cluster)?;
+    let left = pass_on(cluster, &mut chosen, shadow, place, now);
+    Ok((told(starts, &chosen, now), left))
 }

@@ -4,7 +4,7 @@ ghost use Rattle.easy_rule.specs.Rule.{next, shadow_of, state_after, starts_at};
 
 use crate::backfill::first_place;
 use crate::head::shadow_for;
-use crate::pass::{pass_on, room_for_starts, start_heads, start_later};
+use crate::pass::{pass_on, room_for_starts, start_heads, start_later, told};
 use crate::shadow_time::Shadow;
 use crate::start::Start;
 use cluster_state::Cluster;
@@ -62,16 +62,16 @@ pub fn decide_with_shadow<A: Allocator + Copy>(
     }
     let need = head.size();
     if need <= free {
-        let mut starts = room_for_starts(alloc, cluster)?;
-        start_heads(cluster, &mut starts, now);
-        let left = start_later(cluster, &mut starts, now);
-        return Ok((starts, left));
+        let (mut chosen, starts) = room_for_starts(alloc, cluster)?;
+        start_heads(cluster, &mut chosen, now);
+        let left = start_later(cluster, &mut chosen, now);
+        return Ok((told(starts, &chosen, now), left));
     }
     let shadow = shadow_for(cluster, need);
     let Some(place) = first_place(cluster.row(), 0, now, free, shadow) else {
         return Ok((Vec::new(alloc), Some(shadow)));
     };
-    let mut starts = room_for_starts(alloc, cluster)?;
-    let left = pass_on(cluster, &mut starts, shadow, place, now);
-    Ok((starts, Some(left)))
+    let (mut chosen, starts) = room_for_starts(alloc, cluster)?;
+    let left = pass_on(cluster, &mut chosen, shadow, place, now);
+    Ok((told(starts, &chosen, now), Some(left)))
 }

@@ -3,6 +3,7 @@
 
 mod backfill;
 mod behind;
+mod choice;
 mod decision;
 pub mod examples;
 mod head;

@@ -1,9 +1,9 @@
-ghost use Rattle.std.specs.Prelude.{◌≡◌, ◌<◌, ◌≤◌, ◌+◌, ◌^◌, ◌++◌, ◌∷◌, [], Some, OnOk, IfOk, IfSome, IsSome, slice_get, vec_len, vec_capacity};
-ghost use Rattle.cluster_state.specs.State.{IsSound, free, started};
-ghost use Rattle.easy_rule.specs.Rule.{next, shadow_of, state_after, starts_at};
-ghost use Rattle.easy_rule.specs.Pass.{most_starts, IsPass};
+ghost use Rattle.std.specs.Prelude.{◌≡◌, ◌<◌, ◌≤◌, ◌+◌, ◌^◌, ◌++◌, [], Some, OnOk, IfOk, IfSome, IsSome, map, length, slice_get, vec_len, vec_capacity};
+ghost use Rattle.cluster_state.specs.State.{free};
+ghost use Rattle.easy_rule.specs.Rule.{shadow_of, state_after, starts_at};
+ghost use Rattle.easy_rule.specs.Pass.{most_starts, start_at, IsPass};
 
-use crate::backfill::{first_place, left_by};
+use crate::choice::{choose, choose_heads};
 use crate::head::shadow_for;
 use crate::shadow_time::Shadow;
 use crate::start::Start;
@@ -12,81 +12,74 @@ use scenarios::Job;
 use std::alloc::Allocator;
 use swf_text::Memory;
 
-// Room for as many starts as there can be at once, in the cluster and in a new list.
+// Room for as many starts as there can be at once: in the cluster, in a new list of chosen jobs and
+// in one of starts.
 pub(crate) fn room_for_starts<A: Allocator + Copy>(
     alloc: A,
     cluster: &mut Cluster<A>,
-) -> Result<Vec<Start, A>, Memory>
+) -> Result<(Vec<Job, A>, Vec<Start, A>), Memory>
     ensures state { cluster.new.state ≡ cluster.old.state }
     ensures kept { cluster.old.spare ≤ cluster.new.spare }
-    ensures empty { IfOk result (λ starts. starts.items ≡ []) }
     ensures spare { OnOk result (most_starts cluster.old.state ≤ cluster.new.spare) }
-    ensures room { IfOk result (λ starts. vec_len starts + most_starts cluster.old.state ≤ vec_capacity starts) }
+    ensures none { IfOk result (λ lists. lists.0.items ≡ []) }
+    ensures room { IfOk result (λ lists. vec_len lists.0 + most_starts cluster.old.state ≤ vec_capacity lists.0) }
+    ensures empty { IfOk result (λ lists. lists.1.items ≡ []) }
+    ensures starts_room { IfOk result (λ lists. vec_len lists.1 + most_starts cluster.old.state ≤ vec_capacity lists.1) }
 {
     let count = cluster.waiting().len().min(cluster.free() as usize);
     cluster.reserve_starts(count)?;
-    Ok(Vec::with_capacity(alloc, count)?)
+    let chosen = Vec::with_capacity(alloc, count)?;
+    let starts = Vec::with_capacity(alloc, count)?;
+    Ok((chosen, starts))
 }
 
-// Starts the next job, for which there is room.
-fn start_next<A: Allocator + Copy>(
-    cluster: &mut Cluster<A>,
-    starts: &mut Vec<Start, A>,
-    job: Job,
-    now: u64,
-)
-    requires sound { IsSound cluster.old.state }
-    requires next { next cluster.old.state now ≡ Some job }
-    requires now { now < 2 ^ 49 }
-    requires spare { most_starts cluster.old.state ≤ cluster.old.spare }
-    requires room { vec_len starts.old + most_starts cluster.old.state ≤ vec_capacity starts.old }
-    ensures state { cluster.new.state ≡ started cluster.old.state job now }
-    ensures after { state_after cluster.new.state now ≡ state_after cluster.old.state now }
-    ensures starts { starts.new.items ++ starts_at cluster.new.state now ≡ starts.old.items ++ starts_at cluster.old.state now }
-    ensures fewer { most_starts cluster.new.state + 1 ≤ most_starts cluster.old.state }
-    ensures spare { most_starts cluster.new.state ≤ cluster.new.spare }
-    ensures room { vec_len starts.new + most_starts cluster.new.state ≤ vec_capacity starts.new }
+// The starts of these jobs, in an empty list with room for them.
+pub(crate) fn told<A: Allocator>(list: Vec<Start, A>, chosen: &[Job], now: u64) -> Vec<Start, A>
+    requires empty { list.items ≡ [] }
+    requires room { length chosen.now ≤ vec_capacity list }
+    ensures { result.items ≡ map (start_at now) chosen.now }
 {
-    let number = job.number();
-    let Ok(()) = cluster.start(number, now) else {
-        unreachable!()
-    };
-    let Ok(()) = starts.push(Start { number, at: now }) else {
-        unreachable!()
-    };
+    let mut starts = list;
+    for job in chosen {
+        let start = Start {
+            number: job.number(),
+            at: now,
+        };
+        let Ok(()) = starts.push(start) else {
+            unreachable!()
+        };
+    }
+    starts
 }
 
-// Starts the first waiting jobs, while they fit.
+// Chooses and starts the first waiting jobs, while they fit; nobody was chosen before.
 pub(crate) fn start_heads<A: Allocator + Copy>(
     cluster: &mut Cluster<A>,
-    starts: &mut Vec<Start, A>,
+    chosen: &mut Vec<Job, A>,
     now: u64,
 )
     requires now { now < 2 ^ 49 }
+    requires none { chosen.old.items ≡ [] }
     requires spare { most_starts cluster.old.state ≤ cluster.old.spare }
-    requires room { vec_len starts.old + most_starts cluster.old.state ≤ vec_capacity starts.old }
+    requires room { vec_len chosen.old + most_starts cluster.old.state ≤ vec_capacity chosen.old }
     ensures state { state_after cluster.new.state now ≡ state_after cluster.old.state now }
-    ensures starts { starts.new.items ++ starts_at cluster.new.state now ≡ starts.old.items ++ starts_at cluster.old.state now }
+    ensures starts { map (start_at now) chosen.new.items ++ starts_at cluster.new.state now ≡ starts_at cluster.old.state now }
     ensures head { IfSome (slice_get cluster.new.state.waiting 0) (λ head. free cluster.new.state < head.size) }
     ensures spare { most_starts cluster.new.state ≤ cluster.new.spare }
-    ensures room { vec_len starts.new + most_starts cluster.new.state ≤ vec_capacity starts.new }
+    ensures fewer { vec_len chosen.new + most_starts cluster.new.state ≤ vec_len chosen.old + most_starts cluster.old.state }
+    ensures capacity { vec_capacity chosen.old ≤ vec_capacity chosen.new }
 {
-    'heads: loop {
-        let [head, ..] = cluster.waiting() else {
-            return;
-        };
-        let head = *head;
-        if cluster.free() < head.size() {
-            return;
-        }
-        start_next(cluster, starts, head, now);
-    }
+    choose_heads(cluster.waiting(), cluster.free(), chosen);
+    let Ok(()) = cluster.start_all(chosen, now) else {
+        unreachable!()
+    };
 }
 
-// Starts later jobs in one pass over the row from a place on, and answers what the head leaves then.
+// Chooses later jobs in one pass over the row from a place on, starts them, and answers what the head
+// leaves then.
 pub(crate) fn pass_on<A: Allocator + Copy>(
     cluster: &mut Cluster<A>,
-    starts: &mut Vec<Start, A>,
+    chosen: &mut Vec<Job, A>,
     shadow: Shadow,
     place: usize,
     now: u64,
@@ -94,40 +87,36 @@ pub(crate) fn pass_on<A: Allocator + Copy>(
     requires now { now < 2 ^ 49 }
     requires pass { IsPass cluster.old.state now shadow place }
     requires spare { most_starts cluster.old.state ≤ cluster.old.spare }
-    requires room { vec_len starts.old + most_starts cluster.old.state ≤ vec_capacity starts.old }
+    requires room { vec_len chosen.old + most_starts cluster.old.state ≤ vec_capacity chosen.old }
     ensures state { cluster.new.state ≡ state_after cluster.old.state now }
-    ensures starts { starts.new.items ≡ starts.old.items ++ starts_at cluster.old.state now }
+    ensures starts { map (start_at now) chosen.new.items ≡ map (start_at now) chosen.old.items ++ starts_at cluster.old.state now }
     ensures shadow { shadow_of cluster.new.state ≡ Some result }
+    ensures fewer { vec_len chosen.new ≤ vec_len chosen.old + most_starts cluster.old.state }
 {
-    let mut left = shadow;
-    let mut from = place;
-    'pass: while cluster.free() > 0 {
-        let Some(at) = first_place(cluster.row(), from, now, cluster.free(), left) else {
-            return left;
-        };
-        let job = cluster.row()[at];
-        left = left_by(left, now, &job);
-        from = at;
-        start_next(cluster, starts, job, now);
-    }
+    let before = chosen.len();
+    let left = choose(cluster.row(), place, now, cluster.free(), shadow, chosen);
+    let Ok(()) = cluster.start_all(&chosen[before..], now) else {
+        unreachable!()
+    };
     left
 }
 
-// Starts later jobs in one pass over the whole row, where the first waiting job does not fit, and
-// answers what that one leaves then; none where nobody waits or no processor is free.
+// The same over the whole row, where the first waiting job does not fit; none where nobody waits or
+// no processor is free.
 pub(crate) fn start_later<A: Allocator + Copy>(
     cluster: &mut Cluster<A>,
-    starts: &mut Vec<Start, A>,
+    chosen: &mut Vec<Job, A>,
     now: u64,
 ) -> Option<Shadow>
     requires now { now < 2 ^ 49 }
     requires head { IfSome (slice_get cluster.old.state.waiting 0) (λ head. free cluster.old.state < head.size) }
     requires spare { most_starts cluster.old.state ≤ cluster.old.spare }
-    requires room { vec_len starts.old + most_starts cluster.old.state ≤ vec_capacity starts.old }
+    requires room { vec_len chosen.old + most_starts cluster.old.state ≤ vec_capacity chosen.old }
     ensures state { cluster.new.state ≡ state_after cluster.old.state now }
-    ensures starts { starts.new.items ≡ starts.old.items ++ starts_at cluster.old.state now }
+    ensures starts { map (start_at now) chosen.new.items ≡ map (start_at now) chosen.old.items ++ starts_at cluster.old.state now }
     ensures shadow { IfSome result (λ w. shadow_of cluster.new.state ≡ Some w) }
     ensures told { 0 < free cluster.new.state → IsSome (shadow_of cluster.new.state) → IsSome result }
+    ensures fewer { vec_len chosen.new ≤ vec_len chosen.old + most_starts cluster.old.state }
 {
     let [head, ..] = cluster.waiting() else {
         return None;
@@ -136,5 +125,5 @@ pub(crate) fn start_later<A: Allocator + Copy>(
         return None;
     }
     let shadow = shadow_for(cluster, head.size());
-    Some(pass_on(cluster, starts, shadow, 0, now))
+    Some(pass_on(cluster, chosen, shadow, 0, now))
 }

@@ -19,9 +19,11 @@ use Rattle.timeline.proofs.Bound.{all-have-ended, all-end-by-the-bound}
 use Rattle.timeline.proofs.Short.{short-plan}
 use Rattle.timeline.proofs.Rest.{submitted-none}
 use Rattle.timeline.proofs.Quiet.{only-ends-unsettle}
-use Rattle.event_loop.specs.Events.{IsNextEvent, from_on, first_submit, earlier, IsEngine, Progress}
-use Rattle.event_loop.proofs.Plans.{NonFalling, non-falling}
-use Rattle.event_loop.proofs.ToCome.{at_second, at-in, at-from, at-none, from-in, from-out, from-All, from-falling, from-later}
+use Rattle.event_loop.specs.Coming.{NonFalling, NextJobs, IsComing, from_on, first_submit}
+use Rattle.event_loop.specs.Events.{IsNextEvent, earlier, IsEngine, Progress}
+use Rattle.event_loop.proofs.Plans.{non-falling}
+use Rattle.event_loop.proofs.ToCome.{at_second, at-in, at-from, at-none, from-in, from-out, from-All, from-falling, from-later, from-same}
+use Rattle.event_loop.proofs.Rows.{coming-on}
 
 -- ---- the next submit second
 
@@ -64,18 +66,26 @@ next-submit plan a o p is = subst (IsNextSubmit plan a) (sym is) (go (from_on a 
           from-holds a (λ (k : EffectiveJob). j.submit ≤ k.submit) plan.jobs (subst (All (λ (k : EffectiveJob). j.submit ≤ k.submit)) (sym e) (All-cons (λ (k : EffectiveJob). j.submit ≤ k.submit) j js (omega arith) falling.0)),
         )
 
--- over quiet seconds it stays what it is
-pub coming-quiet : (plan : Plan) (a t : ℕ) → a ≤ t → IsQuiet plan a t → IsPlan plan → first_submit (from_on a plan.jobs) ≡ first_submit (from_on t plan.jobs)
-coming-quiet plan a t l quiet p = go (from_on a plan.jobs) refl
+-- over quiet seconds the same jobs are to come
+from-quiet : (plan : Plan) (a t : ℕ) → a ≤ t → IsQuiet plan a t → IsPlan plan → from_on a plan.jobs ≡ from_on t plan.jobs
+from-quiet plan a t l quiet p = go (from_on a plan.jobs) refl
   where
-    go : (js : List EffectiveJob) → from_on a plan.jobs ≡ js → first_submit (from_on a plan.jobs) ≡ first_submit (from_on t plan.jobs)
-    go [] e = ap first_submit (e ∙ sym (sym (from-later a t plan.jobs l) ∙ ap (from_on t) e))
+    go : (js : List EffectiveJob) → from_on a plan.jobs ≡ js → from_on a plan.jobs ≡ from_on t plan.jobs
+    go [] e = e ∙ sym (sym (from-later a t plan.jobs l) ∙ ap (from_on t) e)
     go (j ∷ js) e =
         let from : a ≤ j.submit = All-head (λ (j : EffectiveJob). a ≤ j.submit) j js (subst (All (λ (j : EffectiveJob). a ≤ j.submit)) e (from-All a plan.jobs)) in
+        let falling : NonFalling (j ∷ js) = subst NonFalling e (from-falling a plan.jobs (non-falling plan.jobs p.rising)) in
         ⊎_elim
         (λ (m : j.submit < t). absurd (quiet j.submit from m (inl (submitted-first plan a j js e from))))
-        (λ (m : t ≤ j.submit). ap first_submit e ∙ ap first_submit (sym (from-in t j js m) ∙ ap (from_on t) (sym e) ∙ from-later a t plan.jobs l))
+        (λ (m : t ≤ j.submit).
+        e
+        ∙ sym (from-same t (j ∷ js) (All-cons (λ (k : EffectiveJob). t ≤ k.submit) j js m (All-weaker (λ (k : EffectiveJob). j.submit ≤ k.submit) (λ (k : EffectiveJob). t ≤ k.submit) (λ k n. omega (arith, m, n)) js falling.0)))
+        ∙ ap (from_on t) (sym e) ∙ from-later a t plan.jobs l)
         (cases_lt j.submit t)
+
+-- so an engine knows them still
+pub coming-quiet : (plan : Plan) (coming : NextJobs) (a t : ℕ) → a ≤ t → IsQuiet plan a t → IsPlan plan → IsComing coming a plan.jobs → IsComing coming t plan.jobs
+coming-quiet plan coming a t l quiet p h = coming-on coming a t plan.jobs (from-quiet plan a t l quiet p) h
 
 -- ---- who runs ends at the position or later
 pub lasting-before : (plan : Plan) (t : ℕ) → IsPlan plan → All (λ r. t ≤ real_end r) (before plan t).running
@@ -190,16 +200,16 @@ event-by-bound plan t p (inr (k, x, l, at, here)) =
     omega (arith, a, e, here)
 
 -- ---- an engine at its next event second
-pub record Ready (plan : Plan) (s : State) (coming : Option ℕ) (a t : ℕ) : Type 0 where
+pub record Ready (plan : Plan) (s : State) (coming : NextJobs) (a t : ℕ) : Type 0 where
   pub is : s ≡ before plan t
   pub small : t < 2 ^ 49 - 1
   pub first : a ≤ t
-  pub next : coming ≡ first_submit (from_on t plan.jobs)
+  pub next : IsComing coming t plan.jobs
 
 abbrev pub seen : Plan → ℕ → ℕ → Bool → Progress
 seen plan a h f = record { plan = plan; position = a; handled = h; failed = f }
 
-pub ready-at : (now : Progress) (plan : Plan) (s : State) (coming : Option ℕ) (known : Option Shadow) (a h t : ℕ) (f : Bool) → seen plan a h f ≡ now → IsEngine plan s coming known a h f → now.failed ≡ false → IsNextEvent now.plan now.position (Some t) → Ready plan s coming a t
+pub ready-at : (now : Progress) (plan : Plan) (s : State) (coming : NextJobs) (known : Option Shadow) (a h t : ℕ) (f : Bool) → seen plan a h f ≡ now → IsEngine plan s coming known a h f → now.failed ≡ false → IsNextEvent now.plan now.position (Some t) → Ready plan s coming a t
 ready-at now plan s coming known a h t f view engine going next =
     let next' : IsNextEvent plan a (Some t) = subst (λ (p : Progress). IsNextEvent p.plan p.position (Some t)) (sym view) next in
     let going' : f ≡ false = ap (λ (p : Progress). p.failed) view ∙ going in
@@ -207,7 +217,7 @@ ready-at now plan s coming known a h t f view engine going next =
       is = engine.state_is going' ∙ sym (quiet-seconds-change-nothing plan a t next'.0 next'.2).0;
       small = let b = event-by-bound plan t engine.is_plan next'.1 in let k = short-plan plan engine.is_plan in omega (arith, b, k);
       first = next'.0;
-      next = engine.coming_is going' ∙ coming-quiet plan a t next'.0 next'.2 engine.is_plan;
+      next = coming-quiet plan coming a t next'.0 next'.2 engine.is_plan (engine.coming_is going');
     }
 
 -- where no job ends at second t, the queue of before is a settled front of the state of t, and the shadow of before is that state's

@@ -1,5 +1,6 @@
 pub mod Plans
 pub mod ToCome
+pub mod Rows
 pub mod EventLemmas
 pub mod Kept
 pub mod RunOn

@@ -13,6 +13,7 @@ use Rattle.scenarios.specs.Plan.{jobs_of, plan_of}
 use Rattle.cluster_state.proofs.EffectiveLemmas.{kept, takes, within-limits, once-numbered}
 use Rattle.timeline.specs.SoundPlan.{IsPlan, is_before}
 use Rattle.timeline.specs.SoundPlan as sound
+use Rattle.event_loop.specs.Coming.{NonFalling}
 
 -- what an entry gives to its job holds of the jobs
 pub all-jobs : (P : LogEntry → Type 0) (Q : EffectiveJob → Type 0) (s : Setting) → ((e : LogEntry) (job : EffectiveJob) → kept s e ≡ Some job → P e → Q job) → (es : List LogEntry) → All P es → All Q (jobs_of es s)
@@ -125,11 +126,6 @@ plan-is log s t h =
       once = λ n. omega (arith, once-jobs s n log, once-numbered n log t.log.sound, t.log.distinct n);
       rising = rising-jobs (jobs_of log s) (jobs-in-order s log (in-order log t.rising));
     }
-
--- a later job is not submitted earlier
-abbrev pub NonFalling : List EffectiveJob → Type 0
-NonFalling [] = Unit {0}
-NonFalling (j ∷ js) = All (λ (k : EffectiveJob). j.submit ≤ k.submit) js × NonFalling js
 
 pub non-falling : (js : List EffectiveJob) → sound.IsRising js → NonFalling js
 non-falling [] r = tt

@@ -11,6 +11,7 @@ use Rattle.easy_rule.specs.declared.start.Start.{Start}
 use Rattle.easy_rule.specs.Simulation.{IsEvent, before, starts_before, starts_in, submitted, bound, sim}
 use Rattle.timeline.specs.SoundPlan.{IsPlan}
 use Rattle.timeline.specs.Laws.{IsQuiet}
+use Rattle.event_loop.specs.Coming.{NextJobs}
 use Rattle.event_loop.specs.Events.{IsNextEvent, IsEngine, Progress, has_event, events_before}
 use Rattle.event_loop.specs.Going.{IsFurther, IsRunOn, IsLast}
 use Rattle.timeline.proofs.Short.{short-plan}
@@ -176,7 +177,7 @@ last-same old now new (inl e) k = inl (k ∙ e)
 last-same old now new (inr (t, e, v)) k = inr (t, k ∙ e, v)
 
 -- an engine at the end of quiet seconds
-pub engine-on : (old now : Progress) (plan : Plan) (s : State) (coming : Option ℕ) (known : Option Shadow) (a h b : ℕ) (f : Bool) → seen plan a h f ≡ now → IsEngine plan s coming known a h f → now.plan ≡ old.plan → IsQuiet old.plan now.position b → now.position ≤ b
+pub engine-on : (old now : Progress) (plan : Plan) (s : State) (coming : NextJobs) (known : Option Shadow) (a h b : ℕ) (f : Bool) → seen plan a h f ≡ now → IsEngine plan s coming known a h f → now.plan ≡ old.plan → IsQuiet old.plan now.position b → now.position ≤ b
     → IsEngine plan s coming known b h f
 engine-on old now plan s coming known a h b f view e same quiet le =
     let here : a ≡ now.position = ap (λ (p : Progress). p.position) view in
@@ -187,12 +188,12 @@ engine-on old now plan s coming known a h b f view e same quiet le =
       is_plan = e.is_plan;
       counted = let k = e.counted in omega (arith, k, le');
       state_is = λ g. e.state_is g ∙ sym (quiet-between plan a b le' quiet').0;
-      coming_is = λ g. e.coming_is g ∙ coming-quiet plan a b le' quiet' e.is_plan;
+      coming_is = λ g. coming-quiet plan coming a b le' quiet' e.is_plan (e.coming_is g);
       known_is = e.known_is;
     }
 
 -- no event second is left
-pub none-left : (old now : Progress) (plan : Plan) (s : State) (coming : Option ℕ) (known : Option Shadow) (a h : ℕ) (f : Bool) → seen plan a h f ≡ old → IsEngine plan s coming known a h f → now.plan ≡ old.plan → IsQuiet old.plan now.position 18446744073709551615
+pub none-left : (old now : Progress) (plan : Plan) (s : State) (coming : NextJobs) (known : Option Shadow) (a h : ℕ) (f : Bool) → seen plan a h f ≡ old → IsEngine plan s coming known a h f → now.plan ≡ old.plan → IsQuiet old.plan now.position 18446744073709551615
     → IsPlan old.plan × IsNextEvent now.plan now.position None
 none-left old now plan s coming known a h f view e same quiet =
     let p : IsPlan old.plan = subst IsPlan (ap (λ (p : Progress). p.plan) view) e.is_plan in (

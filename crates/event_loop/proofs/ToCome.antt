@@ -1,5 +1,5 @@
 -- Which jobs are still to come.
-use Rattle.std.proofs.Common.{◌≡◌, ℕ, ◌+◌, ◌≤◌, ◌<◌, true, false, cond, nat_eq, nat_le, List, [], ◌∷◌, ◌++◌, append-nil, append_assoc, Option, Some, None, Ok, All, filter, refl, sym, ◌∙◌, ap, arith, subst, ⊎_elim}
+use Rattle.std.proofs.Common.{◌≡◌, ◌≢◌, ℕ, ◌+◌, ◌≤◌, ◌<◌, true, false, cond, nat_eq, nat_le, List, [], ◌∷◌, ◌++◌, append-nil, Option, Some, None, Ok, All, filter, refl, sym, ◌∙◌, ap, arith, subst, ⊎_elim}
 use Rattle.std.specs.List.{cons_option}
 use Rattle.std.specs.Result.{result_ok}
 use Rattle.scenarios.specs.Effective.{effective}
@@ -10,13 +10,11 @@ use Rattle.swf_text.specs.Entry.{LogEntry, submit_of}
 use Rattle.job_table.specs.Table.{entries_from}
 use Rattle.scenarios.specs.Job.{EffectiveJob}
 use Rattle.scenarios.specs.Scenario.{Setting}
-use Rattle.scenarios.specs.Plan.{Plan, jobs_of}
-use Rattle.cluster_state.specs.State.{State, IsSound, holders, arrived}
-use Rattle.easy_rule.specs.Simulation.{joined, submitted}
+use Rattle.scenarios.specs.Plan.{jobs_of}
+use Rattle.cluster_state.specs.State.{State, IsSound, holders}
+use Rattle.easy_rule.specs.Simulation.{joined}
 use Rattle.cluster_state.proofs.EffectiveLemmas.{kept, takes}
-use Rattle.timeline.specs.SoundPlan.{IsPlan}
-use Rattle.event_loop.specs.Events.{from_on, first_submit}
-use Rattle.event_loop.proofs.Plans.{NonFalling, non-falling}
+use Rattle.event_loop.specs.Coming.{NonFalling, from_on, first_submit}
 
 -- those of second t
 abbrev pub at_second : ℕ → List EffectiveJob → List EffectiveJob
@@ -115,27 +113,6 @@ from-same t (j ∷ js) a =
 later-all : (t : ℕ) (j : EffectiveJob) (js : List EffectiveJob) → t < j.submit → NonFalling (j ∷ js) → All (λ (k : EffectiveJob). t < k.submit) (j ∷ js)
 later-all t j js l r = All-cons (λ (k : EffectiveJob). t < k.submit) j js l (All-weaker (λ (k : EffectiveJob). j.submit ≤ k.submit) (λ (k : EffectiveJob). t < k.submit) (λ k m. omega arith) js r.0)
 
-some-same : (a b : ℕ) → a ≡ b → ◌≡◌ {A = Option ℕ} (Some a) (Some b)
-some-same a b e = ap Some e
-
--- where the next submit second is another one, nobody is submitted
-pub nobody-arrives : (plan : Plan) (next : Option ℕ) (t : ℕ) → IsPlan plan → next ≡ first_submit (from_on t plan.jobs) → (next ≡ Some t → ⊥)
-    → (submitted plan t ≡ []) × (next ≡ first_submit (from_on (t + 1) plan.jobs))
-nobody-arrives plan next t p is other = go (from_on t plan.jobs) refl
-  where
-    go : (js : List EffectiveJob) → from_on t plan.jobs ≡ js → (submitted plan t ≡ []) × (next ≡ first_submit (from_on (t + 1) plan.jobs))
-    go [] e = (sym (at-from t t plan.jobs (omega arith)) ∙ ap (at_second t) e, is ∙ ap first_submit (e ∙ sym (sym (from-later t (t + 1) plan.jobs (omega arith)) ∙ ap (from_on (t + 1)) e)))
-    go (j ∷ js) e =
-        let first : next ≡ Some j.submit = is ∙ ap first_submit e in
-        let from : t ≤ j.submit = All-head (λ (j : EffectiveJob). t ≤ j.submit) j js (subst (λ xs. All (λ (j : EffectiveJob). t ≤ j.submit) xs) e (from-All t plan.jobs)) in
-        let falling : NonFalling (j ∷ js) = subst NonFalling e (from-falling t plan.jobs (non-falling plan.jobs p.rising)) in
-        let later : t < j.submit =
-        ⊎_elim (λ (l : t < j.submit). l) (λ (l : j.submit ≤ t). absurd (other (first ∙ some-same j.submit t (omega arith)))) (cases_lt t j.submit) in
-        let all = later-all t j js later falling in (
-          sym (at-from t t plan.jobs (omega arith)) ∙ ap (at_second t) e ∙ at-none t (j ∷ js) all,
-          is ∙ ap first_submit (e ∙ sym (from-same (t + 1) (j ∷ js) (All-weaker (λ (k : EffectiveJob). t < k.submit) (λ (k : EffectiveJob). t + 1 ≤ k.submit) (λ k m. omega arith) (j ∷ js) all)) ∙ ap (from_on (t + 1)) (sym e) ∙ from-later t (t + 1) plan.jobs (omega arith)),
-        )
-
 -- ---- the loop over those that arrive
 
 abbrev with_queue : State → List EffectiveJob → State
@@ -144,9 +121,6 @@ with_queue s js = record { machine = s.machine; order = s.order; waiting = js; r
 pub joined-none : (s : State) → joined s [] ≡ s
 joined-none s = ap (with_queue s) (append-nil s.waiting)
 
-joined-more : (s : State) (job : EffectiveJob) (js : List EffectiveJob) → joined (arrived s job) js ≡ joined s (job ∷ js)
-joined-more s job js = ap (with_queue s) (append_assoc s.waiting (job ∷ []) js)
-
 -- what the loop knows: with those that are left the state will be the wanted one
 pub record Arriving (s z : State) (t : ℕ) (jobs left : List EffectiveJob) : Type 0 where
   pub state : joined z (at_second t left) ≡ joined s (at_second t jobs)
@@ -154,33 +128,10 @@ pub record Arriving (s z : State) (t : ℕ) (jobs left : List EffectiveJob) : Ty
   pub from : All (λ (j : EffectiveJob). t ≤ j.submit) left
   pub falling : NonFalling left
 
-pub arriving-first : (s : State) (t : ℕ) (jobs left : List EffectiveJob) → NonFalling jobs → left ≡ from_on t jobs → Arriving s s t jobs left
-arriving-first s t jobs left r e =
-    subst (Arriving s s t jobs) (sym e) (record {
-      state = ap (joined s) (at-from t t jobs (omega arith));
-      later = from-later t (t + 1) jobs (omega arith);
-      from = from-All t jobs;
-      falling = from-falling t jobs r;
-    })
-
-pub arriving-skip : (s z : State) (t : ℕ) (jobs left rest : List EffectiveJob) → Arriving s z t jobs left → left ≡ rest → Arriving s z t jobs rest
-arriving-skip s z t jobs left rest h e = subst (Arriving s z t jobs) e h
-
-pub arriving-here : (s z : State) (t : ℕ) (jobs left rest : List EffectiveJob) (job : EffectiveJob) → Arriving s z t jobs left → left ≡ job ∷ rest → job.submit ≤ t → job.submit ≡ t
+arriving-here : (s z : State) (t : ℕ) (jobs left rest : List EffectiveJob) (job : EffectiveJob) → Arriving s z t jobs left → left ≡ job ∷ rest → job.submit ≤ t → job.submit ≡ t
 arriving-here s z t jobs left rest job h e low =
     let from : t ≤ job.submit = All-head (λ (j : EffectiveJob). t ≤ j.submit) job rest (subst (λ xs. All (λ (j : EffectiveJob). t ≤ j.submit) xs) e h.from) in
     omega (arith, from, low)
-
-pub arriving-more : (s z z' : State) (t : ℕ) (jobs left rest : List EffectiveJob) (job : EffectiveJob) → Arriving s z t jobs left → left ≡ job ∷ rest → job.submit ≤ t → z' ≡ arrived z job → Arriving s z' t jobs rest
-arriving-more s z z' t jobs left rest job h e low is =
-    let h' = subst (Arriving s z t jobs) e h in
-    let here = arriving-here s z t jobs left rest job h e low in
-    record {
-      state = ap (λ (y : State). joined y (at_second t rest)) is ∙ joined-more z job (at_second t rest) ∙ ap (joined z) (sym (at-in t job rest here)) ∙ h'.state;
-      later = sym (from-out (t + 1) job rest (omega arith)) ∙ h'.later;
-      from = All-tail (λ (j : EffectiveJob). t ≤ j.submit) job rest h'.from;
-      falling = h'.falling.1;
-    }
 
 -- who comes next is not there yet, and fits the machine
 pub can-arrive : (s z : State) (t : ℕ) (jobs left rest : List EffectiveJob) (job : EffectiveJob) → Arriving s z t jobs left → left ≡ job ∷ rest → job.submit ≤ t → IsSound (joined s (at_second t jobs))
@@ -200,20 +151,21 @@ can-arrive s z t jobs left rest job h e low sound =
     behind [] ys a = a
     behind (x ∷ xs) ys a = behind xs ys (All-tail (λ (j : EffectiveJob). j.size ≤ z.machine) x (xs ++ ys) a)
 
--- at the first that is submitted later
-pub arriving-stop : (s z : State) (t : ℕ) (jobs left rest : List EffectiveJob) (job : EffectiveJob) → Arriving s z t jobs left → left ≡ job ∷ rest → t < job.submit
-    → (z ≡ joined s (at_second t jobs)) × (◌≡◌ {A = Option ℕ} (Some job.submit) (first_submit (from_on (t + 1) jobs)))
-arriving-stop s z t jobs left rest job h e later =
-    let h' = subst (Arriving s z t jobs) e h in
-    let none = at-none t (job ∷ rest) (later-all t job rest later h'.falling) in
-    (sym (joined-none z) ∙ ap (joined z) (sym none) ∙ h'.state, ap first_submit (sym (from-in (t + 1) job rest (omega arith))) ∙ ap first_submit h'.later)
-
--- at the end
-pub arriving-end : (s z : State) (t : ℕ) (jobs left : List EffectiveJob) → Arriving s z t jobs left → left ≡ []
-    → (z ≡ joined s (at_second t jobs)) × (◌≡◌ {A = Option ℕ} None (first_submit (from_on (t + 1) jobs)))
-arriving-end s z t jobs left h e =
-    let h' = subst (Arriving s z t jobs) e h in
-    (sym (joined-none z) ∙ h'.state, ap first_submit h'.later)
+-- where the first that is left is none of second t
+pub arriving-done : (s z : State) (t : ℕ) (jobs left : List EffectiveJob) → Arriving s z t jobs left → first_submit left ≢ Some t
+    → (z ≡ joined s (at_second t jobs)) × (left ≡ from_on (t + 1) jobs)
+arriving-done s z t jobs [] h other = (sym (joined-none z) ∙ h.state, h.later)
+arriving-done s z t jobs (j ∷ js) h other =
+    let from : t ≤ j.submit = All-head (λ (j : EffectiveJob). t ≤ j.submit) j js h.from in
+    let later : t < j.submit =
+    ⊎_elim (λ (l : t < j.submit). l) (λ (l : j.submit ≤ t). absurd (other (some-same j.submit t (omega arith)))) (cases_lt t j.submit) in
+    let all = later-all t j js later h.falling in (
+      sym (joined-none z) ∙ ap (joined z) (sym (at-none t (j ∷ js) all)) ∙ h.state,
+      sym (from-same (t + 1) (j ∷ js) (All-weaker (λ (k : EffectiveJob). t < k.submit) (λ (k : EffectiveJob). t + 1 ≤ k.submit) (λ k m. omega arith) (j ∷ js) all)) ∙ h.later,
+    )
+  where
+    some-same : (a b : ℕ) → a ≡ b → ◌≡◌ {A = Option ℕ} (Some a) (Some b)
+    some-same a b e = ap Some e
 
 -- ---- the entries that are left
 

@@ -1,6 +1,5 @@
 -- The event seconds of a plan, and what an engine holds.
-use Rattle.std.specs.Prelude.{◌≡◌, false, ℕ, zero, suc, ◌+◌, ◌≤◌, min, nat_eq, nat_le, nat_lt, Bool, if◌then◌else◌, List, [], ◌∷◌, length, filter, count_by, Option, Some, None, IfSome}
-use Rattle.scenarios.specs.Job.{EffectiveJob}
+use Rattle.std.specs.Prelude.{◌≡◌, false, ℕ, zero, suc, ◌+◌, ◌≤◌, min, nat_eq, nat_lt, Bool, if◌then◌else◌, length, count_by, Option, Some, None, IfSome}
 use Rattle.scenarios.specs.Plan.{Plan}
 use Rattle.cluster_state.specs.State.{State, real_end}
 use Rattle.easy_rule.specs.declared.shadow_time.Shadow.{Shadow}
@@ -8,6 +7,7 @@ use Rattle.easy_rule.specs.Rule.{shadow_of}
 use Rattle.easy_rule.specs.Simulation.{IsEvent, before, submitted}
 use Rattle.timeline.specs.SoundPlan.{IsPlan}
 use Rattle.timeline.specs.Laws.{IsQuiet}
+use Rattle.event_loop.specs.Coming.{NextJobs, IsComing}
 
 -- the next event second, from a position on
 abbrev pub IsNextEvent : Plan → ℕ → Option ℕ → Type 0
@@ -34,21 +34,12 @@ pub record Progress : Type 0 where
 abbrev pub begun : Plan → ℕ → Progress
 begun plan position = record { plan = plan; position = position; handled = 0; failed = false }
 
--- the jobs that are submitted at a second or later
-abbrev pub from_on : ℕ → List EffectiveJob → List EffectiveJob
-from_on t jobs = filter (λ j. nat_le t j.submit) jobs
-
--- the submit second of the first job
-abbrev pub first_submit : List EffectiveJob → Option ℕ
-first_submit [] = None
-first_submit (j ∷ js) = Some j.submit
-
--- what the fields keep: unless the engine failed, its state is the model's, it knows the next submit second, and a shadow that it knows is the state's
-pub record IsEngine (plan : Plan) (state : State) (coming : Option ℕ) (known : Option Shadow) (position handled : ℕ) (failed : Bool) : Type 0 where
+-- what the fields keep: unless the engine failed, its state is the model's, it knows which jobs come next, and a shadow that it knows is the state's
+pub record IsEngine (plan : Plan) (state : State) (coming : NextJobs) (known : Option Shadow) (position handled : ℕ) (failed : Bool) : Type 0 where
   pub is_plan : IsPlan plan
   pub counted : handled ≤ position
   pub state_is : failed ≡ false → state ≡ before plan position
-  pub coming_is : failed ≡ false → coming ≡ first_submit (from_on position plan.jobs)
+  pub coming_is : failed ≡ false → IsComing coming position plan.jobs
   pub known_is : failed ≡ false → IfSome known (λ w. shadow_of state ≡ Some w)
 
 -- the earlier of two seconds that may be missing

@@ -1,3 +1,4 @@
+pub mod Coming
 pub mod Events
 pub mod Going
 pub mod Stepped

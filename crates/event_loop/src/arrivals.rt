@@ -1,18 +1,22 @@
-ghost use Rattle.std.specs.Prelude.{◌≡◌, ◌+◌, ◌↔◌, Some, IfOk, OnOk, IsTrue};
+ghost use Rattle.std.specs.Prelude.{◌≡◌, ◌≢◌, ◌+◌, ◌≤◌, ◌<◌, ◌↔◌, [], Some, IfOk, OnOk, IfSome, IfNone, IsTrue, All, filter, nat_eq, slice_get};
 ghost use Rattle.scenarios.specs.Plan.{plan_of};
 ghost use Rattle.cluster_state.specs.State.{IsSound};
-ghost use Rattle.easy_rule.specs.Simulation.{joined, submitted};
+ghost use Rattle.easy_rule.specs.Simulation.{joined};
 ghost use Rattle.timeline.specs.SoundPlan.{IsPlan};
-ghost use Rattle.event_loop.specs.Events.{first_submit, from_on};
+ghost use Rattle.event_loop.specs.Coming.{IsComing, NonFalling, first_submit, from_on};
 
 use cluster_state::Cluster;
 use job_table::JobTable;
-use scenarios::{Scenario, effective};
+use scenarios::{Job, Scenario, effective};
 use std::alloc::Allocator;
+use std::collections::VecDeque;
 use swf_text::Memory;
 
 /// The largest machine, in processors.
 const MAX_PROCS: u64 = 16_777_216;
+
+/// A row that is filled has at least so many jobs, where so many are to come.
+const FULL_ROW: usize = 64;
 
 // The submit second of the next job that is simulated, from a second on.
 pub(crate) fn next_submit<A: Allocator + Copy>(
@@ -34,58 +38,70 @@ pub(crate) fn next_submit<A: Allocator + Copy>(
     None
 }
 
-// Whether this is the second, where there is one.
-fn is_at(next: Option<u64>, second: u64) -> bool
-    ensures { IsTrue result ↔ (next ≡ Some second) }
+// Whether a row of so many jobs, of which the last is of second `last`, may end before a job of second
+// `next`: it has enough of them, and no second is cut.
+fn may_end(len: usize, last: u64, next: u64) -> bool
+    ensures { IsTrue result ↔ ((64 ≤ len) × (last < next)) }
 {
-    match next {
-        None => false,
-        Some(at) => at == second,
-    }
+    FULL_ROW <= len && last < next
 }
 
-// The jobs of a second join the queue, where `next` is the next submit second from it on. Answers
-// the next submit second after it.
-pub(crate) fn arrive_at<A: Allocator + Copy>(
-    cluster: &mut Cluster<A>,
-    table: &JobTable<A>,
-    scenario: &Scenario,
-    next: Option<u64>,
-    second: u64,
-) -> Result<Option<u64>, Memory>
-    requires plan { IsPlan (plan_of table.now scenario.now) }
-    requires next { next ≡ first_submit (from_on second (plan_of table.now scenario.now).jobs) }
-    requires sound { IsSound (joined cluster.old.state (submitted (plan_of table.now scenario.now) second)) }
-    ensures state { OnOk result (cluster.new.state ≡ joined cluster.old.state (submitted (plan_of table.now scenario.now) second)) }
-    ensures next { IfOk result (λ o. o ≡ first_submit (from_on (second + 1) (plan_of table.now scenario.now).jobs)) }
-{
-    if is_at(next, second) {
-        return arrive_all(cluster, table, scenario, second);
-    }
-    Ok(next)
-}
-
-// The same, where the entries of the second have to be looked at.
-fn arrive_all<A: Allocator + Copy>(
-    cluster: &mut Cluster<A>,
+// Fills a row with the next jobs that are simulated, from a second on: those of whole seconds, until
+// there are enough of them. Answers the submit second of the first job behind them.
+pub(crate) fn fill<A: Allocator + Copy>(
+    row: &mut VecDeque<Job, A>,
     table: &JobTable<A>,
     scenario: &Scenario,
     second: u64,
 ) -> Result<Option<u64>, Memory>
     requires plan { IsPlan (plan_of table.now scenario.now) }
-    requires sound { IsSound (joined cluster.old.state (submitted (plan_of table.now scenario.now) second)) }
-    ensures state { OnOk result (cluster.new.state ≡ joined cluster.old.state (submitted (plan_of table.now scenario.now) second)) }
-    ensures next { IfOk result (λ o. o ≡ first_submit (from_on (second + 1) (plan_of table.now scenario.now).jobs)) }
+    requires empty { row.old.items ≡ [] }
+    ensures coming { IfOk result (λ o. IsComing (record { row = row.new.items; later = o }) second (plan_of table.now scenario.now).jobs) }
+    ensures later { IfOk result (λ o. IfSome o (λ t. second < t)) }
 {
+    let mut last = second;
     let mut coming = table.from_second(second);
     'entries: while let Some(entry) = coming.next() {
         let Ok(job) = effective(entry, scenario) else {
             continue;
         };
-        if second < job.submit() {
-            return Ok(Some(job.submit()));
+        let submit = job.submit();
+        if may_end(row.len(), last, submit) {
+            return Ok(Some(submit));
         }
-        cluster.arrive(job)?;
+        row.push_back(job)?;
+        last = submit;
     }
     Ok(None)
+}
+
+// The first job of a row, where it is submitted at this second.
+fn first_at<A: Allocator + Copy>(row: &VecDeque<Job, A>, second: u64) -> Option<Job>
+    ensures some { IfSome result (λ job. (job.submit ≡ second) × (slice_get row.now.items 0 ≡ Some job)) }
+    ensures none { IfNone result (first_submit row.now.items ≢ Some second) }
+{
+    let job = *row.front()?;
+    if job.submit() == second {
+        return Some(job);
+    }
+    None
+}
+
+// The jobs of a second leave the row and join the queue.
+pub(crate) fn arrive_all<A: Allocator + Copy>(
+    cluster: &mut Cluster<A>,
+    row: &mut VecDeque<Job, A>,
+    second: u64,
+) -> Result<(), Memory>
+    requires order { NonFalling row.old.items }
+    requires from { All (λ job. second ≤ job.submit) row.old.items }
+    requires sound { IsSound (joined cluster.old.state (filter (λ job. nat_eq job.submit second) row.old.items)) }
+    ensures state { OnOk result (cluster.new.state ≡ joined cluster.old.state (filter (λ job. nat_eq job.submit second) row.old.items)) }
+    ensures row { OnOk result (row.new.items ≡ from_on (second + 1) row.old.items) }
+{
+    'jobs: while let Some(job) = first_at(row, second) {
+        cluster.arrive(job)?;
+        let _arrived = row.pop_front();
+    }
+    Ok(())
 }

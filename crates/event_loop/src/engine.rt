@@ -1,11 +1,11 @@
-ghost use Rattle.std.specs.Prelude.{◌≡◌, ◌+◌, ◌++◌, ◌≤◌, ◌<◌, Some, None, IfOk, OnOk, OnErr, IfSome, IfErr, IfNone, true, false};
+ghost use Rattle.std.specs.Prelude.{◌≡◌, ◌+◌, ◌++◌, ◌≤◌, ◌<◌, [], Some, None, IfOk, OnOk, OnErr, IfSome, IfErr, IfNone, true, false};
 ghost use Rattle.event_loop.specs.Events.{earlier};
 
-use crate::arrivals::{arrive_at, next_submit};
+use crate::coming::Coming;
 use crate::fault::EngineFault;
 use crate::known::{decide_knowing, standing_at};
 use crate::stepped::Stepped;
-use cluster_state::{Cluster, Snapshot};
+use cluster_state::{Cluster, Running, Snapshot};
 use easy_rule::{Shadow, Start};
 use job_table::JobTable;
 use scenarios::Scenario;
@@ -24,7 +24,7 @@ pub struct Engine<A: Allocator + Copy> {
     table: Arc<JobTable<A>, A>,
     scenario: Scenario,
     cluster: Cluster<A>,
-    coming: Option<u64>,
+    coming: Coming<A>,
     known: Option<Shadow>,
     position: u64,
     handled: u64,
@@ -48,6 +48,7 @@ impl<A: Allocator + Copy> Engine<A> {
     ghost use Rattle.scenarios.specs.Plan.{plan_of};
     ghost use Rattle.cluster_state.specs.Snapshot.{numbers_of};
     ghost use Rattle.easy_rule.specs.Simulation.{before, starts_before, starts_in, sim};
+    ghost use Rattle.timeline.specs.SoundPlan.{IsPlan};
     ghost use Rattle.timeline.specs.Laws.{IsQuiet};
     ghost use Rattle.event_loop.specs.Events.{Progress, IsNextEvent, begun};
     ghost use Rattle.event_loop.specs.Going.{IsStepFault, IsRunFault, IsRunOn, IsLast};
@@ -56,7 +57,7 @@ impl<A: Allocator + Copy> Engine<A> {
     pub fn new(alloc: A, table: Arc<JobTable<A>, A>, scenario: Scenario) -> Engine<A>
         ensures { result ≡ begun (plan_of (arc_value table) scenario) 0 }
     {
-        let coming = next_submit(&table, &scenario, 0);
+        let coming = Coming::at(alloc, &table, &scenario, 0);
         Engine {
             alloc,
             table,
@@ -82,7 +83,7 @@ impl<A: Allocator + Copy> Engine<A> {
         requires { snapshot.now ≡ numbers_of (before (plan_of (arc_value table) scenario) second) }
         ensures { IfOk result (λ e. e ≡ begun (plan_of (arc_value table) scenario) second) }
     {
-        let coming = next_submit(&table, &scenario, second);
+        let coming = Coming::at(alloc, &table, &scenario, second);
         let cluster = Cluster::restore(alloc, snapshot, &table, &scenario)?;
         Ok(Engine {
             alloc,
@@ -121,7 +122,7 @@ impl<A: Allocator + Copy> Engine<A> {
         if self.failed {
             return None;
         }
-        earlier(self.coming, self.cluster.next_end())
+        earlier(self.coming.next(), self.cluster.next_end())
     }
 
     /// The numbers of the jobs that wait and run before the position.
@@ -137,6 +138,19 @@ impl<A: Allocator + Copy> Engine<A> {
         }
         let snapshot = self.cluster.snapshot()?;
         Ok(snapshot)
+    }
+
+    /// The running jobs with their starts before the position, rising by number; none in an engine
+    /// that has failed.
+    pub fn running(&self) -> &[Running]
+        ensures jobs { self.now.failed ≡ false → result.now ≡ (before self.now.plan self.now.position).running }
+        ensures failed { self.now.failed ≡ true → result.now ≡ [] }
+        ensures sound { IsPlan self.now.plan }
+    {
+        if self.failed {
+            return &[];
+        }
+        self.cluster.running()
     }
 
     /// Works the next event second, where there is one.
@@ -242,13 +256,8 @@ impl<A: Allocator + Copy> Engine<A> {
         let settled = self.cluster.waiting().len();
         let known = standing_at(&self.cluster, self.known, second);
         self.cluster.finish_until(second);
-        let coming = arrive_at(
-            &mut self.cluster,
-            &self.table,
-            &self.scenario,
-            self.coming,
-            second,
-        )?;
+        self.coming
+            .arrive(&mut self.cluster, &self.table, &self.scenario, second)?;
         let (starts, known) = decide_knowing(
             self.alloc,
             &mut self.cluster,
@@ -258,7 +267,6 @@ impl<A: Allocator + Copy> Engine<A> {
         )?;
         self.failed = false;
         self.known = known;
-        self.coming = coming;
         self.position = second + 1;
         self.handled += 1;
         Ok(starts)

@@ -2,6 +2,7 @@
 #![tactic(auto)]
 
 mod arrivals;
+mod coming;
 mod engine;
 mod fault;
 mod known;

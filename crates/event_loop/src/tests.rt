@@ -28,6 +28,9 @@ const KILLED: &[u8] = b"1 0 -1 100 6 -1 -1 6 40 -1 1 7 -1 -1 -1 -1 -1 -1
 /// One job, a trillion seconds from the beginning.
 const FAR: &[u8] = b"1 1000000000000 -1 10 1 -1 -1 1 10 -1 1 7 -1 -1 -1 -1 -1 -1\n";
 
+/// How many jobs the crowd has.
+const CROWD: u64 = 130;
+
 fn table_of(alloc: Global, log: &[u8]) -> Result<Arc<JobTable<Global>>, Fail> {
     let text = read_swf(alloc, log)?;
     let table = JobTable::from_text(alloc, &text)?;
@@ -36,6 +39,27 @@ fn table_of(alloc: Global, log: &[u8]) -> Result<Arc<JobTable<Global>>, Fail> {
 
 fn ten_processors() -> Result<Scenario, Fail> {
     Ok(Scenario::new(10, 1000).ok_or("out of limits")?)
+}
+
+// The submit second of a job of the crowd, by its number: two jobs of each second, but 70 of second 20.
+fn crowd_second(number: u64) -> u64 {
+    match number {
+        0..=40 => number.saturating_sub(1) / 2,
+        41..=110 => 20,
+        _ => (number - 69) / 2,
+    }
+}
+
+// The log of the crowd: each job takes one processor for 1,000 seconds.
+fn crowd_log(alloc: Global) -> Result<String, Fail> {
+    let mut log = String::new(alloc);
+    for number in 1..=CROWD {
+        let submit = crowd_second(number);
+        log.push_str(&format!(in alloc;
+            "{number} {submit} -1 1000 1 -1 -1 1 1000 -1 1 7 -1 -1 -1 -1 -1 -1\n"
+        )?)?;
+    }
+    Ok(log)
 }
 
 // These jobs start at these seconds, in this order.
@@ -146,5 +170,24 @@ fn without_jobs_nothing_happens(rt: HostRuntime) -> Result<(), Fail> {
     expect(&rt, starts.as_slice(), &[]);
     assert_eq!(rt; engine.position(), u64::MAX);
     assert_eq!(rt; engine.handled(), 0);
+    Ok(())
+}
+
+#[test]
+fn a_crowd_with_room_for_all_starts_as_it_is_submitted(rt: HostRuntime) -> Result<(), Fail> {
+    let alloc = rt.alloc();
+    let table = table_of(alloc, crowd_log(alloc)?.as_bytes())?;
+    let scenario = Scenario::new(1000, 1000).ok_or("out of limits")?;
+    let mut engine = Engine::new(alloc, table, scenario);
+    let starts = engine.finish()?;
+    assert_eq!(rt; starts.len(), 130);
+    for (number, start) in (1..=CROWD).zip(starts.as_slice()) {
+        assert!(rt;
+            start.number == number && start.at == crowd_second(number),
+            "{start:?}"
+        );
+    }
+    assert_eq!(rt; engine.handled(), 62);
+    assert_eq!(rt; engine.position(), 1_031);
     Ok(())
 }

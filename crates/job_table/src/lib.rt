@@ -13,6 +13,3 @@ pub use cursor::Cursor;
 pub use edit::Edit;
 pub use fault::EditFault;
 pub use table::JobTable;
-
-#[cfg(test)]
-mod tests;

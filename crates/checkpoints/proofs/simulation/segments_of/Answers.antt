@@ -12,9 +12,6 @@ segments-init g c =
     let plan : Plan = plan_of (arc_value c.args.table.now) c.args.scenario in
     cutting-first plan (plan_of (arc_value c.in_ok-clone.field-0) c.args.scenario) c.args.spacing c.new-engine.result _ c.new-engine.ensures (ap (λ (log : List LogEntry). plan_of log c.args.scenario) c.in_ok-clone.ensures.cases) (ap (map arc_value) c.new-segments.ensures.items)
 
-pub next_segment-requires-clause-plan : goal.next_segment-requires-clause-plan
-next_segment-requires-clause-plan g c = c.segments.invariant.same ∙ ap (λ (log : List LogEntry). plan_of log c.args.scenario) (sym c.deref-in-segments.ensures)
-
 pub next_segment-requires-clause-going : goal.next_segment-requires-clause-going
 next_segment-requires-clause-going g c = c.segments.invariant.going
 

@@ -24,8 +24,8 @@ returns-then-not-may_any-clause-state g c = sym (state_after-done c.args.cluster
 pub returns-then-not-may_any-clause-starts : goal.returns-then-not-may_any-clause-starts
 returns-then-not-may_any-clause-starts g c = c.new.ensures.items ∙ sym (starts_at-done c.args.cluster.now.state c.args.now (nobody g c))
 
-pub returns-in_err-starts-clause-settled : goal.returns-in_err-starts-clause-settled
-returns-in_err-starts-clause-settled g c = λ none.
+pub returns-in_err-chosen-clause-settled : goal.returns-in_err-chosen-clause-settled
+returns-in_err-chosen-clause-settled g c = λ none.
     let s : State = c.args.cluster.now.state in
     let n = c.args.settled in
     let whole : take (length s.waiting - n) (drop n s.waiting) ≡ drop n s.waiting = take_all (length s.waiting - n) (drop n s.waiting) (omega (arith, length-drop n s.waiting)) in

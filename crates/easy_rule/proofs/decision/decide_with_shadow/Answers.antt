@@ -44,8 +44,8 @@ returns-in_default-first_place-clause-state g c = sym (state_after-done c.args.c
 pub returns-in_default-first_place-clause-starts : goal.returns-in_default-first_place-clause-starts
 returns-in_default-first_place-clause-starts g c = c.new-in_default-first_place.ensures.items ∙ sym (starts_at-done c.args.cluster.now.state c.args.now (refused g c))
 
-pub returns-in_err-starts-2-clause-settled : goal.returns-in_err-starts-2-clause-settled
-returns-in_err-starts-2-clause-settled g c = λ none.
+pub returns-in_err-chosen-2-clause-settled : goal.returns-in_err-chosen-2-clause-settled
+returns-in_err-chosen-2-clause-settled g c = λ none.
     let s : State = c.args.cluster.now.state in
     let head : EffectiveJob = c.head-item.result in
     let first : IsFirstPlace (may_backfill c.args.now (free s) c.shadow_for-shadow.result) (row s) c.in-Some.place = rw (c.free-free.ensures.free, c.row.ensures.jobs) at c.in-Some.ensures.found in

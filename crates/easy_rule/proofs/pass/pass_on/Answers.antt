@@ -1,57 +1,59 @@
-use Rattle.std.proofs.Common.{◌≡◌, ◌++◌, ◌∙◌, sym, ap, arith, append-nil, None, Some, get_or, subst}
-use Rattle.scenarios.specs.Job.{EffectiveJob}
-use Rattle.cluster_state.specs.State.{State, free, started}
-use Rattle.easy_rule.specs.Rule.{next, may_backfill}
-use Rattle.easy_rule.specs.Pass.{row, less, IsFirstPlace, IsPass}
-use Rattle.easy_rule.proofs.NextLemmas.{next-full}
-use Rattle.easy_rule.proofs.PassLemmas.{pass-next, pass-done, pass-started, state_after-done, starts_at-done}
+use Rattle.std.proofs.Common.{◌≡◌, ◌≤◌, ◌+◌, ◌-◌, ◌++◌, ◌∙◌, sym, ap, arith, subst, false, true, length, take, drop, map, All, List}
+use Rattle.std.proofs.lemmas.List.{map-append, length-append}
+use Rattle.scenarios.specs.Job.{EffectiveJob, IsWithinLimits}
+use Rattle.cluster_state.specs.State.{State, all_started}
+use Rattle.easy_rule.specs.Rule.{shadow_of}
+use Rattle.easy_rule.specs.Pass.{most_starts, start_at}
+use Rattle.easy_rule.proofs.PassLemmas.{All-in_order, length-row}
+use Rattle.easy_rule.proofs.ChoiceLemmas.{Picks, later-of, picks-all}
 use Rattle.easy_rule.proofs.pass.pass_on.Given.{Over}
 use Rattle.easy_rule.proofs.pass.pass_on.Goals as goal
 
--- nobody of the row may start
-refused : (g : Over) (c : goal.In_default g) → next c.pass.cluster.state c.args.now ≡ None
-refused g c =
-    pass-done c.pass.cluster.state c.args.now c.pass.left c.pass.from c.pass.invariant.pass (rw (c.free-in-pass.ensures.free, c.row.ensures.jobs) at c.in_default.ensures.none)
+facts : (g : Over) (c : goal.In-Ok g)
+    → (let js = take (length c.deref.result.now - c.len-before.result) (drop c.len-before.result c.deref.result.now) in
+    Picks c.args.cluster.now.state c.args.now js c.choose-left.result × (c.deref.result.now ≡ c.args.chosen.now.items ++ js) × (length js + most_starts (all_started c.args.cluster.now.state js c.args.now) ≤ most_starts c.args.cluster.now.state))
+facts g c =
+    later-of c.args.cluster.now.state c.args.now c.free.result c.args.place c.len-before.result c.args.shadow c.choose-left.result c.row.result.now c.args.chosen.now.items c.deref.result.now c.requires.now c.free.ensures.sound c.requires.pass c.free.ensures.free c.row.ensures.jobs
+    (omega (arith, c.len-before.ensures, c.args.chosen.now.ok.0)) (c.deref.ensures.value ∙ c.choose-left.ensures.jobs) c.choose-left.ensures.left
 
-pub returns-in_default-clause-state : goal.returns-in_default-clause-state
-returns-in_default-clause-state g c = sym (state_after-done c.pass.cluster.state c.args.now (refused g c)) ∙ c.pass.invariant.state
+pub choose-left-requires-clause-limits : goal.choose-left-requires-clause-limits
+choose-left-requires-clause-limits g c =
+    let s : State = c.args.cluster.now.state in
+    subst (λ (js : List EffectiveJob). All IsWithinLimits js) (sym c.row.ensures.jobs) (All-in_order IsWithinLimits s.order s.waiting c.row.ensures.sound.waiting_limits)
 
-pub returns-in_default-clause-starts : goal.returns-in_default-clause-starts
-returns-in_default-clause-starts g c =
-    sym (ap (λ l. c.pass.starts.items ++ l) (starts_at-done c.pass.cluster.state c.args.now (refused g c)) ∙ append-nil c.pass.starts.items) ∙ c.pass.invariant.starts
+pub choose-left-requires-clause-room : goal.choose-left-requires-clause-room
+choose-left-requires-clause-room g c =
+    let len = ap length c.row.ensures.jobs ∙ length-row c.args.cluster.now.state in
+    omega (arith, len, c.free.ensures.free, c.requires.room)
 
-pub start_next-requires-clause-next : goal.start_next-requires-clause-next
-start_next-requires-clause-next g c =
-    let s : State = c.pass.cluster.state in
-    let job : EffectiveJob = c.index-row-at.result in
-    let first : IsFirstPlace (may_backfill c.args.now (free s) c.pass.left) (row s) c.in-Some.at = rw (c.free-in-pass.ensures.free, c.row.ensures.jobs) at c.in-Some.ensures.found in
-    let is : job ≡ get_or (row s) c.in-Some.at job = rw c.row-in-pass.ensures.jobs at c.index-row-at.is in
-    pass-next s c.args.now c.pass.left c.pass.from c.in-Some.at job c.pass.invariant.pass first ∙ ap Some (sym is)
+pub start_all-requires-clause-fits : goal.start_all-requires-clause-fits
+start_all-requires-clause-fits g c =
+    (later-of c.args.cluster.now.state c.args.now c.free.result c.args.place c.len-before.result c.args.shadow c.choose-left.result c.row.result.now c.args.chosen.now.items c.deref.result.now c.requires.now c.free.ensures.sound c.requires.pass c.free.ensures.free c.row.ensures.jobs
+    (omega (arith, c.len-before.ensures, c.args.chosen.now.ok.0)) (c.deref.ensures.value ∙ c.choose-left.ensures.jobs) c.choose-left.ensures.left).0.first.can
 
-pub pass-preserved : goal.pass-preserved
-pass-preserved g c =
-    let s : State = c.pass.cluster.state in
-    let job : EffectiveJob = c.index-row-at.result in
-    let first : IsFirstPlace (may_backfill c.args.now (free s) c.pass.left) (row s) c.in-Some.at = rw (c.free-in-pass.ensures.free, c.row.ensures.jobs) at c.in-Some.ensures.found in
-    let is : job ≡ get_or (row s) c.in-Some.at job = rw c.row-in-pass.ensures.jobs at c.index-row-at.is in
-    let goes-on : IsPass (started s job c.args.now) c.args.now (less c.pass.left c.args.now job) c.in-Some.at =
-    subst (λ (j : EffectiveJob). IsPass (started s j c.args.now) c.args.now (less c.pass.left c.args.now j) c.in-Some.at) (sym is)
-    (pass-started s c.args.now c.pass.left c.pass.from c.in-Some.at job c.free.ensures.sound c.pass.invariant.pass first) in
-    record {
-      pass = rw (c.start_next.ensures.state, c.left_by-left.ensures) goes-on;
-      state = c.start_next.ensures.after ∙ c.pass.invariant.state;
-      starts = c.start_next.ensures.starts ∙ c.pass.invariant.starts;
-      spare = c.start_next.ensures.spare;
-      room = c.start_next.ensures.room;
-    }
-
--- no processor is free
-full : (g : Over) (c : goal.After-pass g) → next c.pass.cluster.state c.args.now ≡ None
-full g c = next-full c.pass.cluster.state c.args.now c.free.ensures.sound (let f = c.free.ensures.free in omega arith)
+pub unreachable-requires : goal.unreachable-requires
+unreachable-requires g c =
+    let fewer = (later-of c.args.cluster.now.state c.args.now c.free.result c.args.place c.len-before.result c.args.shadow c.choose-left.result c.row.result.now c.args.chosen.now.items c.deref.result.now c.requires.now c.free.ensures.sound c.requires.pass c.free.ensures.free c.row.ensures.jobs
+    (omega (arith, c.len-before.ensures, c.args.chosen.now.ok.0)) (c.deref.ensures.value ∙ c.choose-left.ensures.jobs) c.choose-left.ensures.left).2 in
+    let room : false ≡ true = c.in_default.ensures.room (omega (arith, fewer, c.requires.spare)) in
+    cc
 
 pub returns-clause-state : goal.returns-clause-state
-returns-clause-state g c = sym (state_after-done c.pass.cluster.state c.args.now (full g c)) ∙ c.pass.invariant.state
+returns-clause-state g c = c.in-Ok.ensures.ok ∙ (picks-all _ _ _ _ (facts g c).0).0
 
 pub returns-clause-starts : goal.returns-clause-starts
 returns-clause-starts g c =
-    sym (ap (λ l. c.pass.starts.items ++ l) (starts_at-done c.pass.cluster.state c.args.now (full g c)) ∙ append-nil c.pass.starts.items) ∙ c.pass.invariant.starts
+    let k = facts g c in
+    let js = take (length c.deref.result.now - c.len-before.result) (drop c.len-before.result c.deref.result.now) in
+    ap (map (start_at c.args.now)) (sym c.deref.ensures.value ∙ k.1) ∙ map-append (start_at c.args.now) c.args.chosen.now.items js
+    ∙ ap (λ l. map (start_at c.args.now) c.args.chosen.now.items ++ l) (picks-all c.args.cluster.now.state c.args.now js c.choose-left.result k.0).1
+
+pub returns-clause-shadow : goal.returns-clause-shadow
+returns-clause-shadow g c = ap shadow_of c.in-Ok.ensures.ok ∙ (facts g c).0.shadow
+
+pub returns-clause-fewer : goal.returns-clause-fewer
+returns-clause-fewer g c =
+    let k = facts g c in
+    let js = take (length c.deref.result.now - c.len-before.result) (drop c.len-before.result c.deref.result.now) in
+    let all = ap length k.1 in
+    omega (arith, all, length-append c.args.chosen.now.items js, k.2, c.deref.ensures.len, c.args.chosen.now.ok.0)

@@ -1,6 +1,6 @@
 use Rattle.std.proofs.Common.{◌∙◌, ap}
 use Rattle.scenarios.specs.Plan.{jobs_of}
-use Rattle.event_loop.specs.Events.{first_submit}
+use Rattle.event_loop.specs.Coming.{first_submit}
 use Rattle.event_loop.proofs.ToCome.{jobs-from}
 use Rattle.event_loop.proofs.Plans.{plan-is}
 use Rattle.event_loop.proofs.arrivals.next_submit.Goals as goal

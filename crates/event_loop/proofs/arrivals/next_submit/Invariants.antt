@@ -1,6 +1,6 @@
 use Rattle.std.proofs.Common.{◌≡◌, length}
 use Rattle.scenarios.specs.Plan.{jobs_of}
-use Rattle.event_loop.specs.Events.{first_submit, from_on}
+use Rattle.event_loop.specs.Coming.{first_submit, from_on}
 use Rattle.event_loop.proofs.arrivals.next_submit.Given as goal
 
 abbrev pub invariant-entries : goal.invariant-entries

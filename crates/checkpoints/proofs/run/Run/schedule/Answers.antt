@@ -16,14 +16,14 @@ pub rows_of-requires : goal.rows_of-requires
 rows_of-requires g c =
     let plan : Plan = plan_of (arc_value c.self.inside.table) c.self.inside.scenario in
     let p : IsPlan plan = rw c.deref.ensures at c.is_plan.ensures in
-    all-start-early plan c.as_slice-2.result.now p
-    (c.as_slice-2.ensures.value ∙ (rw c.as_slice.ensures.value at c.in_ok-starts.ensures) ∙ cut-told plan (map arc_value c.self.inside.segments.items) p c.self.invariant.cut)
+    all-start-early plan c.in_ok-starts.starts.items p
+    ((rw c.as_slice.ensures.value at c.in_ok-starts.ensures) ∙ cut-told plan (map arc_value c.self.inside.segments.items) p c.self.invariant.cut)
 
 pub returns : goal.returns
 returns g c =
     let plan : Plan = plan_of (arc_value c.self.inside.table) c.self.inside.scenario in
     let p : IsPlan plan = rw c.deref.ensures at c.is_plan.ensures in
-    let e = c.as_slice-2.ensures.value ∙ (rw c.as_slice.ensures.value at c.in_ok-starts.ensures) ∙ cut-told plan (map arc_value c.self.inside.segments.items) p c.self.invariant.cut in
+    let e = (rw c.as_slice.ensures.value at c.in_ok-starts.ensures) ∙ cut-told plan (map arc_value c.self.inside.segments.items) p c.self.invariant.cut in
     c.in_ok-rows.ensures ∙ ap (λ (xs : List Start). filter_map (row_of xs) (jobs_of c.deref-2.result.now c.self.inside.scenario)) e
     ∙ ap (λ (log : List LogEntry). filter_map (row_of (sim plan)) (jobs_of log c.self.inside.scenario)) c.deref-2.ensures
     ∙ ap (λ (r : RunView). rows_of (plan_of r.log r.setting)) c.self.view_is

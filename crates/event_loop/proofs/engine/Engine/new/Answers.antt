@@ -5,9 +5,9 @@ use Rattle.event_loop.proofs.engine.Engine.new.Goals as goal
 pub invariant_of-result : goal.invariant_of-result
 unfolding before
 invariant_of-result g c = record {
-  is_plan = rw c.deref.ensures at c.next_submit-coming.ensures.plan;
+  is_plan = rw c.deref.ensures at c.at-coming.ensures.plan;
   counted = omega arith;
   state_is = λ _. c.for_scenario.ensures;
-  coming_is = λ _. rw c.deref.ensures at c.next_submit-coming.ensures.next;
+  coming_is = λ _. rw c.deref.ensures at c.at-coming.ensures.coming;
   known_is = λ _. tt;
 }

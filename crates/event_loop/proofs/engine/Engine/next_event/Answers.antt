@@ -1,6 +1,8 @@
+use Rattle.std.proofs.Common.{◌∙◌}
 use Rattle.std.specs.Arc.{arc_value}
 use Rattle.scenarios.specs.Plan.{Plan, plan_of}
 use Rattle.event_loop.proofs.EventLemmas.{next-submit, next-earlier}
+use Rattle.event_loop.proofs.Rows.{next-is}
 use Rattle.event_loop.proofs.engine.Engine.next_event.Goals as goal
 
 pub returns-clause-going : goal.returns-clause-going
@@ -9,5 +11,5 @@ returns-clause-going g c = λ _.
     let plan : Plan = plan_of (arc_value c.self.inside.table) c.self.inside.scenario in
     let a = c.self.inside.position in
     rw (← c.self.view_is, c.earlier.ensures)
-    (next-earlier plan a c.self.inside.cluster.state c.self.inside.coming c.next_end.result e.is_plan (e.state_is c.if-self.false)
-    (next-submit plan a c.self.inside.coming e.is_plan (e.coming_is c.if-self.false)) c.next_end.ensures.none.0 c.next_end.ensures.found c.next_end.ensures.least)
+    (next-earlier plan a c.self.inside.cluster.state c.next.result c.next_end.result e.is_plan (e.state_is c.if-self.false)
+    (next-submit plan a c.next.result e.is_plan (c.next.ensures ∙ next-is c.self.inside.coming a plan.jobs (e.coming_is c.if-self.false))) c.next_end.ensures.none.0 c.next_end.ensures.found c.next_end.ensures.least)

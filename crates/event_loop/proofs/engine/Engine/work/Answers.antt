@@ -11,14 +11,14 @@ use Rattle.event_loop.specs.Events.{Progress}
 use Rattle.event_loop.proofs.EventLemmas.{ready-at, sound-ready, known-settled, known-stands}
 use Rattle.event_loop.proofs.engine.Engine.work.Goals as goal
 
-pub arrive_at-requires-clause-next : goal.arrive_at-requires-clause-next
-arrive_at-requires-clause-next g c =
+pub arrive-requires-clause-coming : goal.arrive-requires-clause-coming
+arrive-requires-clause-coming g c =
     let plan : Plan = plan_of (arc_value c.self.inside.table) c.self.inside.scenario in
     let r = ready-at c.args.self.now plan c.self.inside.cluster.state c.self.inside.coming c.self.inside.known c.self.inside.position c.self.inside.handled c.args.second c.self.inside.failed c.self.view_is c.self.invariant c.requires.going c.requires.next in
     rw c.deref.ensures r.next
 
-pub arrive_at-requires-clause-sound : goal.arrive_at-requires-clause-sound
-arrive_at-requires-clause-sound g c =
+pub arrive-requires-clause-sound : goal.arrive-requires-clause-sound
+arrive-requires-clause-sound g c =
     let plan : Plan = plan_of (arc_value c.self.inside.table) c.self.inside.scenario in
     let r = ready-at c.args.self.now plan c.self.inside.cluster.state c.self.inside.coming c.self.inside.known c.self.inside.position c.self.inside.handled c.args.second c.self.inside.failed c.self.view_is c.self.invariant c.requires.going c.requires.next in
     rw c.deref.ensures (sound-ready plan c.self.inside.cluster.state c.finish_until.new.self.state c.args.second c.self.invariant.is_plan r.small r.is c.finish_until.ensures.state)
@@ -36,8 +36,8 @@ decide_knowing-requires-clause-settled g c =
     let t = c.args.second in
     let r = ready-at c.args.self.now plan c.self.inside.cluster.state c.self.inside.coming c.self.inside.known c.self.inside.position c.self.inside.handled t c.self.inside.failed c.self.view_is c.self.invariant c.requires.going c.requires.next in
     let l = r.small in
-    let ready-is = second-is plan c.self.inside.cluster.state c.finish_until.new.self.state c.arrive_at.new.cluster.state t (omega (arith, l)) c.self.invariant.is_plan r.is c.finish_until.ensures.state (rw c.deref.ensures at c.in_ok-coming.ensures.state) in
-    known-settled plan c.self.inside.cluster.state c.arrive_at.new.cluster.state t (length c.waiting-settled.result.now) c.standing_at-known.result r.is ready-is (ap (λ (js : List EffectiveJob). length js) c.waiting-settled.ensures.jobs) c.standing_at-known.ensures.stands
+    let ready-is = second-is plan c.self.inside.cluster.state c.finish_until.new.self.state c.arrive.new.cluster.state t (omega (arith, l)) c.self.invariant.is_plan r.is c.finish_until.ensures.state (rw c.deref.ensures at c.in_ok-arrive.ensures.state) in
+    known-settled plan c.self.inside.cluster.state c.arrive.new.cluster.state t (length c.waiting-settled.result.now) c.standing_at-known.result r.is ready-is (ap (λ (js : List EffectiveJob). length js) c.waiting-settled.ensures.jobs) c.standing_at-known.ensures.stands
 
 pub decide_knowing-requires-clause-known : goal.decide_knowing-requires-clause-known
 decide_knowing-requires-clause-known g c =
@@ -45,9 +45,9 @@ decide_knowing-requires-clause-known g c =
     let t = c.args.second in
     let r = ready-at c.args.self.now plan c.self.inside.cluster.state c.self.inside.coming c.self.inside.known c.self.inside.position c.self.inside.handled t c.self.inside.failed c.self.view_is c.self.invariant c.requires.going c.requires.next in
     let l = r.small in
-    let ready-is = second-is plan c.self.inside.cluster.state c.finish_until.new.self.state c.arrive_at.new.cluster.state t (omega (arith, l)) c.self.invariant.is_plan r.is c.finish_until.ensures.state (rw c.deref.ensures at c.in_ok-coming.ensures.state) in
+    let ready-is = second-is plan c.self.inside.cluster.state c.finish_until.new.self.state c.arrive.new.cluster.state t (omega (arith, l)) c.self.invariant.is_plan r.is c.finish_until.ensures.state (rw c.deref.ensures at c.in_ok-arrive.ensures.state) in
     let going : c.self.inside.failed ≡ false = ap (λ (p : Progress). p.failed) c.self.view_is ∙ c.requires.going in
-    known-stands plan c.self.inside.cluster.state c.arrive_at.new.cluster.state t c.self.inside.known c.standing_at-known.result r.is ready-is (c.self.invariant.known_is going) c.standing_at-known.ensures.known c.standing_at-known.ensures.stands
+    known-stands plan c.self.inside.cluster.state c.arrive.new.cluster.state t c.self.inside.known c.standing_at-known.result r.is ready-is (c.self.invariant.known_is going) c.standing_at-known.ensures.known c.standing_at-known.ensures.stands
 
 pub invariant_of-self-in_err-starts : goal.invariant_of-self-in_err-starts
 invariant_of-self-in_err-starts g c = record {
@@ -82,12 +82,12 @@ invariant_of-self-2 g c =
     let l = r.small in
     let f = r.first in
     let k = c.self.invariant.counted in
-    let ready-is = second-is plan c.self.inside.cluster.state c.finish_until.new.self.state c.arrive_at.new.cluster.state t (omega (arith, l)) c.self.invariant.is_plan r.is c.finish_until.ensures.state (rw c.deref.ensures at c.in_ok-coming.ensures.state) in
+    let ready-is = second-is plan c.self.inside.cluster.state c.finish_until.new.self.state c.arrive.new.cluster.state t (omega (arith, l)) c.self.invariant.is_plan r.is c.finish_until.ensures.state (rw c.deref.ensures at c.in_ok-arrive.ensures.state) in
     record {
       is_plan = c.self.invariant.is_plan;
       counted = omega (arith, f, k);
       state_is = λ _. c.in_ok-starts.ensures.state ∙ ap (λ (s : State). state_after s t) ready-is ∙ sym (before-more plan t);
-      coming_is = λ _. rw c.deref.ensures at c.in_ok-coming.ensures.next;
+      coming_is = λ _. rw c.deref.ensures at c.in_ok-arrive.ensures.coming;
       known_is = λ _. c.in_ok-starts.ensures.shadow;
     }
 
@@ -97,5 +97,5 @@ returns-clause-starts g c =
     let t = c.args.second in
     let r = ready-at c.args.self.now plan c.self.inside.cluster.state c.self.inside.coming c.self.inside.known c.self.inside.position c.self.inside.handled t c.self.inside.failed c.self.view_is c.self.invariant c.requires.going c.requires.next in
     let l = r.small in
-    let ready-is = second-is plan c.self.inside.cluster.state c.finish_until.new.self.state c.arrive_at.new.cluster.state t (omega (arith, l)) c.self.invariant.is_plan r.is c.finish_until.ensures.state (rw c.deref.ensures at c.in_ok-coming.ensures.state) in
+    let ready-is = second-is plan c.self.inside.cluster.state c.finish_until.new.self.state c.arrive.new.cluster.state t (omega (arith, l)) c.self.invariant.is_plan r.is c.finish_until.ensures.state (rw c.deref.ensures at c.in_ok-arrive.ensures.state) in
     c.in_ok-starts.ensures.starts ∙ ap (λ (s : State). starts_at s t) ready-is ∙ ap (λ (p : Progress). starts_in p.plan t) c.self.view_is

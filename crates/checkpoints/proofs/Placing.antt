@@ -1,0 +1,157 @@
+-- Who has just started runs, and stands among the running jobs by number.
+use Rattle.std.proofs.Common.{◌≡◌, ℕ, zero, suc, ◌+◌, ◌-◌, ◌≤◌, Bool, true, false, cond, not, nat_eq, nat_lt, List, [], ◌∷◌, map, length, get_or, Option, Some, None, All, count_by, filter, find, refl, sym, ◌∙◌, ap, arith, subst, ⊎_elim}
+use Rattle.std.specs.List.{cons_option}
+use Rattle.std.specs.List.Sorted.{IsNonDecreasingBy}
+use Rattle.std.specs.Option.{option_map}
+use Rattle.std.proofs.lemmas.Bool.{cases_Bool, cond-true, cond-false, cond_both, eqb-true, eq-eqb, ltb-true, ltb-false}
+use Rattle.std.proofs.lemmas.List.Sums.{sum_by-cons, get_or-le-sum_by}
+use Rattle.std.proofs.lemmas.List.Elements.{All-nil, All-cons, All-head, All-tail, All-weaker, All-filter}
+use Rattle.scenarios.specs.Job.{EffectiveJob}
+use Rattle.scenarios.specs.Plan.{Plan}
+use Rattle.cluster_state.specs.declared.running.Running.{Running}
+use Rattle.cluster_state.specs.State.{State, real_end, placed, started}
+use Rattle.cluster_state.specs.Snapshot.{job_numbered}
+use Rattle.cluster_state.proofs.StateLemmas.{sum_by-placed, All-placed}
+use Rattle.easy_rule.specs.declared.start.Start.{Start}
+use Rattle.easy_rule.specs.Rule.{next, decided, decisions}
+use Rattle.easy_rule.specs.Simulation.{before, ready, starts_in}
+use Rattle.easy_rule.proofs.NextLemmas.{decided-start, decided-stop, decisions-start, decisions-stop}
+use Rattle.easy_rule.proofs.Decisions.{cases_option, decided-keeps}
+use Rattle.timeline.specs.SoundPlan.{IsPlan}
+use Rattle.timeline.proofs.Facts.{before-more}
+use Rattle.event_loop.proofs.Kept.{before-of-plan}
+use Rattle.metrics.specs.declared.placed.Placed.{Placed}
+use Rattle.checkpoints.specs.Cut.{placed_at, placed_of}
+use Rattle.checkpoints.proofs.Searches.{has}
+
+-- how many of these starts have the number, and how many of these running jobs
+abbrev starts_of : ℕ → List Start → ℕ
+starts_of n xs = count_by (λ (x : Start). nat_eq x.number n) xs
+
+abbrev runs_with : ℕ → List Running → ℕ
+runs_with n rs = count_by (λ (r : Running). nat_eq r.job.number n) rs
+
+-- each start adds a running job of its number
+runs-more : (n k : ℕ) (s : State) (now : ℕ) → starts_of n (decisions k s now) + runs_with n s.running ≡ runs_with n (decided k s now).running
+unfolding decisions decided
+runs-more n zero s now = omega arith
+runs-more n (suc k) s now =
+    ⊎_elim
+    (λ (e : next s now ≡ None).
+    let a = ap (starts_of n) (decisions-stop (suc k) s now e) in
+    let b = ap (λ (z : State). runs_with n z.running) (decided-stop (suc k) s now e) in
+    omega (arith, a, b))
+    (λ (f : (job : EffectiveJob) × (next s now ≡ Some job)).
+    let job = f.0 in
+    let s' = started s job now in
+    let one : suc k - 1 ≡ k = omega arith in
+    let x : Start = record { number = job.number; at = now } in
+    let r : Running = record { job = job; start = now } in
+    let a = ap (starts_of n) (decisions-start (suc k) s job now (omega arith) f.1 ∙ ap (λ m. x ∷ decisions m s' now) one) in
+    let b = ap (λ (z : State). runs_with n z.running) (decided-start (suc k) s job now (omega arith) f.1 ∙ ap (λ m. decided m s' now) one) in
+    let i = runs-more n k s' now in
+    omega (arith, a, b, i, sum_by-cons (λ (y : Start). cond {A = ℕ} (nat_eq y.number n) 1 0) x (decisions k s' now), sum_by-placed (λ (y : Running). cond {A = ℕ} (nat_eq y.job.number n) 1 0) r s.running))
+    (cases_option (next s now))
+
+-- so who starts at a second runs before the next one
+starts-run : (plan : Plan) (t n : ℕ) → starts_of n (starts_in plan t) ≤ runs_with n (before plan (t + 1)).running
+starts-run plan t n =
+    let s = ready plan (before plan t) t in
+    let a = runs-more n (length s.waiting) s t in
+    let b = ap (λ (z : State). runs_with n z.running) (before-more plan t) in
+    omega (arith, a, b)
+
+-- where running jobs are the plan's of their numbers, a number that runs has the same job among them as in the plan
+abbrev Own : Plan → Running → Type 0
+Own plan r = job_numbered plan.jobs r.job.number ≡ Some r.job
+
+abbrev pub jobs_running : List Running → List EffectiveJob
+jobs_running rs = map (λ (r : Running). r.job) rs
+
+found-own : (plan : Plan) (rs : List Running) (n : ℕ) → All (Own plan) rs → 1 ≤ runs_with n rs → job_numbered (jobs_running rs) n ≡ job_numbered plan.jobs n
+found-own plan [] n own l = absurd (omega arith)
+found-own plan (r ∷ rs) n own l =
+    let e = sum_by-cons (λ (y : Running). cond {A = ℕ} (nat_eq y.job.number n) 1 0) r rs in
+    ⊎_elim
+    (λ (here : nat_eq r.job.number n ≡ true).
+    cond-true (nat_eq r.job.number n) (Some r.job) (job_numbered (jobs_running rs) n) here ∙ sym (All-head (Own plan) r rs own) ∙ ap (job_numbered plan.jobs) (eqb-true r.job.number n here))
+    (λ (other : nat_eq r.job.number n ≡ false).
+    let g = cond-false {A = ℕ} (nat_eq r.job.number n) 1 0 other in
+    cond-false (nat_eq r.job.number n) (Some r.job) (job_numbered (jobs_running rs) n) other ∙ found-own plan rs n (All-tail (Own plan) r rs own) (omega (arith, e, g, l)))
+    (cases_Bool (nat_eq r.job.number n))
+
+-- the same jobs at the numbers of these starts
+placed-same : (js ks : List EffectiveJob) (xs : List Start) → All (λ (x : Start). job_numbered js x.number ≡ job_numbered ks x.number) xs → placed_of js xs ≡ placed_of ks xs
+placed-same js ks [] h = refl
+placed-same js ks (x ∷ xs) h =
+    let Same : Start → Type 0 = λ y. job_numbered js y.number ≡ job_numbered ks y.number in
+    let at : Option EffectiveJob → Option Placed = λ o. option_map (λ (job : EffectiveJob). let p : Placed = record { job = job; start = x.at } in p) o in
+    ap (λ o. cons_option (at o) (placed_of js xs)) (All-head Same x xs h) ∙ ap (cons_option (placed_at ks x)) (placed-same js ks xs (All-tail Same x xs h))
+
+-- the jobs that start at a second, found among those that run before the next one
+pub starts-placed : (plan : Plan) (t : ℕ) → IsPlan plan → placed_of (jobs_running (before plan (t + 1)).running) (starts_in plan t) ≡ placed_of plan.jobs (starts_in plan t)
+starts-placed plan t p =
+    placed-same (jobs_running (before plan (t + 1)).running) plan.jobs (starts_in plan t)
+    (λ i d l.
+    let n = (get_or (starts_in plan t) i d).number in
+    let one = get_or-le-sum_by (λ (x : Start). cond {A = ℕ} (nat_eq x.number n) 1 0) (starts_in plan t) i d l in
+    let yes' = cond-true {A = ℕ} (nat_eq n n) 1 0 (eq-eqb n n refl) in
+    let more = starts-run plan t n in
+    found-own plan (before plan (t + 1)).running n (before-of-plan plan (t + 1) p).running (omega (arith, one, yes', more)))
+
+-- ---- the order of the running jobs
+abbrev Onward : Running → Running → Type 0
+Onward r x = r.job.number ≤ x.job.number
+
+abbrev Rises : List Running → Type 0
+Rises [] = Unit {0}
+Rises (r ∷ rs) = All (Onward r) rs × Rises rs
+
+rises-placed : (r : Running) (rs : List Running) → Rises rs → Rises (placed r rs)
+rises-placed r [] h = (All-nil (Onward r), tt)
+rises-placed r (x ∷ xs) h =
+    ⊎_elim
+    (λ (less : nat_lt r.job.number x.job.number ≡ true).
+    let l = ltb-true r.job.number x.job.number less in
+    subst Rises (sym (cond-true (nat_lt r.job.number x.job.number) (r ∷ x ∷ xs) (x ∷ placed r xs) less))
+    (All-cons (Onward r) x xs (omega (arith, l)) (All-weaker (Onward x) (Onward r) (λ y m. omega (arith, l, m)) xs h.0), h))
+    (λ (more : nat_lt r.job.number x.job.number ≡ false).
+    let l = ltb-false r.job.number x.job.number more in
+    subst Rises (sym (cond-false (nat_lt r.job.number x.job.number) (r ∷ x ∷ xs) (x ∷ placed r xs) more))
+    (All-placed (Onward x) r xs (omega (arith, l)) h.0, rises-placed r xs h.1))
+    (cases_Bool (nat_lt r.job.number x.job.number))
+
+rises-filter : (keeps : Running → Bool) (rs : List Running) → Rises rs → Rises (filter keeps rs)
+rises-filter keeps [] h = tt
+rises-filter keeps (r ∷ rs) h =
+    cond_both (keeps r) (r ∷ filter keeps rs) (filter keeps rs) Rises
+    (λ _. (All-filter keeps (Onward r) rs h.0, rises-filter keeps rs h.1))
+    (λ _. rises-filter keeps rs h.1)
+
+rises-before : (plan : Plan) (t : ℕ) → Rises (before plan t).running
+unfolding before
+rises-before plan zero = tt
+rises-before plan (suc t) =
+    let s = ready plan (before plan t) t in
+    decided-keeps (λ z. Rises z.running) t (λ z job e h. rises-placed (record { job = job; start = t }) z.running h) (length s.waiting) s
+    (rises-filter (λ (r : Running). not (nat_eq (real_end r) t)) (before plan t).running (rises-before plan t))
+
+rises-all : (rs : List Running) → Rises rs → IsNonDecreasingBy (λ (r : Running). r.job.number) rs
+rises-all [] h i j d le l = absurd (omega arith)
+rises-all (r ∷ rs) h zero zero d le l = omega arith
+rises-all (r ∷ rs) h zero (suc j) d le l = h.0 j d (omega arith)
+rises-all (r ∷ rs) h (suc i) zero d le l = absurd (omega arith)
+rises-all (r ∷ rs) h (suc i) (suc j) d le l = rises-all rs h.1 i j d (omega arith) (omega arith)
+
+-- the running jobs before each second rise by number
+pub numbers-rise : (plan : Plan) (t : ℕ) → IsNonDecreasingBy (λ (r : Running). r.job.number) (before plan t).running
+numbers-rise plan t = rises-all (before plan t).running (rises-before plan t)
+
+-- the job of a number, from the running one
+pub job-of : (rs : List Running) (n : ℕ) → job_numbered (jobs_running rs) n ≡ option_map (λ (r : Running). r.job) (find (has (λ (r : Running). r.job.number) n) rs)
+job-of [] n = refl
+job-of (r ∷ rs) n = go (nat_eq r.job.number n) (job-of rs n) where
+  go : (b : Bool) → job_numbered (jobs_running rs) n ≡ option_map (λ (x : Running). x.job) (find (has (λ (x : Running). x.job.number) n) rs)
+      → cond b (Some r.job) (job_numbered (jobs_running rs) n) ≡ option_map (λ (x : Running). x.job) (cond b (Some r) (find (has (λ (x : Running). x.job.number) n) rs))
+  go true i = refl
+  go false i = i

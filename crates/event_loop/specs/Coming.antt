@@ -1,0 +1,38 @@
+-- The jobs that are to come.
+use Rattle.std.specs.Prelude.{◌≡◌, ℕ, ◌≤◌, ◌<◌, nat_le, List, [], ◌∷◌, ◌++◌, filter, All, Option, Some, None, IfSome}
+use Rattle.std.specs.Option.{option_or}
+use Rattle.scenarios.specs.Job.{EffectiveJob}
+
+-- the jobs that are submitted at a second or later
+abbrev pub from_on : ℕ → List EffectiveJob → List EffectiveJob
+from_on t jobs = filter (λ j. nat_le t j.submit) jobs
+
+-- the same, where there is such a second
+abbrev pub from_any : Option ℕ → List EffectiveJob → List EffectiveJob
+from_any None jobs = []
+from_any (Some t) jobs = from_on t jobs
+
+-- the submit second of the first job
+abbrev pub first_submit : List EffectiveJob → Option ℕ
+first_submit [] = None
+first_submit (j ∷ js) = Some j.submit
+
+-- a later job is not submitted earlier
+abbrev pub NonFalling : List EffectiveJob → Type 0
+NonFalling [] = Unit {0}
+NonFalling (j ∷ js) = All (λ k. j.submit ≤ k.submit) js × NonFalling js
+
+-- Jobs that come next, in their order, and the submit second of the first job behind them.
+pub record NextJobs : Type 0 where
+  pub row : List EffectiveJob
+  pub later : Option ℕ
+
+-- the submit second of the next job
+abbrev pub next_of : NextJobs → Option ℕ
+next_of coming = option_or (first_submit coming.row) coming.later
+
+-- of these jobs, those from a position on are the jobs of the row, and then all that are submitted at the later second or after it; the jobs of the row are submitted before it
+pub record IsComing (coming : NextJobs) (position : ℕ) (jobs : List EffectiveJob) : Type 0 where
+  pub all : from_on position jobs ≡ coming.row ++ from_any coming.later jobs
+  pub first : coming.later ≡ first_submit (from_any coming.later jobs)
+  pub before : IfSome coming.later (λ t. All (λ j. j.submit < t) coming.row)

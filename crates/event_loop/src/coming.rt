@@ -1,0 +1,110 @@
+ghost use Rattle.std.specs.Prelude.{◌≡◌, ◌<◌, ◌+◌, ◌↔◌, Some, OnOk, IfSome, IsTrue};
+ghost use Rattle.scenarios.specs.Plan.{plan_of};
+ghost use Rattle.cluster_state.specs.State.{IsSound};
+ghost use Rattle.easy_rule.specs.Simulation.{joined, submitted};
+ghost use Rattle.timeline.specs.SoundPlan.{IsPlan};
+ghost use Rattle.event_loop.specs.Coming.{first_submit};
+
+use crate::arrivals::{arrive_all, fill, next_submit};
+use cluster_state::Cluster;
+use job_table::JobTable;
+use scenarios::{Job, Scenario};
+use std::alloc::Allocator;
+use std::collections::VecDeque;
+use std::marker::Model;
+use swf_text::Memory;
+
+// The jobs that come next: some of them in a row, and the submit second of the first behind these.
+#[derive(Drop)]
+pub(crate) struct Coming<A: Allocator + Copy> {
+    row: VecDeque<Job, A>,
+    later: Option<u64>,
+}
+
+impl<A: Allocator + Copy> Model for Coming<A> {
+    ghost use Rattle.event_loop.specs.Coming.{NextJobs};
+
+    ghost Value = { NextJobs };
+
+    ghost view = { λ c. record { row = c.row.items; later = c.later } };
+}
+
+impl<A: Allocator + Copy> Coming<A> {
+    ghost use Rattle.event_loop.specs.Coming.{IsComing, next_of};
+
+    // The jobs from a second on, with none of them in the row.
+    pub(crate) fn at(alloc: A, table: &JobTable<A>, scenario: &Scenario, second: u64) -> Coming<A>
+        ensures plan { IsPlan (plan_of table.now scenario.now) }
+        ensures coming { IsComing result second (plan_of table.now scenario.now).jobs }
+    {
+        Coming {
+            row: VecDeque::new(alloc),
+            later: next_submit(table, scenario, second),
+        }
+    }
+
+    // The submit second of the next job.
+    pub(crate) fn next(&self) -> Option<u64>
+        ensures { result ≡ next_of self.now }
+    {
+        submit_of_first(&self.row).or(self.later)
+    }
+
+    // The jobs of a second join the queue, and come no more. Memory where a growth was refused.
+    pub(crate) fn arrive(
+        &mut self,
+        cluster: &mut Cluster<A>,
+        table: &JobTable<A>,
+        scenario: &Scenario,
+        second: u64,
+    ) -> Result<(), Memory>
+        requires plan { IsPlan (plan_of table.now scenario.now) }
+        requires coming { IsComing self.old second (plan_of table.now scenario.now).jobs }
+        requires sound { IsSound (joined cluster.old.state (submitted (plan_of table.now scenario.now) second)) }
+        ensures state { OnOk result (cluster.new.state ≡ joined cluster.old.state (submitted (plan_of table.now scenario.now) second)) }
+        ensures coming { OnOk result (IsComing self.new (second + 1) (plan_of table.now scenario.now).jobs) }
+    {
+        self.take_up(table, scenario, second)?;
+        arrive_all(cluster, &mut self.row, second)?;
+        Ok(())
+    }
+
+    // Takes jobs up, so that those of a second stand in the row and those behind it come later. Memory
+    // where a growth was refused.
+    fn take_up(
+        &mut self,
+        table: &JobTable<A>,
+        scenario: &Scenario,
+        second: u64,
+    ) -> Result<(), Memory>
+        requires plan { IsPlan (plan_of table.now scenario.now) }
+        requires coming { IsComing self.old second (plan_of table.now scenario.now).jobs }
+        ensures coming { OnOk result (IsComing self.new second (plan_of table.now scenario.now).jobs) }
+        ensures later { OnOk result (IfSome self.new.later (λ t. second < t)) }
+    {
+        if is_at(self.later, second) {
+            self.later = fill(&mut self.row, table, scenario, second)?;
+        }
+        Ok(())
+    }
+}
+
+// The submit second of the first job of a row.
+fn submit_of_first<A: Allocator + Copy>(row: &VecDeque<Job, A>) -> Option<u64>
+    ensures { result ≡ first_submit row.now.items }
+{
+    match row.front() {
+        None => None,
+        Some(job) => Some(job.submit()),
+    }
+}
+
+// Whether this is the second, where there is one.
+fn is_at(next: Option<u64>, second: u64) -> bool
+    ensures { IsTrue result ↔ (next ≡ Some second) }
+{
+    match next {
+        None => false,
+        Some(at) => at == second,
+    }
+}
