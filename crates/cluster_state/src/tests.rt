@@ -30,8 +30,8 @@ fn scenario_of(procs: u64, order: Order) -> Result<Scenario, Fail> {
     )
 }
 
-// Jobs 1 and 3 run since seconds 0 and 2, and job 2 waits.
-fn at_second_three(
+// All jobs of the table wait.
+fn all_waiting(
     rt: &impl Abort,
     alloc: Global,
     table: &JobTable<Global>,
@@ -43,6 +43,17 @@ fn at_second_three(
         assert!(rt; cluster.can_arrive(&job));
         cluster.arrive(job)?;
     }
+    Ok(cluster)
+}
+
+// Jobs 1 and 3 run since seconds 0 and 2, and job 2 waits.
+fn at_second_three(
+    rt: &impl Abort,
+    alloc: Global,
+    table: &JobTable<Global>,
+    scenario: &Scenario,
+) -> Result<Cluster<Global>, Fail> {
+    let mut cluster = all_waiting(rt, alloc, table, scenario)?;
     for (number, second) in [(1, 0), (3, 2)] {
         assert!(rt; cluster.can_start(number));
         cluster.start(number, second)?;
@@ -50,13 +61,38 @@ fn at_second_three(
     Ok(cluster)
 }
 
-// Whether job 2 waits there, and jobs 1 and 3 run since seconds 0 and 2.
-fn is_second_three(alloc: Global, snapshot: &Snapshot<Global>) -> Result<bool, Fail> {
+// Of three waiting jobs the first and the last start at second 2, in one call.
+fn start_first_and_last(rt: &impl Abort, cluster: &mut Cluster<Global>) -> Result<(), Fail> {
+    assert!(rt; cluster.waiting().len() == 3);
+    let first = cluster.waiting()[0];
+    let middle = cluster.waiting()[1];
+    let last = cluster.waiting()[2];
+    assert!(rt; middle.number() != last.number());
+    assert!(rt; first.size() <= cluster.free());
+    assert!(rt; last.size() <= cluster.free() - first.size());
+    cluster.start_all([first, last].as_slice(), 2)?;
+    Ok(())
+}
+
+// Jobs 1 and 3 start in one call, and job 2 waits on.
+fn two_started(rt: &impl Abort, alloc: Global, order: Order) -> Result<Cluster<Global>, Fail> {
+    let table = table_of(alloc, THREE)?;
+    let scenario = scenario_of(10, order)?;
+    let mut cluster = all_waiting(rt, alloc, &table, &scenario)?;
+    start_first_and_last(rt, &mut cluster)?;
+    Ok(cluster)
+}
+
+// Whether job 2 waits there, and jobs 1 and 3 run since seconds `first` and 2.
+fn job_2_waits(alloc: Global, snapshot: &Snapshot<Global>, first: u64) -> Result<bool, Fail> {
     let mut running = Vec::new(alloc);
     for r in snapshot.running() {
         running.push((r.number, r.start))?;
     }
-    Ok(snapshot.waiting() == [2].as_slice() && running.as_slice() == [(1, 0), (3, 2)].as_slice())
+    Ok(
+        snapshot.waiting() == [2].as_slice()
+            && running.as_slice() == [(1, first), (3, 2)].as_slice(),
+    )
 }
 
 #[test]
@@ -66,7 +102,7 @@ fn a_snapshot_gives_its_cluster_back(rt: HostRuntime) -> Result<(), Fail> {
     let scenario = scenario_of(10, Order::Shortest)?;
     let cluster = at_second_three(&rt, alloc, &table, &scenario)?;
     let snapshot = cluster.snapshot()?;
-    assert!(rt; is_second_three(alloc, &snapshot)?);
+    assert!(rt; job_2_waits(alloc, &snapshot, 0)?);
     assert!(rt; snapshot.holds(1) && snapshot.holds(2) && snapshot.holds(3));
     assert!(rt; !snapshot.holds(4));
 
@@ -105,5 +141,27 @@ fn a_snapshot_fits_where_its_jobs_do(rt: HostRuntime) -> Result<(), Fail> {
         !snapshot.fits(&table_of(alloc, TWO)?, &scenario),
         "3 is gone"
     );
+    Ok(())
+}
+
+#[test]
+fn two_of_three_start_in_one_call(rt: HostRuntime) -> Result<(), Fail> {
+    let alloc = rt.alloc();
+    let cluster = two_started(&rt, alloc, Order::Arrival)?;
+    assert!(rt; job_2_waits(alloc, &cluster.snapshot()?, 2)?);
+    assert_eq!(rt; cluster.free(), 0);
+    assert_eq!(rt; cluster.row().len(), 1);
+    assert_eq!(rt; cluster.next_end(), Some(92));
+    Ok(())
+}
+
+#[test]
+fn two_of_three_leave_the_row_by_estimate(rt: HostRuntime) -> Result<(), Fail> {
+    let alloc = rt.alloc();
+    let cluster = two_started(&rt, alloc, Order::Shortest)?;
+    assert!(rt; job_2_waits(alloc, &cluster.snapshot()?, 2)?);
+    assert_eq!(rt; cluster.free(), 0);
+    assert_eq!(rt; cluster.row().len(), 1);
+    assert_eq!(rt; cluster.next_end(), Some(92));
     Ok(())
 }

@@ -1,14 +1,12 @@
 -- The job that starts next, and what its start leaves.
-use Rattle.std.proofs.Common.{◌≡◌, ℕ, zero, suc, ◌+◌, ◌-◌, ◌≤◌, ◌<◌, Bool, true, false, cond, ◌&&◌, ◌||◌, nat_le, nat_eq, List, [], ◌∷◌, length, Option, Some, None, All, IsSomeAnd, find, count_by, refl, sym, ◌∙◌, ap, arith, subst, inl, inr, ⊎_elim, ◌⊎◌}
+use Rattle.std.proofs.Common.{◌≡◌, ℕ, zero, suc, ◌+◌, ◌-◌, ◌≤◌, ◌<◌, Bool, true, false, cond, ◌&&◌, ◌||◌, nat_le, nat_eq, List, [], ◌∷◌, length, Option, Some, None, All, find, count_by, refl, sym, ◌∙◌, ap, arith, subst, inl, inr, ⊎_elim, ◌⊎◌}
 use Rattle.std.specs.Option.{option_map_or}
 use Rattle.std.proofs.lemmas.List.Sums.{sum_by-cons}
 use Rattle.std.proofs.lemmas.List.Elements.{All-head, All-tail}
 use Rattle.std.proofs.lemmas.Bool.{leb-true, lt-leb, cases_Bool, cond-true, cond-false, eq-eqb, and_parts, true≢false}
 use Rattle.scenarios.specs.Job.{EffectiveJob, IsWithinLimits}
-use Rattle.cluster_state.specs.declared.running.Running.{Running}
-use Rattle.cluster_state.specs.State.{State, IsSound, free, waiting_job, started, after_start, without}
+use Rattle.cluster_state.specs.State.{State, IsSound, free, waiting_job, started, without}
 use Rattle.cluster_state.specs.Row.{put, by_estimate, in_order}
-use Rattle.cluster_state.proofs.StateLemmas.{sum_by-placed}
 use Rattle.cluster_state.proofs.RowLemmas.{find-in_order}
 use Rattle.scenarios.specs.declared.order.Order.{Order}
 use Rattle.scenarios.specs.declared.order.Order.TheVariants.{Arrival, Shortest}

@@ -10,7 +10,7 @@ use Rattle.job_table.specs.Arranged.{IsDistinct}
 use Rattle.job_table.specs.Edit.{entry_of}
 use Rattle.job_table.specs.Table.{IsIndex, number_in, second_in, second_of, pair_of}
 use Rattle.job_table.proofs.Arrangement.{comes, In, In-permutation, numbered, numbered-permutation, Climbs, Climbs-adjacent, Rises-Climbs}
-use Rattle.job_table.proofs.Keyed.{Apart, Lacks, found, found-number, same_number, number_differs}
+use Rattle.job_table.proofs.Keyed.{Apart, Lacks, found, found-number, number_differs}
 use Rattle.job_table.proofs.Tables.{Apart-counted}
 use Rattle.job_table.proofs.Numbers.{rise-from}
 

@@ -1,5 +1,5 @@
 -- Lists whose elements rise by two numbers of each, the second of which no two share.
-use Rattle.std.proofs.Common.{◌≡◌, ◌≢◌, ℕ, zero, suc, ◌<◌, ◌≤◌, ◌+◌, List, [], ◌∷◌, Option, Some, None, Bool, true, false, ◌==◌, not, map, find, filter, length, get_or, option_map, refl, ap, sym, ◌∙◌, arith, if◌then◌else◌, insert, remove, slice_get, cond}
+use Rattle.std.proofs.Common.{◌≡◌, ◌≢◌, ℕ, zero, suc, ◌<◌, ◌≤◌, ◌+◌, List, [], ◌∷◌, Option, Some, None, Bool, true, false, ◌==◌, not, map, find, filter, length, get_or, option_map, refl, ap, sym, ◌∙◌, arith, if◌then◌else◌, insert, remove, slice_get, slice_set, cond}
 use Rattle.std.specs.List.Sorted.{IsPartitionedBy, IsPartitionPoint}
 use Rattle.std.specs.List.{position_or_len}
 use Rattle.std.proofs.lemmas.List.Sums.{position_or_len_is}
@@ -279,6 +279,41 @@ module _ {X : Type 0} (at num : X → ℕ) where
       go (Some e) t k =
           let same : s ≡ (at e) = cc in
           rw same (ap (remove xs) (place-found n xs e r t) ∙ remove-found n xs d)
+
+  placed-same : (e x : X) (xs : List X) → at x ≡ at e → num x ≡ num e → Lead x xs → placed e xs ≡ e ∷ xs
+  placed-same e x [] a b l = refl
+  placed-same e x (y ∷ ys) a b l =
+      let after : stands (at e) (num e) y ≡ false = rw (← a, ← b) (test-asym (at y) (num y) (at x) (num x) l.0) in
+      rw after refl
+
+  -- another element with the two numbers of one, in its place
+  set-placed : (e : X) (xs : List X) (was : X) → Rise xs → Apart xs → found (num e) xs ≡ Some was → at was ≡ at e
+      → slice_set xs (position_or_len (λ x. (num x) == num e) xs) e ≡ placed e (left (num e) xs)
+  set-placed e [] was r d h s = cc
+  set-placed e (x ∷ xs) was r d h s = go ((num x) == num e) refl h (λ k. set-placed e xs was r.1 d.1 k s)
+    where
+      go : (b : Bool) → ((num x) == num e) ≡ b → (if b then Some x else found (num e) xs) ≡ Some was
+          → (found (num e) xs ≡ Some was → slice_set xs (position_or_len (λ y. (num y) == num e) xs) e ≡ placed e (left (num e) xs))
+          → slice_set (x ∷ xs) (position_or_len (λ y. (num y) == num e) (x ∷ xs)) e ≡ placed e (left (num e) (x ∷ xs))
+      go true t k i =
+          let same : x ≡ was = cc in
+          let number : num x ≡ num e = same_number (num x) (num e) t in
+          let all : left (num e) xs ≡ xs = without-Lacks (num e) xs (rw (← number) d.0) in
+          rw (t, all) (sym (placed-same e x xs (ap at same ∙ s) number r.0))
+      go false t k i =
+          let before : stands (at e) (num e) x ≡ true = rw (← s, sym (found-number (num e) xs was k)) (Leads-found (num e) x xs was r.0 k) in
+          rw (t, one_more, before) (ap (λ ys. x ∷ ys) (i k))
+
+  pub set_place : (e : X) (xs : List X) → Rise xs → Apart xs → Some (at e) ≡ option_map at (found (num e) xs)
+      → slice_set xs (position_or_len (λ x. not (stands (at e) (num e) x)) xs) e ≡ placed e (left (num e) xs)
+  set_place e xs r d h = go (found (num e) xs) refl h
+    where
+      go : (o : Option X) → found (num e) xs ≡ o → Some (at e) ≡ option_map at o → slice_set xs (position_or_len (λ x. not (stands (at e) (num e) x)) xs) e ≡ placed e (left (num e) xs)
+      go None t k = cc
+      go (Some was) t k =
+          let same : at e ≡ at was = cc in
+          let place : position_or_len (λ x. not (stands (at e) (num e) x)) xs ≡ position_or_len (λ x. (num x) == num e) xs = ap (λ (s : ℕ). position_or_len (λ x. not (stands s (num e) x)) xs) same ∙ place-found (num e) xs was r t in
+          ap (λ (i : ℕ). slice_set xs i e) place ∙ set-placed e xs was r d t (sym same)
 
   submit_if : (b : Bool) (o p : Option X) → option_map at (if b then o else p) ≡ (if b then option_map at o else option_map at p)
   submit_if true o p = refl

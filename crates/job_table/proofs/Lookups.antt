@@ -1,5 +1,5 @@
 -- What is read of a table.
-use Rattle.std.proofs.Common.{◌≡◌, ℕ, List, [], ◌∷◌, Option, Some, None, Bool, true, false, ◌==◌, Bor, option_copied, slice_get, is_some, not, IsTrue, refl, ap, sym, subst, ◌∙◌, if◌then◌else◌}
+use Rattle.std.proofs.Common.{◌≡◌, ℕ, List, [], ◌∷◌, Option, Some, None, Bool, true, false, ◌==◌, Bor, option_copied, slice_get, is_some, not, IsTrue, refl, sym, subst, ◌∙◌, if◌then◌else◌}
 use Rattle.std.specs.List.{AllByRecursion}
 use Rattle.std.proofs.lemmas.Bool.{true≢false}
 use Rattle.swf_text.specs.Entry.{LogEntry, number_of_entry}

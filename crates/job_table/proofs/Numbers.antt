@@ -1,14 +1,12 @@
 -- Pairs that rise by job number: where one stands, and what they give after an edit.
-use Rattle.std.proofs.Common.{◌≡◌, ◌≢◌, ℕ, zero, suc, ◌+◌, ◌<◌, ◌≤◌, List, [], ◌∷◌, Option, Some, None, Bool, true, false, ◌==◌, ◌||◌, ◌&&◌, nat_lt, not, cond, map, find, length, get_or, option_map, option_copied, is_some, insert, remove, slice_get, slice_set, count_by, refl, ap, sym, subst, ◌∙◌, arith, if◌then◌else◌}
-use Rattle.std.specs.List.{position_or_len}
-use Rattle.std.specs.List.Sorted.{IsPermutation, IsPartitionedBy}
-use Rattle.std.proofs.lemmas.Bool.{eq-eqb}
+use Rattle.std.proofs.Common.{◌≡◌, ℕ, suc, ◌+◌, ◌<◌, ◌≤◌, List, [], ◌∷◌, Option, Some, None, Bool, true, false, ◌==◌, find, length, option_map, is_some, insert, remove, slice_get, slice_set, refl, ap, sym, subst, ◌∙◌, arith, if◌then◌else◌}
+use Rattle.std.specs.List.Sorted.{IsPartitionedBy}
 use Rattle.std.proofs.lemmas.Bool.Decides.{nat_tests}
 use Rattle.chunks.specs.Chunks.{place_in, stands}
 use Rattle.chunks.specs.declared.numbered.Numbered.{Numbered}
 use Rattle.job_table.specs.Table.{number_in, second_in, second_of, IsBelow, NumbersRise}
 use Rattle.job_table.proofs.Arrangement.{comes, Leads}
-use Rattle.job_table.proofs.Keyed.{Rise, Apart, Lacks, found, left, placed, parted, same_number, other_number, number_differs, found-number, found-placed, found-without, found-Lacks, insert-placed, remove_place, rising-placed, rising-without, Lacks-from_none, none_there, place-found, at_within, get_place}
+use Rattle.job_table.proofs.Keyed.{Rise, Apart, Lacks, found, left, placed, parted, same_number, other_number, found-number, found-placed, found-without, found-Lacks, insert-placed, remove_place, rising-placed, rising-without, Lacks-from_none, none_there, at_within, get_place}
 
 one_more : (k : ℕ) → 1 + k ≡ suc k
 one_more k = omega arith

@@ -1,12 +1,12 @@
 -- What a table stores, after an edit.
-use Rattle.std.proofs.Common.{◌≡◌, ℕ, zero, suc, ◌+◌, ◌-◌, ◌<◌, ◌≤◌, List, [], ◌∷◌, Option, Some, None, Bool, true, false, ◌==◌, not, length, Bor, option_map, option_copied, is_some, IfSome, IsTrue, refl, ap, sym, subst, ◌∙◌, arith, if◌then◌else◌}
+use Rattle.std.proofs.Common.{◌≡◌, ℕ, ◌+◌, ◌-◌, ◌<◌, List, [], ◌∷◌, Option, Some, None, Bool, true, false, ◌==◌, not, length, Bor, option_map, option_copied, is_some, IfSome, IsTrue, refl, ap, sym, subst, ◌∙◌, arith, if◌then◌else◌}
 use Rattle.std.specs.List.{position_or_len}
 use Rattle.chunks.specs.declared.numbered.Numbered.{Numbered}
 use Rattle.swf_text.specs.Entry.{LogEntry, IsEntry, submit_of, number_of_entry}
 use Rattle.swf_text.specs.Log.{with_entry, log_of}
 use Rattle.job_table.specs.Edit.{entry_of, holds, without}
 use Rattle.job_table.specs.Table.{IsTable, IsIndex, IsStored, NumbersRise, entries_from, second_of}
-use Rattle.job_table.proofs.Keyed.{Apart, Lacks, found, found-number, stands, left, placed, same_number, without-Lacks, Lacks-from_none, indexes_at, indexes-without, indexes-moved}
+use Rattle.job_table.proofs.Keyed.{Apart, Lacks, found-number, stands, placed, same_number, without-Lacks, Lacks-from_none, indexes_at, indexes-without, indexes-moved}
 use Rattle.job_table.proofs.Tables.{table-apart, table-placed, table-left, table-moved, table-drop, table-rising, dropped-from, placed-is, length-placed}
 use Rattle.job_table.proofs.Lookups.{found-sound}
 use Rattle.job_table.proofs.Edited.{log-more}
@@ -61,6 +61,14 @@ module _ (old new : List LogEntry) (ps qs : List Numbered) (len : ℕ) (st : IsS
         };
         count = omega (arith, st.count, length-less n old was (table-apart old st.table) there, length-placed submit_of number_of_entry now (without n old), ap length put);
       }
+
+-- what an index tells of each number, where it tells this second of one
+pub tells-again : (n s : ℕ) (ps : List Numbered) → Some s ≡ second_of ps n → (q : ℕ) → second_of ps q ≡ (if n == q then Some s else second_of ps q)
+tells-again n s ps h q = go (n == q) refl
+  where
+    go : (b : Bool) → (n == q) ≡ b → second_of ps q ≡ (if b then Some s else second_of ps q)
+    go true t = ap (second_of ps) (sym (same_number n q t)) ∙ sym h
+    go false t = refl
 
 -- the entry that the index tells of
 pub entry-there : (n s : ℕ) (es : List LogEntry) → Some s ≡ option_map submit_of (entry_of n es) → (e : LogEntry) × (entry_of n es ≡ Some e)

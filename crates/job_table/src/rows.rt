@@ -109,6 +109,21 @@ pub(crate) fn with_moved<A: Allocator + Copy>(
     Ok(with_one(&left, entry, count)?)
 }
 
+// The entries with another one in place of that with its job number and its submit second.
+pub(crate) fn with_exchanged<A: Allocator + Copy>(
+    rows: &Rows<A>,
+    entry: Entry<A>,
+    count: &mut u32,
+) -> Result<Rows<A>, Memory>
+    requires table { IsTable rows.now }
+    requires known { Some (submit_of entry) ≡ option_map submit_of (entry_of (number_of_entry entry) rows.now) }
+    requires room { count.old ≤ 768 }
+    ensures rows { IfOk result (λ new. new ≡ with_entry entry (without (number_of_entry entry) rows.now)) }
+    ensures most { OnOk result (count.new ≤ count.old + 256) }
+{
+    Ok(rows.exchanged(entry, count)?)
+}
+
 // An entry with another value in a field.
 pub(crate) fn changed_entry<A: Allocator + Copy>(
     was: &Entry<A>,

@@ -9,8 +9,8 @@ use crate::edit::Edit;
 use crate::fault::EditFault;
 use crate::index::{Index, has_number, index_of, second, with_number, with_second, without_number};
 use crate::rows::{
-    Rows, are_same, changed_entry, copy_of, copy_rest, entry_at, rest_from, with_moved, with_one,
-    without_one,
+    Rows, are_same, changed_entry, copy_of, copy_rest, entry_at, rest_from, with_exchanged,
+    with_moved, with_one, without_one,
 };
 use chunks::Chunks;
 use std::alloc::Allocator;
@@ -236,6 +236,10 @@ impl<A: Allocator + Copy> JobTable<A> {
         let mut count = 1;
         let entry = changed_entry(was, field, value)?;
         let at = entry.submit();
+        if at == submit {
+            self.rows = with_exchanged(&self.rows, entry, &mut count)?;
+            return Ok(count);
+        }
         let index = with_second(&self.index, number, at, &mut count)?;
         let rows = with_moved(&self.rows, submit, entry, &mut count)?;
         self.index = index;

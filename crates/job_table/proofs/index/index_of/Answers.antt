@@ -1,4 +1,4 @@
-use Rattle.std.proofs.Common.{◌≡◌, List, map, rules, subst, sym, ◌∙◌}
+use Rattle.std.proofs.Common.{List, map, rules, subst, sym}
 use Rattle.std.specs.List.Sorted.{IsPermutation, IsNonDecreasingBy}
 use Rattle.std.proofs.lemmas.List.Sorted.{IsNonDecreasingBy-from_sort, answers_always}
 use Rattle.chunks.specs.declared.numbered.Numbered.{Numbered}

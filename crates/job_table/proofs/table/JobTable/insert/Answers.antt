@@ -1,4 +1,4 @@
-use Rattle.std.proofs.Common.{◌≡◌, ◌<◌, List, length, subst, sym}
+use Rattle.std.proofs.Common.{◌<◌, List, length, subst, sym}
 use Rattle.swf_text.specs.Entry.{LogEntry}
 use Rattle.job_table.proofs.Stored.{stored-more, second-new, lacks-it, log-with}
 use Rattle.job_table.proofs.table.JobTable.insert.Goals as goal
