@@ -5,18 +5,18 @@ use Rattle.std.specs.Option.{option_map}
 use Rattle.std.proofs.lemmas.List.Sums.{sum_by-cons, sum_by_more, get_or-le-sum_by}
 use Rattle.std.specs.List.Sorted.{IsPermutation}
 use Rattle.std.proofs.lemmas.List.{nil_from_length}
-use Rattle.std.proofs.lemmas.List.Sorted.{sum_by_popped, sum_by_pushed}
+use Rattle.std.proofs.lemmas.List.Sorted.{sum_by_popped, sum_by_pushed, IsPermutation-refl, IsPermutation-cons, IsPermutation-trans, IsPermutation-insert}
 use Rattle.std.proofs.lemmas.List.Elements.{All-cons, All-head, All-tail, All-nil, All-weaker, All-filter}
 use Rattle.std.proofs.lemmas.Bool.{cond_both, cond-true, cond-false, cases_Bool, cases_lt, cases_eq, lt-ltb, ltb-true, ltb-false, le-ltb, eq-eqb, eqb-true, ne_eqb, and_from, and_parts, or_left, or_right, true≢false}
 use Rattle.scenarios.specs.Job.{EffectiveJob}
 use Rattle.cluster_state.specs.declared.running.Running.{Running}
 use Rattle.cluster_state.specs.State.{State, IsSound, expected_end, real_end, placed, waiting_job, ended_until}
-use Rattle.cluster_state.specs.Ends.{is_sooner, entered, by_end}
+use Rattle.cluster_state.specs.Ends.{is_sooner, entered, by_end, EndsSooner, RisesByEnd}
 use Rattle.cluster_state.proofs.StateLemmas.{position-is, sum_by-placed, sum_by-without}
 
 -- ---- the order
 abbrev pub Sooner : Running → Running → Type 0
-Sooner a b = (expected_end a < expected_end b) ⊎ ((expected_end a ≡ expected_end b) × (a.job.number < b.job.number))
+Sooner a b = EndsSooner a b
 
 -- a is not later than b
 abbrev pub NotLater : Running → Running → Type 0
@@ -407,3 +407,38 @@ pushed-more at ends ends' x i r rs f h p here l is =
     let b = sum_by_more (λ (r : Running). f (real_end r)) rs i r l in
     let e = ap (λ (r : Running). f (real_end r)) is in
     omega (arith, a, b, e, h)
+
+-- ---- no two of them tie
+strict-entered : (r : Running) (xs : List Running) → RisesByEnd xs → All (λ x. x.job.number ≢ r.job.number) xs → RisesByEnd (entered r xs)
+strict-entered r [] h a = (All-nil (EndsSooner r), tt)
+strict-entered r (x ∷ xs) h a =
+    ⊎_elim
+    (λ (s : Sooner r x).
+    subst RisesByEnd (sym (enters-before r x xs s)) (All-cons (EndsSooner r) x xs s (All-weaker (EndsSooner x) (EndsSooner r) (λ y n. sooner-than r x y s (weaker x y n)) xs h.0), h))
+    (λ (n : NotLater x r).
+    let other = All-head (λ x. x.job.number ≢ r.job.number) x xs a in
+    subst RisesByEnd (sym (enters-behind r x xs n)) (All-entered (EndsSooner x) r xs (strictly x r other n) h.0, strict-entered r xs h.1 (All-tail (λ x. x.job.number ≢ r.job.number) x xs a)))
+    (sooner-or r x)
+
+pub strict-by_end : (rs : List Running) → ((n : ℕ) → count_by (λ (x : Running). nat_eq x.job.number n) rs ≤ 1) → RisesByEnd (by_end rs)
+strict-by_end [] once = tt
+strict-by_end (r ∷ rs) once =
+    let n = r.job.number in
+    let k = sum_by-cons (λ (x : Running). cond {A = ℕ} (nat_eq x.job.number n) 1 0) r rs in
+    let one = cond-true {A = ℕ} (nat_eq r.job.number n) 1 0 (eq-eqb r.job.number n refl) in
+    let none = none-adds (λ (x : Running). nat_eq x.job.number n) rs (let o = once n in omega (arith, o, k, one)) in
+    let others = All-weaker (λ x. nat_eq x.job.number n ≡ false) (λ x. x.job.number ≢ n) (λ x f e. true≢false (sym (eq-eqb x.job.number n e) ∙ f)) rs none in
+    strict-entered r (by_end rs)
+    (strict-by_end rs (λ m. (let o = once m in let l = sum_by-cons (λ (x : Running). cond {A = ℕ} (nat_eq x.job.number m) 1 0) r rs in omega (arith, o, l))))
+    (All-by_end (λ x. x.job.number ≢ n) rs others)
+
+pub rises-of : (s : State) → IsSound s → RisesByEnd (by_end s.running)
+rises-of s h = strict-by_end s.running (λ n. (let o = h.once n in omega (arith, o)))
+
+-- and each stands there once
+pub permuted-by_end : (rs : List Running) → IsPermutation rs (by_end rs)
+permuted-by_end [] = IsPermutation-refl []
+permuted-by_end (r ∷ rs) =
+    let row = by_end rs in
+    IsPermutation-trans (r ∷ rs) (r ∷ row) (entered r row) (IsPermutation-cons r rs row (permuted-by_end rs))
+    (subst (IsPermutation (r ∷ row)) (sym (entered-at r row)) (IsPermutation-insert row (position_or_len (λ (x : Running). is_sooner r x) row) r))

@@ -1,5 +1,5 @@
 -- The order in which running jobs are expected to end.
-use Rattle.std.specs.Prelude.{◌≡◌, ℕ, ◌||◌, ◌&&◌, ◌==◌, Bool, nat_lt, if◌then◌else◌, List, [], ◌∷◌}
+use Rattle.std.specs.Prelude.{◌≡◌, ◌<◌, ◌⊎◌, ◌||◌, ◌&&◌, ◌==◌, Bool, nat_lt, if◌then◌else◌, List, [], ◌∷◌, All}
 use Rattle.cluster_state.specs.declared.running.Running.{Running}
 use Rattle.cluster_state.specs.State.{expected_end}
 
@@ -16,3 +16,12 @@ entered r (x ∷ xs) = if is_sooner r x then r ∷ x ∷ xs else x ∷ entered r
 abbrev pub by_end : List Running → List Running
 by_end [] = []
 by_end (r ∷ rs) = entered r (by_end rs)
+
+-- a is expected to end earlier than b, or at the same second and has the smaller number, as a fact
+abbrev pub EndsSooner : Running → Running → Type 0
+EndsSooner a b = (expected_end a < expected_end b) ⊎ ((expected_end a ≡ expected_end b) × (a.job.number < b.job.number))
+
+-- each is expected to end sooner than all those behind it
+abbrev pub RisesByEnd : List Running → Type 0
+RisesByEnd [] = Unit {0}
+RisesByEnd (r ∷ rs) = All (EndsSooner r) rs × RisesByEnd rs

@@ -1,4 +1,4 @@
-ghost use Rattle.std.specs.Prelude.{◌≡◌, ◌-◌, ◌<◌, ◌≤◌, ◌+◌, ◌^◌, ◌↔◌, [], OnOk, OnErr, IfOk, IfSome, IsNone, IsOk, IsTrue, MatchOption, All, Any, length, slice_get, count_by, nat_eq};
+ghost use Rattle.std.specs.Prelude.{◌≡◌, ◌-◌, ◌<◌, ◌≤◌, ◌+◌, ◌^◌, ◌↔◌, [], OnOk, OnErr, IfOk, IfSome, IsNone, IsOk, IsTrue, MatchOption, All, Any, length, slice_get, count_by, nat_eq, IsPermutation};
 ghost use Rattle.std.specs.Option.{option_copied};
 ghost use Rattle.scenarios.specs.declared.order.Order.TheVariants.{Arrival};
 
@@ -47,7 +47,7 @@ impl<A: Allocator + Copy> Cluster<A> {
     ghost use Rattle.cluster_state.specs.State.{empty, free, real_end, arrived, after_start, all_started};
     ghost use Rattle.cluster_state.specs.State.{ended_until, holders, CanArrive, CanStart, CanStartAll, IsSound};
     ghost use Rattle.cluster_state.specs.Row.{in_order};
-    ghost use Rattle.cluster_state.specs.Ends.{by_end};
+    ghost use Rattle.cluster_state.specs.Ends.{by_end, RisesByEnd};
     ghost use Rattle.scenarios.specs.Plan.{plan_of};
     ghost use Rattle.cluster_state.specs.Snapshot.{numbers_of, restored, Fits};
 
@@ -188,6 +188,8 @@ impl<A: Allocator + Copy> Cluster<A> {
     /// plus estimate), and of one second by number.
     pub fn running_by_end(&self) -> &[Running]
         ensures order { result.now ≡ by_end self.now.state.running }
+        ensures rising { RisesByEnd result.now }
+        ensures each { IsPermutation self.now.state.running result.now }
         ensures sound { IsSound self.now.state }
     {
         self.by_end.as_slice()

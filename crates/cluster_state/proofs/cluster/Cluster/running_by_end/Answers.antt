@@ -1,0 +1,13 @@
+use Rattle.std.proofs.Common.{◌≡◌, ◌∙◌, sym, ap, subst, IsPermutation, List}
+use Rattle.cluster_state.specs.declared.running.Running.{Running}
+use Rattle.cluster_state.specs.Ends.{by_end, RisesByEnd}
+use Rattle.cluster_state.proofs.EndLemmas.{rises-of, permuted-by_end}
+use Rattle.cluster_state.proofs.cluster.Cluster.running_by_end.Goals as goal
+
+pub returns-clause-rising : goal.returns-clause-rising
+returns-clause-rising g c =
+    subst RisesByEnd (sym (c.as_slice.ensures.value ∙ c.self.invariant.kept_by_end)) (rises-of _ c.self.invariant.sound)
+
+pub returns-clause-each : goal.returns-clause-each
+returns-clause-each g c =
+    rw (← c.self.view_is, c.as_slice.ensures.value, c.self.invariant.kept_by_end) (permuted-by_end c.self.inside.running.items)
