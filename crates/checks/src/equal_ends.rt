@@ -41,6 +41,6 @@ fn reads_each_of_many_equal_ends_once(rt: HostRuntime) -> Result<(), Fail> {
                 extra: 0
             })
     );
-    assert!(rt; reads <= MANY);
+    assert!(rt; reads == MANY);
     Ok(())
 }

@@ -1,15 +1,15 @@
 -- The walk over the running jobs in the order of their expected ends.
-use Rattle.std.proofs.Common.{◌≡◌, ℕ, zero, suc, ◌+◌, ◌-◌, ◌^◌, ◌≤◌, ◌<◌, nat_le, List, [], ◌∷◌, length, take, drop, get_or, All, sum_by, refl, sym, ◌∙◌, ap, arith, subst, inl, inr, ⊎_elim, ◌⊎◌}
+use Rattle.std.proofs.Common.{◌≡◌, ℕ, zero, suc, ◌+◌, ◌-◌, ◌^◌, ◌≤◌, ◌<◌, cond, nat_le, List, [], ◌∷◌, length, take, drop, get_or, min, All, sum_by, count_by, refl, sym, ◌∙◌, ap, arith, subst, inl, inr, ⊎_elim, ◌⊎◌}
 use Rattle.std.proofs.lemmas.List.Sums.{sum_by-cons, sum_by-take-drop, sum_by_more, sum_by_more_le}
 use Rattle.std.proofs.lemmas.List.Elements.{All-cons, All-head, All-tail, All-nil, All-more, All-weaker}
-use Rattle.std.proofs.lemmas.List.{take_all, drop_all}
-use Rattle.std.proofs.lemmas.Bool.{lt-leb, cond-false, cases_lt}
+use Rattle.std.proofs.lemmas.List.{take_all, drop_all, length-take}
+use Rattle.std.proofs.lemmas.Bool.{lt-leb, le-leb, cond-true, cond-false, cases_lt}
 use Rattle.cluster_state.specs.declared.running.Running.{Running}
 use Rattle.cluster_state.specs.State.{State, IsSound, free, busy, expected_end, back_by, available}
 use Rattle.cluster_state.specs.Ends.{by_end}
-use Rattle.cluster_state.proofs.EndLemmas.{NotLater, Rises, rises-by_end, sum_by-by_end, All-by_end}
+use Rattle.cluster_state.proofs.EndLemmas.{NotLater, Rises, rises-by_end, sum_by-by_end, length-by_end, All-by_end}
 use Rattle.easy_rule.specs.declared.shadow_time.Shadow.{Shadow}
-use Rattle.easy_rule.specs.Rule.{shadow_time, shadow_at, IsLeast}
+use Rattle.easy_rule.specs.Rule.{shadow_time, shadow_at, ends_read, IsLeast}
 use Rattle.easy_rule.proofs.RuleLemmas.{shadow_time-IsLeast, back-each, back-le-busy}
 
 -- nothing of those that are expected to end later has come back
@@ -148,3 +148,41 @@ walk-room s need room time i r h w l is =
 
 pub early-end : (s : State) (i : ℕ) (r : Running) → IsSound s → i < length (by_end s.running) → r ≡ get_or (by_end s.running) i r → r.start < 2 ^ 49
 early-end s i r h l is = subst (λ (x : Running). x.start < 2 ^ 49) (sym is) (All-by_end (λ (x : Running). x.start < 2 ^ 49) s.running h.started i r l)
+
+-- ---- how many ends are read
+count-all : (t : ℕ) (rs : List Running) → All (λ r. expected_end r ≤ t) rs → count_by (λ r. nat_le (expected_end r) t) rs ≡ length rs
+count-all t [] a = refl
+count-all t (r ∷ rs) a =
+    let one = cond-true {A = ℕ} (nat_le (expected_end r) t) 1 0 (le-leb (expected_end r) t (All-head (λ r. expected_end r ≤ t) r rs a)) in
+    let k = sum_by-cons (λ (r : Running). cond {A = ℕ} (nat_le (expected_end r) t) 1 0) r rs in
+    let l = count-all t rs (All-tail (λ r. expected_end r ≤ t) r rs a) in
+    omega (arith, one, k, l)
+
+count-none : (t : ℕ) (rs : List Running) → All (λ r. t < expected_end r) rs → count_by (λ r. nat_le (expected_end r) t) rs ≡ 0
+count-none t [] a = refl
+count-none t (r ∷ rs) a =
+    let one = cond-false {A = ℕ} (nat_le (expected_end r) t) 1 0 (lt-leb (expected_end r) t (All-head (λ r. t < expected_end r) r rs a)) in
+    let k = sum_by-cons (λ (r : Running). cond {A = ℕ} (nat_le (expected_end r) t) 1 0) r rs in
+    let l = count-none t rs (All-tail (λ r. t < expected_end r) r rs a) in
+    omega (arith, one, k, l)
+
+-- where the others are expected to end later, those up to the second are those before the place
+walk-counts : (s : State) (need room time i : ℕ) → IsWalk s need room time i → i ≤ length (by_end s.running) → All (λ r. time < expected_end r) (drop i (by_end s.running))
+    → count_by (λ r. nat_le (expected_end r) time) s.running ≡ i
+walk-counts s need room time i w within rest =
+    let rs = by_end s.running in
+    let f : Running → ℕ = λ r. cond (nat_le (expected_end r) time) 1 0 in
+    let a = sum_by-by_end f s.running in
+    let b = sum_by-take-drop f rs i in
+    let c = count-all time (take i rs) w.seen in
+    let d = count-none time (drop i rs) rest in
+    let len = length-take i rs in
+    omega (arith, a, b, c, d, len, within)
+
+-- the walk that stops at a place has read the end there too
+pub walk-reads : (s : State) (need room time i : ℕ) → IsWalk s need room time i → i < length (by_end s.running) → All (λ r. time < expected_end r) (drop i (by_end s.running)) → i + 1 ≡ ends_read s time
+walk-reads s need room time i w l rest = let k = walk-counts s need room time i w (omega (arith, l)) rest in let n = length-by_end s.running in omega (arith, k, n, l)
+
+-- the walk to the end of the row has read all
+pub walk-reads-all : (s : State) (need room time i : ℕ) → IsWalk s need room time i → i ≡ length (by_end s.running) → All (λ r. time < expected_end r) (drop i (by_end s.running)) → i ≡ ends_read s time
+walk-reads-all s need room time i w l rest = let k = walk-counts s need room time i w (omega (arith, l)) rest in let n = length-by_end s.running in omega (arith, k, n, l)

@@ -1,5 +1,5 @@
 -- EASY backfilling (Lifka 1995; Mu'alem and Feitelson, IEEE TPDS 12(6), 2001).
-use Rattle.std.specs.Prelude.{◌≡◌, ℕ, zero, suc, ◌+◌, ◌-◌, ◌≤◌, ◌<◌, Bool, ◌&&◌, ◌||◌, nat_le, if◌then◌else◌, List, [], ◌∷◌, length, Option, Some, None, IsSomeAnd, find, sum_by, slice_get}
+use Rattle.std.specs.Prelude.{◌≡◌, ℕ, zero, suc, ◌+◌, ◌-◌, ◌≤◌, ◌<◌, Bool, ◌&&◌, ◌||◌, nat_le, if◌then◌else◌, List, [], ◌∷◌, length, min, Option, Some, None, IsSomeAnd, find, sum_by, count_by, slice_get}
 use Rattle.std.specs.Option.{option_map_or}
 use Rattle.scenarios.specs.Job.{EffectiveJob}
 use Rattle.cluster_state.specs.State.{State, free, available, expected_end, started}
@@ -38,6 +38,10 @@ abbrev pub IsShadow : State → Shadow → Type 0
 IsShadow s w =
     IsSomeAnd (slice_get s.waiting 0)
     (λ head. (free s < head.size) × IsLeast (λ t. head.size ≤ available s t) w.time × (w.extra + head.size ≡ available s w.time))
+
+-- how many expected ends a walk in their order reads: those up to this second, and the first one past it, if there is one
+abbrev pub ends_read : State → ℕ → ℕ
+ends_read s t = min (count_by (λ r. nat_le (expected_end r) t) s.running + 1) (length s.running)
 
 -- a later job may start now: it fits, and is expected to end by the shadow time or takes no more than the extra processors (Mu'alem and Feitelson 2001)
 abbrev pub may_backfill : ℕ → ℕ → Shadow → EffectiveJob → Bool

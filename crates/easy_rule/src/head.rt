@@ -1,6 +1,6 @@
-ghost use Rattle.std.specs.Prelude.{◌≡◌, ◌<◌, ◌≤◌, IfSome, length};
+ghost use Rattle.std.specs.Prelude.{◌≡◌, ◌<◌, ◌≤◌, IfSome, MatchOption};
 ghost use Rattle.cluster_state.specs.State.{available, free};
-ghost use Rattle.easy_rule.specs.Rule.{IsLeast, IsShadow, shadow_of, shadow_at};
+ghost use Rattle.easy_rule.specs.Rule.{IsLeast, IsShadow, shadow_of, shadow_at, ends_read};
 
 use crate::shadow_time::Shadow;
 use cluster_state::Cluster;
@@ -16,7 +16,7 @@ fn walk<A: Allocator + Copy>(cluster: &Cluster<A>, need: u64) -> (Shadow, u64)
     requires within { need ≤ cluster.now.state.machine }
     ensures shadow { result.0 ≡ shadow_at cluster.now.state need }
     ensures least { IsLeast (λ t. need ≤ available cluster.now.state t) result.0.time }
-    ensures reads { result.1 ≤ length cluster.now.state.running }
+    ensures reads { result.1 ≡ ends_read cluster.now.state result.0.time }
 {
     let mut room = cluster.free();
     let mut time = 0;
@@ -46,11 +46,12 @@ pub(crate) fn shadow_for<A: Allocator + Copy>(cluster: &Cluster<A>, need: u64) -
     shadow
 }
 
-/// As `shadow`, and how often it read a running job's expected end: at most once of each.
+/// As `shadow`, and how often it read a running job's expected end: once of each up to the shadow
+/// time, and of the first past it, if there is one; never where there is no shadow.
 pub fn shadow_counted<A: Allocator + Copy>(cluster: &Cluster<A>) -> (Option<Shadow>, u64)
     ensures value { result.0 ≡ shadow_of cluster.now.state }
     ensures least { IfSome result.0 (λ w. IsShadow cluster.now.state w) }
-    ensures reads { result.1 ≤ length cluster.now.state.running }
+    ensures reads { MatchOption result.0 (result.1 ≡ 0) (λ w. result.1 ≡ ends_read cluster.now.state w.time) }
 {
     let [head, ..] = cluster.waiting() else {
         return (None, 0);

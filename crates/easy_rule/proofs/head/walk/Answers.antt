@@ -2,8 +2,7 @@ use Rattle.std.proofs.Common.{◌≡◌, ◌≤◌, ◌<◌, ◌+◌, ◌⊎◌,
 use Rattle.cluster_state.specs.declared.running.Running.{Running}
 use Rattle.cluster_state.specs.State.{State, expected_end}
 use Rattle.cluster_state.specs.Ends.{by_end}
-use Rattle.cluster_state.proofs.EndLemmas.{length-by_end}
-use Rattle.easy_rule.proofs.WalkLemmas.{walk-begins, walk-more, walk-shadow, walk-least, walk-stops, walk-ends, walk-room, early-end}
+use Rattle.easy_rule.proofs.WalkLemmas.{walk-begins, walk-more, walk-shadow, walk-least, walk-stops, walk-ends, walk-room, walk-reads, walk-reads-all, early-end}
 use Rattle.easy_rule.proofs.head.walk.Goals.{else-need-room-via-then-need-room+else-time-end, else-need-room-via-else-need-room}
 use Rattle.easy_rule.proofs.head.walk.Goals as goal
 
@@ -49,7 +48,9 @@ returns-then-time-end-clause-reads g c =
     let here : i < length (by_end s.running) = rw c.running_by_end-r-items.ensures.order at c.loop-r-test.true in
     let is : r ≡ get_or (by_end s.running) i r = rw c.running_by_end-r-items.ensures.order at c.r-item.is in
     let w = c.loop-r.invariant.walk in
-    omega (arith, here, c.loop-r.invariant.reads, length-by_end s.running)
+    let rest = walk-stops s c.args.need c.loop-r.room c.loop-r.time i r w here is (rw c.estimate.ensures.value at c.if-time-end.true) in
+    let read = walk-reads s c.args.need c.loop-r.room c.loop-r.time i w here rest in
+    omega (arith, read, c.loop-r.invariant.reads)
 
 pub overflow_add-room : goal.overflow_add-room
 overflow_add-room g c =
@@ -106,5 +107,10 @@ returns-clause-least g c =
 
 pub returns-clause-reads : goal.returns-clause-reads
 returns-clause-reads g c =
-    let within : c.loop-r.r-index ≤ length (by_end c.args.cluster.now.state.running) = rw c.running_by_end-r-items.ensures.order at c.loop-r.auto.r-index-end in
-    omega (arith, within, c.loop-r.invariant.reads, length-by_end c.args.cluster.now.state.running)
+    let s : State = c.args.cluster.now.state in
+    let w = c.loop-r.invariant.walk in
+    let past : length (by_end s.running) ≤ c.loop-r.r-index = rw c.running_by_end-r-items.ensures.order at c.loop-r-test.false in
+    let within : c.loop-r.r-index ≤ length (by_end s.running) = rw c.running_by_end-r-items.ensures.order at c.loop-r.auto.r-index-end in
+    let e = walk-ends s c.args.need c.loop-r.room c.loop-r.time c.loop-r.r-index c.free-room.ensures.sound c.requires.within w past in
+    let read = walk-reads-all s c.args.need c.loop-r.room c.loop-r.time c.loop-r.r-index w (omega (arith, past, within)) e.1 in
+    omega (arith, read, c.loop-r.invariant.reads)
