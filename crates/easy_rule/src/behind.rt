@@ -1,4 +1,4 @@
-ghost use Rattle.std.specs.Prelude.{◌≡◌, ◌<◌, ◌≤◌, ◌^◌, OnOk, OnErr, IsOk, IfOk, None, Some, length};
+ghost use Rattle.std.specs.Prelude.{◌≡◌, ◌+◌, ◌<◌, ◌≤◌, ◌^◌, OnOk, OnErr, IsOk, IfOk, None, Some, length};
 ghost use Rattle.std.specs.List.{list_any};
 ghost use Rattle.easy_rule.specs.Rule.{may_backfill, next, shadow_of, state_after, starts_at};
 ghost use Rattle.easy_rule.specs.Pass.{front};
@@ -38,6 +38,7 @@ pub fn decide_behind<A: Allocator + Copy>(
     requires shadow { shadow_of cluster.old.state ≡ Some shadow }
     ensures state { OnOk result (cluster.new.state ≡ state_after cluster.old.state now) }
     ensures starts { IfOk result (λ decision. decision.0.items ≡ starts_at cluster.old.state now) }
+    ensures room { IfOk result (λ decision. cluster.old.spare ≤ cluster.new.spare + length decision.0.items) }
     ensures shadow { IfOk result (λ decision. shadow_of cluster.new.state ≡ Some decision.1) }
     ensures settled { next cluster.old.state now ≡ None → IsOk result }
     ensures err { OnErr result (cluster.new.state ≡ cluster.old.state) }

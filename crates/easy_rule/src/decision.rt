@@ -1,4 +1,4 @@
-ghost use Rattle.std.specs.Prelude.{◌≡◌, ◌<◌, ◌≤◌, ◌^◌, OnOk, OnErr, IsOk, IfOk, IfSome, IsSome, None, Some};
+ghost use Rattle.std.specs.Prelude.{◌≡◌, ◌+◌, ◌<◌, ◌≤◌, ◌^◌, OnOk, OnErr, IsOk, IfOk, IfSome, IsSome, None, Some, length};
 ghost use Rattle.cluster_state.specs.State.{free};
 ghost use Rattle.easy_rule.specs.Rule.{next, shadow_of, state_after, starts_at};
 
@@ -19,6 +19,7 @@ use swf_text::Memory;
 /// 12(6), 2001). It is done in one pass over the queue: a job that may not start now may not start
 /// after the starts of others either.
 ///
+/// Each start takes up one of the cluster's room for starts at most, and nothing else takes any.
 /// Memory where a growth was refused; no job has started then. It takes no memory where no job
 /// starts.
 pub fn decide<A: Allocator + Copy>(
@@ -29,6 +30,7 @@ pub fn decide<A: Allocator + Copy>(
     requires { now < 2 ^ 49 }
     ensures state { OnOk result (cluster.new.state ≡ state_after cluster.old.state now) }
     ensures starts { IfOk result (λ starts. starts.items ≡ starts_at cluster.old.state now) }
+    ensures room { IfOk result (λ starts. cluster.old.spare ≤ cluster.new.spare + length starts.items) }
     ensures settled { next cluster.old.state now ≡ None → IsOk result }
     ensures err { OnErr result (cluster.new.state ≡ cluster.old.state) }
     ensures spare { OnErr result (cluster.old.spare ≤ cluster.new.spare) }
@@ -47,6 +49,7 @@ pub fn decide_with_shadow<A: Allocator + Copy>(
     requires { now < 2 ^ 49 }
     ensures state { OnOk result (cluster.new.state ≡ state_after cluster.old.state now) }
     ensures starts { IfOk result (λ decision. decision.0.items ≡ starts_at cluster.old.state now) }
+    ensures room { IfOk result (λ decision. cluster.old.spare ≤ cluster.new.spare + length decision.0.items) }
     ensures shadow { IfOk result (λ decision. IfSome decision.1 (λ w. shadow_of cluster.new.state ≡ Some w)) }
     ensures told { IfOk result (λ decision. 0 < free cluster.new.state → IsSome (shadow_of cluster.new.state) → IsSome decision.1) }
     ensures settled { next cluster.old.state now ≡ None → IsOk result }

@@ -66,6 +66,7 @@ pub(crate) fn start_heads<A: Allocator + Copy>(
     ensures starts { map (start_at now) chosen.new.items ++ starts_at cluster.new.state now ≡ starts_at cluster.old.state now }
     ensures head { IfSome (slice_get cluster.new.state.waiting 0) (λ head. free cluster.new.state < head.size) }
     ensures spare { most_starts cluster.new.state ≤ cluster.new.spare }
+    ensures left { cluster.old.spare ≤ cluster.new.spare + length chosen.new.items }
     ensures fewer { vec_len chosen.new + most_starts cluster.new.state ≤ vec_len chosen.old + most_starts cluster.old.state }
     ensures capacity { vec_capacity chosen.old ≤ vec_capacity chosen.new }
 {
@@ -91,6 +92,7 @@ pub(crate) fn pass_on<A: Allocator + Copy>(
     ensures state { cluster.new.state ≡ state_after cluster.old.state now }
     ensures starts { map (start_at now) chosen.new.items ≡ map (start_at now) chosen.old.items ++ starts_at cluster.old.state now }
     ensures shadow { shadow_of cluster.new.state ≡ Some result }
+    ensures left { cluster.old.spare + length chosen.old.items ≤ cluster.new.spare + length chosen.new.items }
     ensures fewer { vec_len chosen.new ≤ vec_len chosen.old + most_starts cluster.old.state }
 {
     let before = chosen.len();
@@ -116,6 +118,7 @@ pub(crate) fn start_later<A: Allocator + Copy>(
     ensures starts { map (start_at now) chosen.new.items ≡ map (start_at now) chosen.old.items ++ starts_at cluster.old.state now }
     ensures shadow { IfSome result (λ w. shadow_of cluster.new.state ≡ Some w) }
     ensures told { 0 < free cluster.new.state → IsSome (shadow_of cluster.new.state) → IsSome result }
+    ensures left { cluster.old.spare + length chosen.old.items ≤ cluster.new.spare + length chosen.new.items }
     ensures fewer { vec_len chosen.new ≤ vec_len chosen.old + most_starts cluster.old.state }
 {
     let [head, ..] = cluster.waiting() else {

@@ -57,3 +57,12 @@ returns-clause-fewer g c =
     let js = take (length c.deref.result.now - c.len-before.result) (drop c.len-before.result c.deref.result.now) in
     let all = ap length k.1 in
     omega (arith, all, length-append c.args.chosen.now.items js, k.2, c.deref.ensures.len, c.args.chosen.now.ok.0)
+
+pub returns-clause-left : goal.returns-clause-left
+returns-clause-left g c =
+    let k = facts g c in
+    let js = take (length c.deref.result.now - c.len-before.result) (drop c.len-before.result c.deref.result.now) in
+    let all = ap length k.1 in
+    let told = ap length c.deref.ensures.value in
+    let spare = c.start_all.ensures.spare in
+    omega (arith, all, told, spare, length-append c.args.chosen.now.items js)

@@ -46,3 +46,9 @@ returns-clause-fewer g c =
     let most = ap most_starts c.in-Ok.ensures.ok in
     let len = c.deref.ensures.len in
     omega (arith, (facts g c).1, most, len)
+
+pub returns-clause-left : goal.returns-clause-left
+returns-clause-left g c =
+    let told = ap length c.deref.ensures.value in
+    let spare = c.start_all.ensures.spare in
+    omega (arith, told, spare)
