@@ -265,7 +265,7 @@ none-adds p (x ∷ xs) e =
     (λ (n : p x ≡ false). All-cons (λ x. p x ≡ false) x xs n (none-adds p xs (omega (arith, e, k))))
     (cases_Bool (p x))
 
-adds-none : {X : Type 0} (p : X → Bool) (xs : List X) → All (λ x. p x ≡ false) xs → sum_by (λ x. cond (p x) 1 0) xs ≡ 0
+pub adds-none : {X : Type 0} (p : X → Bool) (xs : List X) → All (λ x. p x ≡ false) xs → sum_by (λ x. cond (p x) 1 0) xs ≡ 0
 adds-none p [] a = refl
 adds-none p (x ∷ xs) a =
     let k = sum_by-cons (λ x. cond {A = ℕ} (p x) 1 0) x xs in
@@ -278,7 +278,7 @@ Any-first P x xs h = (0, x, omega arith, refl, h)
 Any-later : {X : Type 0} (P : X → Type 0) (x : X) (xs : List X) → Any P xs → Any P (x ∷ xs)
 Any-later P x xs (k, y, l, e, h) = (suc k, y, omega (arith, l), e, h)
 
-one-adds : {X : Type 0} (P : X → Type 0) (p : X → Bool) (xs : List X) → ((x : X) → p x ≡ true → P x) → 1 ≤ sum_by (λ x. cond (p x) 1 0) xs → Any P xs
+pub one-adds : {X : Type 0} (P : X → Type 0) (p : X → Bool) (xs : List X) → ((x : X) → p x ≡ true → P x) → 1 ≤ sum_by (λ x. cond (p x) 1 0) xs → Any P xs
 one-adds P p [] f l = absurd (omega (arith, l))
 one-adds P p (x ∷ xs) f l =
     let k = sum_by-cons (λ x. cond {A = ℕ} (p x) 1 0) x xs in
@@ -286,6 +286,14 @@ one-adds P p (x ∷ xs) f l =
     (λ (y : p x ≡ true). Any-first P x xs (f x y))
     (λ (n : p x ≡ false). let none = cond-false {A = ℕ} (p x) 1 0 n in Any-later P x xs (one-adds P p xs f (omega (arith, l, k, none))))
     (cases_Bool (p x))
+
+-- one passes: something is added
+pub adds-one : {X : Type 0} (P : X → Type 0) (p : X → Bool) (xs : List X) → ((x : X) → P x → p x ≡ true) → Any P xs → 1 ≤ sum_by (λ x. cond (p x) 1 0) xs
+adds-one P p xs f (k, x, l, at, h) =
+    let some = get_or-le-sum_by (λ x. cond {A = ℕ} (p x) 1 0) xs k x l in
+    let one = cond-true {A = ℕ} (p x) 1 0 (f x h) in
+    let here = ap (λ y. cond {A = ℕ} (p y) 1 0) at in
+    omega (arith, some, one, here)
 
 module _ {E : Type 0} (at : E → ℕ) where
   -- these are the ends of the running jobs

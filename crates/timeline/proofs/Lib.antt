@@ -9,3 +9,4 @@ pub mod Sound
 pub mod Promise
 pub mod Promises
 pub mod Events
+pub mod Starting

@@ -1,5 +1,5 @@
 -- What holds of the simulation of each plan, in either order of backfills.
-use Rattle.std.specs.Prelude.{◌≡◌, ℕ, ◌≤◌, ◌<◌, nat_eq, List, ◌∷◌, length, None, Some, All, Any, IsSomeAnd, count_by}
+use Rattle.std.specs.Prelude.{◌≡◌, ℕ, ◌+◌, ◌≤◌, ◌<◌, ◌↔◌, nat_eq, List, ◌∷◌, length, None, Some, All, Any, IsSomeAnd, count_by}
 use Rattle.scenarios.specs.Job.{EffectiveJob}
 use Rattle.scenarios.specs.Plan.{Plan}
 use Rattle.cluster_state.specs.State.{IsSound, empty, real_end}
@@ -16,6 +16,12 @@ EachJobStartsOnce = (plan : Plan) (n : ℕ) → IsPlan plan → count_by (λ x. 
 -- each job has a start, at its submit second or later
 abbrev pub NoneStartsEarly : Type 0
 NoneStartsEarly = (plan : Plan) → IsPlan plan → All (λ j. IsSomeAnd (start_of (sim plan) j.number) (λ t. j.submit ≤ t)) plan.jobs
+
+-- a job of number n starts at second t where, and only where, a job of that number and start runs before second t + 1
+abbrev pub StartsAreRunningJobs : Type 0
+StartsAreRunningJobs =
+    (plan : Plan) (n t : ℕ) → IsPlan plan
+    → Any (λ x. (x.number ≡ n) × (x.at ≡ t)) (sim plan) ↔ Any (λ r. (r.job.number ≡ n) × (r.start ≡ t)) (before plan (t + 1)).running
 
 -- after the last submit second and as long again as all jobs run, nobody waits or runs
 abbrev pub AllHaveEnded : Type 0

@@ -1,4 +1,4 @@
-ghost use Rattle.timeline.specs.Laws.{AllEndByTheBound, AllHaveEnded, AllStartByTheBound, EachJobStartsOnce, EventsEndByTheBound, NoneStartsEarly};
+ghost use Rattle.timeline.specs.Laws.{AllEndByTheBound, AllHaveEnded, AllStartByTheBound, EachJobStartsOnce, EventsEndByTheBound, NoneStartsEarly, StartsAreRunningJobs};
 ghost use Rattle.timeline.specs.Laws.{EachStateIsSettled, EachStateIsSound, OnlyEndsUnsettle, QuietSecondsChangeNothing};
 ghost use Rattle.timeline.specs.Laws.{HeadsStartByTheirShadowTimes, ShadowTimesNeverRise};
 
@@ -6,6 +6,12 @@ ghost use Rattle.timeline.specs.Laws.{HeadsStartByTheirShadowTimes, ShadowTimesN
 pub fn each_job_starts_once()
     ensures once { EachJobStartsOnce }
     ensures not_early { NoneStartsEarly }
+{}
+
+/// Who starts at a second runs before the next one, with that start, and who runs there with that
+/// start has started at it.
+pub fn starts_are_running_jobs()
+    ensures { StartsAreRunningJobs }
 {}
 
 /// After the last submit second plus the lengths of all jobs nobody waits or runs, no job ends or
