@@ -1,4 +1,4 @@
-ghost use Rattle.std.specs.Prelude.{◌≡◌, map, IfOk};
+ghost use Rattle.std.specs.Prelude.{◌≡◌, map, length, IfOk};
 ghost use Rattle.std.specs.Arc.{arc_value};
 
 use crate::parts::{is_plan, job_in};
@@ -40,7 +40,7 @@ impl<A: Allocator + Copy> Model for Run<A> {
 }
 
 impl<A: Allocator + Copy> Run<A> {
-    ghost use Rattle.scenarios.specs.Plan.{plan_of};
+    ghost use Rattle.scenarios.specs.Plan.{jobs_of, plan_of};
     ghost use Rattle.scenarios.specs.Scenario.{IsSetting};
     ghost use Rattle.job_table.specs.Table.{IsTable};
     ghost use Rattle.easy_rule.specs.Simulation.{sim, start_of};
@@ -122,7 +122,9 @@ impl<A: Allocator + Copy> Run<A> {
     /// The schedule: a row for each job that is simulated, in the order of the log. Memory where a
     /// growth was refused.
     pub fn schedule(&self) -> Result<Vec<Row, A>, Memory>
-        ensures { IfOk result (λ rows. rows.items ≡ rows_of (plan_of self.now.log self.now.setting)) }
+        ensures rows { IfOk result (λ rows. rows.items ≡ rows_of (plan_of self.now.log self.now.setting)) }
+        ensures each { IfOk result (λ rows. map (λ r. r.number) rows.items ≡ map (λ j. j.number) (jobs_of self.now.log self.now.setting)) }
+        ensures count { IfOk result (λ rows. length rows.items ≡ length (jobs_of self.now.log self.now.setting)) }
     {
         is_plan(&self.table, &self.scenario);
         let starts = starts_in(self.alloc, self.segments.as_slice())?;
