@@ -1,5 +1,5 @@
 -- The report on a schedule.
-use Rattle.std.specs.Prelude.{ℕ, List, ◌++◌, length, codes}
+use Rattle.std.specs.Prelude.{◌≡◌, ℕ, List, ◌++◌, length, codes}
 use Rattle.std.specs.List.{flat_map}
 use Rattle.std.specs.Fmt.{decimal}
 use Rattle.scenarios.specs.Plan.{Plan}
@@ -21,3 +21,8 @@ rows_text name version rows = heading (codes "schedule") name version (codes "jo
 -- the plan, second by second, gives it
 abbrev pub schedule_text : List ℕ → ℕ → Plan → List ℕ
 schedule_text name version plan = rows_text name version (rows_of plan)
+
+-- the heading of a schedule's text tells how many jobs the plan has, and behind it stand as many lines, one for each row
+pub record HasALineForEachJob (name : List ℕ) (version : ℕ) (plan : Plan) (text : List ℕ) : Type 0 where
+  pub count : length (rows_of plan) ≡ length plan.jobs
+  pub lines : text ≡ heading (codes "schedule") name version (codes "jobs") (length plan.jobs) ++ flat_map row_line (rows_of plan)

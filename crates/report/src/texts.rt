@@ -2,7 +2,7 @@
 
 ghost use Rattle.std.specs.Prelude.{◌≡◌, IfOk};
 ghost use Rattle.scenarios.specs.Plan.{plan_of};
-ghost use Rattle.report.specs.Schedule.{schedule_text};
+ghost use Rattle.report.specs.Schedule.{schedule_text, HasALineForEachJob};
 ghost use Rattle.report.specs.Table.{table_text};
 ghost use Rattle.report.specs.Users.{users_text};
 ghost use Rattle.report.specs.Days.{days_text};
@@ -15,16 +15,17 @@ use checkpoints::Run;
 use std::alloc::Allocator;
 use swf_text::Memory;
 
-/// The schedule of a run: a line for each job that is simulated, in the order of the log, with its
-/// number, submit second, start, end and processors, and whether it is killed. The name is that of
-/// the scenario, the version that of the log. Memory where a growth is refused.
+/// The schedule of a run: how many jobs are simulated, and a line for each of them, in the order of
+/// the log, with its number, submit second, start, end and processors, and whether it is killed. The
+/// name is that of the scenario, the version that of the log. Memory where a growth is refused.
 pub fn schedule_text<A: Allocator + Copy>(
     alloc: A,
     name: &str,
     version: u64,
     run: &Run<A>,
 ) -> Result<Vec<u8, A>, Memory>
-    ensures { IfOk result (λ text. text.items ≡ schedule_text name.now version (plan_of run.now.log run.now.setting)) }
+    ensures text { IfOk result (λ text. text.items ≡ schedule_text name.now version (plan_of run.now.log run.now.setting)) }
+    ensures lines { IfOk result (λ text. HasALineForEachJob name.now version (plan_of run.now.log run.now.setting) text.items) }
 {
     let rows = run.schedule()?;
     Ok(rows_report(alloc, name, version, rows.as_slice())?)
