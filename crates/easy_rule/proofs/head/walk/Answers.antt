@@ -1,8 +1,8 @@
-use Rattle.std.proofs.Common.{◌≡◌, ◌≤◌, ◌<◌, ◌+◌, ◌⊎◌, arith, refl, inl, inr, length, get_or}
+use Rattle.std.proofs.Common.{◌≡◌, ◌≤◌, ◌<◌, ◌⊎◌, arith, refl, inl, inr, length, get_or}
 use Rattle.cluster_state.specs.declared.running.Running.{Running}
 use Rattle.cluster_state.specs.State.{State, expected_end}
 use Rattle.cluster_state.specs.Ends.{by_end}
-use Rattle.easy_rule.proofs.WalkLemmas.{walk-begins, walk-more, walk-shadow, walk-least, walk-stops, walk-ends, walk-room, walk-reads, walk-reads-all, early-end}
+use Rattle.easy_rule.proofs.WalkLemmas.{walk-more, walk-shadow, walk-least, walk-stops, walk-ends, walk-room, walk-reads, walk-reads-all, early-end}
 use Rattle.easy_rule.proofs.head.walk.Goals.{else-need-room-via-then-need-room+else-time-end, else-need-room-via-else-need-room}
 use Rattle.easy_rule.proofs.head.walk.Goals as goal
 

@@ -2,7 +2,7 @@ use Rattle.std.proofs.Common.{List, ℕ, ◌++◌, ap, ◌∙◌}
 use Rattle.std.specs.Prelude.{codes}
 use Rattle.report.specs.Heading.{title}
 use Rattle.report.specs.Table.{jobs_line, skips_line, wait_line, length_line, slowdown_line, busy_line, utilization_line}
-use Rattle.report.proofs.Joins.{three, five}
+use Rattle.report.proofs.Joins.{five}
 use Rattle.report.proofs.table.table_report.Goals as goal
 
 pub returns : goal.returns

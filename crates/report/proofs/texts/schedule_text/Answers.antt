@@ -1,4 +1,4 @@
-use Rattle.std.proofs.Common.{◌≡◌, ◌++◌, ◌∙◌, sym, ap, length, codes, List, ℕ}
+use Rattle.std.proofs.Common.{◌++◌, ◌∙◌, sym, ap, length, codes, List, ℕ}
 use Rattle.std.specs.List.{flat_map}
 use Rattle.checkpoints.specs.declared.row.Row.{Row}
 use Rattle.report.specs.Heading.{heading}

@@ -1,7 +1,6 @@
-use Rattle.std.proofs.Common.{◌≡◌, ◌∙◌, sym, ap, arith, All}
+use Rattle.std.proofs.Common.{◌∙◌, sym, arith}
 use Rattle.std.specs.BinaryHeap.{heap_items}
 use Rattle.std.proofs.lemmas.Bool.{false≢true}
-use Rattle.cluster_state.specs.State.{real_end}
 use Rattle.cluster_state.proofs.StateLemmas.{sound-ended}
 use Rattle.cluster_state.proofs.EndLemmas.{by_end-filter, ends-left, all-later, ended-later}
 use Rattle.cluster_state.proofs.cluster.Cluster.finish_until.Goals as goal

@@ -1,6 +1,5 @@
-use Rattle.std.proofs.Common.{◌≡◌, ◌∙◌, sym, ap, subst, IsPermutation, List}
-use Rattle.cluster_state.specs.declared.running.Running.{Running}
-use Rattle.cluster_state.specs.Ends.{by_end, RisesByEnd}
+use Rattle.std.proofs.Common.{◌∙◌, sym, subst}
+use Rattle.cluster_state.specs.Ends.{RisesByEnd}
 use Rattle.cluster_state.proofs.EndLemmas.{rises-of, permuted-by_end}
 use Rattle.cluster_state.proofs.cluster.Cluster.running_by_end.Goals as goal
 
