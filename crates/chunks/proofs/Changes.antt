@@ -4,7 +4,7 @@ use Rattle.std.proofs.lemmas.Bool.Decides.{nat_tests}
 use Rattle.std.proofs.lemmas.List.{set-append_left, set-append_right}
 use Rattle.std.proofs.lemmas.List.Concat.{flat_map-append}
 use Rattle.std.proofs.lemmas.List.Edits.{insert-append_left, insert-append_right, remove-append_left, remove-append_right}
-use Rattle.chunks.specs.Chunks.{flat, start, moved, IsSized, AreSized}
+use Rattle.chunks.specs.Chunks.{flat, start, moved, AreSized}
 
 pub moved-most : (n : ℕ) → n ≤ 257 → moved n ≤ 129
 moved-most n h = go (nat_le n 256)

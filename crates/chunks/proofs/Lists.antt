@@ -1,18 +1,39 @@
 -- A list in chunks, read as one list.
-use Rattle.std.proofs.Common.{◌≡◌, ℕ, zero, suc, ◌+◌, ◌-◌, ◌<◌, ◌≤◌, Bool, true, false, nat_lt, List, [], ◌∷◌, ◌++◌, length, length-append, length-drop, take, drop, get_or, slice_get, Some, refl, ap, sym, subst, ◌∙◌, arith, append_assoc}
+use Rattle.std.proofs.Common.{◌≡◌, ℕ, zero, suc, ◌+◌, ◌-◌, ◌<◌, ◌≤◌, List, [], ◌∷◌, ◌++◌, length, length-drop, take, drop, get_or, slice_get, refl, ap, sym, subst, ◌∙◌, arith, append_assoc}
 use Rattle.std.specs.List.Sorted.{IsPartitionedBy}
 use Rattle.std.proofs.Math.Seq.{drop-append-add}
-use Rattle.std.proofs.lemmas.Bool.{ltb-false}
-use Rattle.std.proofs.lemmas.Bool.Decides.{nat_tests}
-use Rattle.std.proofs.lemmas.List.{drop-append-le, take_all, get_or-append-add, get_or_append_left, append-nil}
+use Rattle.std.proofs.lemmas.List.{drop-append-le, take_all, append-nil}
 use Rattle.std.proofs.lemmas.List.Concat.{flat_map-append}
-use Rattle.std.proofs.lemmas.Option.{slice_get_past, slice_get-get_or}
 use Rattle.std.specs.declared.sync.Arc.{Arc}
 use Rattle.std.specs.declared.vec.Vec.{Vec}
-use Rattle.chunks.specs.Chunks.{flat, contents, start, stands, place_in, IsFront, IsSized, AreSized}
+use Rattle.chunks.specs.Chunks.{flat, contents, start, stands, place_in, touched, joining, moved, IsFront, AreSized, AreWhole, AreFull}
 use Rattle.chunks.proofs.Changes.{flat_at}
 
+add_parts : (a b c : ℕ) → a + b + c ≡ a + (b + c)
+add_parts a b c = omega arith
+
 module _ {X : Type 0} where
+  -- ---- whole chunks
+  pub whole_push : (cs ds : List (List X)) (c : List X) → ds ≡ cs ++ c ∷ [] → AreWhole cs → length c ≡ 256 → AreWhole ds
+  whole_push cs ds c e w h = subst AreWhole (sym e) (go cs w)
+    where
+      go : (bs : List (List X)) → AreWhole bs → AreWhole (bs ++ c ∷ [])
+      go [] t = (h, tt)
+      go (b ∷ bs) t = (t.0, go bs t.1)
+
+  pub whole_full : (cs : List (List X)) → AreWhole cs → AreFull cs
+  whole_full [] w = tt
+  whole_full (c ∷ []) w = tt
+  whole_full (c ∷ d ∷ cs) w = (w.0, whole_full (d ∷ cs) w.1)
+
+  pub full_push : (cs ds : List (List X)) (c : List X) → ds ≡ cs ++ c ∷ [] → AreWhole cs → AreFull ds
+  full_push cs ds c e w = subst AreFull (sym e) (go cs w)
+    where
+      go : (bs : List (List X)) → AreWhole bs → AreFull (bs ++ c ∷ [])
+      go [] t = tt
+      go (b ∷ []) t = (t.0, tt)
+      go (b ∷ d ∷ bs) t = (t.0, go (d ∷ bs) t.1)
+
   -- ---- one chunk more at the end
   pub flat_push : (cs : List (List X)) (c : List X) → flat (cs ++ c ∷ []) ≡ flat cs ++ c
   flat_push cs c = flat_map-append (λ (x : List X). x) cs (c ∷ []) ∙ ap (λ (x : List X). flat cs ++ x) (append-nil c)
@@ -78,17 +99,29 @@ module _ {X : Type 0} where
   none_left (c ∷ cs) h = absurd h
 
   -- ---- what a search wants and gives
-  module _ {A : Type 0} (first second : X → ℕ) (a b p q : ℕ) (rows inside : List (Arc (Vec X A) A)) (xs : List X) (same : rows ≡ inside) (view : flat (contents inside) ≡ xs) (one : a ≡ p) (two : b ≡ q) where
-    seen : flat (contents rows) ≡ xs
-    seen = ap (λ (r : List (Arc (Vec X A) A)). flat (contents r)) same ∙ view
+  module _ {A : Type 0} (first second : X → ℕ) (a b p q : ℕ) (rows inside : List (Arc (Vec X A) A)) (cs : List (List X)) (same : rows ≡ inside) (view : contents inside ≡ cs) (one : a ≡ p) (two : b ≡ q) where
+    seen : contents rows ≡ cs
+    seen = ap contents same ∙ view
 
-    pub parted_for : IsPartitionedBy (stands first second p q) xs → IsPartitionedBy (stands first second a b) (flat (contents rows))
+    pub parted_for : IsPartitionedBy (stands first second p q) (flat cs) → IsPartitionedBy (stands first second a b) (flat (contents rows))
     parted_for h =
-        subst (λ (ys : List X). IsPartitionedBy (stands first second a b) ys) (sym seen)
-        (subst (λ (n : ℕ). IsPartitionedBy (stands first second n b) xs) (sym one) (subst (λ (n : ℕ). IsPartitionedBy (stands first second p n) xs) (sym two) h))
+        subst (λ (ds : List (List X)). IsPartitionedBy (stands first second a b) (flat ds)) (sym seen)
+        (subst (λ (n : ℕ). IsPartitionedBy (stands first second n b) (flat cs)) (sym one) (subst (λ (n : ℕ). IsPartitionedBy (stands first second p n) (flat cs)) (sym two) h))
 
-    pub inside_for : (n : ℕ) → n ≡ place_in first second a b (flat (contents rows)) → place_in first second p q xs < length xs → n < length (flat (contents rows))
+    place_for : (n : ℕ) → n ≡ place_in first second a b (flat (contents rows)) → n ≡ place_in first second p q (flat cs)
+    place_for n e =
+        e ∙ ap (λ (k : ℕ). place_in first second k b (flat (contents rows))) one ∙ ap (λ (k : ℕ). place_in first second p k (flat (contents rows))) two ∙ ap (λ (ds : List (List X)). place_in first second p q (flat ds)) seen
+
+    pub inside_for : (n : ℕ) → n ≡ place_in first second a b (flat (contents rows)) → place_in first second p q (flat cs) < length (flat cs) → n < length (flat (contents rows))
     inside_for n e h =
-        let there : n ≡ place_in first second p q xs = e ∙ ap (λ (k : ℕ). place_in first second k b (flat (contents rows))) one ∙ ap (λ (k : ℕ). place_in first second p k (flat (contents rows))) two ∙ ap (place_in first second p q) seen in
-        let long : length (flat (contents rows)) ≡ length xs = ap length seen in
-        omega (arith, there, long, h)
+        let long : length (flat (contents rows)) ≡ length (flat cs) = ap (λ (ds : List (List X)). length (flat ds)) seen in
+        omega (arith, place_for n e, long, h)
+
+    pub count_for : (old new len n : ℕ) → n ≡ place_in first second a b (flat (contents rows)) → len ≡ touched n (contents rows) → new ≡ old + len → new ≡ old + touched (place_in first second p q (flat cs)) cs
+    count_for old new len n e t h =
+        h ∙ ap (λ (k : ℕ). old + k) (t ∙ ap (λ (k : ℕ). touched k (contents rows)) (place_for n e) ∙ ap (touched (place_in first second p q (flat cs))) seen)
+
+    pub joining_for : (old new len n : ℕ) → n ≡ place_in first second a b (flat (contents rows)) → len ≡ touched n (contents rows) → new ≡ old + len + moved (len + 1) → new ≡ old + joining (place_in first second p q (flat cs)) cs
+    joining_for old new len n e t h =
+        let same : len ≡ touched (place_in first second p q (flat cs)) cs = t ∙ ap (λ (k : ℕ). touched k (contents rows)) (place_for n e) ∙ ap (touched (place_in first second p q (flat cs))) seen in
+        h ∙ ap (λ (k : ℕ). old + k + moved (k + 1)) same ∙ add_parts old (touched (place_in first second p q (flat cs)) cs) (moved (touched (place_in first second p q (flat cs)) cs + 1))

@@ -1,13 +1,14 @@
 -- Where a search over the chunks of a row ends.
-use Rattle.std.proofs.Common.{◌≡◌, ℕ, zero, suc, ◌+◌, ◌-◌, ◌<◌, ◌≤◌, Bool, true, false, not, List, [], ◌∷◌, ◌++◌, length, length-append, take, drop, map, get_or, slice_get, Some, refl, ap, sym, subst, ◌∙◌, arith, zero-add}
+use Rattle.std.proofs.Common.{◌≡◌, ℕ, zero, suc, ◌+◌, ◌-◌, ◌<◌, ◌≤◌, Bool, true, false, not, nat_lt, if◌then◌else◌, List, [], ◌∷◌, ◌++◌, length, length-append, take, drop, get_or, refl, ap, sym, subst, ◌∙◌, arith, zero-add}
 use Rattle.std.specs.List.{position_or_len}
 use Rattle.std.specs.List.Sorted.{IsPartitionedBy, IsPartitionPoint}
+use Rattle.std.proofs.lemmas.Bool.Decides.{nat_tests}
 use Rattle.std.proofs.lemmas.List.{get_or-map, get_or-append-add, get_or_append_left, get_or_past, length-map}
 use Rattle.std.proofs.lemmas.List.Sums.{position_or_len_is}
 use Rattle.std.proofs.lemmas.Option.{slice_get-get_or}
 use Rattle.std.specs.declared.sync.Arc.{Arc}
 use Rattle.std.specs.declared.vec.Vec.{Vec}
-use Rattle.chunks.specs.Chunks.{flat, contents, start, ends_by, passes, IsSized, AreSized}
+use Rattle.chunks.specs.Chunks.{flat, contents, start, ends_by, passes, touched, joining, AreSized}
 use Rattle.chunks.proofs.Rows.{items_of}
 use Rattle.chunks.proofs.Changes.{flat_at}
 
@@ -129,6 +130,25 @@ module _ {X : Type 0} (test : X → Bool) where
       let first = subst (λ (n : ℕ). start n cs + place (get_or cs n []) < length (flat cs) → place (get_or cs n []) < length (get_or cs n [])) (sym e) (inside_is cs s) in
       subst (λ (n : ℕ). start k cs + n < length (flat cs) → n < length (get_or cs k [])) (sym (h ∙ ap place f)) first
 
+  there_is : (cs : List (List X)) → AreSized cs → chunks_before cs < length cs → place (get_or cs (chunks_before cs) []) < length (get_or cs (chunks_before cs) [])
+  there_is [] s h = absurd (omega (arith, h))
+  there_is (c ∷ cs) s h = go (ends_by test c) refl s.0.low (there_is cs s.1) h
+    where
+      go : (b : Bool) → ends_by test c ≡ b → 1 ≤ length c → (chunks_before cs < length cs → place (get_or cs (chunks_before cs) []) < length (get_or cs (chunks_before cs) []))
+          → chunks_before (c ∷ cs) < length (c ∷ cs) → place (get_or (c ∷ cs) (chunks_before (c ∷ cs)) []) < length (get_or (c ∷ cs) (chunks_before (c ∷ cs)) [])
+      go true t low i h =
+          let k = rw (t, one_more) at h in
+          rw (t, one_more) (i (omega (arith, k)))
+      go false t low i h =
+          let le : place c ≤ length c - 1 = stop_at c (length c - 1) (omega arith) (λ e. sym (last_at c e low) ∙ t) in
+          let lt : place c < length c = omega (arith, le, low) in
+          rw t lt
+
+  pub there_by : (cs : List (List X)) (k at : ℕ) (found : List X) → AreSized cs → k ≡ chunks_before cs → found ≡ get_or cs k [] → at ≡ place found → k < length cs → at < length (get_or cs k [])
+  there_by cs k at found s e f h =
+      let first = subst (λ (n : ℕ). n < length cs → place (get_or cs n []) < length (get_or cs n [])) (sym e) (there_is cs s) in
+      subst (λ (n : ℕ). k < length cs → n < length (get_or cs k [])) (sym (h ∙ ap place f)) first
+
   -- ---- a search over the shared chunks
   pub parted-row : {A : Type 0} (row : List (Arc (Vec X A) A)) → AreSized (contents row) → IsPartitionedBy test (flat (contents row)) → IsPartitionedBy (λ chunk. ends_by test (items_of chunk)) row
   parted-row row s p i j d le lt t =
@@ -167,3 +187,51 @@ module _ {X : Type 0} where
       let more : start (suc last) cs ≡ start last cs + length (get_or cs last []) = start_more last cs (omega arith) in
       let same : start (suc last) cs ≡ start k cs = ap (λ (n : ℕ). start n cs) step in
       omega (arith, past, more, same)
+
+  -- ---- the chunk that a place touches
+  first_of : (k at : ℕ) (c : List X) (cs : List (List X)) → start (suc k) (c ∷ cs) + at ≡ length c + (start k cs + at)
+  first_of k at c cs = omega (arith, length-append c (flat (take k cs)))
+
+  pub touched_at : (k at : ℕ) (cs : List (List X)) → at < length (get_or cs k []) → length (get_or cs k []) ≡ touched (start k cs + at) cs
+  touched_at k at [] h = absurd (omega (arith, h))
+  touched_at zero at (c ∷ []) h = refl
+  touched_at (suc k) at (c ∷ []) h = absurd (omega (arith, h))
+  touched_at zero at (c ∷ d ∷ cs) h =
+      let inside : nat_lt (0 + at) (length c) ≡ true = grind (arith, nat_tests, h) in
+      rw inside refl
+  touched_at (suc k) at (c ∷ d ∷ cs) h =
+      let behind : nat_lt (start (suc k) (c ∷ d ∷ cs) + at) (length c) ≡ false = rw (first_of k at c (d ∷ cs)) (grind (arith, nat_tests)) in
+      let less : start (suc k) (c ∷ d ∷ cs) + at - length c ≡ start k (d ∷ cs) + at = omega (arith, first_of k at c (d ∷ cs)) in
+      rw (behind, less) (touched_at k at (d ∷ cs) h)
+
+  -- behind the last element
+  pub touched_end : (k : ℕ) (cs : List (List X)) → k + 1 ≡ length cs → length (get_or cs k []) ≡ touched (start k cs + length (get_or cs k [])) cs
+  touched_end k [] h = absurd (omega (arith, h))
+  touched_end zero (c ∷ []) h = refl
+  touched_end (suc k) (c ∷ []) h = absurd (omega (arith, h))
+  touched_end zero (c ∷ d ∷ cs) h = absurd (omega (arith, h))
+  touched_end (suc k) (c ∷ d ∷ cs) h =
+      let last = get_or (d ∷ cs) k [] in
+      let behind : nat_lt (start (suc k) (c ∷ d ∷ cs) + length last) (length c) ≡ false = rw (first_of k (length last) c (d ∷ cs)) (grind (arith, nat_tests)) in
+      let less : start (suc k) (c ∷ d ∷ cs) + length last - length c ≡ start k (d ∷ cs) + length last = omega (arith, first_of k (length last) c (d ∷ cs)) in
+      rw (behind, less) (touched_end k (d ∷ cs) (omega (arith, h)))
+
+  pub touched_last : (k at last : ℕ) (cs : List (List X)) → k ≡ length cs → last + 1 ≡ k → at ≤ length (get_or cs k []) → length (get_or cs last []) ≡ touched (start k cs + at) cs
+  touched_last k at last cs whole next within =
+      touched_end last cs (next ∙ whole) ∙ ap (λ (p : ℕ). touched p cs) (open_end k at last cs whole next within)
+
+  pub touched_none : (k p : ℕ) (cs : List (List X)) → length cs ≡ 0 → length (get_or cs k []) ≡ touched p cs
+  touched_none k p [] h = refl
+  touched_none k p (c ∷ cs) h = absurd (omega (arith, h))
+
+  pub touched_some : (p : ℕ) (cs : List (List X)) → AreSized cs → 1 ≤ length (flat cs) → 1 ≤ touched p cs
+  touched_some p [] s h = absurd (omega (arith, h))
+  touched_some p (c ∷ []) s h = s.0.low
+  touched_some p (c ∷ d ∷ cs) s h = go (nat_lt p (length c)) (touched_some (p - length c) (d ∷ cs) s.1)
+    where
+      go : (b : Bool) → (1 ≤ length (flat (d ∷ cs)) → 1 ≤ touched (p - length c) (d ∷ cs)) → 1 ≤ (if b then length c else touched (p - length c) (d ∷ cs))
+      go true i = s.0.low
+      go false i = i (omega (arith, length-append d (flat cs), s.1.0.low))
+
+  pub joining_some : (p old new : ℕ) (cs : List (List X)) → AreSized cs → 1 ≤ length (flat cs) → new ≡ old + joining p cs → old < new
+  joining_some p old new cs s h e = omega (arith, touched_some p cs s h, e)

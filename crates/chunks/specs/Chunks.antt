@@ -1,5 +1,5 @@
 -- A long list in chunks.
-use Rattle.std.specs.Prelude.{ℕ, ◌≤◌, ◌-◌, ◌==◌, ◌&&◌, ◌||◌, nat_lt, nat_le, not, Bool, false, Option, Some, None, if◌then◌else◌, List, [], ◌∷◌, length, map, take, slice_get, slice_index_or}
+use Rattle.std.specs.Prelude.{◌≡◌, ℕ, ◌≤◌, ◌+◌, ◌-◌, ◌==◌, ◌&&◌, ◌||◌, nat_lt, nat_le, not, Bool, false, Option, Some, None, if◌then◌else◌, List, [], ◌∷◌, length, map, take, slice_get, slice_index_or}
 use Rattle.std.specs.List.{flat_map, position_or_len}
 use Rattle.std.specs.declared.sync.Arc.{Arc}
 use Rattle.std.specs.declared.vec.Vec.{Vec}
@@ -33,6 +33,23 @@ module _ {X : Type 0} where
   abbrev pub chunk_of : List (List X) → ℕ → List X
   chunk_of chunks chunk = slice_index_or chunks chunk []
 
+  -- how many elements the chunk has in which this place lies; behind the last element it is the last chunk
+  abbrev pub touched : ℕ → List (List X) → ℕ
+  touched place [] = 0
+  touched place (chunk ∷ []) = length chunk
+  touched place (chunk ∷ next ∷ later) = if nat_lt place (length chunk) then length chunk else touched (place - length chunk) (next ∷ later)
+
+  -- each chunk has 256 elements
+  abbrev pub AreWhole : List (List X) → Type 0
+  AreWhole [] = Unit {0}
+  AreWhole (chunk ∷ chunks) = (length chunk ≡ 256) × AreWhole chunks
+
+  -- each chunk but the last has 256 elements
+  abbrev pub AreFull : List (List X) → Type 0
+  AreFull [] = Unit {0}
+  AreFull (chunk ∷ []) = Unit {0}
+  AreFull (chunk ∷ next ∷ later) = (length chunk ≡ 256) × AreFull (next ∷ later)
+
   -- whether an element is there and passes
   abbrev pub passes : (X → Bool) → Option X → Bool
   passes test None = false
@@ -53,6 +70,10 @@ place_in first second a b xs = position_or_len (λ x. not (stands first second a
 -- how many elements move to another chunk when a chunk of this length is put back
 abbrev pub moved : ℕ → ℕ
 moved n = if nat_le n 256 then 0 else n - 128
+
+-- how many elements are copied or moved to another chunk when one joins at this place
+abbrev pub joining : {X : Type 0} → ℕ → List (List X) → ℕ
+joining place chunks = touched place chunks + moved (touched place chunks + 1)
 
 -- the elements of shared chunks
 abbrev pub contents : {X A : Type 0} → List (Arc (Vec X A) A) → List (List X)

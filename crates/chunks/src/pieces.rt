@@ -1,5 +1,5 @@
 ghost use Rattle.std.specs.Prelude.{◌≡◌, ◌≤◌, ◌<◌, ◌+◌, ◌++◌, ◌∷◌, [], IfOk, OnOk, length, vec_len};
-ghost use Rattle.chunks.specs.Chunks.{AreSized, contents, flat, moved};
+ghost use Rattle.chunks.specs.Chunks.{AreFull, AreSized, AreWhole, contents, flat, moved};
 
 use crate::copied::Copied;
 use std::alloc::Allocator;
@@ -113,8 +113,10 @@ fn put_last<T: Drop, A: Allocator + Copy>(
 ) -> Result<Vec<T, A>, Memory>
     requires most { vec_len tail ≤ 256 }
     requires sized { AreSized (contents row.old.items) }
+    requires whole { AreWhole (contents row.old.items) }
     ensures flat { IfOk result (λ new. flat (contents row.new.items) ++ new.items ≡ flat (contents row.old.items) ++ tail.items ++ item ∷ []) }
     ensures sized { OnOk result (AreSized (contents row.new.items)) }
+    ensures whole { OnOk result (AreWhole (contents row.new.items)) }
     ensures most { IfOk result (λ new. vec_len new ≤ 256) }
 {
     if tail.len() < CHUNK_LIMIT {
@@ -134,6 +136,7 @@ pub(crate) fn chunks_of<T: Drop, A: Allocator + Copy>(
 ) -> Result<Vec<Chunk<T, A>, A>, Memory>
     ensures flat { IfOk result (λ row. flat (contents row.items) ≡ items.items) }
     ensures sized { IfOk result (λ row. AreSized (contents row.items)) }
+    ensures full { IfOk result (λ row. AreFull (contents row.items)) }
 {
     let mut row = Vec::with_capacity(alloc, items.len() / CHUNK_LIMIT + 1)?;
     let mut tail = Vec::new(alloc);

@@ -1,7 +1,7 @@
 ghost use Rattle.std.specs.Prelude.{◌≡◌, ◌≤◌, ◌<◌, ◌+◌, length, not};
 ghost use Rattle.std.specs.List.{position_or_len};
 ghost use Rattle.std.specs.List.Sorted.{IsPartitionedBy};
-ghost use Rattle.chunks.specs.Chunks.{AreSized, chunk_of, contents, ends_by, flat, place_in, stands, start};
+ghost use Rattle.chunks.specs.Chunks.{AreSized, chunk_of, contents, ends_by, flat, place_in, stands, start, touched};
 
 use crate::copied::Keyed;
 use crate::edits::elements;
@@ -77,6 +77,7 @@ pub(crate) fn place_of<T: Keyed, A: Allocator + Copy>(
     ensures within { result.at ≤ length (chunk_of (contents row.now) result.chunk) }
     ensures place { start result.chunk (contents row.now) + result.at ≡ place_in T.first T.second first second (flat (contents row.now)) }
     ensures inside { start result.chunk (contents row.now) + result.at < length (flat (contents row.now)) → result.at < length (chunk_of (contents row.now) result.chunk) }
+    ensures there { result.chunk < length row.now → result.at < length (chunk_of (contents row.now) result.chunk) }
 {
     let chunk = chunk_before(row, first, second);
     let at = before(elements(row, chunk), first, second);
@@ -88,9 +89,11 @@ pub(crate) fn place_of<T: Keyed, A: Allocator + Copy>(
 pub(crate) fn open_place<T: Drop, A: Allocator + Copy>(row: &[Chunk<T, A>], place: Place) -> Place
     requires chunk { place.chunk ≤ length row.now }
     requires within { place.at ≤ length (chunk_of (contents row.now) place.chunk) }
+    requires there { place.chunk < length row.now → place.at < length (chunk_of (contents row.now) place.chunk) }
     requires sized { AreSized (contents row.now) }
     ensures chunk { result.chunk ≤ length row.now }
     ensures within { result.at ≤ length (chunk_of (contents row.now) result.chunk) }
+    ensures touched { length (chunk_of (contents row.now) result.chunk) ≡ touched (start place.chunk (contents row.now) + place.at) (contents row.now) }
     ensures place { start result.chunk (contents row.now) + result.at ≡ start place.chunk (contents row.now) + place.at }
 {
     if place.chunk < row.len() || row.is_empty() {

@@ -1,5 +1,5 @@
 -- A table after an edit, as the code makes it.
-use Rattle.std.proofs.Common.{◌≡◌, ℕ, suc, ◌-◌, ◌<◌, ◌≤◌, List, [], ◌∷◌, Some, None, Bool, true, false, ◌==◌, ◌&&◌, ◌||◌, nat_lt, not, length, insert, get_or, option_map, ℤ, pos, refl, ap, sym, ◌∙◌, arith, if◌then◌else◌}
+use Rattle.std.proofs.Common.{◌≡◌, ℕ, suc, ◌-◌, ◌<◌, ◌≤◌, List, [], ◌∷◌, Some, None, Bool, true, false, ◌==◌, ◌&&◌, ◌||◌, nat_lt, not, length, insert, get_or, ℤ, pos, refl, ap, sym, ◌∙◌, arith, if◌then◌else◌}
 use Rattle.std.proofs.Math.ListN.{set}
 use Rattle.std.specs.Prelude.{unwrap_or}
 use Rattle.std.specs.List.{position_or_len}
@@ -12,7 +12,7 @@ use Rattle.std.specs.Prelude.{Ok, Err, Result}
 use Rattle.job_table.specs.declared.fault.EditFault.TheVariants as faults
 use Rattle.job_table.specs.Edit.{entry_of, with_field, without, changed, change_fault}
 use Rattle.job_table.specs.Table.{IsTable, stands_before}
-use Rattle.job_table.proofs.Keyed.{placed, insert_at, found-number, Lacks-from_none, arranged-turned, arranged-turned_none, arranged-without_none}
+use Rattle.job_table.proofs.Keyed.{placed, insert_at, found-number, Lacks-from_none, arranged-turned}
 use Rattle.job_table.proofs.Tables.{table-rising, table-apart, table-placed, table-left, placed-is, arranged-is, log_of-rising}
 
 -- ---- an entry more
@@ -28,9 +28,6 @@ log-more e old t = placed-is e old ∙ ap (with_entry e) (sym (log_of-rising old
 -- ---- an entry less
 pub log-less : (n : ℕ) (old : List LogEntry) → IsTable old → without n old ≡ log_of (without n old)
 log-less n old t = sym (log_of-rising (without n old) (table-rising (without n old) (table-left n old t)))
-
-pub log-as-is : (n : ℕ) (old : List LogEntry) → IsTable old → None ≡ option_map submit_of (entry_of n old) → old ≡ log_of (without n old)
-log-as-is n old t h = arranged-without_none submit_of number_of_entry n old (table-rising old t) h ∙ arranged-is (without n old)
 
 -- ---- an entry changed
 first-kept : (main : List ℤ) (q : ℕ) (v : ℤ) → get_or (set main (suc q) v) 0 (pos 0) ≡ get_or main 0 (pos 0)
@@ -68,6 +65,3 @@ log-changed n place value old was now h t there is =
 
 pub number-stays : (n place : ℕ) (value : ℤ) (old : List LogEntry) (was now : LogEntry) → 2 ≤ place → entry_of n old ≡ Some was → now ≡ with_field place value was → number_of_entry now ≡ n
 number-stays n place value old was now h there is = ap number_of_entry is ∙ number-kept place value h was ∙ found-number submit_of number_of_entry n old was there
-
-pub log-unchanged : (n place : ℕ) (value : ℤ) (old : List LogEntry) → IsTable old → None ≡ option_map submit_of (entry_of n old) → old ≡ log_of (changed n place value old)
-log-unchanged n place value old t h = arranged-turned_none submit_of number_of_entry n (with_field place value) old (table-rising old t) h ∙ arranged-is (changed n place value old)

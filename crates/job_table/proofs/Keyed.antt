@@ -355,9 +355,6 @@ module _ {X : Type 0} (at num : X → ℕ) where
       go None t m = t
       go (Some e) t m = cc
 
-  pub arranged-without_none : (n : ℕ) (xs : List X) → Rise xs → None ≡ option_map at (found n xs) → xs ≡ arranged (left n xs)
-  arranged-without_none n xs r h = rw (without-Lacks n xs (Lacks-from_none n xs (none_there n xs h))) (sym (arranged-rising xs r))
-
   pub indexes_at : (e : X) (xs : List X) (old new : ℕ → Option ℕ) (k v : ℕ) → Indexes old xs → Lacks (num e) xs → k ≡ num e → v ≡ at e
       → ((q : ℕ) → new q ≡ cond (k == q) (Some v) (old q)) → Indexes new (placed e xs)
   indexes_at e xs old new k v i l a b u = indexes-placed e xs old new i l (λ q. u q ∙ rw (a, b) refl)
@@ -419,6 +416,3 @@ module _ {X : Type 0} (at num : X → ℕ) where
   taken_at n s xs ys i e r h a d g =
       let there : slice_get xs i ≡ found n xs = get_at n s xs ys i r h a d in
       sym there ∙ slice_get_read xs (length xs) i e refl (at_within n s xs i h there) g
-
-  pub arranged-turned_none : (n : ℕ) (f : X → X) (xs : List X) → Rise xs → None ≡ option_map at (found n xs) → xs ≡ arranged (turned n f xs)
-  arranged-turned_none n f xs r h = rw (turned-Lacks n f xs (Lacks-from_none n xs (none_there n xs h))) (sym (arranged-rising xs r))

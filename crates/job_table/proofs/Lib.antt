@@ -11,3 +11,4 @@ pub mod Sorted
 pub mod Edited
 pub mod Stored
 pub mod Accepted
+pub mod Counted

@@ -1,6 +1,7 @@
 -- What a table stores, after an edit.
-use Rattle.std.proofs.Common.{◌≡◌, ℕ, ◌+◌, ◌-◌, ◌<◌, List, [], ◌∷◌, Option, Some, None, Bool, true, false, ◌==◌, not, length, Bor, option_map, option_copied, is_some, IfSome, IsTrue, refl, ap, sym, subst, ◌∙◌, arith, if◌then◌else◌}
+use Rattle.std.proofs.Common.{◌≡◌, ℕ, ◌+◌, ◌-◌, ◌<◌, ◌≤◌, List, [], ◌∷◌, Option, Some, None, Bool, true, false, ◌==◌, not, length, Bor, option_map, option_copied, is_some, IsSome, IfSome, IsTrue, refl, ap, sym, subst, ◌∙◌, arith, if◌then◌else◌}
 use Rattle.std.specs.List.{position_or_len}
+use Rattle.std.proofs.lemmas.Bool.Decides.{nat_tests}
 use Rattle.chunks.specs.declared.numbered.Numbered.{Numbered}
 use Rattle.swf_text.specs.Entry.{LogEntry, IsEntry, submit_of, number_of_entry}
 use Rattle.swf_text.specs.Log.{with_entry, log_of}
@@ -12,7 +13,7 @@ use Rattle.job_table.proofs.Lookups.{found-sound}
 use Rattle.job_table.proofs.Edited.{log-more}
 
 -- one element less
-length-less : (n : ℕ) (es : List LogEntry) (e : LogEntry) → Apart submit_of number_of_entry es → entry_of n es ≡ Some e → length (without n es) + 1 ≡ length es
+pub length-less : (n : ℕ) (es : List LogEntry) (e : LogEntry) → Apart submit_of number_of_entry es → entry_of n es ≡ Some e → length (without n es) + 1 ≡ length es
 length-less n [] e a h = cc
 length-less n (x ∷ es) e a h = go (number_of_entry x == n) refl h (length-less n es e a.1)
   where
@@ -111,3 +112,31 @@ module _ (e copy : LogEntry) (es old : List LogEntry) (ps : List Numbered) (t : 
   pub log-with : (rows : List LogEntry) → rows ≡ with_entry copy es → rows ≡ log_of (e ∷ old)
   log-with rows h =
       h ∙ sym (placed-is copy es) ∙ log-more copy es t ∙ ap (λ (x : LogEntry). with_entry x (log_of es)) same ∙ ap (λ (l : List LogEntry). with_entry e (log_of l)) view
+
+-- ---- what an edit counts
+-- an index has a pair where there is an entry
+pub index-some : (ps : List Numbered) (es : List LogEntry) → IsIndex ps es → 1 ≤ length es → 1 ≤ length ps
+index-some ps [] i h = absurd (omega (arith, h))
+index-some [] (e ∷ es) i h = absurd (none-of (i.gives (number_of_entry e)))
+  where
+    own : (number_of_entry e == number_of_entry e) ≡ true
+    own = grind (arith, nat_tests)
+
+    none-of : None ≡ option_map submit_of (entry_of (number_of_entry e) (e ∷ es)) → ⊥
+    none-of k = let same = rw own at k in cc
+index-some (p ∷ ps) es i h = omega (arith)
+
+-- where there is another job, one is left
+pub left-some : (n s : ℕ) (es left : List LogEntry) → IsTable es → Some s ≡ option_map submit_of (entry_of n es) → left ≡ without n es → 2 ≤ length es → 1 ≤ length left
+left-some n s es left t k e h = let there = entry-there n s es k in omega (arith, length-less n es there.0 (table-apart es t) there.1, ap length e, h)
+
+-- a job that is there is told of by the index
+pub told-of : (n : ℕ) (es old : List LogEntry) (ps : List Numbered) → IsIndex ps es → es ≡ old → IsTrue (holds n old) → is_some (second_of ps n) ≡ true
+told-of n es old ps i e h = known-is n es old ps i e ∙ h
+
+pub entry-told : (n : ℕ) (es old : List LogEntry) (r : Option (Bor LogEntry)) → option_copied r ≡ entry_of n es → es ≡ old → IsTrue (holds n old) → IsSome r
+entry-told n es old r e v h = go r (ap is_some e ∙ ap (holds n) v ∙ h)
+  where
+    go : (o : Option (Bor LogEntry)) → is_some (option_copied o) ≡ true → IsSome o
+    go None k = cc
+    go (Some x) k = refl

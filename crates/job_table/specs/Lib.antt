@@ -2,3 +2,4 @@ pub mod Edit
 pub mod Table
 pub mod Arranged
 pub mod Accepted
+pub mod Counted

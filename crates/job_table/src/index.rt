@@ -1,6 +1,7 @@
-ghost use Rattle.std.specs.Prelude.{◌≡◌, ◌≤◌, ◌+◌, ◌==◌, ℕ, IfOk, OnOk, Some, None, true, is_some, map, if◌then◌else◌};
+ghost use Rattle.std.specs.Prelude.{◌≡◌, ◌≤◌, ◌<◌, ◌+◌, ◌==◌, ℕ, IfOk, OnOk, Some, None, true, is_some, length, map, if◌then◌else◌};
+ghost use Rattle.chunks.specs.Chunks.{flat, joining, place_in, touched};
 ghost use Rattle.job_table.specs.Arranged.{IsDistinct};
-ghost use Rattle.job_table.specs.Table.{IsIndex, NumbersRise, pair_of, second_of};
+ghost use Rattle.job_table.specs.Table.{IsIndex, NumbersRise, number_in, pair_of, second_of};
 
 use chunks::{Chunks, Numbered};
 use std::alloc::Allocator;
@@ -27,7 +28,7 @@ fn pairs_of<A: Allocator + Copy>(alloc: A, rows: &[Entry<A>]) -> Result<Vec<Numb
 // The index of these entries.
 pub(crate) fn index_of<A: Allocator + Copy>(alloc: A, rows: &[Entry<A>]) -> Result<Index<A>, Memory>
     requires { IsDistinct rows.now }
-    ensures { IfOk result (λ index. IsIndex index rows.now) }
+    ensures { IfOk result (λ index. IsIndex (flat index) rows.now) }
 {
     let mut pairs = pairs_of(alloc, rows)?;
     pairs.sort_by_key(|pair| pair.number)?;
@@ -36,8 +37,8 @@ pub(crate) fn index_of<A: Allocator + Copy>(alloc: A, rows: &[Entry<A>]) -> Resu
 
 // Whether an index has a job number.
 pub(crate) fn has_number<A: Allocator + Copy>(index: &Index<A>, number: u64) -> bool
-    requires { NumbersRise index.now }
-    ensures { result ≡ is_some (second_of index.now number) }
+    requires { NumbersRise (flat index.now) }
+    ensures { result ≡ is_some (second_of (flat index.now) number) }
 {
     match index.find(number, number) {
         Some(pair) => pair.number == number,
@@ -57,8 +58,8 @@ fn second_if(pair: &Numbered, number: u64) -> Option<u64>
 
 // The submit second of a job number.
 pub(crate) fn second<A: Allocator + Copy>(index: &Index<A>, number: u64) -> Option<u64>
-    requires { NumbersRise index.now }
-    ensures { result ≡ second_of index.now number }
+    requires { NumbersRise (flat index.now) }
+    ensures { result ≡ second_of (flat index.now) number }
 {
     match index.find(number, number) {
         Some(pair) => second_if(pair, number),
@@ -73,11 +74,13 @@ pub(crate) fn with_number<A: Allocator + Copy>(
     submit: u64,
     count: &mut u32,
 ) -> Result<Index<A>, Memory>
-    requires rising { NumbersRise index.now }
-    requires new { second_of index.now number ≡ None }
+    requires rising { NumbersRise (flat index.now) }
+    requires new { second_of (flat index.now) number ≡ None }
     requires room { count.old ≤ 768 }
-    ensures rising { IfOk result (λ new. NumbersRise new) }
-    ensures seconds { IfOk result (λ new. (n : ℕ) → second_of new n ≡ (if number == n then Some submit else second_of index.now n)) }
+    ensures rising { IfOk result (λ new. NumbersRise (flat new)) }
+    ensures seconds { IfOk result (λ new. (n : ℕ) → second_of (flat new) n ≡ (if number == n then Some submit else second_of (flat index.now) n)) }
+    ensures count { OnOk result (count.new ≡ count.old + joining (place_in number_in number_in number number (flat index.now)) index.now) }
+    ensures least { 1 ≤ length (flat index.now) → OnOk result (count.old < count.new) }
     ensures most { OnOk result (count.new ≤ count.old + 385) }
 {
     Ok(index.with(Numbered { number, submit }, count)?)
@@ -89,11 +92,13 @@ pub(crate) fn without_number<A: Allocator + Copy>(
     number: u64,
     count: &mut u32,
 ) -> Result<Index<A>, Memory>
-    requires rising { NumbersRise index.now }
-    requires there { is_some (second_of index.now number) ≡ true }
+    requires rising { NumbersRise (flat index.now) }
+    requires there { is_some (second_of (flat index.now) number) ≡ true }
     requires room { count.old ≤ 768 }
-    ensures rising { IfOk result (λ new. NumbersRise new) }
-    ensures seconds { IfOk result (λ new. (n : ℕ) → second_of new n ≡ (if number == n then None else second_of index.now n)) }
+    ensures rising { IfOk result (λ new. NumbersRise (flat new)) }
+    ensures seconds { IfOk result (λ new. (n : ℕ) → second_of (flat new) n ≡ (if number == n then None else second_of (flat index.now) n)) }
+    ensures count { OnOk result (count.new ≡ count.old + touched (place_in number_in number_in number number (flat index.now)) index.now) }
+    ensures least { OnOk result (count.old < count.new) }
     ensures most { OnOk result (count.new ≤ count.old + 256) }
 {
     Ok(index.without(number, number, count)?)
@@ -106,11 +111,13 @@ pub(crate) fn with_second<A: Allocator + Copy>(
     submit: u64,
     count: &mut u32,
 ) -> Result<Index<A>, Memory>
-    requires rising { NumbersRise index.now }
-    requires there { is_some (second_of index.now number) ≡ true }
+    requires rising { NumbersRise (flat index.now) }
+    requires there { is_some (second_of (flat index.now) number) ≡ true }
     requires room { count.old ≤ 768 }
-    ensures rising { IfOk result (λ new. NumbersRise new) }
-    ensures seconds { IfOk result (λ new. (n : ℕ) → second_of new n ≡ (if number == n then Some submit else second_of index.now n)) }
+    ensures rising { IfOk result (λ new. NumbersRise (flat new)) }
+    ensures seconds { IfOk result (λ new. (n : ℕ) → second_of (flat new) n ≡ (if number == n then Some submit else second_of (flat index.now) n)) }
+    ensures count { OnOk result (count.new ≡ count.old + touched (place_in number_in number_in number number (flat index.now)) index.now) }
+    ensures least { OnOk result (count.old < count.new) }
     ensures most { OnOk result (count.new ≤ count.old + 256) }
 {
     Ok(index.exchanged(Numbered { number, submit }, count)?)

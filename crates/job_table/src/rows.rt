@@ -1,4 +1,5 @@
-ghost use Rattle.std.specs.Prelude.{◌≡◌, ◌≤◌, ◌+◌, ◌↔◌, IfOk, OnOk, IsTrue, Some, None, option_copied, option_map};
+ghost use Rattle.std.specs.Prelude.{◌≡◌, ◌≤◌, ◌<◌, ◌+◌, ◌↔◌, length, IfOk, OnOk, IsTrue, Some, None, option_copied, option_map};
+ghost use Rattle.chunks.specs.Chunks.{flat, joining, place_in, touched};
 ghost use Rattle.swf_text.specs.Entry.{number_of_entry, submit_of};
 ghost use Rattle.swf_text.specs.Log.{with_entry};
 ghost use Rattle.job_table.specs.Edit.{change_fault, entry_of, with_field, without};
@@ -46,17 +47,17 @@ pub(crate) fn entry_at<A: Allocator + Copy>(
     submit: u64,
     number: u64,
 ) -> Option<&Entry<A>>
-    requires table { IsTable rows.now }
-    requires known { Some submit ≡ option_map submit_of (entry_of number rows.now) }
-    ensures { option_copied result ≡ entry_of number rows.now }
+    requires table { IsTable (flat rows.now) }
+    requires known { Some submit ≡ option_map submit_of (entry_of number (flat rows.now)) }
+    ensures { option_copied result ≡ entry_of number (flat rows.now) }
 {
     rows.find(submit, number)
 }
 
 // The entries with this submit second or a later one.
 pub(crate) fn rest_from<A: Allocator + Copy>(rows: &Rows<A>, second: u64) -> Rest<'_, Entry<A>, A>
-    requires { IsTable rows.now }
-    ensures { result ≡ entries_from second rows.now }
+    requires { IsTable (flat rows.now) }
+    ensures { result ≡ entries_from second (flat rows.now) }
 {
     rows.rest(second, 0)
 }
@@ -67,9 +68,11 @@ pub(crate) fn with_one<A: Allocator + Copy>(
     entry: Entry<A>,
     count: &mut u32,
 ) -> Result<Rows<A>, Memory>
-    requires table { IsTable rows.now }
+    requires table { IsTable (flat rows.now) }
     requires room { count.old ≤ 768 }
-    ensures rows { IfOk result (λ new. new ≡ with_entry entry rows.now) }
+    ensures rows { IfOk result (λ new. flat new ≡ with_entry entry (flat rows.now)) }
+    ensures count { OnOk result (count.new ≡ count.old + joining (place_in submit_of number_of_entry (submit_of entry) (number_of_entry entry) (flat rows.now)) rows.now) }
+    ensures least { 1 ≤ length (flat rows.now) → OnOk result (count.old < count.new) }
     ensures most { OnOk result (count.new ≤ count.old + 385) }
 {
     Ok(rows.with(entry, count)?)
@@ -82,10 +85,12 @@ pub(crate) fn without_one<A: Allocator + Copy>(
     number: u64,
     count: &mut u32,
 ) -> Result<Rows<A>, Memory>
-    requires table { IsTable rows.now }
-    requires known { Some submit ≡ option_map submit_of (entry_of number rows.now) }
+    requires table { IsTable (flat rows.now) }
+    requires known { Some submit ≡ option_map submit_of (entry_of number (flat rows.now)) }
     requires room { count.old ≤ 768 }
-    ensures rows { IfOk result (λ new. new ≡ without number rows.now) }
+    ensures rows { IfOk result (λ new. flat new ≡ without number (flat rows.now)) }
+    ensures count { OnOk result (count.new ≡ count.old + touched (place_in submit_of number_of_entry submit number (flat rows.now)) rows.now) }
+    ensures least { OnOk result (count.old < count.new) }
     ensures most { OnOk result (count.new ≤ count.old + 256) }
 {
     Ok(rows.without(submit, number, count)?)
@@ -99,10 +104,12 @@ pub(crate) fn with_moved<A: Allocator + Copy>(
     entry: Entry<A>,
     count: &mut u32,
 ) -> Result<Rows<A>, Memory>
-    requires table { IsTable rows.now }
-    requires known { Some submit ≡ option_map submit_of (entry_of (number_of_entry entry) rows.now) }
+    requires table { IsTable (flat rows.now) }
+    requires known { Some submit ≡ option_map submit_of (entry_of (number_of_entry entry) (flat rows.now)) }
     requires room { count.old ≤ 512 }
-    ensures rows { IfOk result (λ new. new ≡ with_entry entry (without (number_of_entry entry) rows.now)) }
+    ensures rows { IfOk result (λ new. flat new ≡ with_entry entry (without (number_of_entry entry) (flat rows.now))) }
+    ensures least { OnOk result (count.old < count.new) }
+    ensures both { 2 ≤ length (flat rows.now) → OnOk result (count.old + 1 < count.new) }
     ensures most { OnOk result (count.new ≤ count.old + 641) }
 {
     let left = without_one(rows, submit, entry.number(), count)?;
@@ -115,10 +122,12 @@ pub(crate) fn with_exchanged<A: Allocator + Copy>(
     entry: Entry<A>,
     count: &mut u32,
 ) -> Result<Rows<A>, Memory>
-    requires table { IsTable rows.now }
-    requires known { Some (submit_of entry) ≡ option_map submit_of (entry_of (number_of_entry entry) rows.now) }
+    requires table { IsTable (flat rows.now) }
+    requires known { Some (submit_of entry) ≡ option_map submit_of (entry_of (number_of_entry entry) (flat rows.now)) }
     requires room { count.old ≤ 768 }
-    ensures rows { IfOk result (λ new. new ≡ with_entry entry (without (number_of_entry entry) rows.now)) }
+    ensures rows { IfOk result (λ new. flat new ≡ with_entry entry (without (number_of_entry entry) (flat rows.now))) }
+    ensures count { OnOk result (count.new ≡ count.old + touched (place_in submit_of number_of_entry (submit_of entry) (number_of_entry entry) (flat rows.now)) rows.now) }
+    ensures least { OnOk result (count.old < count.new) }
     ensures most { OnOk result (count.new ≤ count.old + 256) }
 {
     Ok(rows.exchanged(entry, count)?)

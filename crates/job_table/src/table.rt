@@ -1,7 +1,8 @@
 ghost use Rattle.std.specs.Prelude.{◌≡◌, ◌≤◌, ◌<◌, ◌↔◌, ◌∷◌, length, map, IsTrue, IfOk, IfErr, IfSome, OnOk, OnErr, Some, None, option_copied};
 ghost use Rattle.swf_text.specs.Entry.{IsEntry, number_of_entry, submit_of};
 ghost use Rattle.swf_text.specs.Log.{IsLog, log_of};
-ghost use Rattle.job_table.specs.Edit.{edit_of, entry_of, holds, without, changed, applied, change_fault, fault_of, IsRefusal};
+ghost use Rattle.job_table.specs.Counted.{fewest};
+ghost use Rattle.job_table.specs.Edit.{Change, Insert, Remove, edit_of, entry_of, holds, without, changed, applied, change_fault, fault_of, IsRefusal};
 ghost use Rattle.job_table.specs.Table.{IsTable, entries_from};
 
 use crate::cursor::Cursor;
@@ -31,14 +32,15 @@ pub struct JobTable<A: Allocator + Copy> {
 
 impl<A: Allocator + Copy> Model for JobTable<A> {
     ghost use Rattle.std.specs.Prelude.{List};
+    ghost use Rattle.chunks.specs.Chunks.{flat};
     ghost use Rattle.swf_text.specs.Entry.{LogEntry};
     ghost use Rattle.job_table.specs.Table.{IsStored};
 
     ghost Value = { List LogEntry };
 
-    ghost view = { λ t. t.rows };
+    ghost view = { λ t. flat t.rows };
 
-    ghost invariant = { λ t. IsStored t.rows t.index t.len };
+    ghost invariant = { λ t. IsStored (flat t.rows) (flat t.index) t.len };
 }
 
 // Why a field may not have a value, if so.
@@ -189,6 +191,7 @@ impl<A: Allocator + Copy> JobTable<A> {
         requires room { length self.old < 4194304 }
         ensures ok { OnOk result (self.new ≡ log_of (entry.now ∷ self.old)) }
         ensures err { OnErr result (self.new ≡ self.old) }
+        ensures least { IfOk result (λ count. fewest (Insert entry.now) self.old ≤ count) }
         ensures most { IfOk result (λ count. count ≤ 1024) }
     {
         let mut count = 1;
@@ -201,15 +204,15 @@ impl<A: Allocator + Copy> JobTable<A> {
         Ok(count)
     }
 
-    // The entry with this number leaves. Answers the count of `apply_counted`.
+    // The entry with this number, which there is, leaves. Answers the count of `apply_counted`.
     fn remove(&mut self, number: u64) -> Result<u32, Memory>
+        requires { IsTrue (holds number self.old) }
         ensures ok { OnOk result (self.new ≡ log_of (without number self.old)) }
         ensures err { OnErr result (self.new ≡ self.old) }
+        ensures least { IfOk result (λ count. fewest (Remove number) self.old ≤ count) }
         ensures most { IfOk result (λ count. count ≤ 1024) }
     {
-        let Some(submit) = second(&self.index, number) else {
-            return Ok(0);
-        };
+        let submit = second(&self.index, number).unwrap();
         let mut count = 0;
         let index = without_number(&self.index, number, &mut count)?;
         let rows = without_one(&self.rows, submit, number, &mut count)?;
@@ -219,20 +222,18 @@ impl<A: Allocator + Copy> JobTable<A> {
         Ok(count)
     }
 
-    // A field of the entry with this number gets another value. Answers the count of
-    // `apply_counted`.
+    // A field of the entry with this number, which there is, gets another value. Answers the count
+    // of `apply_counted`.
     fn change(&mut self, number: u64, field: u8, value: Value) -> Result<u32, Memory>
-        requires { change_fault field value ≡ None }
+        requires there { IsTrue (holds number self.old) }
+        requires taken { change_fault field value ≡ None }
         ensures ok { OnOk result (self.new ≡ log_of (changed number field value self.old)) }
         ensures err { OnErr result (self.new ≡ self.old) }
+        ensures least { IfOk result (λ count. fewest (Change number field value) self.old ≤ count) }
         ensures most { IfOk result (λ count. count ≤ 1024) }
     {
-        let Some(submit) = second(&self.index, number) else {
-            return Ok(0);
-        };
-        let Some(was) = entry_at(&self.rows, submit, number) else {
-            return Ok(0);
-        };
+        let submit = second(&self.index, number).unwrap();
+        let was = entry_at(&self.rows, submit, number).unwrap();
         let mut count = 1;
         let entry = changed_entry(was, field, value)?;
         let at = entry.submit();
@@ -261,12 +262,14 @@ impl<A: Allocator + Copy> JobTable<A> {
     }
 
     /// As `apply`, and answers how many entries and pairs of the index it copied or moved to
-    /// another chunk: at most 1,024.
+    /// another chunk: at most 1,024, and at least `fewest`, one for each chunk that is made anew and
+    /// one for an entry that is new or changed.
     pub fn apply_counted(&mut self, edit: &Edit<A>) -> Result<u32, EditFault>
         ensures accepted { OnOk result (fault_of (edit_of edit.now) self.old ≡ None) }
         ensures applied { OnOk result (self.new ≡ applied (edit_of edit.now) self.old) }
         ensures fault { IfErr result (λ fault. IsRefusal fault (edit_of edit.now) self.old) }
         ensures kept { OnErr result (self.new ≡ self.old) }
+        ensures least { IfOk result (λ count. fewest (edit_of edit.now) self.old ≤ count) }
         ensures most { IfOk result (λ count. count ≤ 1024) }
     {
         self.check(edit)?;

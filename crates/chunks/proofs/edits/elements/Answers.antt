@@ -1,6 +1,6 @@
-use Rattle.std.proofs.Common.{rules, ◌≡◌, ◌≤◌, length, get_or, List, [], ap, ◌∙◌}
+use Rattle.std.proofs.Common.{◌≡◌, get_or, [], ap, ◌∙◌}
 use Rattle.chunks.specs.Chunks.{contents}
-use Rattle.chunks.proofs.Rows.{chunk_at, items_of, items_in}
+use Rattle.chunks.proofs.Rows.{chunk_at, items_in}
 use Rattle.chunks.proofs.Changes.{sized-at}
 use Rattle.chunks.proofs.edits.elements.Goals as goal
 

@@ -1,6 +1,5 @@
-use Rattle.std.proofs.Common.{arith}
 use Rattle.chunks.specs.Chunks.{contents}
-use Rattle.chunks.proofs.Changes.{inserted_is, moved-most}
+use Rattle.chunks.proofs.Changes.{inserted_is}
 use Rattle.chunks.proofs.edits.inserted.Goals as goal
 
 pub returns-clause-flat : goal.returns-clause-flat

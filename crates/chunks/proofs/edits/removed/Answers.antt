@@ -1,4 +1,3 @@
-use Rattle.std.proofs.Common.{arith}
 use Rattle.chunks.specs.Chunks.{contents}
 use Rattle.chunks.proofs.Changes.{removed_is}
 use Rattle.chunks.proofs.edits.removed.Goals as goal

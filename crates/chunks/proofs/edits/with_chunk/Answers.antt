@@ -1,4 +1,4 @@
-use Rattle.std.proofs.Common.{◌≡◌, ◌+◌, ◌++◌, List, take, drop}
+use Rattle.std.proofs.Common.{◌+◌, take, drop}
 use Rattle.chunks.specs.Chunks.{contents}
 use Rattle.chunks.proofs.Rows.{around_is}
 use Rattle.chunks.proofs.Changes.{flat_parts, sized_parts}

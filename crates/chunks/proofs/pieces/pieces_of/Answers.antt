@@ -1,5 +1,4 @@
 use Rattle.std.proofs.Common.{ap, ◌∙◌}
-use Rattle.std.specs.declared.vec.Vec.{Vec}
 use Rattle.chunks.proofs.Rows.{flat_two, items_in}
 use Rattle.chunks.proofs.pieces.pieces_of.Goals as goal
 

@@ -1,7 +1,8 @@
-use Rattle.std.proofs.Common.{◌≡◌, List, get_or, subst, sym}
-use Rattle.std.specs.List.Sorted.{IsPartitionedBy}
-use Rattle.chunks.specs.Chunks.{contents, flat, stands}
-use Rattle.chunks.proofs.Places.{inside_by, parted-at, place_by}
+use Rattle.std.proofs.Common.{arith}
+use Rattle.chunks.specs.Chunks.{contents, stands}
+use Rattle.std.proofs.lemmas.List.{length-map}
+use Rattle.chunks.proofs.Rows.{items_of}
+use Rattle.chunks.proofs.Places.{inside_by, parted-at, place_by, there_by}
 use Rattle.chunks.proofs.search.place_of.Goals as goal
 
 pub before-at-requires : goal.before-at-requires
@@ -18,3 +19,9 @@ pub returns-clause-inside : goal.returns-clause-inside
 returns-clause-inside g c =
     let test = stands g.T.Keyed.first g.T.Keyed.second c.args.first c.args.second in
     inside_by test (contents c.args.row.now) c.chunk_before-chunk.result c.before-at.result c.elements.result.now c.requires.sized c.chunk_before-chunk.ensures.place c.elements.ensures.value c.before-at.ensures.place
+
+pub returns-clause-there : goal.returns-clause-there
+returns-clause-there g c = λ lt.
+    let test = stands g.T.Keyed.first g.T.Keyed.second c.args.first c.args.second in
+    there_by test (contents c.args.row.now) c.chunk_before-chunk.result c.before-at.result c.elements.result.now c.requires.sized c.chunk_before-chunk.ensures.place c.elements.ensures.value c.before-at.ensures.place
+    (omega (arith, lt, length-map c.args.row.now items_of))

@@ -12,4 +12,4 @@ returns g c =
     let sorted = c.sort_by_key.new.self.items in
     let permutes : IsPermutation (map pair_of rows) sorted = subst (λ (xs : List Numbered). IsPermutation xs sorted) c.in_ok-pairs.ensures c.sort_by_key.ensures.permutation in
     let up : IsNonDecreasingBy number_in sorted = IsNonDecreasingBy-from_sort number_in sorted (c.in_ok-sort_by_key.ensures.sorted number_in (answers_always _ _ _ (λ f a r h k. search rules))) in
-    subst (λ (l : List Numbered). IsIndex l rows) (sym c.in_ok-of.ensures) (index-sorted rows sorted c.requires permutes up)
+    subst (λ (l : List Numbered). IsIndex l rows) (sym c.in_ok-of.ensures.list) (index-sorted rows sorted c.requires permutes up)

@@ -1,3 +1,4 @@
+use Rattle.chunks.specs.Chunks.{flat}
 use Rattle.std.proofs.Common.{◌∙◌}
 use Rattle.swf_text.specs.Entry.{submit_of, number_of_entry}
 use Rattle.job_table.specs.Edit.{without}
@@ -6,15 +7,15 @@ use Rattle.job_table.proofs.Tables.{table-rising, table-apart, placed-is}
 use Rattle.job_table.proofs.rows.with_exchanged.Goals as goal
 
 pub exchanged-requires-clause-parted : goal.exchanged-requires-clause-parted
-exchanged-requires-clause-parted g c = parted submit_of number_of_entry (submit_of c.args.entry) (number_of_entry c.args.entry) c.args.rows.now (table-rising c.args.rows.now c.requires.table)
+exchanged-requires-clause-parted g c = parted submit_of number_of_entry (submit_of c.args.entry) (number_of_entry c.args.entry) (flat c.args.rows.now) (table-rising (flat c.args.rows.now) c.requires.table)
 
 pub exchanged-requires-clause-there : goal.exchanged-requires-clause-there
 exchanged-requires-clause-there g c =
-    at_within submit_of number_of_entry (number_of_entry c.args.entry) (submit_of c.args.entry) c.args.rows.now _ c.requires.known
-    (get_place submit_of number_of_entry (number_of_entry c.args.entry) (submit_of c.args.entry) c.args.rows.now (table-rising c.args.rows.now c.requires.table) c.requires.known)
+    at_within submit_of number_of_entry (number_of_entry c.args.entry) (submit_of c.args.entry) (flat c.args.rows.now) _ c.requires.known
+    (get_place submit_of number_of_entry (number_of_entry c.args.entry) (submit_of c.args.entry) (flat c.args.rows.now) (table-rising (flat c.args.rows.now) c.requires.table) c.requires.known)
 
 pub returns-clause-rows : goal.returns-clause-rows
 returns-clause-rows g c =
     c.in_ok-exchanged.ensures.list
-    ∙ set_place submit_of number_of_entry c.args.entry c.args.rows.now (table-rising c.args.rows.now c.requires.table) (table-apart c.args.rows.now c.requires.table) c.requires.known
-    ∙ placed-is c.args.entry (without (number_of_entry c.args.entry) c.args.rows.now)
+    ∙ set_place submit_of number_of_entry c.args.entry (flat c.args.rows.now) (table-rising (flat c.args.rows.now) c.requires.table) (table-apart (flat c.args.rows.now) c.requires.table) c.requires.known
+    ∙ placed-is c.args.entry (without (number_of_entry c.args.entry) (flat c.args.rows.now))

@@ -1,5 +1,7 @@
 use Rattle.std.proofs.Common.{refl}
-use Rattle.chunks.proofs.Lists.{parted_for, inside_for}
+use Rattle.chunks.specs.Chunks.{contents}
+use Rattle.chunks.proofs.Places.{touched_at}
+use Rattle.chunks.proofs.Lists.{parted_for, inside_for, count_for}
 use Rattle.chunks.proofs.list.Chunks.without.Goals as goal
 
 pub place_of-place-requires-clause-parted : goal.place_of-place-requires-clause-parted
@@ -10,3 +12,12 @@ pub removed-requires-clause-place : goal.removed-requires-clause-place
 removed-requires-clause-place g c =
     c.place_of-place.ensures.inside
     (inside_for g.T.Keyed.first g.T.Keyed.second c.args.first c.args.second c.args.first c.args.second c.as_slice-rows.result.now c.self.inside.row.items c.args.self.now c.as_slice-rows.ensures.value c.self.view_is refl refl _ c.place_of-place.ensures.place c.requires.there)
+
+pub returns-clause-count : goal.returns-clause-count
+returns-clause-count g c =
+    let place = c.place_of-place.result in
+    let rows = c.as_slice-rows.result.now in
+    let inside = c.place_of-place.ensures.inside
+    (inside_for g.T.Keyed.first g.T.Keyed.second c.args.first c.args.second c.args.first c.args.second rows c.self.inside.row.items c.args.self.now c.as_slice-rows.ensures.value c.self.view_is refl refl _ c.place_of-place.ensures.place c.requires.there) in
+    count_for g.T.Keyed.first g.T.Keyed.second c.args.first c.args.second c.args.first c.args.second rows c.self.inside.row.items c.args.self.now c.as_slice-rows.ensures.value c.self.view_is refl refl
+    _ _ _ _ c.place_of-place.ensures.place (touched_at place.chunk place.at (contents rows) inside) c.in_ok-row.ensures.count

@@ -1,3 +1,4 @@
+use Rattle.chunks.specs.Chunks.{flat}
 use Rattle.std.proofs.Common.{ap, ◌∙◌}
 use Rattle.job_table.specs.Edit.{entry_of}
 use Rattle.job_table.proofs.Stored.{get-numbered, get-sound}
@@ -16,7 +17,7 @@ pub returns-clause-entry : goal.returns-clause-entry
 returns-clause-entry g c = c.entry_at.ensures ∙ ap (entry_of c.args.number) c.self.view_is
 
 pub returns-clause-numbered : goal.returns-clause-numbered
-returns-clause-numbered g c = get-numbered c.args.number c.self.inside.rows c.entry_at.result c.entry_at.ensures
+returns-clause-numbered g c = get-numbered c.args.number (flat c.self.inside.rows) c.entry_at.result c.entry_at.ensures
 
 pub returns-clause-sound : goal.returns-clause-sound
-returns-clause-sound g c = get-sound c.args.number c.self.inside.rows c.entry_at.result c.self.invariant.table c.entry_at.ensures
+returns-clause-sound g c = get-sound c.args.number (flat c.self.inside.rows) c.entry_at.result c.self.invariant.table c.entry_at.ensures

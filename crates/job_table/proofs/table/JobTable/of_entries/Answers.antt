@@ -1,3 +1,4 @@
+use Rattle.chunks.specs.Chunks.{flat}
 use Rattle.std.proofs.Common.{◌≡◌, List, length, rules, ap, sym, subst, ◌∙◌}
 use Rattle.std.specs.List.Sorted.{IsPermutation}
 use Rattle.std.proofs.lemmas.List.Sorted.{answers_always}
@@ -21,15 +22,15 @@ invariant_of-result g c =
     let es : List LogEntry = c.args.entries.items in
     let sorted : List LogEntry = c.sort_by_key.new.self.items in
     let permutes : IsPermutation es sorted = c.sort_by_key.ensures.permutation in
-    let is : c.in_ok-rows.rows ≡ log_of es = c.in_ok-rows.ensures ∙ sorted-is es sorted c.requires permutes (c.in_ok-sort_by_key.ensures.sorted key (answers_always _ _ _ (λ f a r h k. search rules))) in
+    let is : flat c.in_ok-rows.rows ≡ log_of es = c.in_ok-rows.ensures.list ∙ sorted-is es sorted c.requires permutes (c.in_ok-sort_by_key.ensures.sorted key (answers_always _ _ _ (λ f a r h k. search rules))) in
     record {
       table = subst IsTable (sym is) (log-table es c.requires);
-      index = subst (λ (l : List LogEntry). IsIndex c.in_ok-index.index l) (c.as_slice.ensures.value ∙ sym c.in_ok-rows.ensures) c.in_ok-index.ensures;
-      count = c.len-len.ensures ∙ c.sort_by_key.new.self.ok.0 ∙ sym (ap length c.in_ok-rows.ensures);
+      index = subst (λ (l : List LogEntry). IsIndex (flat c.in_ok-index.index) l) (c.as_slice.ensures.value ∙ sym c.in_ok-rows.ensures.list) c.in_ok-index.ensures;
+      count = c.len-len.ensures ∙ c.sort_by_key.new.self.ok.0 ∙ sym (ap length c.in_ok-rows.ensures.list);
     }
 
 pub returns : goal.returns
 returns g c =
     let es : List LogEntry = c.args.entries.items in
     let permutes : IsPermutation es c.sort_by_key.new.self.items = c.sort_by_key.ensures.permutation in
-    c.in_ok-rows.ensures ∙ sorted-is es c.sort_by_key.new.self.items c.requires permutes (c.in_ok-sort_by_key.ensures.sorted key (answers_always _ _ _ (λ f a r h k. search rules)))
+    c.in_ok-rows.ensures.list ∙ sorted-is es c.sort_by_key.new.self.items c.requires permutes (c.in_ok-sort_by_key.ensures.sorted key (answers_always _ _ _ (λ f a r h k. search rules)))
