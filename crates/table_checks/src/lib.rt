@@ -1,7 +1,9 @@
 //! Tests of `chunks` and `job_table`, in a crate of their own so that each of these libraries is
-//! proved once: lists in shared chunks, and tables with their edits.
+//! proved once: lists in shared chunks, tables with their edits, and what these count.
 #![tactic(auto)]
 
+#[cfg(test)]
+mod counts;
 #[cfg(test)]
 mod lists;
 #[cfg(test)]
