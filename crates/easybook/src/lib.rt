@@ -5,12 +5,16 @@ mod fault;
 mod input;
 mod options;
 mod plain;
+mod program;
+mod stop;
 mod words;
 
 pub use fault::ProgramFault;
 pub use input::read_input;
 pub use options::Options;
 pub use plain::run_plain;
+pub use program::run_words;
+pub use stop::Stop;
 pub use words::{Words, WordsFault, read_words};
 
 #[cfg(test)]

@@ -1,5 +1,6 @@
 ghost use Rattle.std.specs.Prelude.{◌≡◌, IfOk, IfErr};
 ghost use Rattle.scenarios.specs.Plan.{plan_of};
+ghost use Rattle.checkpoints.specs.Cut.{IsShortCut};
 ghost use Rattle.checkpoints.specs.Spacing.{IsSpacing};
 ghost use Rattle.report.specs.Schedule.{schedule_text};
 ghost use Rattle.easybook.specs.Plain.{IsTextOrFault, Answers};
@@ -29,6 +30,7 @@ fn run_of<A: Allocator + Copy>(
     requires { IsSpacing spacing }
     ensures log { IfOk result (λ run. run.log ≡ table) }
     ensures setting { IfOk result (λ run. run.setting ≡ scenario) }
+    ensures cut { IfOk result (λ run. IsShortCut (plan_of table scenario) spacing run.segments) }
     ensures memory { IfErr result (λ fault. fault ≡ ProgramFault.Memory) }
 {
     match simulate(alloc, Arc::new(alloc, table)?, scenario, spacing) {

@@ -1,17 +1,11 @@
-//! The program `easybook`: reads its words and its log, and writes the schedule, or one line that
-//! says why there is none.
+//! The program `easybook`: hands the process's words and streams on, and tells by its status and
+//! one line why there is no answer.
 #![tactic(auto)]
 
-mod stop;
-
-use crate::stop::Stop;
-use easybook::{read_input, read_words, run_plain};
+use easybook::{Stop, run_words};
 use std::process::ExitCode;
 use std::rt::Env;
 use std::{env, io};
-
-/// The most bytes that are read of standard input where it holds the log.
-const INPUT_LIMIT: u64 = 1_200_000_000;
 
 fn run<R: Env + Input + Print + AllocGlobal>(rt: &R) -> Result<(), Stop> {
     let mut args = Vec::new(rt.alloc());
@@ -22,15 +16,12 @@ fn run<R: Env + Input + Print + AllocGlobal>(rt: &R) -> Result<(), Stop> {
     for arg in &args {
         words.push(arg.as_str())?;
     }
-    let words = read_words(rt.alloc(), words.as_slice())?;
-    let log = read_input(rt.alloc(), rt.reader(), INPUT_LIMIT)?;
-    run_plain(
+    run_words(
         rt.alloc(),
+        words.as_slice(),
+        rt.reader(),
         &mut io::writer(rt),
-        log.as_slice(),
-        words.options,
-    )?;
-    Ok(())
+    )
 }
 
 fn main(rt: HostRuntime) -> ExitCode {

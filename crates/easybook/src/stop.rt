@@ -1,21 +1,29 @@
-use easybook::{ProgramFault, WordsFault};
+ghost use Rattle.std.specs.Prelude.{◌≡◌};
+ghost use Rattle.easybook.specs.declared.fault.ProgramFault.TheVariants.{Memory as OutOfMemory};
+ghost use Rattle.std.specs.IoError.{error_kind};
+ghost use Rattle.easybook.specs.declared.stop.Stop.TheVariants.{Fault as fault_stop, Words as words_stop};
+
+use crate::fault::ProgramFault;
+use crate::words::WordsFault;
 use std::alloc::AllocFailed;
 use std::io;
 use std::io::ErrorKind;
 use thiserror::Error;
 
 /// Why the program ends without its answer. It displays as the line that the program writes.
-#[derive(Debug, Drop, Error)]
+#[derive(Clone, Copy, Debug, PartialEq, Eq, Error)]
 pub enum Stop {
+    /// The words are bad, or memory was short for them.
     #[error("{0}")]
     Words(WordsFault),
+    /// The words are taken, and this fault came.
     #[error("{0}")]
     Fault(ProgramFault),
 }
 
 impl Stop {
     ghost use Rattle.std.specs.Prelude.{◌≡◌};
-    ghost use Rattle.easybook_cli.specs.Status.{status_of};
+    ghost use Rattle.easybook.specs.Stop.{status_of};
 
     /// The exit status: 2 for bad arguments, otherwise 1.
     pub fn status(&self) -> u8
@@ -29,12 +37,16 @@ impl Stop {
 }
 
 impl From<WordsFault> for Stop {
+    ghost from_gives = { λ fault stop. stop ≡ words_stop fault };
+
     fn from(fault: WordsFault) -> Stop {
         Stop::Words(fault)
     }
 }
 
 impl From<ProgramFault> for Stop {
+    ghost from_gives = { λ fault stop. stop ≡ fault_stop fault };
+
     fn from(fault: ProgramFault) -> Stop {
         Stop::Fault(fault)
     }
@@ -42,16 +54,22 @@ impl From<ProgramFault> for Stop {
 
 /// The words could not be had: one is no UTF-8, or memory is short.
 impl From<io::Error> for Stop {
+    ghost use Rattle.std.specs.Prelude.{◌≡◌};
+    ghost use Rattle.easybook.specs.Stop.{stop_of_kind};
+
+    ghost from_gives = { λ error stop. stop ≡ stop_of_kind (error_kind error) };
+
     fn from(error: io::Error) -> Stop {
-        if error.kind() == ErrorKind::OutOfMemory {
-            Stop::Fault(ProgramFault::Memory)
-        } else {
-            Stop::Words(WordsFault::BadWords)
+        match error.kind() {
+            ErrorKind::OutOfMemory => Stop::Fault(ProgramFault::Memory),
+            _ => Stop::Words(WordsFault::BadWords),
         }
     }
 }
 
 impl<T: Drop> From<AllocFailed<T>> for Stop {
+    ghost from_gives = { λ _ stop. stop ≡ fault_stop OutOfMemory };
+
     fn from(_error: AllocFailed<T>) -> Stop {
         Stop::Fault(ProgramFault::Memory)
     }

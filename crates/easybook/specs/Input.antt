@@ -1,0 +1,11 @@
+-- Why the input is not had whole.
+use Rattle.std.specs.Prelude.{ℕ, ◌<◌, List, length, Option, IfSome}
+use Rattle.easybook.specs.declared.fault.ProgramFault.{ProgramFault}
+use Rattle.easybook.specs.declared.fault.ProgramFault.TheVariants.{TooLong, Read, Memory}
+
+-- it has more bytes than the limit, or the reader answered an error, or memory was short; these two say nothing of it
+abbrev pub IsInputFault : Option (List ℕ) → ℕ → ProgramFault → Type 0
+IsInputFault known limit TooLong = IfSome known (λ all. limit < length all)
+IsInputFault known limit Read = Unit {0}
+IsInputFault known limit Memory = Unit {0}
+IsInputFault known limit fault = ⊥
