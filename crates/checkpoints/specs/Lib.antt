@@ -4,3 +4,4 @@ pub mod Sums
 pub mod Schedule
 pub mod Spacing
 pub mod RunView
+pub mod Names

@@ -3,19 +3,46 @@ ghost use Rattle.checkpoints.specs.declared.fault.RunFault.TheVariants as faults
 
 use event_loop::EngineFault;
 use std::alloc::{AllocError, AllocFailed};
+use std::error::Error;
+use std::fmt;
 use swf_text;
-use thiserror::Error;
 
 /// Why there is no run.
-#[derive(Clone, Copy, Debug, PartialEq, Eq, Error)]
+#[derive(Clone, Copy, Debug, PartialEq, Eq)]
 pub enum RunFault {
     /// The spacing is not within 1 to 65,536 event seconds.
-    #[error("BadSpacing")]
     BadSpacing,
     /// A growth was refused.
-    #[error("Memory")]
     Memory,
 }
+
+impl RunFault {
+    ghost use Rattle.std.specs.Prelude.{◌≡◌};
+    ghost use Rattle.checkpoints.specs.Names.{run_fault_name};
+
+    /// The fault's name, which is the variant's own.
+    pub fn name(&self) -> &'static str
+        ensures { result.now ≡ run_fault_name self.now }
+    {
+        match self {
+            RunFault::BadSpacing => "BadSpacing",
+            RunFault::Memory => "Memory",
+        }
+    }
+}
+
+impl fmt::Display for RunFault {
+    ghost use Rattle.std.specs.Prelude.{Some};
+    ghost use Rattle.checkpoints.specs.Names.{run_fault_name};
+
+    ghost output = { λ fault. Some (run_fault_name fault) };
+
+    fn fmt<W: fmt::Write>(&self, f: &mut fmt::Formatter<W>) -> fmt::Result {
+        f.write_str(self.name())
+    }
+}
+
+impl Error for RunFault {}
 
 impl From<swf_text::Memory> for RunFault {
     ghost from_gives = { λ _ fault. fault ≡ faults.Memory };

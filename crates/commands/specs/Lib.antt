@@ -3,3 +3,4 @@ pub mod Commands
 pub mod ScenarioLine
 pub mod Opening
 pub mod Laws
+pub mod Names

@@ -2,22 +2,49 @@ ghost use Rattle.std.specs.Prelude.{◌≡◌};
 ghost use Rattle.commands.specs.declared.opening_fault.OpenTextFault.TheVariants.{Memory as no_memory};
 
 use std::alloc::{AllocError, AllocFailed};
+use std::error::Error;
+use std::fmt;
 use swf_text::Memory;
-use thiserror::Error;
 
 /// Why a log is not opened, in the order of checks.
-#[derive(Clone, Copy, Debug, PartialEq, Eq, Error)]
+#[derive(Clone, Copy, Debug, PartialEq, Eq)]
 pub enum OpenTextFault {
     /// Neither the comments nor the caller name a scenario or a machine's size.
-    #[error("NoMachine")]
     NoMachine,
     /// The machine has not 1 to 16,777,216 processors.
-    #[error("BadMachine")]
     BadMachine,
     /// A growth was refused.
-    #[error("Memory")]
     Memory,
 }
+
+impl OpenTextFault {
+    ghost use Rattle.std.specs.Prelude.{◌≡◌};
+    ghost use Rattle.commands.specs.Names.{open_fault_name};
+
+    /// The fault's name, which is the variant's own.
+    pub fn name(&self) -> &'static str
+        ensures { result.now ≡ open_fault_name self.now }
+    {
+        match self {
+            OpenTextFault::NoMachine => "NoMachine",
+            OpenTextFault::BadMachine => "BadMachine",
+            OpenTextFault::Memory => "Memory",
+        }
+    }
+}
+
+impl fmt::Display for OpenTextFault {
+    ghost use Rattle.std.specs.Prelude.{Some};
+    ghost use Rattle.commands.specs.Names.{open_fault_name};
+
+    ghost output = { λ fault. Some (open_fault_name fault) };
+
+    fn fmt<W: fmt::Write>(&self, f: &mut fmt::Formatter<W>) -> fmt::Result {
+        f.write_str(self.name())
+    }
+}
+
+impl Error for OpenTextFault {}
 
 impl From<Memory> for OpenTextFault {
     ghost from_gives = { λ _ fault. fault ≡ no_memory };

@@ -1,5 +1,5 @@
 -- What the words choose, by what stands behind them.
-use Rattle.std.proofs.Common.{◌≡◌, ℕ, List, [], Option, None, codes, sym, ap, ◌∙◌}
+use Rattle.std.proofs.Common.{◌≡◌, List, [], None, codes, sym, ap, ◌∙◌}
 use Rattle.std.specs.Prelude.{if◌then◌else◌}
 use Rattle.clap.specs.Kinds.{Kinds}
 use Rattle.clap.specs.Walk.{Row, Text, first_of, is_empty, rows_of}

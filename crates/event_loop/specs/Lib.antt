@@ -2,3 +2,4 @@ pub mod Coming
 pub mod Events
 pub mod Going
 pub mod Stepped
+pub mod Names

@@ -2,19 +2,46 @@ ghost use Rattle.std.specs.Prelude.{◌≡◌};
 ghost use Rattle.event_loop.specs.declared.fault.EngineFault.TheVariants as faults;
 
 use std::alloc::{AllocError, AllocFailed};
+use std::error::Error;
+use std::fmt;
 use swf_text;
-use thiserror::Error;
 
 /// Why an engine does not go on.
-#[derive(Clone, Copy, Debug, PartialEq, Eq, Error)]
+#[derive(Clone, Copy, Debug, PartialEq, Eq)]
 pub enum EngineFault {
     /// It met want of memory before.
-    #[error("Failed")]
     Failed,
     /// A growth was refused.
-    #[error("Memory")]
     Memory,
 }
+
+impl EngineFault {
+    ghost use Rattle.std.specs.Prelude.{◌≡◌};
+    ghost use Rattle.event_loop.specs.Names.{engine_fault_name};
+
+    /// The fault's name, which is the variant's own.
+    pub fn name(&self) -> &'static str
+        ensures { result.now ≡ engine_fault_name self.now }
+    {
+        match self {
+            EngineFault::Failed => "Failed",
+            EngineFault::Memory => "Memory",
+        }
+    }
+}
+
+impl fmt::Display for EngineFault {
+    ghost use Rattle.std.specs.Prelude.{Some};
+    ghost use Rattle.event_loop.specs.Names.{engine_fault_name};
+
+    ghost output = { λ fault. Some (engine_fault_name fault) };
+
+    fn fmt<W: fmt::Write>(&self, f: &mut fmt::Formatter<W>) -> fmt::Result {
+        f.write_str(self.name())
+    }
+}
+
+impl Error for EngineFault {}
 
 impl From<swf_text::Memory> for EngineFault {
     ghost from_gives = { λ _ fault. fault ≡ faults.Memory };

@@ -3,3 +3,4 @@ pub mod Table
 pub mod Arranged
 pub mod Accepted
 pub mod Counted
+pub mod Names

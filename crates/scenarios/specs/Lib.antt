@@ -4,3 +4,4 @@ pub mod Effective
 pub mod Plan
 pub mod Name
 pub mod ScenarioList
+pub mod Names

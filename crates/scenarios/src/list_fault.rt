@@ -1,25 +1,52 @@
 ghost use Rattle.std.specs.Prelude.{◌≡◌};
 ghost use Rattle.scenarios.specs.declared.list_fault.AddFault.TheVariants.{Memory as no_memory};
 
+use std::error::Error;
+use std::fmt;
 use swf_text::Memory;
-use thiserror::Error;
 
 /// Why a scenario was not added, in the order of checks.
-#[derive(Clone, Copy, Debug, PartialEq, Eq, Error)]
+#[derive(Clone, Copy, Debug, PartialEq, Eq)]
 pub enum AddFault {
     /// The name is not 1 to 16 bytes of `a` to `z`, `0` to `9`, `-` and `_`.
-    #[error("BadName")]
     BadName,
     /// A scenario of this name stands in the list.
-    #[error("NameTaken")]
     NameTaken,
     /// 64 scenarios stand in the list, or the last id is used.
-    #[error("TooMany")]
     TooMany,
     /// A growth was refused.
-    #[error("Memory")]
     Memory,
 }
+
+impl AddFault {
+    ghost use Rattle.std.specs.Prelude.{◌≡◌};
+    ghost use Rattle.scenarios.specs.Names.{add_fault_name};
+
+    /// The fault's name, which is the variant's own.
+    pub fn name(&self) -> &'static str
+        ensures { result.now ≡ add_fault_name self.now }
+    {
+        match self {
+            AddFault::BadName => "BadName",
+            AddFault::NameTaken => "NameTaken",
+            AddFault::TooMany => "TooMany",
+            AddFault::Memory => "Memory",
+        }
+    }
+}
+
+impl fmt::Display for AddFault {
+    ghost use Rattle.std.specs.Prelude.{Some};
+    ghost use Rattle.scenarios.specs.Names.{add_fault_name};
+
+    ghost output = { λ fault. Some (add_fault_name fault) };
+
+    fn fmt<W: fmt::Write>(&self, f: &mut fmt::Formatter<W>) -> fmt::Result {
+        f.write_str(self.name())
+    }
+}
+
+impl Error for AddFault {}
 
 impl From<Memory> for AddFault {
     ghost from_gives = { λ _ fault. fault ≡ no_memory };
@@ -30,6 +57,30 @@ impl From<Memory> for AddFault {
 }
 
 /// No scenario of the list has the name.
-#[derive(Clone, Copy, Debug, PartialEq, Eq, Error)]
-#[error("NoSuchScenario")]
+#[derive(Clone, Copy, Debug, PartialEq, Eq)]
 pub struct NoSuchScenario;
+
+impl NoSuchScenario {
+    ghost use Rattle.std.specs.Prelude.{◌≡◌};
+    ghost use Rattle.scenarios.specs.Names.{no_such_scenario_name};
+
+    /// The fault's name, which is that of its type.
+    pub fn name(&self) -> &'static str
+        ensures { result.now ≡ no_such_scenario_name }
+    {
+        "NoSuchScenario"
+    }
+}
+
+impl fmt::Display for NoSuchScenario {
+    ghost use Rattle.std.specs.Prelude.{Some};
+    ghost use Rattle.scenarios.specs.Names.{no_such_scenario_name};
+
+    ghost output = { λ _. Some no_such_scenario_name };
+
+    fn fmt<W: fmt::Write>(&self, f: &mut fmt::Formatter<W>) -> fmt::Result {
+        f.write_str(self.name())
+    }
+}
+
+impl Error for NoSuchScenario {}

@@ -1,18 +1,45 @@
-use thiserror::Error;
+use std::error::Error;
+use std::fmt;
 
 /// Why an entry of a log is not simulated.
-#[derive(Clone, Copy, Debug, PartialEq, Eq, Error)]
+#[derive(Clone, Copy, Debug, PartialEq, Eq)]
 pub enum Skip {
     /// Neither the requested nor the allocated processors are above 0.
-    #[error("NoSize")]
     NoSize,
     /// The run time is negative.
-    #[error("NoRun")]
     NoRun,
     /// It takes more processors than the machine has.
-    #[error("TooLarge")]
     TooLarge,
     /// Its estimate is above 100,000,000 seconds.
-    #[error("TooLong")]
     TooLong,
 }
+
+impl Skip {
+    ghost use Rattle.std.specs.Prelude.{◌≡◌};
+    ghost use Rattle.scenarios.specs.Names.{skip_name};
+
+    /// The reason's name, which is the variant's own.
+    pub fn name(&self) -> &'static str
+        ensures { result.now ≡ skip_name self.now }
+    {
+        match self {
+            Skip::NoSize => "NoSize",
+            Skip::NoRun => "NoRun",
+            Skip::TooLarge => "TooLarge",
+            Skip::TooLong => "TooLong",
+        }
+    }
+}
+
+impl fmt::Display for Skip {
+    ghost use Rattle.std.specs.Prelude.{Some};
+    ghost use Rattle.scenarios.specs.Names.{skip_name};
+
+    ghost output = { λ skip. Some (skip_name skip) };
+
+    fn fmt<W: fmt::Write>(&self, f: &mut fmt::Formatter<W>) -> fmt::Result {
+        f.write_str(self.name())
+    }
+}
+
+impl Error for Skip {}

@@ -1,6 +1,7 @@
 pub mod Number
 pub mod Line
 pub mod Fault
+pub mod Names
 pub mod Entry
 pub mod Log
 pub mod Text

@@ -3,42 +3,72 @@ ghost use Rattle.swf_text.specs.declared.fault.FaultKind.TheVariants.{Memory};
 
 use crate::line::LineFault;
 use std::alloc::{AllocError, AllocFailed};
-use thiserror::Error;
+use std::error::Error;
+use std::fmt;
 
 /// Why a line ends the reading of a log, in the order of checks.
-#[derive(Clone, Copy, Debug, PartialEq, Eq, Error)]
+#[derive(Clone, Copy, Debug, PartialEq, Eq)]
 pub enum FaultKind {
     /// The line has more than 65,536 bytes, its line feed not counted.
-    #[error("LineTooLong")]
     LineTooLong,
     /// A job line has a byte of 0x80 or above.
-    #[error("NotAscii")]
     NotAscii,
     /// A job line has not exactly eighteen words.
-    #[error("FieldCount")]
     FieldCount,
     /// The word of this field, counted from 1, is the first that is no number.
-    #[error("BadNumber {0}")]
     BadNumber(u8),
     /// Field 1 is no whole number of at least 0.
-    #[error("BadJobNumber")]
     BadJobNumber,
     /// Field 2 of a summary line is negative.
-    #[error("BadSubmit")]
     BadSubmit,
     /// A partial line has not the job number of the last entry before it.
-    #[error("OrphanPartial")]
     OrphanPartial,
     /// The job number of a summary line stands on an earlier one.
-    #[error("DuplicateJob")]
     DuplicateJob,
     /// The line would be entry 4,194,305.
-    #[error("TooManyJobs")]
     TooManyJobs,
     /// A growth was refused.
-    #[error("Memory")]
     Memory,
 }
+
+impl FaultKind {
+    ghost use Rattle.std.specs.Prelude.{◌≡◌};
+    ghost use Rattle.swf_text.specs.Names.{kind_name};
+
+    /// The kind's name, which is the variant's own.
+    pub fn name(&self) -> &'static str
+        ensures { result.now ≡ kind_name self.now }
+    {
+        match self {
+            FaultKind::LineTooLong => "LineTooLong",
+            FaultKind::NotAscii => "NotAscii",
+            FaultKind::FieldCount => "FieldCount",
+            FaultKind::BadNumber(_) => "BadNumber",
+            FaultKind::BadJobNumber => "BadJobNumber",
+            FaultKind::BadSubmit => "BadSubmit",
+            FaultKind::OrphanPartial => "OrphanPartial",
+            FaultKind::DuplicateJob => "DuplicateJob",
+            FaultKind::TooManyJobs => "TooManyJobs",
+            FaultKind::Memory => "Memory",
+        }
+    }
+}
+
+impl fmt::Display for FaultKind {
+    ghost use Rattle.std.specs.Prelude.{Some};
+    ghost use Rattle.swf_text.specs.Names.{kind_text};
+
+    ghost output = { λ fault. Some (kind_text fault) };
+
+    fn fmt<W: fmt::Write>(&self, f: &mut fmt::Formatter<W>) -> fmt::Result {
+        match self {
+            FaultKind::BadNumber(field) => write!(f, "BadNumber {field}"),
+            kind => f.write_str(kind.name()),
+        }
+    }
+}
+
+impl Error for FaultKind {}
 
 impl From<LineFault> for FaultKind {
     ghost use Rattle.std.specs.Prelude.{◌≡◌};
@@ -73,34 +103,100 @@ impl<T: Drop> From<AllocFailed<T>> for FaultKind {
 }
 
 /// The first faulty line of a log, counted from 1, and its first fault.
-#[derive(Clone, Copy, Debug, PartialEq, Eq, Error)]
-#[error("line {line}: {kind}")]
+#[derive(Clone, Copy, Debug, PartialEq, Eq)]
 pub struct SwfFault {
     pub line: u64,
     pub kind: FaultKind,
 }
 
+impl fmt::Display for SwfFault {
+    ghost use Rattle.std.specs.Prelude.{Some};
+    ghost use Rattle.swf_text.specs.Names.{fault_text};
+
+    ghost output = { λ fault. Some (fault_text fault) };
+
+    fn fmt<W: fmt::Write>(&self, f: &mut fmt::Formatter<W>) -> fmt::Result {
+        let line = self.line;
+        let kind = self.kind;
+        write!(f, "line {line}: {kind}")
+    }
+}
+
+impl Error for SwfFault {}
+
 /// Why lines make no entry, in the order of checks.
-#[derive(Clone, Copy, Debug, PartialEq, Eq, Error)]
+#[derive(Clone, Copy, Debug, PartialEq, Eq)]
 pub enum EntryFault {
     /// Field 1 of the summary line is no whole number of at least 0.
-    #[error("BadJobNumber")]
     BadJobNumber,
     /// Field 2 of the summary line is negative.
-    #[error("BadSubmit")]
     BadSubmit,
     /// The summary line has the status of a partial line: 2, 3 or 4.
-    #[error("BadStatus")]
     BadStatus,
     /// A partial line has another job number, or a status other than 2, 3 and 4.
-    #[error("BadPart")]
     BadPart,
 }
 
+impl EntryFault {
+    ghost use Rattle.std.specs.Prelude.{◌≡◌};
+    ghost use Rattle.swf_text.specs.Names.{entry_fault_name};
+
+    /// The fault's name, which is the variant's own.
+    pub fn name(&self) -> &'static str
+        ensures { result.now ≡ entry_fault_name self.now }
+    {
+        match self {
+            EntryFault::BadJobNumber => "BadJobNumber",
+            EntryFault::BadSubmit => "BadSubmit",
+            EntryFault::BadStatus => "BadStatus",
+            EntryFault::BadPart => "BadPart",
+        }
+    }
+}
+
+impl fmt::Display for EntryFault {
+    ghost use Rattle.std.specs.Prelude.{Some};
+    ghost use Rattle.swf_text.specs.Names.{entry_fault_name};
+
+    ghost output = { λ fault. Some (entry_fault_name fault) };
+
+    fn fmt<W: fmt::Write>(&self, f: &mut fmt::Formatter<W>) -> fmt::Result {
+        f.write_str(self.name())
+    }
+}
+
+impl Error for EntryFault {}
+
 /// Why bytes were not written whole.
-#[derive(Clone, Copy, Debug, PartialEq, Eq, Error)]
+#[derive(Clone, Copy, Debug, PartialEq, Eq)]
 pub enum WriteFault {
     /// The writer answered an error, or took no byte.
-    #[error("Device")]
     Device,
 }
+
+impl WriteFault {
+    ghost use Rattle.std.specs.Prelude.{◌≡◌};
+    ghost use Rattle.swf_text.specs.Names.{write_fault_name};
+
+    /// The fault's name, which is the variant's own.
+    pub fn name(&self) -> &'static str
+        ensures { result.now ≡ write_fault_name self.now }
+    {
+        match self {
+            WriteFault::Device => "Device",
+        }
+    }
+}
+
+impl fmt::Display for WriteFault {
+    ghost use Rattle.std.specs.Prelude.{Some};
+    ghost use Rattle.swf_text.specs.Names.{write_fault_name};
+
+    ghost output = { λ fault. Some (write_fault_name fault) };
+
+    fn fmt<W: fmt::Write>(&self, f: &mut fmt::Formatter<W>) -> fmt::Result {
+        f.write_str(self.name())
+    }
+}
+
+impl Error for WriteFault {}

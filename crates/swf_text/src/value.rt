@@ -58,6 +58,9 @@ impl Value {
     }
 }
 
+// It is 0 indeed.
+const _: () = prove!(Value::ZERO.millionths == 0);
+
 // The value of this size, in millionths.
 pub(crate) fn signed_value(is_negative: bool, magnitude: u64) -> Value
     requires { magnitude ≤ greatest }
