@@ -4,3 +4,4 @@ pub mod FewWords
 pub mod Told
 pub mod Saved
 pub mod SavedAgain
+pub mod SavedBytes

@@ -4,7 +4,9 @@ use Rattle.std.specs.List.{AllByRecursion}
 use Rattle.swf_text.specs.Comment.{IsComment}
 use Rattle.swf_text.specs.Entry.{LogEntry}
 use Rattle.swf_text.specs.Log.{log_of}
-use Rattle.swf_text.specs.Text.{LogText}
+use Rattle.swf_text.specs.Text.{LogText, lines}
+use Rattle.swf_text.specs.Grammar.{IsText}
+use Rattle.swf_text.specs.Writing.{text_bytes}
 use Rattle.job_table.specs.Table.{IsTable}
 use Rattle.scenarios.specs.ScenarioList.{Listing, IsListing}
 use Rattle.commands.specs.Opening.{kept, opened, saved}
@@ -29,3 +31,17 @@ abbrev pub SavesTheSame : Type 0
 SavesTheSame =
     (comments : List (List ℕ)) (entries : List LogEntry) (list : Listing) →
     IsTable entries → IsListing list → 0 < length list.scenarios → IsSavedAgain (saved_of comments entries list)
+
+-- bytes that are a log, opened and saved as it is, with this machine named beside it, give these other bytes
+pub record IsSavedAs (procs : Option ℕ) (bytes saved_bytes : List ℕ) : Type 0 where
+  pub read : LogText
+  pub is_text : IsText (lines bytes) read
+  pub list : Listing
+  pub opened_with : opened procs read.comments ≡ Ok list
+  pub written : saved_bytes ≡ text_bytes (saved_of read.comments (log_of read.entries) list)
+
+-- what is saved of bytes gives the same bytes, and no others, when it is opened and saved again, whatever machine is named
+abbrev pub SavesTheSameBytes : Type 0
+SavesTheSameBytes =
+    (procs again : Option ℕ) (bytes once : List ℕ) →
+    IsSavedAs procs bytes once → IsSavedAs again once once × ((twice : List ℕ) → IsSavedAs again once twice → twice ≡ once)

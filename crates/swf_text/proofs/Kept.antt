@@ -70,10 +70,10 @@ all_last P old new front last next old_is new_is step h =
 -- ---- a text that is read
 
 -- sound comments, entries of values, and distinct numbers
-record IsSound (t : LogText) : Type 0 where
-  comments : AllByRecursion IsComment t.comments
-  fields : AllByRecursion HasFields t.entries
-  log : IsLog t.entries
+pub record IsSound (t : LogText) : Type 0 where
+  pub comments : AllByRecursion IsComment t.comments
+  pub fields : AllByRecursion HasFields t.entries
+  pub log : IsLog t.entries
 
 job_kept : (t : LogText) (line : List ℕ) (job : List ℤ) (u : LogText) → IsJobLine line job → AddsJob t job u → IsSound t → IsSound u
 job_kept t line job u is h sound =
@@ -145,7 +145,8 @@ text_kept : (t : LogText) (ls : List (List ℕ)) (u : LogText) → AllByRecursio
 text_kept t [] u no_feed h sound = subst IsSound (sym h) sound
 text_kept t (line ∷ ls) u no_feed h sound = text_kept h.0 ls u no_feed.1 h.2 (line_kept t line h.1.read h.0 no_feed.0 h.1.is h.1.adds sound)
 
-text_sound : (bytes : List ℕ) (t : LogText) → IsText (lines bytes) t → IsSound t
+-- the text that lines are is sound
+pub text_sound : (bytes : List ℕ) (t : LogText) → IsText (lines bytes) t → IsSound t
 text_sound bytes t h = text_kept empty (lines bytes) t (lines_no_feed bytes) h (record { comments = tt; fields = tt; log = record { sound = tt; distinct = λ n. omega arith; room = omega arith } })
 
 -- the comments of a text that is read are sound

@@ -1,4 +1,4 @@
-ghost use Rattle.std.specs.Prelude.{◌≡◌, ◌≤◌, ℤ, IfSome, Some, nat_abs};
+ghost use Rattle.std.specs.Prelude.{◌≡◌, ◌≤◌, ℤ, IfSome, Some, nat_abs, pos};
 ghost use Rattle.std.specs.Coded.{coded_ℤ};
 ghost use Rattle.swf_text.specs.Number.{Spells, whole_of, signed, greatest};
 
@@ -31,6 +31,13 @@ impl Value {
     /// The value 0.
     pub const ZERO: Value = Value { millionths: 0 };
 
+    /// The value 0, which is that of the constant.
+    pub fn zero() -> Value
+        ensures { result ≡ pos 0 }
+    {
+        Value::ZERO
+    }
+
     /// The value that the bytes spell: an optional `-`, digits, and optionally a point with digits
     /// behind it. Digits after the sixth decimal are cut, towards zero. None where the bytes are
     /// no such text, or the value is beyond a trillion on either side. Takes no memory.
@@ -57,9 +64,6 @@ impl Value {
         (self.millionths + 500_000).div_euclid(1_000_000)
     }
 }
-
-// It is 0 indeed.
-const _: () = prove!(Value::ZERO.millionths == 0);
 
 // The value of this size, in millionths.
 pub(crate) fn signed_value(is_negative: bool, magnitude: u64) -> Value

@@ -1,4 +1,5 @@
 use Rattle.commands.proofs.SavedAgain.{saves_sound, saves_same}
+use Rattle.commands.proofs.SavedBytes.{saves_bytes}
 use Rattle.commands.proofs.laws.saved_again_law.Goals as goal
 
 pub returns-clause-sound : goal.returns-clause-sound
@@ -6,3 +7,6 @@ returns-clause-sound c = saves_sound
 
 pub returns-clause-same : goal.returns-clause-same
 returns-clause-same c = saves_same
+
+pub returns-clause-bytes : goal.returns-clause-bytes
+returns-clause-bytes c = saves_bytes
