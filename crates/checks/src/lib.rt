@@ -13,6 +13,8 @@ mod generated;
 #[cfg(test)]
 mod openings;
 #[cfg(test)]
+mod program;
+#[cfg(test)]
 mod refusals;
 #[cfg(test)]
 mod runs;

@@ -3,34 +3,49 @@ ghost use Rattle.easybook.specs.declared.fault.ProgramFault.TheVariants.{Memory 
 
 use commands::OpenTextFault;
 use std::alloc::{AllocError, AllocFailed};
+use std::error::Error;
+use std::fmt;
 use swf_text::{FaultKind, Memory, SwfFault, WriteFault};
-use thiserror::Error;
 
 /// Why the program ends without its answer. It displays as the line that the program writes.
-#[derive(Clone, Copy, Debug, PartialEq, Eq, Error)]
+#[derive(Clone, Copy, Debug, PartialEq, Eq)]
 pub enum ProgramFault {
     /// The log's first faulty line.
-    #[error("{0}")]
     Log(SwfFault),
     /// Nothing names the machine's size.
-    #[error("no machine size")]
     NoMachine,
     /// The machine's size is not 1 to 16,777,216 processors.
-    #[error("bad machine size")]
     BadMachine,
     /// The input has more bytes than its limit.
-    #[error("input too long")]
     TooLong,
     /// A reader answered an error, or a file cannot be opened.
-    #[error("read failed")]
     Read,
     /// A writer answered an error, or took no byte.
-    #[error("write failed")]
     Write,
     /// A growth was refused.
-    #[error("out of memory")]
     Memory,
 }
+
+impl fmt::Display for ProgramFault {
+    ghost use Rattle.std.specs.Prelude.{Some};
+    ghost use Rattle.easybook.specs.Texts.{fault_line};
+
+    ghost output = { λ fault. Some (fault_line fault) };
+
+    fn fmt<W: fmt::Write>(&self, f: &mut fmt::Formatter<W>) -> fmt::Result {
+        match self {
+            ProgramFault::Log(fault) => fault.fmt(f),
+            ProgramFault::NoMachine => f.write_str("no machine size"),
+            ProgramFault::BadMachine => f.write_str("bad machine size"),
+            ProgramFault::TooLong => f.write_str("input too long"),
+            ProgramFault::Read => f.write_str("read failed"),
+            ProgramFault::Write => f.write_str("write failed"),
+            ProgramFault::Memory => f.write_str("out of memory"),
+        }
+    }
+}
+
+impl Error for ProgramFault {}
 
 impl From<SwfFault> for ProgramFault {
     ghost use Rattle.std.specs.Prelude.{◌≡◌};

@@ -3,6 +3,7 @@
 
 mod fault;
 mod input;
+mod laws;
 mod options;
 mod plain;
 mod program;
@@ -11,6 +12,7 @@ mod words;
 
 pub use fault::ProgramFault;
 pub use input::read_input;
+pub use laws::words_law;
 pub use options::Options;
 pub use plain::run_plain;
 pub use program::run_words;

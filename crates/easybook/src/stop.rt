@@ -6,20 +6,34 @@ ghost use Rattle.easybook.specs.declared.stop.Stop.TheVariants.{Fault as fault_s
 use crate::fault::ProgramFault;
 use crate::words::WordsFault;
 use std::alloc::AllocFailed;
-use std::io;
+use std::error::Error;
 use std::io::ErrorKind;
-use thiserror::Error;
+use std::{fmt, io};
 
 /// Why the program ends without its answer. It displays as the line that the program writes.
-#[derive(Clone, Copy, Debug, PartialEq, Eq, Error)]
+#[derive(Clone, Copy, Debug, PartialEq, Eq)]
 pub enum Stop {
     /// The words are bad, or memory was short for them.
-    #[error("{0}")]
     Words(WordsFault),
     /// The words are taken, and this fault came.
-    #[error("{0}")]
     Fault(ProgramFault),
 }
+
+impl fmt::Display for Stop {
+    ghost use Rattle.std.specs.Prelude.{Some};
+    ghost use Rattle.easybook.specs.Texts.{stop_line};
+
+    ghost output = { λ stop. Some (stop_line stop) };
+
+    fn fmt<W: fmt::Write>(&self, f: &mut fmt::Formatter<W>) -> fmt::Result {
+        match self {
+            Stop::Words(why) => why.fmt(f),
+            Stop::Fault(why) => why.fmt(f),
+        }
+    }
+}
+
+impl Error for Stop {}
 
 impl Stop {
     ghost use Rattle.std.specs.Prelude.{◌≡◌};

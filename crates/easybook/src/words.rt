@@ -9,8 +9,9 @@ use crate::options::Options;
 use clap::error::ErrorKind;
 use clap::{Arg, ArgAction, ArgMatches, Command};
 use std::alloc::{AllocError, Global};
+use std::error::Error;
+use std::fmt;
 use swf_text::whole_part;
-use thiserror::Error;
 
 /// The largest machine, in processors.
 const MAX_PROCS: u64 = 16_777_216;
@@ -22,15 +23,29 @@ const SPACING: u32 = 256;
 const WORKERS: u32 = 2;
 
 /// Why the program's words choose nothing.
-#[derive(Clone, Copy, Debug, PartialEq, Eq, Error)]
+#[derive(Clone, Copy, Debug, PartialEq, Eq)]
 pub enum WordsFault {
     /// A word is unknown, stands twice, lacks its value, or is outside the limits.
-    #[error("bad arguments")]
     BadWords,
     /// A growth was refused.
-    #[error("out of memory")]
     Memory,
 }
+
+impl fmt::Display for WordsFault {
+    ghost use Rattle.std.specs.Prelude.{Some};
+    ghost use Rattle.easybook.specs.Texts.{words_line};
+
+    ghost output = { λ fault. Some (words_line fault) };
+
+    fn fmt<W: fmt::Write>(&self, f: &mut fmt::Formatter<W>) -> fmt::Result {
+        match self {
+            WordsFault::BadWords => f.write_str("bad arguments"),
+            WordsFault::Memory => f.write_str("out of memory"),
+        }
+    }
+}
+
+impl Error for WordsFault {}
 
 impl From<AllocError> for WordsFault {
     ghost use Rattle.std.specs.Prelude.{◌≡◌};
