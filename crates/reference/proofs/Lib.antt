@@ -1,2 +1,5 @@
 mod Collected
 mod Sorting
+mod Ending
+mod Choice
+mod Decided

@@ -1,12 +1,12 @@
-ghost use Rattle.std.specs.Prelude.{◌≡◌, ℕ, ◌≤◌, IfOk, IfSome, All, count_by, nat_eq};
-ghost use Rattle.std.specs.Result.{result_ok};
-ghost use Rattle.swf_text.specs.Entry.{HasNumber, has_number};
+ghost use Rattle.std.specs.Prelude.{◌≡◌, ℕ, ◌≤◌, IfOk, All, count_by, nat_eq};
+ghost use Rattle.swf_text.specs.Entry.{has_number};
 ghost use Rattle.swf_text.specs.Log.{log_of};
-ghost use Rattle.scenarios.specs.Job.{EffectiveJob, IsWithinLimits};
-ghost use Rattle.scenarios.specs.Effective.{effective};
+ghost use Rattle.scenarios.specs.Job.{IsWithinLimits};
 ghost use Rattle.scenarios.specs.Plan.{jobs_of, plan_of};
 
-use scenarios::{Job, Order, Scenario, effective};
+use crate::entry_job::effective;
+use crate::job::PlainJob;
+use scenarios::{Order, Scenario};
 use std::alloc::Allocator;
 use std::marker::Model;
 use swf_text::{Entry, Memory, SwfText};
@@ -19,7 +19,7 @@ const MAX_PROCS: u64 = 16_777_216;
 #[derive(Drop)]
 pub struct LogPlan<A: Allocator + Copy> {
     scenario: Scenario,
-    jobs: Vec<Job, A>,
+    jobs: Vec<PlainJob, A>,
 }
 
 impl<A: Allocator + Copy> Model for LogPlan<A> {
@@ -33,30 +33,19 @@ impl<A: Allocator + Copy> Model for LogPlan<A> {
     ghost invariant = { λ p. IsPlan (record { machine = p.scenario.procs; order = p.scenario.order; jobs = p.jobs.items }) };
 }
 
-// The job of an entry, where it is not skipped.
-fn job_of<A: Allocator + Copy>(entry: &Entry<A>, scenario: &Scenario) -> Option<Job>
-    ensures job { result ≡ result_ok (effective entry.now scenario.now) }
-    ensures limits { IfSome result IsWithinLimits }
-    ensures numbered { IfSome result (λ job. HasNumber entry.now.main job.number) }
-{
-    let job = effective(entry, scenario).ok()?;
-    prove!(job.number() == entry.number());
-    Some(job)
-}
-
 // The jobs of these entries that are not skipped, in the order of the entries.
 fn jobs_of<A: Allocator + Copy>(
     alloc: A,
     entries: &[Entry<A>],
     scenario: &Scenario,
-) -> Result<Vec<Job, A>, Memory>
+) -> Result<Vec<PlainJob, A>, Memory>
     ensures jobs { IfOk result (λ jobs. jobs.items ≡ jobs_of entries.now scenario.now) }
     ensures limits { IfOk result (λ jobs. All IsWithinLimits jobs.items) }
     ensures numbered { IfOk result (λ jobs. (n : ℕ) → count_by (λ j. nat_eq j.number n) jobs.items ≤ count_by (has_number n) entries.now) }
 {
     let mut jobs = Vec::new(alloc);
     for entry in entries {
-        if let Some(job) = job_of(entry, scenario) {
+        if let Some(job) = effective(entry, scenario) {
             jobs.push(job)?;
         }
     }
@@ -81,7 +70,7 @@ impl<A: Allocator + Copy> LogPlan<A> {
     }
 
     /// The jobs, by submit second, and of one second by job number.
-    pub fn jobs(&self) -> &[Job]
+    pub fn jobs(&self) -> &[PlainJob]
         ensures jobs { result.now ≡ self.now.jobs }
         ensures plan { IsPlan self.now }
     {

@@ -1,38 +1,32 @@
-ghost use Rattle.std.specs.Prelude.{◌≡◌, ◌↔◌, ℕ, ◌<◌, ◌≤◌, ◌^◌, [], All, IfOk, OnOk, IsTrue, nat_eq, filter, take};
+ghost use Rattle.std.specs.Prelude.{◌≡◌, ℕ, ◌<◌, ◌≤◌, ◌^◌, All, IfOk, OnOk, nat_eq, filter, take};
 ghost use Rattle.cluster_state.specs.State.{IsSound};
 ghost use Rattle.easy_rule.specs.Simulation.{joined, sim};
 
+use crate::job::PlainJob;
+use crate::last_second::{bound, last_submit};
 use crate::plan::LogPlan;
-use cluster_state::Cluster;
-use easy_rule::{Start, decide};
-use scenarios::Job;
+use crate::rule::decide;
+use crate::state::PlainState;
+use easy_rule::Start;
 use std::alloc::Allocator;
 use swf_text::Memory;
-use timeline::last_second::{bound, last_submit};
 
 // The jobs that are submitted at second t join the queue.
 fn arrive_at<A: Allocator + Copy>(
-    cluster: &mut Cluster<A>,
-    jobs: &[Job],
+    state: &mut PlainState<A>,
+    jobs: &[PlainJob],
     t: u64,
 ) -> Result<(), Memory>
-    requires sound { (k : ℕ) → IsSound (joined cluster.old.state (filter (λ j. nat_eq j.submit t) (take k jobs.now))) }
-    requires sizes { All (λ j. j.size ≤ cluster.old.state.machine) jobs.now }
-    ensures { OnOk result (cluster.new.state ≡ joined cluster.old.state (filter (λ j. nat_eq j.submit t) jobs.now)) }
+    requires sound { (k : ℕ) → IsSound (joined state.old (filter (λ j. nat_eq j.submit t) (take k jobs.now))) }
+    requires sizes { All (λ j. j.size ≤ state.old.machine) jobs.now }
+    ensures { OnOk result (state.new ≡ joined state.old (filter (λ j. nat_eq j.submit t) jobs.now)) }
 {
     for job in jobs {
         if job.submit() == t {
-            cluster.arrive(*job)?;
+            state.arrive(*job)?;
         }
     }
     Ok(())
-}
-
-// Whether no job waits or runs.
-fn is_idle<A: Allocator + Copy>(cluster: &Cluster<A>) -> bool
-    ensures { IsTrue result ↔ ((cluster.now.state.waiting ≡ []) × (cluster.now.state.running ≡ [])) }
-{
-    cluster.waiting().is_empty() && cluster.running().is_empty()
 }
 
 /// The starts of all jobs of a plan, in order of starting.
@@ -45,15 +39,15 @@ pub fn simulate<A: Allocator + Copy>(alloc: A, plan: &LogPlan<A>) -> Result<Vec<
 {
     let jobs = plan.jobs();
     let last = last_submit(jobs);
-    let mut cluster = Cluster::for_scenario(alloc, plan.scenario());
+    let mut state = PlainState::new(alloc, plan.scenario());
     let mut starts = Vec::new(alloc);
     for t in 0..bound(jobs) + 1 {
-        if t > last && is_idle(&cluster) {
+        if t > last && state.is_idle() {
             return Ok(starts);
         }
-        cluster.finish_until(t);
-        arrive_at(&mut cluster, jobs, t)?;
-        let now = decide(alloc, &mut cluster, t)?;
+        state.end_at(t);
+        arrive_at(&mut state, jobs, t)?;
+        let now = decide(alloc, &mut state, t)?;
         starts.extend_from_slice(now.as_slice())?;
     }
     Ok(starts)

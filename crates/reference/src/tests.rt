@@ -1,12 +1,12 @@
+use crate::last_second::{bound, last_submit};
 use crate::{LogPlan, simulate};
 use cluster_state::Cluster;
 use easy_rule::{Shadow, shadow};
-use scenarios::{Order, Scenario};
+use scenarios::{Order, Scenario, effective};
 use std::alloc::Global;
 use std::process::Abort;
 use std::test::Fail;
-use swf_text::read_swf;
-use timeline::last_second::{bound, last_submit};
+use swf_text::{SwfText, read_swf};
 
 // A job of a log: its number, submit second, size, run time and requested time.
 type Row = (u64, u64, i64, u64, u64);
@@ -28,14 +28,18 @@ fn line(alloc: Global, row: &Row) -> Result<String, Fail> {
     )?)
 }
 
-// The plan of these jobs on so many processors.
-fn plan_of(alloc: Global, scenario: &Scenario, rows: &[Row]) -> Result<LogPlan<Global>, Fail> {
+// The log of these jobs.
+fn text_of(alloc: Global, rows: &[Row]) -> Result<SwfText<Global>, Fail> {
     let mut log = String::new(alloc);
     for row in rows {
         log.push_str(line(alloc, row)?.as_str())?;
     }
-    let text = read_swf(alloc, log.as_bytes())?;
-    Ok(LogPlan::of(alloc, &text, scenario)?)
+    Ok(read_swf(alloc, log.as_bytes())?)
+}
+
+// The plan of these jobs on so many processors.
+fn plan_of(alloc: Global, scenario: &Scenario, rows: &[Row]) -> Result<LogPlan<Global>, Fail> {
+    Ok(LogPlan::of(alloc, &text_of(alloc, rows)?, scenario)?)
 }
 
 fn scenario_of(procs: u64, factor: u64, order: Order) -> Result<Scenario, Fail> {
@@ -187,11 +191,12 @@ fn two_jobs_end_at_the_shadow_time(rt: HostRuntime) -> Result<(), Fail> {
         &[(1, 0), (2, 0), (4, 2), (3, 100)],
     )?;
 
-    let plan = plan_of(alloc, &plain, &rows)?;
+    let text = text_of(alloc, &rows)?;
     let mut cluster = Cluster::for_scenario(alloc, &plain);
-    for job in plan.jobs() {
-        assert!(rt; cluster.can_arrive(job));
-        cluster.arrive(*job)?;
+    for entry in text.entries() {
+        let job = effective(entry, &plain).ok().ok_or("skipped")?;
+        assert!(rt; cluster.can_arrive(&job));
+        cluster.arrive(job)?;
     }
     for number in [1, 2] {
         assert!(rt; cluster.can_start(number));

@@ -4,6 +4,6 @@ use Rattle.reference.proofs.simulation.simulate.Given as goal
 
 abbrev pub invariant-loop-t : goal.invariant-loop-t
 invariant-loop-t g l = record {
-  state : l.cluster.state ≡ before l.plan l.t;
+  state : l.state ≡ before l.plan l.t;
   starts : l.starts.items ≡ starts_before l.plan l.t;
 }

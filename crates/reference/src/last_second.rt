@@ -1,0 +1,38 @@
+ghost use Rattle.std.specs.Prelude.{◌≡◌, ℕ, ◌+◌, ◌≤◌, length, sum_by};
+ghost use Rattle.scenarios.specs.Plan.{Plan};
+ghost use Rattle.easy_rule.specs.Simulation.{bound, last_submit};
+
+use crate::job::PlainJob;
+
+// The greatest submit second of these jobs, and 0 where there are none.
+pub(crate) fn last_submit(jobs: &[PlainJob]) -> u64
+    ensures value { result ≡ last_submit jobs.now }
+    ensures limit { result ≤ 1000000000000 }
+{
+    let mut last = 0;
+    for job in jobs {
+        last = job.submit().max(last);
+    }
+    last
+}
+
+// The seconds that these jobs run, one after another.
+fn total_length(jobs: &[PlainJob]) -> u64
+    requires { length jobs.now ≤ 4194304 }
+    ensures value { result ≡ sum_by (λ j. j.length) jobs.now }
+    ensures limit { result ≤ 419430400000000 }
+{
+    let mut total = 0;
+    for job in jobs {
+        total += job.length();
+    }
+    total
+}
+
+// A second by which all of these jobs have ended: the greatest submit second and all lengths.
+pub(crate) fn bound(jobs: &[PlainJob]) -> u64
+    requires { length jobs.now ≤ 4194304 }
+    ensures { (plan : Plan) → plan.jobs ≡ jobs.now → result ≡ bound plan }
+{
+    last_submit(jobs) + total_length(jobs)
+}

@@ -1,0 +1,48 @@
+ghost use Rattle.std.specs.Prelude.{◌≡◌, ◌^◌, ◌<◌};
+ghost use Rattle.cluster_state.specs.State.{expected_end, real_end};
+
+use crate::job::PlainJob;
+use std::marker::Model;
+
+/// A job that runs, since a second.
+#[derive(Clone, Copy, Debug)]
+pub(crate) struct PlainRunning {
+    pub(crate) job: PlainJob,
+    pub(crate) start: u64,
+}
+
+impl Model for PlainRunning {
+    ghost use Rattle.std.specs.Prelude.{◌<◌, ◌^◌};
+    ghost use Rattle.cluster_state.specs.declared.running.Running.{Running};
+
+    ghost Value = { Running };
+
+    ghost view = { λ r. record { job = r.job; start = r.start } };
+
+    ghost invariant = { λ r. r.start < 2 ^ 49 };
+
+    ghost inverse = { λ r. record { job = r.job; start = r.start } };
+}
+
+impl PlainRunning {
+    // Its job.
+    pub(crate) fn job(&self) -> &PlainJob
+        ensures { result.now ≡ self.now.job }
+    {
+        &self.job
+    }
+
+    // The second by which it has surely ended.
+    pub(crate) fn expected_end(&self) -> u64
+        ensures { result ≡ expected_end self.now }
+    {
+        self.start + self.job.estimate()
+    }
+
+    // The second at which it ends.
+    pub(crate) fn end(&self) -> u64
+        ensures { result ≡ real_end self.now }
+    {
+        self.start + self.job.length()
+    }
+}

@@ -1,0 +1,196 @@
+ghost use Rattle.std.specs.Prelude.{◌≡◌, ◌↔◌, ◌<◌, ◌≤◌, ◌^◌, [], IsTrue, OnErr, OnOk, Some, nat_eq, nat_lt, not, filter, position, sum_by};
+ghost use Rattle.scenarios.specs.Job.{IsWithinLimits};
+ghost use Rattle.cluster_state.specs.State.{arrived, available, back_by, busy, empty, free, holders, placed, real_end, started, waiting_job, without, IsSound};
+ghost use Rattle.easy_rule.specs.Simulation.{ended};
+
+use crate::job::PlainJob;
+use crate::running::PlainRunning;
+use scenarios::{Order, Scenario};
+use std::alloc::Allocator;
+use std::marker::Model;
+use swf_text::Memory;
+
+// The processors that running jobs hold.
+fn busy(running: &[PlainRunning]) -> u64
+    requires { busy running.now < 2 ^ 64 }
+    ensures { result ≡ busy running.now }
+{
+    running.iter().map(|r| r.job().size()).sum()
+}
+
+// The processors that a job has given back by second t, if it runs as long as is expected.
+fn back_by(r: &PlainRunning, t: u64) -> u64
+    ensures { result ≡ back_by t r.now }
+{
+    if r.expected_end() <= t {
+        r.job().size()
+    } else {
+        0
+    }
+}
+
+// The processors that come back by second t.
+fn all_back_by(running: &[PlainRunning], t: u64) -> u64
+    requires { busy running.now ≤ 16777216 }
+    ensures { result ≡ sum_by (back_by t) running.now }
+{
+    let mut sum = 0;
+    for r in running {
+        sum += back_by(r, t);
+    }
+    sum
+}
+
+// The place of the first job of this number.
+fn place_of(jobs: &[PlainJob], number: u64) -> Option<usize>
+    ensures { result ≡ position (λ j. nat_eq j.number number) jobs.now }
+{
+    jobs.iter().position(|j| j.number() == number)
+}
+
+// Takes the first job of this number out.
+fn take_out<A: Allocator>(jobs: &mut Vec<PlainJob, A>, number: u64)
+    ensures { jobs.new.items ≡ without number jobs.old.items }
+{
+    match place_of(jobs, number) {
+        None => {}
+        Some(place) => {
+            jobs.remove(place);
+        }
+    }
+}
+
+// The place of the first with a greater number.
+fn place_before(running: &[PlainRunning], number: u64) -> Option<usize>
+    ensures { result ≡ position (λ r. nat_lt number r.job.number) running.now }
+{
+    running.iter().position(|r| number < r.job().number())
+}
+
+// Puts a running job in its place by number.
+fn put_in<A: Allocator>(running: &mut Vec<PlainRunning, A>, r: PlainRunning) -> Result<(), Memory>
+    ensures ok { OnOk result (running.new.items ≡ placed r running.old.items) }
+    ensures err { OnErr result (running.new.items ≡ running.old.items) }
+{
+    let place = place_before(running, r.job().number()).unwrap_or(running.len());
+    running.insert(place, r)?;
+    Ok(())
+}
+
+// Those that end at second t leave.
+fn drop_at<A: Allocator>(running: &mut Vec<PlainRunning, A>, t: u64)
+    ensures { running.new.items ≡ filter (λ r. not (nat_eq (real_end r) t)) running.old.items }
+{
+    running.retain(move |r| !(r.end() == t));
+}
+
+/// A machine at some second: the waiting jobs in order of arrival, and the running ones by number.
+#[derive(Drop)]
+pub(crate) struct PlainState<A: Allocator + Copy> {
+    machine: u64,
+    order: Order,
+    waiting: Vec<PlainJob, A>,
+    running: Vec<PlainRunning, A>,
+}
+
+impl<A: Allocator + Copy> Model for PlainState<A> {
+    ghost use Rattle.cluster_state.specs.State.{State, IsSound};
+
+    ghost Value = { State };
+
+    ghost view = { λ s. record { machine = s.machine; order = s.order; waiting = s.waiting.items; running = s.running.items } };
+
+    ghost invariant = { λ s. IsSound (record { machine = s.machine; order = s.order; waiting = s.waiting.items; running = s.running.items }) };
+}
+
+impl<A: Allocator + Copy> PlainState<A> {
+    ghost use Rattle.cluster_state.specs.State.{State, IsSound};
+
+    // An empty machine.
+    pub(crate) fn new(alloc: A, scenario: &Scenario) -> PlainState<A>
+        ensures { result ≡ empty scenario.now.procs scenario.now.order }
+    {
+        PlainState {
+            machine: scenario.procs(),
+            order: scenario.order(),
+            waiting: Vec::new(alloc),
+            running: Vec::new(alloc),
+        }
+    }
+
+    // The order of backfills.
+    pub(crate) fn order(&self) -> Order
+        ensures { result ≡ self.now.order }
+    {
+        self.order
+    }
+
+    // The waiting jobs in order of arrival.
+    pub(crate) fn waiting(&self) -> &[PlainJob]
+        ensures jobs { result.now ≡ self.now.waiting }
+        ensures sound { IsSound self.now }
+    {
+        self.waiting.as_slice()
+    }
+
+    // The running jobs by number.
+    pub(crate) fn running(&self) -> &[PlainRunning]
+        ensures jobs { result.now ≡ self.now.running }
+        ensures sound { IsSound self.now }
+    {
+        self.running.as_slice()
+    }
+
+    // Whether no job waits or runs.
+    pub(crate) fn is_idle(&self) -> bool
+        ensures { IsTrue result ↔ ((self.now.waiting ≡ []) × (self.now.running ≡ [])) }
+    {
+        self.waiting.is_empty() && self.running.is_empty()
+    }
+
+    // The processors that no running job holds.
+    pub(crate) fn free(&self) -> u64
+        ensures value { result ≡ free self.now }
+        ensures sound { IsSound self.now }
+    {
+        self.machine - busy(&self.running)
+    }
+
+    // The processors that are free now or come back by second t.
+    pub(crate) fn available(&self, t: u64) -> u64
+        ensures { result ≡ available self.now t }
+    {
+        self.free() + all_back_by(&self.running, t)
+    }
+
+    // A job joins the queue, at its end.
+    pub(crate) fn arrive(&mut self, job: PlainJob) -> Result<(), Memory>
+        requires absent { holders self.old job.number ≡ 0 }
+        requires fits { job.size ≤ self.old.machine }
+        ensures { OnOk result (self.new ≡ arrived self.old job) }
+    {
+        // Read here since the check has to be told that the job is within its limits.
+        let _size = job.size();
+        self.waiting.push(job)?;
+        Ok(())
+    }
+
+    // A waiting job starts at second `now`.
+    pub(crate) fn start(&mut self, job: PlainJob, now: u64) -> Result<(), Memory>
+        requires waits { waiting_job self.old job.number ≡ Some job }
+        requires fits { job.size ≤ free self.old }
+        requires early { now < 2 ^ 49 }
+        ensures { OnOk result (self.new ≡ started self.old job now) }
+    {
+        put_in(&mut self.running, PlainRunning { job, start: now })?;
+        take_out(&mut self.waiting, job.number());
+        Ok(())
+    }
+
+    // The running jobs that end at second t leave.
+    pub(crate) fn end_at(&mut self, t: u64)
+        ensures { self.new ≡ ended self.old t }
+    {
+        drop_at(&mut self.running, t);
+    }
+}
