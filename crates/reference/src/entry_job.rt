@@ -1,12 +1,11 @@
-ghost use Rattle.std.specs.Prelude.{◌≡◌, ◌≤◌, IfSome, nat_abs};
-ghost use Rattle.std.specs.Result.{result_ok};
+ghost use Rattle.std.specs.Prelude.{◌≡◌, ◌≤◌, IfOk, IfSome, nat_abs};
 ghost use Rattle.swf_text.specs.Number.{whole_of, greatest};
-ghost use Rattle.swf_text.specs.Entry.{HasNumber, field};
+ghost use Rattle.swf_text.specs.Entry.{field};
 ghost use Rattle.scenarios.specs.Job.{IsWithinLimits};
 ghost use Rattle.scenarios.specs.Effective.{effective, whole_field, positive, size_of, estimate_of};
 
 use crate::job::PlainJob;
-use scenarios::Scenario;
+use scenarios::{Scenario, Skip};
 use std::alloc::Allocator;
 use swf_text::{Entry, Fields};
 
@@ -63,31 +62,31 @@ fn estimate_of(base: u64, factor: u64) -> u64
     ((base * factor + 999) / 1000).max(1)
 }
 
-// The job of an entry under a scenario, where it is not skipped.
-//
-// It is skipped without a size or a run time, where it is larger than the machine, and where its
-// estimate is too long.
-pub(crate) fn effective<A: Allocator + Copy>(
+/// The job of an entry under a scenario, or the first reason to skip it: without a size or a run
+/// time, larger than the machine, or with an estimate above 100,000,000 seconds.
+pub fn effective<A: Allocator + Copy>(
     entry: &Entry<A>,
     scenario: &Scenario,
-) -> Option<PlainJob>
-    ensures job { result ≡ result_ok (effective entry.now scenario.now) }
-    ensures limits { IfSome result IsWithinLimits }
-    ensures numbered { IfSome result (λ job. HasNumber entry.now.main job.number) }
+) -> Result<PlainJob, Skip>
+    ensures job { result ≡ effective entry.now scenario.now }
+    ensures limits { IfOk result IsWithinLimits }
 {
     let line = entry.main();
-    let size = size_of(line)?;
+    let size = size_of(line).ok_or(Skip::NoSize)?;
     let run = whole_field(line, 4);
-    if run < 0 || size > scenario.procs() {
-        return None;
+    if run < 0 {
+        return Err(Skip::NoRun);
+    }
+    if size > scenario.procs() {
+        return Err(Skip::TooLarge);
     }
     let run = run as u64;
     let base = positive(whole_field(line, 9)).unwrap_or(run);
     let estimate = estimate_of(base, scenario.factor());
     if estimate > LONGEST {
-        return None;
+        return Err(Skip::TooLong);
     }
-    Some(PlainJob {
+    Ok(PlainJob {
         number: entry.number(),
         submit: entry.submit(),
         user: whole_field(line, 12),

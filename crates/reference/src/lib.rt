@@ -13,6 +13,7 @@ mod state;
 #[cfg(test)]
 mod tests;
 
+pub use entry_job::effective;
 pub use job::PlainJob;
 pub use plan::LogPlan;
 pub use simulation::simulate;

@@ -1,7 +1,9 @@
-ghost use Rattle.std.specs.Prelude.{◌≡◌, ℕ, ◌≤◌, IfOk, All, count_by, nat_eq};
-ghost use Rattle.swf_text.specs.Entry.{has_number};
+ghost use Rattle.std.specs.Prelude.{◌≡◌, ℕ, ◌≤◌, IfOk, IfSome, All, count_by, nat_eq};
+ghost use Rattle.std.specs.Result.{result_ok};
+ghost use Rattle.swf_text.specs.Entry.{HasNumber, has_number};
 ghost use Rattle.swf_text.specs.Log.{log_of};
 ghost use Rattle.scenarios.specs.Job.{IsWithinLimits};
+ghost use Rattle.scenarios.specs.Effective.{effective};
 ghost use Rattle.scenarios.specs.Plan.{jobs_of, plan_of};
 
 use crate::entry_job::effective;
@@ -33,6 +35,17 @@ impl<A: Allocator + Copy> Model for LogPlan<A> {
     ghost invariant = { λ p. IsPlan (record { machine = p.scenario.procs; order = p.scenario.order; jobs = p.jobs.items }) };
 }
 
+// The job of an entry, where it is not skipped.
+fn job_of<A: Allocator + Copy>(entry: &Entry<A>, scenario: &Scenario) -> Option<PlainJob>
+    ensures job { result ≡ result_ok (effective entry.now scenario.now) }
+    ensures limits { IfSome result IsWithinLimits }
+    ensures numbered { IfSome result (λ job. HasNumber entry.now.main job.number) }
+{
+    let job = effective(entry, scenario).ok()?;
+    prove!(job.number() == entry.number());
+    Some(job)
+}
+
 // The jobs of these entries that are not skipped, in the order of the entries.
 fn jobs_of<A: Allocator + Copy>(
     alloc: A,
@@ -45,7 +58,7 @@ fn jobs_of<A: Allocator + Copy>(
 {
     let mut jobs = Vec::new(alloc);
     for entry in entries {
-        if let Some(job) = effective(entry, scenario) {
+        if let Some(job) = job_of(entry, scenario) {
             jobs.push(job)?;
         }
     }
