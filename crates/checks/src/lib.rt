@@ -9,8 +9,6 @@ mod engines;
 #[cfg(test)]
 mod equal_ends;
 #[cfg(test)]
-mod generated;
-#[cfg(test)]
 mod openings;
 #[cfg(test)]
 mod program;

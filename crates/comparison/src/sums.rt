@@ -1,31 +1,14 @@
-use crate::generated::{USERS, log_from};
-use checkpoints::{Run, simulate};
-use easy_rule::Start;
-use job_table::JobTable;
+use crate::compared::Placed;
+use crate::logs::USERS;
+use checkpoints::Run;
 use metrics::{DayRow, Overall, Skips, UserRow};
-use rand_pcg::Pcg32;
-use reference::LogPlan;
-use scenarios::{Job, Order, Scenario, Skip, effective};
+use reference::effective;
+use scenarios::{Scenario, Skip};
 use std::alloc::Global;
-use std::process::Abort;
-use std::sync::Arc;
-use std::test::Fail;
-use swf_text::{SwfText, read_swf};
-
-/// How many logs are generated for tables, each of which is simulated in both orders.
-const LOGS: u64 = 24;
-
-/// The generated jobs are submitted about the midnight that ends day 0.
-const BEFORE_MIDNIGHT: u32 = 86_370;
+use swf_text::SwfText;
 
 /// The seconds of a day.
 const DAY: u64 = 86_400;
-
-/// The machine.
-const PROCS: u64 = 10;
-
-// A job and the second at which it starts.
-type Placed = (Job, u64);
 
 fn end(placed: &Placed) -> u64 {
     placed.1.wrapping_add(placed.0.length())
@@ -94,22 +77,6 @@ fn mean(sum: u64, jobs: usize) -> u128 {
     u128::from(sum.checked_div(jobs as u64).unwrap_or(0))
 }
 
-// The jobs of a log under a scenario, with their starts.
-fn placed_of(
-    alloc: Global,
-    text: &SwfText<Global>,
-    scenario: &Scenario,
-) -> Result<Vec<Placed>, Fail> {
-    let plan = LogPlan::of(alloc, text, scenario)?;
-    let starts = reference::simulate(alloc, &plan)?;
-    let mut jobs = Vec::new(alloc);
-    for job in plan.jobs() {
-        let start = starts.iter().find(|start| start.number == job.number());
-        jobs.push((*job, start.ok_or("a job that does not start")?.at))?;
-    }
-    Ok(jobs)
-}
-
 // How many entries of a log are skipped for a reason.
 fn skipped(text: &SwfText<Global>, scenario: &Scenario, reason: Skip) -> u64 {
     let entries = text.entries().iter();
@@ -124,7 +91,7 @@ fn overall(text: &SwfText<Global>, scenario: &Scenario, jobs: &[Placed]) -> Over
     let last = jobs.iter().map(end).max();
     let span = last.unwrap_or(0).saturating_sub(first.unwrap_or(0));
     let taken = total(jobs, Measure::Busy);
-    let room = PROCS.wrapping_mul(span);
+    let room = scenario.procs().wrapping_mul(span);
     Overall {
         jobs: jobs.len() as u64,
         killed: total(jobs, Measure::Killed),
@@ -144,30 +111,43 @@ fn overall(text: &SwfText<Global>, scenario: &Scenario, jobs: &[Placed]) -> Over
     }
 }
 
+// The row of a user, who has these jobs.
+fn user_row(user: i64, jobs: &[Placed]) -> UserRow {
+    UserRow {
+        user,
+        jobs: jobs.len() as u64,
+        wait: mean(total(jobs, Measure::Wait), jobs.len()),
+        slowdown: mean(total(jobs, Measure::Slowdown), jobs.len()),
+        busy: u128::from(total(jobs, Measure::Busy)),
+    }
+}
+
+// The jobs of a user.
+fn jobs_of(alloc: Global, user: i64, jobs: &[Placed]) -> Option<Vec<Placed>> {
+    let mut theirs = Vec::new(alloc);
+    for placed in jobs {
+        if placed.0.user() == user {
+            theirs.push(*placed).ok()?;
+        }
+    }
+    Some(theirs)
+}
+
 // A row for each user who has a job.
-fn user_rows(alloc: Global, jobs: &[Placed]) -> Result<Vec<UserRow>, Fail> {
+fn user_rows(alloc: Global, jobs: &[Placed]) -> Option<Vec<UserRow>> {
     let mut rows = Vec::new(alloc);
     for user in USERS {
-        let mut theirs = Vec::new(alloc);
-        for placed in jobs.iter().filter(|placed| placed.0.user() == user) {
-            theirs.push(*placed)?;
+        let theirs = jobs_of(alloc, user, jobs)?;
+        if !theirs.is_empty() {
+            rows.push(user_row(user, theirs.as_slice())).ok()?;
         }
-        if theirs.is_empty() {
-            continue;
-        }
-        rows.push(UserRow {
-            user,
-            jobs: theirs.len() as u64,
-            wait: mean(total(&theirs, Measure::Wait), theirs.len()),
-            slowdown: mean(total(&theirs, Measure::Slowdown), theirs.len()),
-            busy: u128::from(total(&theirs, Measure::Busy)),
-        })?;
     }
-    Ok(rows)
+    Some(rows)
 }
 
 // A row for each day in which a processor-second is taken.
-fn day_rows(alloc: Global, jobs: &[Placed]) -> Result<Vec<DayRow>, Fail> {
+fn day_rows(alloc: Global, procs: u64, jobs: &[Placed]) -> Option<Vec<DayRow>> {
+    let room = procs.wrapping_mul(DAY).max(1);
     let mut rows = Vec::new(alloc);
     for day in 0..3 {
         let taken = total(jobs, Measure::BusyIn(day));
@@ -175,57 +155,54 @@ fn day_rows(alloc: Global, jobs: &[Placed]) -> Result<Vec<DayRow>, Fail> {
             rows.push(DayRow {
                 day,
                 busy: u128::from(taken),
-                utilization: u128::from(taken.wrapping_mul(100_000) / (PROCS * DAY)),
-            })?;
+                utilization: u128::from(taken.wrapping_mul(100_000) / room),
+            })
+            .ok()?;
         }
     }
-    Ok(rows)
+    Some(rows)
 }
 
-// Whether the run has these starts, by its schedule and by each job's number.
-fn has_starts(run: &Run<Global>, jobs: &[Placed]) -> Result<bool, Fail> {
-    let rows = run.schedule()?;
+// Whether a run has these starts, by its schedule and by each job's number.
+fn has_starts(run: &Run<Global>, jobs: &[Placed]) -> bool {
+    let Ok(rows) = run.schedule() else {
+        return false;
+    };
     let same = rows.iter().zip(jobs).all(|(row, placed)| {
         row.number == placed.0.number() && row.start == placed.1 && row.end == end(placed)
     });
     let found = jobs
         .iter()
         .all(|placed| run.start_of(placed.0.number()) == Some(placed.1));
-    Ok(rows.len() == jobs.len() && same && found)
+    rows.len() == jobs.len() && same && found
 }
 
-// A run of a log has the starts of the plain program, and tables that are plain sums over them.
-fn expect_plain_sums(
-    rt: &impl Abort,
-    alloc: Global,
-    log: &[u8],
-    scenario: Scenario,
-    spacing: u32,
-) -> Result<usize, Fail> {
-    let text = read_swf(alloc, log)?;
-    let jobs = placed_of(alloc, &text, &scenario)?;
-    let table = Arc::new(alloc, JobTable::from_text(alloc, &text)?)?;
-    let run = simulate(alloc, table, scenario, spacing)?;
-    assert!(rt; has_starts(&run, &jobs)?);
-    assert_eq!(rt; run.tables().overall(), overall(&text, &scenario, &jobs));
-    assert!(rt; run.tables().users() == user_rows(alloc, &jobs)?.as_slice());
-    assert!(rt; run.tables().days() == day_rows(alloc, &jobs)?.as_slice());
-    Ok(jobs.len())
-}
-
-#[test]
-fn tables_of_generated_logs_are_plain_sums(rt: HostRuntime) -> Result<(), Fail> {
-    let alloc = rt.alloc();
-    let arrival = Scenario::new(PROCS, 1000).ok_or("no scenario")?;
-    let mut jobs = 0usize;
-    for seed in 0..LOGS {
-        let log = log_from(alloc, &mut Pcg32::new(seed, 54), BEFORE_MIDNIGHT)?;
-        let spacing = [1, 2, 7, 256][seed as usize % 4];
-        for scenario in [arrival, arrival.ordered(Order::Shortest)] {
-            let count = expect_plain_sums(&rt, alloc, log.as_bytes(), scenario, spacing)?;
-            jobs = jobs.saturating_add(count);
-        }
+// Whether a run has rows of users that are plain sums.
+fn has_users(alloc: Global, run: &Run<Global>, jobs: &[Placed]) -> bool {
+    match user_rows(alloc, jobs) {
+        None => false,
+        Some(rows) => run.tables().users() == rows.as_slice(),
     }
-    assert!(rt; jobs > 150);
-    Ok(())
+}
+
+// Whether a run has rows of days that are plain sums.
+fn has_days(alloc: Global, run: &Run<Global>, procs: u64, jobs: &[Placed]) -> bool {
+    match day_rows(alloc, procs, jobs) {
+        None => false,
+        Some(rows) => run.tables().days() == rows.as_slice(),
+    }
+}
+
+// Whether a run of a log has these jobs with these starts, and tables that are plain sums over them.
+pub(crate) fn are_plain_sums(
+    alloc: Global,
+    text: &SwfText<Global>,
+    scenario: &Scenario,
+    run: &Run<Global>,
+    jobs: &[Placed],
+) -> bool {
+    has_starts(run, jobs)
+        && run.tables().overall() == overall(text, scenario, jobs)
+        && has_users(alloc, run, jobs)
+        && has_days(alloc, run, scenario.procs(), jobs)
 }

@@ -1,0 +1,108 @@
+use crate::sums::are_plain_sums;
+use checkpoints::{Run, simulate};
+use easy_rule::Start;
+use event_loop::Engine;
+use job_table::JobTable;
+use reference::{LogPlan, PlainJob};
+use scenarios::Scenario;
+use std::alloc::Global;
+use std::sync::Arc;
+use swf_text::{SwfText, read_swf};
+
+/// A job and the second at which it starts.
+pub(crate) type Placed = (PlainJob, u64);
+
+// The starts of a log by the event loop.
+pub(crate) fn engine_starts(
+    alloc: Global,
+    text: &SwfText<Global>,
+    scenario: &Scenario,
+) -> Option<Vec<Start>> {
+    let table = JobTable::from_text(alloc, text).ok()?;
+    let table = Arc::new(alloc, table).ok()?;
+    Engine::new(alloc, table, *scenario).finish().ok()
+}
+
+// The run of a log, in segments of up to so many event seconds.
+pub(crate) fn run_of(
+    alloc: Global,
+    text: &SwfText<Global>,
+    scenario: &Scenario,
+    spacing: u32,
+) -> Option<Run<Global>> {
+    let table = JobTable::from_text(alloc, text).ok()?;
+    let table = Arc::new(alloc, table).ok()?;
+    simulate(alloc, table, *scenario, spacing).ok()
+}
+
+// The second at which the job of this number starts.
+fn start_of(starts: &[Start], number: u64) -> Option<u64> {
+    let start = starts.iter().find(|start| start.number == number)?;
+    Some(start.at)
+}
+
+// The jobs of a plan, with their starts; none where one does not start.
+fn placed_of(alloc: Global, jobs: &[PlainJob], starts: &[Start]) -> Option<Vec<Placed>> {
+    let mut placed = Vec::new(alloc);
+    for job in jobs {
+        let start = start_of(starts, job.number())?;
+        placed.push((*job, start)).ok()?;
+    }
+    Some(placed)
+}
+
+// Whether the event loop starts the jobs of a log at these seconds.
+pub(crate) fn starts_so(
+    alloc: Global,
+    text: &SwfText<Global>,
+    scenario: &Scenario,
+    wanted: &[Start],
+) -> bool {
+    match engine_starts(alloc, text, scenario) {
+        None => false,
+        Some(starts) => starts.as_slice() == wanted,
+    }
+}
+
+// Whether a run of a log has these jobs with these starts, and tables that are plain sums over them.
+fn runs_so(
+    alloc: Global,
+    text: &SwfText<Global>,
+    scenario: &Scenario,
+    spacing: u32,
+    jobs: &[Placed],
+) -> bool {
+    match run_of(alloc, text, scenario, spacing) {
+        None => false,
+        Some(run) => are_plain_sums(alloc, text, scenario, &run, jobs),
+    }
+}
+
+// Whether event loop and run agree with the plain program's starts of this plan.
+fn agrees(
+    alloc: Global,
+    text: &SwfText<Global>,
+    scenario: &Scenario,
+    spacing: u32,
+    plan: &LogPlan<Global>,
+) -> bool {
+    let Ok(starts) = reference::simulate(alloc, plan) else {
+        return false;
+    };
+    let Some(jobs) = placed_of(alloc, plan.jobs(), starts.as_slice()) else {
+        return false;
+    };
+    starts_so(alloc, text, scenario, starts.as_slice())
+        && runs_so(alloc, text, scenario, spacing, jobs.as_slice())
+}
+
+// Whether product and plain program agree on a log.
+pub(crate) fn is_agreed(alloc: Global, log: &[u8], scenario: &Scenario, spacing: u32) -> bool {
+    let Ok(text) = read_swf(alloc, log) else {
+        return false;
+    };
+    match LogPlan::of(alloc, &text, scenario) {
+        Err(_) => false,
+        Ok(plan) => agrees(alloc, &text, scenario, spacing, &plan),
+    }
+}
