@@ -17,6 +17,3 @@ pub use row::Row;
 pub use run::Run;
 pub use segment::Segment;
 pub use simulation::simulate;
-
-#[cfg(test)]
-mod tests;

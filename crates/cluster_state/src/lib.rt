@@ -9,8 +9,6 @@ mod lookup;
 mod queue;
 mod running;
 mod snapshot;
-#[cfg(test)]
-mod tests;
 
 pub use cluster::Cluster;
 pub use running::Running;

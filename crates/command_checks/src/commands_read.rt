@@ -1,22 +1,24 @@
 use commands::{Command, CommandFault, parse_command};
 use scenarios::Order;
 use std::alloc::Global;
-use std::test::Fail;
-use swf_text::Value;
+use swf_text::{Entry, Value};
 
-/// Eighteen numbers.
-const ENTRY: &str = "5 4 -1 5 2 -1 -1 2 5 -1 1 9 -1 -1 -1 -1 -1 -1";
+/// The insertion of a job.
+const ENTRY: &[u8] = b"insert 5 4 -1 5 2 -1 -1 2 5 -1 1 9 -1 -1 -1 -1 -1 -1";
 
-/// The fault of a line, if it has one.
-fn fault(alloc: Global, line: &[u8]) -> Option<CommandFault> {
-    parse_command(alloc, line).err()
+/// What a line comes to.
+#[derive(Clone, Copy, PartialEq, Eq)]
+enum Told {
+    Command,
+    PassedOver,
+    Fault(CommandFault),
 }
 
-/// Whether a line is neither a command nor faulty.
-fn is_passed_over(alloc: Global, line: &[u8]) -> bool {
+fn read(alloc: Global, line: &[u8]) -> Told {
     match parse_command(alloc, line) {
-        Ok(None) => true,
-        _ => false,
+        Ok(Some(_)) => Told::Command,
+        Ok(None) => Told::PassedOver,
+        Err(fault) => Told::Fault(fault),
     }
 }
 
@@ -44,12 +46,13 @@ const COMMANDS: [&str; 20] = [
 ];
 
 #[test]
-fn takes_each_command(rt: HostRuntime) -> Result<(), Fail> {
+fn takes_each_command(rt: HostRuntime) {
     for line in &COMMANDS {
-        assert_eq!(rt; fault(rt.alloc(), line.as_bytes()), None, "{line}");
-        assert!(rt; !is_passed_over(rt.alloc(), line.as_bytes()), "{line}");
+        assert!(rt;
+            read(rt.alloc(), line.as_bytes()) == Told::Command,
+            "{line}"
+        );
     }
-    Ok(())
 }
 
 const WRONG_COUNTS: [&str; 28] = [
@@ -84,15 +87,11 @@ const WRONG_COUNTS: [&str; 28] = [
 ];
 
 #[test]
-fn counts_the_words(rt: HostRuntime) -> Result<(), Fail> {
+fn counts_the_words(rt: HostRuntime) {
+    let wanted = Told::Fault(CommandFault::Words);
     for line in &WRONG_COUNTS {
-        assert_eq!(rt;
-            fault(rt.alloc(), line.as_bytes()),
-            Some(CommandFault::Words),
-            "{line}"
-        );
+        assert!(rt; read(rt.alloc(), line.as_bytes()) == wanted, "{line}");
     }
-    Ok(())
 }
 
 const BAD_WORDS: [(&str, u8); 24] = [
@@ -123,15 +122,11 @@ const BAD_WORDS: [(&str, u8); 24] = [
 ];
 
 #[test]
-fn tells_the_first_bad_word(rt: HostRuntime) -> Result<(), Fail> {
+fn tells_the_first_bad_word(rt: HostRuntime) {
     for (line, place) in &BAD_WORDS {
-        assert_eq!(rt;
-            fault(rt.alloc(), line.as_bytes()),
-            Some(CommandFault::BadWord(*place)),
-            "{line}"
-        );
+        let wanted = Told::Fault(CommandFault::BadWord(*place));
+        assert!(rt; read(rt.alloc(), line.as_bytes()) == wanted, "{line}");
     }
-    Ok(())
 }
 
 const UNKNOWN: [&[u8]; 7] = [
@@ -147,46 +142,44 @@ const UNKNOWN: [&[u8]; 7] = [
 const PASSED_OVER: [&[u8]; 6] = [b"", b" \t", b"\r\r", b" \r", b"# remove 1", b" \t#"];
 
 #[test]
-fn knows_no_other_word(rt: HostRuntime) -> Result<(), Fail> {
+fn knows_no_other_word(rt: HostRuntime) {
     for line in &UNKNOWN {
-        assert_eq!(rt; fault(rt.alloc(), line), Some(CommandFault::Unknown));
+        assert!(rt; read(rt.alloc(), line) == Told::Fault(CommandFault::Unknown));
     }
     for line in &PASSED_OVER {
-        assert!(rt; is_passed_over(rt.alloc(), line));
+        assert!(rt; read(rt.alloc(), line) == Told::PassedOver);
     }
-    Ok(())
+}
+
+// What a comment of so many bytes comes to.
+fn read_comment(alloc: Global, length: usize) -> Option<Told> {
+    let line = vec![in alloc; b'#'; length].ok()?;
+    Some(read(alloc, line.as_slice()))
 }
 
 #[test]
-fn takes_a_line_of_65536_bytes(rt: HostRuntime) -> Result<(), Fail> {
-    let mut line = vec![in rt.alloc(); b'#'; 65_536]?;
-    assert!(rt; is_passed_over(rt.alloc(), line.as_slice()));
-    line.push(b'\r')?;
-    assert_eq!(rt;
-        fault(rt.alloc(), line.as_slice()),
-        Some(CommandFault::TooLong)
-    );
-    Ok(())
+fn takes_a_line_of_65536_bytes(rt: HostRuntime) {
+    let too_long = Told::Fault(CommandFault::TooLong);
+    assert!(rt; read_comment(rt.alloc(), 65_536) == Some(Told::PassedOver));
+    assert!(rt; read_comment(rt.alloc(), 65_537) == Some(too_long));
 }
 
 /// Whether a command changes this field of this job to a value.
-fn is_change(command: &Option<Command<Global>>, job: u64, place: u8, to: i64) -> bool {
+fn is_change(command: &Command<Global>, job: u64, place: u8, to: i64) -> bool {
     match command {
-        Some(
-            Command::Change {
-                number,
-                field,
-                value,
-            },
-        ) => *number == job && *field == place && value.millionths() == to,
+        Command::Change {
+            number,
+            field,
+            value,
+        } => *number == job && *field == place && value.millionths() == to,
         _ => false,
     }
 }
 
 /// Whether a command adds a scenario of this name and machine, in the order of estimates.
-fn is_scenario(command: &Option<Command<Global>>, named: &str, procs: u64, factor: u64) -> bool {
+fn is_scenario(command: &Command<Global>, named: &str, procs: u64, factor: u64) -> bool {
     match command {
-        Some(Command::Scenario { name, scenario }) => {
+        Command::Scenario { name, scenario } => {
             name.as_str() == named
                 && scenario.procs() == procs
                 && scenario.factor() == factor
@@ -196,26 +189,41 @@ fn is_scenario(command: &Option<Command<Global>>, named: &str, procs: u64, facto
     }
 }
 
-#[test]
-fn gives_the_words_as_values(rt: HostRuntime) -> Result<(), Fail> {
-    let change = parse_command(rt.alloc(), b"change 007 3 7.50")?;
-    assert!(rt; is_change(&change, 7, 3, 7_500_000));
-    let scenario = parse_command(rt.alloc(), b"scenario big 16 900 shortest")?;
-    assert!(rt; is_scenario(&scenario, "big", 16, 900));
-    Ok(())
+// Whether an entry has the numbers of the line.
+fn is_entry(entry: &Entry<Global>) -> bool {
+    (entry.number(), entry.submit()) == (5, 4)
+        && entry.parts().is_empty()
+        && entry.field(12) == Value::from_bytes(b"9")
+}
+
+/// Whether a command inserts the entry.
+fn is_insertion(command: &Command<Global>) -> bool {
+    match command {
+        Command::Insert(entry) => is_entry(entry),
+        _ => false,
+    }
+}
+
+fn command(alloc: Global, line: &[u8]) -> Option<Command<Global>> {
+    parse_command(alloc, line).ok()?
+}
+
+fn changes(alloc: Global) -> Option<bool> {
+    Some(is_change(&command(alloc, b"change 007 3 7.50")?, 7, 3, 7_500_000))
+}
+
+fn adds_a_scenario(alloc: Global) -> Option<bool> {
+    let added = command(alloc, b"scenario big 16 900 shortest")?;
+    Some(is_scenario(&added, "big", 16, 900))
+}
+
+fn inserts(alloc: Global) -> Option<bool> {
+    Some(is_insertion(&command(alloc, ENTRY)?))
 }
 
 #[test]
-fn makes_the_entry(rt: HostRuntime) -> Result<(), Fail> {
-    let line = format!(in rt.alloc(); "insert {ENTRY}")?;
-    match parse_command(rt.alloc(), line.as_bytes())? {
-        Some(Command::Insert(entry)) => {
-            assert_eq!(rt; entry.number(), 5);
-            assert_eq!(rt; entry.submit(), 4);
-            assert!(rt; entry.parts().is_empty());
-            assert_eq!(rt; entry.field(12), Value::from_bytes(b"9"));
-        }
-        _ => panic!(rt; "no entry"),
-    }
-    Ok(())
+fn gives_the_words_as_values(rt: HostRuntime) {
+    assert!(rt; changes(rt.alloc()) == Some(true));
+    assert!(rt; adds_a_scenario(rt.alloc()) == Some(true));
+    assert!(rt; inserts(rt.alloc()) == Some(true));
 }

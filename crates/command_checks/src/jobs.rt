@@ -1,16 +1,12 @@
-use job_table::JobTable;
 use scenarios::{Job, Order, Scenario, Skip, effective};
 use std::alloc::Global;
-use std::test::Fail;
 use swf_text::read_swf;
 
 // What the only entry of a log is on ten processors, with estimates times a factor.
-fn job(alloc: Global, line: &str, factor: u64) -> Result<Result<Job, Skip>, Fail> {
-    let log = read_swf(alloc, line.as_bytes())?;
-    let table = JobTable::from_text(alloc, &log)?;
-    let entry = table.from_second(0).peek().ok_or("no entry")?;
-    let scenario = Scenario::new(10, factor).ok_or("no scenario")?;
-    Ok(effective(entry, &scenario))
+fn job(alloc: Global, line: &str, factor: u64) -> Option<Result<Job, Skip>> {
+    let scenario = Scenario::new(10, factor)?;
+    let log = read_swf(alloc, line.as_bytes()).ok()?;
+    Some(effective(log.entries().first()?, &scenario))
 }
 
 const SKIPPED: [(&str, Skip); 5] = [
@@ -37,11 +33,10 @@ const SKIPPED: [(&str, Skip); 5] = [
 ];
 
 #[test]
-fn skips_with_the_first_reason(rt: HostRuntime) -> Result<(), Fail> {
+fn skips_with_the_first_reason(rt: HostRuntime) {
     for (line, skip) in &SKIPPED {
-        assert!(rt; job(rt.alloc(), line, 1000)?.err() == Some(*skip), "{line}");
+        assert!(rt; job(rt.alloc(), line, 1000) == Some(Err(*skip)), "{line}");
     }
-    Ok(())
 }
 
 /// Size, estimate, length, whether it is killed, and user.
@@ -96,35 +91,48 @@ fn parts_of(job: &Job) -> Made {
     )
 }
 
+// Whether job 4 of second 0 is made so.
+fn makes(alloc: Global, line: &str, factor: u64, made: Made) -> Option<bool> {
+    let job = job(alloc, line, factor)?.ok()?;
+    Some(parts_of(&job) == made && (job.number(), job.submit()) == (4, 0))
+}
+
 #[test]
-fn makes_the_effective_job(rt: HostRuntime) -> Result<(), Fail> {
+fn makes_the_effective_job(rt: HostRuntime) {
     for (line, factor, made) in &MADE {
-        let job = job(rt.alloc(), line, *factor)?.ok().ok_or("skipped")?;
-        assert!(rt; parts_of(&job) == *made, "{line}");
-        assert!(rt; (job.number(), job.submit()) == (4, 0), "{line}");
+        assert!(rt;
+            makes(rt.alloc(), line, *factor, *made) == Some(true),
+            "{line}"
+        );
     }
-    Ok(())
 }
 
 const OUT_OF_LIMITS: [(u64, u64); 4] = [(0, 1000), (16_777_217, 1000), (10, 0), (10, 100_001)];
 
-#[test]
-fn keeps_a_scenario_within_its_limits(rt: HostRuntime) -> Result<(), Fail> {
-    for (procs, factor) in &OUT_OF_LIMITS {
-        assert!(rt; Scenario::new(*procs, *factor).is_none());
-    }
-    let scenario = Scenario::new(16_777_216, 100_000).ok_or("refused")?;
-    assert!(rt; (scenario.procs(), scenario.factor()) == (16_777_216, 100_000));
-    assert!(rt; scenario.order() == Order::Arrival);
-    Ok(())
+// The processors, the factor and the order of a scenario.
+fn setting_of(procs: u64, factor: u64) -> Option<(u64, u64, Order)> {
+    let scenario = Scenario::new(procs, factor)?;
+    Some((scenario.procs(), scenario.factor(), scenario.order()))
 }
 
 #[test]
-fn changes_the_order(rt: HostRuntime) -> Result<(), Fail> {
-    let scenario = Scenario::new(10, 1000).ok_or("refused")?;
+fn keeps_a_scenario_within_its_limits(rt: HostRuntime) {
+    for (procs, factor) in &OUT_OF_LIMITS {
+        assert!(rt; setting_of(*procs, *factor).is_none());
+    }
+    let greatest = (16_777_216, 100_000, Order::Arrival);
+    assert!(rt; setting_of(16_777_216, 100_000) == Some(greatest));
+}
+
+// Whether a scenario takes the other order, and its own again.
+fn takes_both_orders() -> Option<bool> {
+    let scenario = Scenario::new(10, 1000)?;
     let shortest = scenario.ordered(Order::Shortest);
-    assert!(rt; shortest.order() == Order::Shortest);
-    assert!(rt; shortest.ordered(Order::Arrival) == scenario);
-    assert!(rt; shortest != scenario);
-    Ok(())
+    let is_back = shortest.ordered(Order::Arrival) == scenario;
+    Some(is_back && shortest != scenario && shortest.order() == Order::Shortest)
+}
+
+#[test]
+fn changes_the_order(rt: HostRuntime) {
+    assert!(rt; takes_both_orders() == Some(true));
 }

@@ -1,6 +1,5 @@
 use scenarios::{AddFault, NoSuchScenario, Order, Scenario, ScenarioList, is_name};
 use std::alloc::Global;
-use std::test::Fail;
 
 /// Whether the scenario at a place has this name, this id and so many processors.
 fn stands(list: &ScenarioList<Global>, place: usize, name: &str, id: u32, procs: u64) -> bool {
@@ -11,13 +10,22 @@ fn stands(list: &ScenarioList<Global>, place: usize, name: &str, id: u32, procs:
 }
 
 // Adds a scenario of so many processors, and answers its id.
-fn add(
-    list: &mut ScenarioList<Global>,
-    name: &str,
-    procs: u64,
-) -> Result<Result<u32, AddFault>, Fail> {
-    let scenario = Scenario::new(procs, 1000).ok_or("refused")?;
-    Ok(list.add(name, scenario).map(|id| id.number()))
+fn add(list: &mut ScenarioList<Global>, name: &str, procs: u64) -> Option<Result<u32, AddFault>> {
+    let scenario = Scenario::new(procs, 1000)?;
+    Some(list.add(name, scenario).map(|id| id.number()))
+}
+
+// Whether a scenario of so many processors was added, with this id.
+fn is_added(list: &mut ScenarioList<Global>, name: &str, procs: u64, id: u32) -> bool {
+    add(list, name, procs) == Some(Ok(id))
+}
+
+// Whether the scenario of this name and id was dropped.
+fn is_dropped(list: &mut ScenarioList<Global>, name: &str, id: u32) -> bool {
+    match list.drop_named(name) {
+        Ok(dropped) => dropped.number() == id,
+        Err(NoSuchScenario) => false,
+    }
 }
 
 const NAMES: [&str; 6] = ["a", "base", "a-z_0-9", "abcdefghijklmnop", "-", "0"];
@@ -56,95 +64,140 @@ const ADDED: [(&str, Result<u32, AddFault>); 6] = [
     ("abcdefghijklmnop", Ok(2)),
 ];
 
-#[test]
-fn refuses_with_the_first_fault(rt: HostRuntime) -> Result<(), Fail> {
-    let mut list = ScenarioList::new(rt.alloc());
+// Whether these names are answered so, one after another, and two are there then.
+fn answers_names(list: &mut ScenarioList<Global>) -> bool {
     for (name, answer) in &ADDED {
-        assert!(rt; add(&mut list, name, 10)? == *answer, "{name}");
+        if add(list, name, 10) != Some(*answer) {
+            return false;
+        }
     }
-    assert!(rt; list.len() == 2);
-    Ok(())
+    list.len() == 2
 }
 
-// A list of 64 scenarios, s0 to s63, each of one processor more than the one before.
-fn full_list(alloc: Global) -> Result<ScenarioList<Global>, Fail> {
-    let mut list = ScenarioList::new(alloc);
-    for place in 0..64u64 {
-        let name = format!(in alloc; "s{place}")?;
-        add(&mut list, name.as_str(), place + 1)??;
+#[test]
+fn refuses_with_the_first_fault(rt: HostRuntime) {
+    assert!(rt; answers_names(&mut ScenarioList::new(rt.alloc())));
+}
+
+// Whether the scenario of a place, named after it, was added: s0 of one processor, s1 of two and so on.
+fn adds_place(alloc: Global, list: &mut ScenarioList<Global>, place: u32) -> bool {
+    match format!(in alloc; "s{place}") {
+        Ok(name) => is_added(
+            list,
+            name.as_str(),
+            u64::from(place) + 1,
+            place.wrapping_add(1),
+        ),
+        Err(_) => false,
     }
-    Ok(list)
 }
 
-#[test]
-fn keeps_64_scenarios(rt: HostRuntime) -> Result<(), Fail> {
-    let mut list = full_list(rt.alloc())?;
-    assert!(rt; add(&mut list, "s64", 1)? == Err(AddFault::TooMany));
-    assert!(rt; add(&mut list, "s63", 1)? == Err(AddFault::NameTaken));
-    assert!(rt; list.len() == 64 && list.at(64).is_none());
-    assert!(rt; stands(&list, 63, "s63", 64, 64));
-    Ok(())
-}
-
-#[test]
-fn takes_one_more_once_one_is_gone(rt: HostRuntime) -> Result<(), Fail> {
-    let mut list = full_list(rt.alloc())?;
-    assert!(rt; list.drop_named("s0")?.number() == 1);
-    assert!(rt; add(&mut list, "s64", 1)? == Ok(65));
-    assert!(rt; stands(&list, 0, "s1", 2, 2));
-    assert!(rt; stands(&list, 63, "s64", 65, 1));
-    Ok(())
-}
-
-// The scenarios c and a, once b before them is gone.
-fn without_the_first(alloc: Global) -> Result<ScenarioList<Global>, Fail> {
+// A list of 64 scenarios, s0 to s63.
+fn full_list(alloc: Global) -> Option<ScenarioList<Global>> {
     let mut list = ScenarioList::new(alloc);
-    add(&mut list, "b", 1)??;
-    add(&mut list, "c", 2)??;
-    add(&mut list, "a", 3)??;
-    list.drop_named("b")?;
-    Ok(list)
+    for place in 0..64u32 {
+        if !adds_place(alloc, &mut list, place) {
+            return None;
+        }
+    }
+    Some(list)
+}
+
+// Whether a full list takes no other scenario.
+fn is_full(list: &mut ScenarioList<Global>) -> bool {
+    add(list, "s64", 1) == Some(Err(AddFault::TooMany))
+        && add(list, "s63", 1) == Some(Err(AddFault::NameTaken))
+        && list.len() == 64
+        && list.at(64).is_none()
+        && stands(list, 63, "s63", 64, 64)
 }
 
 #[test]
-fn drops_a_scenario(rt: HostRuntime) -> Result<(), Fail> {
-    let mut list = without_the_first(rt.alloc())?;
-    assert!(rt; list.drop_named("d") == Err(NoSuchScenario));
-    assert!(rt; list.drop_named("b") == Err(NoSuchScenario));
-    assert!(rt; list.id_of("b").is_none());
-    assert!(rt; list.len() == 2);
-    assert!(rt; stands(&list, 0, "c", 2, 2) && stands(&list, 1, "a", 3, 3));
-    Ok(())
+fn keeps_64_scenarios(rt: HostRuntime) {
+    assert!(rt; full_list(rt.alloc()).is_some_and(|mut list| is_full(&mut list)));
+}
+
+// Whether a full list takes another scenario once the first is gone.
+fn takes_one_more(list: &mut ScenarioList<Global>) -> bool {
+    is_dropped(list, "s0", 1)
+        && is_added(list, "s64", 1, 65)
+        && stands(list, 0, "s1", 2, 2)
+        && stands(list, 63, "s64", 65, 1)
 }
 
 #[test]
-fn never_gives_an_id_again(rt: HostRuntime) -> Result<(), Fail> {
-    let mut list = without_the_first(rt.alloc())?;
-    assert!(rt; add(&mut list, "b", 4)? == Ok(4));
-    let copy = list.copy()?;
-    assert!(rt; list.drop_named("c")?.number() == 2);
-    assert!(rt; stands(&list, 1, "b", 4, 4));
-    assert!(rt; copy.len() == 3 && stands(&copy, 0, "c", 2, 2));
-    let id = copy.id_of("b").ok_or("no b")?;
-    assert!(rt; id.number() == 4);
-    Ok(())
+fn takes_one_more_once_one_is_gone(rt: HostRuntime) {
+    assert!(rt; full_list(rt.alloc()).is_some_and(|mut list| takes_one_more(&mut list)));
 }
 
-// Whether the scenario at a place backfills by shortest estimate.
-fn is_shortest(list: &ScenarioList<Global>, place: usize) -> bool {
-    match list.at(place) {
+// Whether the scenarios b, c and a were added, and b is gone.
+fn is_without_b(list: &mut ScenarioList<Global>) -> bool {
+    is_added(list, "b", 1, 1)
+        && is_added(list, "c", 2, 2)
+        && is_added(list, "a", 3, 3)
+        && is_dropped(list, "b", 1)
+}
+
+// Whether only c and a are left, of which none is b.
+fn has_c_and_a(list: &mut ScenarioList<Global>) -> bool {
+    list.drop_named("d") == Err(NoSuchScenario)
+        && list.drop_named("b") == Err(NoSuchScenario)
+        && list.id_of("b").is_none()
+        && list.len() == 2
+        && stands(list, 0, "c", 2, 2)
+        && stands(list, 1, "a", 3, 3)
+}
+
+fn drops_b(alloc: Global) -> bool {
+    let mut list = ScenarioList::new(alloc);
+    is_without_b(&mut list) && has_c_and_a(&mut list)
+}
+
+#[test]
+fn drops_a_scenario(rt: HostRuntime) {
+    assert!(rt; drops_b(rt.alloc()));
+}
+
+// The id of b; none where there is no b.
+fn id_of_b(list: &ScenarioList<Global>) -> Option<u32> {
+    list.id_of("b").map(|id| id.number())
+}
+
+// Whether a copy stays as it was while c is dropped from its list.
+fn copy_keeps_c(list: &mut ScenarioList<Global>) -> Option<bool> {
+    let copy = list.copy().ok()?;
+    let drops = is_dropped(list, "c", 2) && stands(list, 1, "b", 4, 4);
+    let keeps = copy.len() == 3 && stands(&copy, 0, "c", 2, 2);
+    Some(drops && keeps && id_of_b(&copy) == Some(4))
+}
+
+fn gives_new_ids(alloc: Global) -> bool {
+    let mut list = ScenarioList::new(alloc);
+    is_without_b(&mut list)
+        && is_added(&mut list, "b", 4, 4)
+        && copy_keeps_c(&mut list) == Some(true)
+}
+
+#[test]
+fn never_gives_an_id_again(rt: HostRuntime) {
+    assert!(rt; gives_new_ids(rt.alloc()));
+}
+
+// Whether the first scenario of a list backfills by shortest estimate.
+fn is_shortest(list: &ScenarioList<Global>) -> bool {
+    match list.at(0) {
         Some(row) => row.2.order() == Order::Shortest,
         None => false,
     }
 }
 
+fn keeps_shortest(alloc: Global) -> Option<bool> {
+    let shortest = Scenario::new(4, 1000)?.ordered(Order::Shortest);
+    let mut list = ScenarioList::new(alloc);
+    Some(list.add("b", shortest).is_ok() && is_shortest(&list))
+}
+
 #[test]
-fn keeps_the_order_of_a_scenario(rt: HostRuntime) -> Result<(), Fail> {
-    let mut list = ScenarioList::new(rt.alloc());
-    let shortest = Scenario::new(4, 1000)
-        .ok_or("refused")?
-        .ordered(Order::Shortest);
-    list.add("b", shortest)?;
-    assert!(rt; is_shortest(&list, 0));
-    Ok(())
+fn keeps_the_order_of_a_scenario(rt: HostRuntime) {
+    assert!(rt; keeps_shortest(rt.alloc()) == Some(true));
 }

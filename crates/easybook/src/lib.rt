@@ -18,6 +18,3 @@ pub use plain::run_plain;
 pub use program::run_words;
 pub use stop::Stop;
 pub use words::{Words, WordsFault, read_words};
-
-#[cfg(test)]
-mod tests;

@@ -7,8 +7,6 @@ mod engine;
 mod fault;
 mod known;
 mod stepped;
-#[cfg(test)]
-mod tests;
 
 pub use engine::Engine;
 pub use fault::EngineFault;

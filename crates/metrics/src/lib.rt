@@ -18,6 +18,3 @@ pub use rows::{DayRow, Overall, Skips, UserRow};
 pub use tables::Tables;
 pub use totals::Totals;
 pub use users::UserSums;
-
-#[cfg(test)]
-mod tests;

@@ -10,8 +10,6 @@ mod rule;
 mod running;
 mod simulation;
 mod state;
-#[cfg(test)]
-mod tests;
 
 pub use entry_job::effective;
 pub use job::PlainJob;

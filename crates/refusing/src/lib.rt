@@ -5,6 +5,3 @@ mod call_counter;
 mod refusing_allocator;
 
 pub use refusing_allocator::Refusing;
-
-#[cfg(test)]
-mod tests;

@@ -15,6 +15,3 @@ mod users;
 pub use entries::log_text;
 pub use side::{SideLine, side_text};
 pub use texts::{days_text, schedule_text, table_text, users_text};
-
-#[cfg(test)]
-mod tests;

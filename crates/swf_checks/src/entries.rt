@@ -1,17 +1,26 @@
 use crate::lines::fields_with;
 use std::alloc::Global;
-use std::test::Fail;
-use swf_text::{Entry, EntryFault, Value};
+use swf_text::{Entry, EntryFault, Fields, Value};
 
 // An entry of the usual line with another word in one field, and a part likewise.
 fn entry_of(
     alloc: Global,
     main: (usize, &str),
     part: (usize, &str),
-) -> Result<Result<Entry<Global>, EntryFault>, Fail> {
+) -> Option<Result<Entry<Global>, EntryFault>> {
     let main = fields_with(alloc, main.0, main.1)?;
     let part = fields_with(alloc, part.0, part.1)?;
-    Ok(Entry::new(main, [part].to_vec(alloc)?))
+    Some(Entry::new(main, [part].to_vec(alloc).ok()?))
+}
+
+// The fault of such an entry.
+fn fault_of(alloc: Global, main: (usize, &str), part: (usize, &str)) -> Option<EntryFault> {
+    entry_of(alloc, main, part)?.err()
+}
+
+// The usual entry with another submit time, and a part that waits.
+fn submitted_at(alloc: Global, word: &str) -> Option<Entry<Global>> {
+    entry_of(alloc, (2, word), (11, "4"))?.ok()
 }
 
 /// Lines and parts that make no entry.
@@ -24,22 +33,30 @@ const REFUSED: [((usize, &str), (usize, &str), EntryFault); 5] = [
 ];
 
 #[test]
-fn refuses_entries(rt: HostRuntime) -> Result<(), Fail> {
+fn refuses_entries(rt: HostRuntime) {
     for (main, part, fault) in &REFUSED {
-        assert!(rt; entry_of(rt.alloc(), *main, *part)?.err() == Some(*fault));
+        assert!(rt; fault_of(rt.alloc(), *main, *part) == Some(*fault));
     }
-    Ok(())
+}
+
+// Whether a field is the number of a word.
+fn has(entry: &Entry<Global>, place: usize, word: &str) -> bool {
+    let value = Value::from_bytes(word.as_bytes());
+    value.is_some() && entry.field(place) == value
+}
+
+// Whether an entry is job 1, submitted in second 3, with 18 fields.
+fn is_made(entry: &Entry<Global>) -> bool {
+    (entry.number(), entry.submit()) == (1, 3)
+        && entry.field(0).is_none()
+        && entry.field(19).is_none()
+        && has(entry, 1, "1")
+        && has(entry, 18, "-1")
 }
 
 #[test]
-fn makes_an_entry(rt: HostRuntime) -> Result<(), Fail> {
-    let entry = entry_of(rt.alloc(), (2, "2.5"), (11, "4"))??;
-    assert!(rt; (entry.number(), entry.submit()) == (1, 3));
-    assert!(rt; entry.field(0).is_none());
-    assert!(rt; entry.field(1) == Value::from_bytes(b"1"));
-    assert!(rt; entry.field(18) == Value::from_bytes(b"-1"));
-    assert!(rt; entry.field(19).is_none());
-    Ok(())
+fn makes_an_entry(rt: HostRuntime) {
+    assert!(rt; submitted_at(rt.alloc(), "2.5").is_some_and(|entry| is_made(&entry)));
 }
 
 /// Changes that an entry refuses.
@@ -51,31 +68,59 @@ const BAD_CHANGES: [(usize, &str, EntryFault); 5] = [
     (11, "3", EntryFault::BadStatus),
 ];
 
-#[test]
-fn refuses_changes(rt: HostRuntime) -> Result<(), Fail> {
-    let mut entry = entry_of(rt.alloc(), (2, "5"), (11, "4"))??;
+// Whether these changes are refused.
+fn refuses_all(entry: &mut Entry<Global>) -> bool {
     for (place, word, fault) in &BAD_CHANGES {
-        let value = Value::from_bytes(word.as_bytes()).ok_or("no number")?;
-        assert!(rt; entry.set_field(*place, value) == Err(*fault), "{place}");
+        let Some(value) = Value::from_bytes(word.as_bytes()) else {
+            return false;
+        };
+        if entry.set_field(*place, value) != Err(*fault) {
+            return false;
+        }
     }
-    Ok(())
+    true
+}
+
+#[test]
+fn refuses_changes(rt: HostRuntime) {
+    assert!(rt; submitted_at(rt.alloc(), "5").is_some_and(|mut entry| refuses_all(&mut entry)));
 }
 
 /// Changes that it takes.
 const CHANGES: [(usize, &str); 3] = [(2, "2.5"), (11, "5"), (18, "-3")];
 
-#[test]
-fn changes_fields_and_copies(rt: HostRuntime) -> Result<(), Fail> {
-    let mut entry = entry_of(rt.alloc(), (2, "5"), (11, "4"))??;
-    for (place, word) in &CHANGES {
-        let value = Value::from_bytes(word.as_bytes()).ok_or("no number")?;
-        entry.set_field(*place, value)?;
-        assert!(rt; entry.field(*place) == Some(value), "{place}");
+// Whether a field takes a number.
+fn takes(entry: &mut Entry<Global>, place: usize, word: &str) -> bool {
+    match Value::from_bytes(word.as_bytes()) {
+        Some(value) => entry.set_field(place, value).is_ok() && entry.field(place) == Some(value),
+        None => false,
     }
-    let copy = entry.copy()?;
-    assert!(rt; (copy.number(), copy.submit()) == (1, 3));
-    assert!(rt; copy.main() == entry.main());
-    assert!(rt; copy.field(17) == Value::from_bytes(b"-1"));
-    assert!(rt; copy.parts() == [fields_with(rt.alloc(), 11, "4")?].as_slice());
-    Ok(())
+}
+
+// Whether these changes are taken.
+fn takes_all(entry: &mut Entry<Global>) -> bool {
+    for (place, word) in &CHANGES {
+        if !takes(entry, *place, word) {
+            return false;
+        }
+    }
+    true
+}
+
+// Whether a copy has the line and the part.
+fn is_as_its_copy(entry: &Entry<Global>, part: Fields) -> Option<bool> {
+    let copy = entry.copy().ok()?;
+    let has_line = (copy.number(), copy.submit()) == (1, 3) && copy.main() == entry.main();
+    Some(has_line && has(&copy, 17, "-1") && copy.parts() == [part].as_slice())
+}
+
+fn changes_and_copies(alloc: Global) -> Option<bool> {
+    let part = fields_with(alloc, 11, "4")?;
+    let mut entry = submitted_at(alloc, "5")?;
+    Some(takes_all(&mut entry) && is_as_its_copy(&entry, part) == Some(true))
+}
+
+#[test]
+fn changes_fields_and_copies(rt: HostRuntime) {
+    assert!(rt; changes_and_copies(rt.alloc()) == Some(true));
 }

@@ -1,11 +1,18 @@
 use crate::lines::line_with;
 use crate::texts::FOUR_JOBS;
 use std::alloc::{AllocError, Global};
-use std::test::Fail;
 use swf_text::{FaultKind, LineFault, LineRead, Memory, SwfFault, read_line, read_swf};
 
-fn fault_of(alloc: Global, text: &[u8]) -> Option<SwfFault> {
-    read_swf(alloc, text).err()
+// The line and the kind of a text's fault.
+fn fault_of(alloc: Global, text: &[u8]) -> Option<(u64, FaultKind)> {
+    read_swf(alloc, text)
+        .err()
+        .map(|fault| (fault.line, fault.kind))
+}
+
+// The fault of a line that has another word in one field.
+fn fault_with(alloc: Global, place: usize, word: &str) -> Option<(u64, FaultKind)> {
+    fault_of(alloc, &line_with(alloc, place, word)?)
 }
 
 /// The fault of a line that has another word in one field.
@@ -32,20 +39,13 @@ const BAD_WORDS: [(usize, &str, FaultKind); 19] = [
 ];
 
 #[test]
-fn tells_the_first_fault(rt: HostRuntime) -> Result<(), Fail> {
+fn tells_the_first_fault(rt: HostRuntime) {
     for (place, word, kind) in &BAD_WORDS {
-        let line = line_with(rt.alloc(), *place, word)?;
-        let fault = fault_of(rt.alloc(), &line);
         assert!(rt;
-            fault
-                == Some(SwfFault {
-                    line: 1,
-                    kind: *kind
-                }),
+            fault_with(rt.alloc(), *place, word) == Some((1, *kind)),
             "{word}"
         );
     }
-    Ok(())
 }
 
 /// The first faulty line of a log, and its fault.
@@ -80,68 +80,85 @@ const BAD_LOGS: [(&str, u64, FaultKind); 5] = [
 #[test]
 fn tells_the_first_faulty_line(rt: HostRuntime) {
     for (text, line, kind) in &BAD_LOGS {
-        let fault = fault_of(rt.alloc(), text.as_bytes());
         assert!(rt;
-            fault
-                == Some(SwfFault {
-                    line: *line,
-                    kind: *kind
-                }),
+            fault_of(rt.alloc(), text.as_bytes()) == Some((*line, *kind)),
             "{text}"
         );
     }
 }
 
-#[test]
-fn cuts_are_read_or_refused(rt: HostRuntime) {
-    let bytes = FOUR_JOBS.as_bytes();
-    let mut lines = 1u64;
-    for end in 0..bytes.len() {
-        if let Some(fault) = fault_of(rt.alloc(), &bytes[..end]) {
-            assert!(rt; fault.line == lines, "cut at {end}");
-        }
-        if bytes[end] == b'\n' {
-            lines = lines.wrapping_add(1);
-        }
+// Whether a text has no fault before its line of this number.
+fn is_right_before(alloc: Global, text: &[u8], line: u64) -> bool {
+    match fault_of(alloc, text) {
+        Some(fault) => fault.0 == line,
+        None => true,
     }
 }
 
+// Whether each beginning of a text is read or refused at its last line.
+fn cuts_are_right(alloc: Global, bytes: &[u8]) -> bool {
+    let mut lines = 1u64;
+    for end in 0..bytes.len() {
+        if !is_right_before(alloc, &bytes[..end], lines) {
+            return false;
+        }
+        lines = lines.wrapping_add(u64::from(bytes[end] == b'\n'));
+    }
+    true
+}
+
+#[test]
+fn cuts_are_read_or_refused(rt: HostRuntime) {
+    assert!(rt; cuts_are_right(rt.alloc(), FOUR_JOBS.as_bytes()));
+}
+
 // The fault of the four-job log without so many bytes at its end.
-fn fault_without(alloc: Global, cut: usize) -> Option<SwfFault> {
+fn fault_without(alloc: Global, cut: usize) -> Option<(u64, FaultKind)> {
     let bytes = FOUR_JOBS.as_bytes();
     fault_of(alloc, &bytes[..bytes.len().saturating_sub(cut)])
 }
 
 #[test]
 fn tells_what_the_last_bytes_were(rt: HostRuntime) {
-    let alloc = rt.alloc();
-    let at_last = |kind| Some(SwfFault { line: 4, kind });
-    assert!(rt; fault_without(alloc, 1).is_none());
-    assert!(rt; fault_without(alloc, 2) == at_last(FaultKind::BadNumber(18)));
-    assert!(rt; fault_without(alloc, 3) == at_last(FaultKind::FieldCount));
+    assert!(rt; fault_without(rt.alloc(), 1).is_none());
+    assert!(rt; fault_without(rt.alloc(), 2) == Some((4, FaultKind::BadNumber(18))));
+    assert!(rt; fault_without(rt.alloc(), 3) == Some((4, FaultKind::FieldCount)));
 }
 
-#[test]
-fn limits_lines(rt: HostRuntime) -> Result<(), Fail> {
-    let alloc = rt.alloc();
-    let longest = vec![in alloc; b';'; 65_536]?;
-    assert!(rt; fault_of(alloc, &longest).is_none());
-    for byte in [b';', b' '] {
-        let line = vec![in alloc; byte; 65_537]?;
-        assert!(rt; read_line(&line) == LineRead::Fault(LineFault::LineTooLong));
-        assert!(rt; fault_of(alloc, &line).map(|fault| fault.kind) == Some(FaultKind::LineTooLong));
+// Whether a line of so many equal bytes is too long, by itself and in a log.
+fn is_too_long(alloc: Global, byte: u8, length: usize) -> Option<bool> {
+    let line = vec![in alloc; byte; length].ok()?;
+    let is_refused = read_line(&line) == LineRead::Fault(LineFault::LineTooLong);
+    let fault = fault_of(alloc, &line);
+    if is_refused {
+        Some(fault == Some((1, FaultKind::LineTooLong)))
+    } else {
+        fault.map(|_| false)
     }
-    Ok(())
 }
 
 #[test]
-fn shows_faults(rt: HostRuntime) -> Result<(), Fail> {
+fn limits_lines(rt: HostRuntime) {
+    assert!(rt; is_too_long(rt.alloc(), b';', 65_536).is_none());
+    assert!(rt; is_too_long(rt.alloc(), b';', 65_537) == Some(true));
+    assert!(rt; is_too_long(rt.alloc(), b' ', 65_537) == Some(true));
+}
+
+// Whether faults are shown so.
+fn are_shown(alloc: Global, wanted: &str) -> bool {
     let fault = SwfFault {
         line: 3,
         kind: FaultKind::from(LineFault::BadNumber(4)),
     };
     let memory = Memory::from(AllocError);
-    let shown = format!(in rt.alloc(); "{fault}, {}, {memory}", FaultKind::TooManyJobs)?;
-    assert!(rt; shown.as_str() == "line 3: BadNumber 4, TooManyJobs, out of memory");
-    Ok(())
+    match format!(in alloc; "{fault}, {}, {memory}", FaultKind::TooManyJobs) {
+        Ok(shown) => shown.as_str() == wanted,
+        Err(_) => false,
+    }
+}
+
+#[test]
+fn shows_faults(rt: HostRuntime) {
+    let wanted = "line 3: BadNumber 4, TooManyJobs, out of memory";
+    assert!(rt; are_shown(rt.alloc(), wanted));
 }

@@ -5,7 +5,6 @@ ghost use Rattle.swf_text.specs.Bounds.{bytes_at};
 use crate::texts::FOUR_JOBS;
 use crate::writing::{MIXED, written};
 use std::alloc::{AllocError, Global};
-use std::test::Fail;
 use swf_text::{
     FaultKind, LineRead, SwfFault, SwfText, assemble, line_at, line_bounds, read_line, read_swf,
 };
@@ -25,19 +24,42 @@ fn readings_at(
 }
 
 // A log as it is read from the bounds and readings of its lines.
-fn read_by_lines(alloc: Global, bytes: &[u8]) -> Result<Result<SwfText<Global>, SwfFault>, Fail> {
-    let bounds = line_bounds(alloc, bytes)?;
-    let readings = readings_at(alloc, bytes, &bounds)?;
-    Ok(assemble(alloc, bytes, &bounds, &readings))
+fn read_by_lines(alloc: Global, bytes: &[u8]) -> Option<Result<SwfText<Global>, SwfFault>> {
+    let bounds = line_bounds(alloc, bytes).ok()?;
+    let readings = readings_at(alloc, bytes, &bounds).ok()?;
+    Some(assemble(alloc, bytes, &bounds, &readings))
+}
+
+// What is written of a reading, or its fault; none where memory is short.
+fn told_of(
+    alloc: Global,
+    read: Result<SwfText<Global>, SwfFault>,
+) -> Option<Result<Vec<u8>, SwfFault>> {
+    match read {
+        Ok(text) => Some(Ok(written(alloc, &text)?)),
+        Err(fault) => Some(Err(fault)),
+    }
+}
+
+// Whether two readings answer the same.
+fn are_alike(one: &Result<Vec<u8>, SwfFault>, other: &Result<Vec<u8>, SwfFault>) -> bool {
+    match (one, other) {
+        (Ok(one), Ok(other)) => one == other,
+        (Err(one), Err(other)) => one == other,
+        _ => false,
+    }
 }
 
 // Whether both ways of reading answer the same.
-fn reads_alike(alloc: Global, bytes: &[u8]) -> Result<bool, Fail> {
-    match (read_swf(alloc, bytes), read_by_lines(alloc, bytes)?) {
-        (Ok(one), Ok(other)) => Ok(written(alloc, &one)? == written(alloc, &other)?),
-        (Err(one), Err(other)) => Ok(one == other),
-        _ => Ok(false),
-    }
+fn reads_alike(alloc: Global, bytes: &[u8]) -> Option<bool> {
+    let one = told_of(alloc, read_swf(alloc, bytes))?;
+    let other = told_of(alloc, read_by_lines(alloc, bytes)?)?;
+    Some(are_alike(&one, &other))
+}
+
+// The fault of reading line by line.
+fn fault_by_lines(alloc: Global, bytes: &[u8]) -> Option<SwfFault> {
+    read_by_lines(alloc, bytes)?.err()
 }
 
 const LOGS: [&str; 12] = [
@@ -56,57 +78,60 @@ const LOGS: [&str; 12] = [
 ];
 
 #[test]
-fn reads_by_lines_what_it_reads(rt: HostRuntime) -> Result<(), Fail> {
+fn reads_by_lines_what_it_reads(rt: HostRuntime) {
     for log in &LOGS {
-        assert!(rt; reads_alike(rt.alloc(), log.as_bytes())?, "{log}");
+        assert!(rt;
+            reads_alike(rt.alloc(), log.as_bytes()) == Some(true),
+            "{log}"
+        );
     }
-    Ok(())
+}
+
+const THREE_LINES: &[u8] = b"ab\r\n\ncd";
+
+// Whether these are the bounds of the lines.
+fn has_bounds(alloc: Global, bytes: &[u8], wanted: &[(usize, usize)]) -> Option<bool> {
+    Some(line_bounds(alloc, bytes).ok()?.as_slice() == wanted)
 }
 
 #[test]
-fn bounds_lines_without_their_feeds(rt: HostRuntime) -> Result<(), Fail> {
-    let bytes = b"ab\r\n\ncd";
-    let bounds = line_bounds(rt.alloc(), bytes)?;
-    assert!(rt; bounds.as_slice() == [(0, 3), (4, 4), (5, 7)].as_slice());
-    assert!(rt; line_at(bytes, (0, 3)) == b"ab\r".as_slice());
-    assert!(rt; line_at(bytes, (5, 9)) == b"cd".as_slice());
-    assert!(rt; line_at(bytes, (9, 5)) == b"".as_slice());
-    Ok(())
+fn bounds_lines_without_their_feeds(rt: HostRuntime) {
+    let wanted = [(0, 3), (4, 4), (5, 7)];
+    assert!(rt; has_bounds(rt.alloc(), THREE_LINES, wanted.as_slice()) == Some(true));
+    assert!(rt; line_at(THREE_LINES, (0, 3)) == b"ab\r".as_slice());
+    assert!(rt; line_at(THREE_LINES, (5, 9)) == b"cd".as_slice());
+    assert!(rt; line_at(THREE_LINES, (9, 5)) == b"".as_slice());
+}
+
+// Adds the line of a job with this run time, and what stands behind its 17 fields.
+fn add_line(alloc: Global, bytes: &mut Vec<u8>, number: u64, run: &str, last: &str) -> Option<()> {
+    let text = format!(in alloc; "{number} 0 -1 {run} 6 -1 -1 6 5 -1 1 7 -1 -1 -1 -1 -1{last}\n");
+    bytes.extend_from_slice(text.ok()?.as_bytes()).ok()
 }
 
 // Five thousand jobs: line 4,500 has seventeen fields, field 4 of line 4,000 is no number, and
 // where it is asked for, line 3,000 has the job number of line 10.
-fn many_lines(alloc: Global, repeats: bool) -> Result<Vec<u8>, Fail> {
+fn many_lines(alloc: Global, repeats: bool) -> Option<Vec<u8>> {
     let mut bytes = Vec::new(alloc);
     for line in 1..5_001u64 {
         let number = if repeats && line == 3_000 { 10 } else { line };
         let run = if line == 4_000 { "1e3" } else { "5" };
         let last = if line == 4_500 { "" } else { " -1" };
-        let text = format!(in alloc;
-            "{number} 0 -1 {run} 6 -1 -1 6 5 -1 1 7 -1 -1 -1 -1 -1{last}\n"
-        )?;
-        bytes.extend_from_slice(text.as_bytes())?;
+        add_line(alloc, &mut bytes, number, run, last)?;
     }
-    Ok(bytes)
+    Some(bytes)
+}
+
+// Whether both ways of reading tell this fault of these lines.
+fn is_told(alloc: Global, repeats: bool, line: u64, kind: FaultKind) -> Option<bool> {
+    let bytes = many_lines(alloc, repeats)?;
+    let fault = Some(SwfFault { line, kind });
+    let is_first = read_swf(alloc, &bytes).err() == fault;
+    Some(is_first && fault_by_lines(alloc, &bytes) == fault)
 }
 
 #[test]
-fn tells_the_first_of_many_lines(rt: HostRuntime) -> Result<(), Fail> {
-    for repeats in [false, true] {
-        let bytes = many_lines(rt.alloc(), repeats)?;
-        let fault = if repeats {
-            SwfFault {
-                line: 3_000,
-                kind: FaultKind::DuplicateJob,
-            }
-        } else {
-            SwfFault {
-                line: 4_000,
-                kind: FaultKind::BadNumber(4),
-            }
-        };
-        assert!(rt; read_swf(rt.alloc(), &bytes).err() == Some(fault));
-        assert!(rt; read_by_lines(rt.alloc(), &bytes)?.err() == Some(fault));
-    }
-    Ok(())
+fn tells_the_first_of_many_lines(rt: HostRuntime) {
+    assert!(rt; is_told(rt.alloc(), false, 4_000, FaultKind::BadNumber(4)) == Some(true));
+    assert!(rt; is_told(rt.alloc(), true, 3_000, FaultKind::DuplicateJob) == Some(true));
 }

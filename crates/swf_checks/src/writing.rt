@@ -2,7 +2,6 @@ use crate::lines::{line_with, read};
 use crate::texts::FOUR_JOBS;
 use std::alloc::Global;
 use std::io::{self, Write};
-use std::test::Fail;
 use swf_text::{SwfText, WriteFault, write_bytes, write_swf};
 
 /// A log of comments between lines, tabs, carriage returns and a part.
@@ -14,10 +13,20 @@ const MIXED_WRITTEN: &str =
     "; first \n;\n1 0 -1 100 7.5 0 -1 6 100 -1 1 7 -1 -1 -1 -1 -1 -1\n1 -1 -1 5 6 -1 -1 6 5 -1 2 7 -1 -1 -1 -1 -1 -1\n";
 
 /// What is written of a log.
-pub(crate) fn written(alloc: Global, text: &SwfText<Global>) -> Result<Vec<u8>, Fail> {
+pub(crate) fn written(alloc: Global, text: &SwfText<Global>) -> Option<Vec<u8>> {
     let mut out = Vec::new(alloc);
-    write_swf(text, &mut out)?;
-    Ok(out)
+    write_swf(text, &mut out).ok()?;
+    Some(out)
+}
+
+// What is written of a log that is read.
+fn rewritten(alloc: Global, log: &[u8]) -> Option<Vec<u8>> {
+    written(alloc, &read(alloc, log)?)
+}
+
+// Whether these bytes are written of a log.
+fn is_rewritten(alloc: Global, log: &[u8], wanted: &[u8]) -> Option<bool> {
+    Some(rewritten(alloc, log)?.as_slice() == wanted)
 }
 
 /// Numbers, and how they are written.
@@ -34,16 +43,25 @@ const SPELLINGS: [(&str, &str); 10] = [
     ("-999999999999.999999", "-999999999999.999999"),
 ];
 
+// The line of a job with this word in field 4, as it is written.
+fn line_of(alloc: Global, word: &str) -> Option<Vec<u8>> {
+    let mut line = line_with(alloc, 4, word)?;
+    line.pop();
+    line.push(b'\n').ok()?;
+    Some(line)
+}
+
+// Whether a number is written so.
+fn is_spelled(alloc: Global, word: &str, shown: &str) -> Option<bool> {
+    let line = line_of(alloc, shown)?;
+    is_rewritten(alloc, &line_with(alloc, 4, word)?, line.as_slice())
+}
+
 #[test]
-fn writes_canonical_numbers(rt: HostRuntime) -> Result<(), Fail> {
+fn writes_canonical_numbers(rt: HostRuntime) {
     for (word, shown) in &SPELLINGS {
-        let text = read(rt.alloc(), &line_with(rt.alloc(), 4, word)?)?;
-        let mut line = line_with(rt.alloc(), 4, shown)?;
-        line.pop();
-        line.push(b'\n')?;
-        assert!(rt; written(rt.alloc(), &text)? == line, "{word}");
+        assert!(rt; is_spelled(rt.alloc(), word, shown) == Some(true), "{word}");
     }
-    Ok(())
 }
 
 /// Logs, and how they are written.
@@ -54,12 +72,10 @@ const LOGS: [(&str, &str); 3] = [
 ];
 
 #[test]
-fn reads_what_it_wrote(rt: HostRuntime) -> Result<(), Fail> {
+fn reads_what_it_wrote(rt: HostRuntime) {
     for (log, shown) in &LOGS {
-        let text = read(rt.alloc(), log.as_bytes())?;
-        assert!(rt; written(rt.alloc(), &text)?.as_slice() == shown.as_bytes());
+        assert!(rt; is_rewritten(rt.alloc(), log.as_bytes(), shown.as_bytes()) == Some(true));
     }
-    Ok(())
 }
 
 // Takes at most so many bytes a call, and fails once its calls are used up.
@@ -101,33 +117,51 @@ fn took(writer: &Broken, whole: &[u8], answer: Result<(), WriteFault>) -> bool {
     whole.starts_with(writer.taken.as_slice()) && answer.is_ok() == is_whole
 }
 
-#[test]
-fn writes_a_prefix_where_the_writer_fails(rt: HostRuntime) -> Result<(), Fail> {
-    let text = read(rt.alloc(), MIXED.as_bytes())?;
+// Whether that holds of a log and a writer of so many calls.
+fn writes_a_prefix(alloc: Global, text: &SwfText<Global>, calls: u64) -> bool {
+    let mut writer = failing_after(alloc, 7, calls);
+    let answer = write_swf(text, &mut writer);
+    took(&writer, MIXED_WRITTEN.as_bytes(), answer)
+}
+
+// Whether it holds of each writer of fewer than 31 calls.
+fn writes_prefixes(alloc: Global, text: &SwfText<Global>) -> bool {
     for calls in 0..31u64 {
-        let mut writer = failing_after(rt.alloc(), 7, calls);
-        let result = write_swf(&text, &mut writer);
-        assert!(rt; took(&writer, MIXED_WRITTEN.as_bytes(), result), "{calls}");
+        if !writes_a_prefix(alloc, text, calls) {
+            return false;
+        }
     }
-    Ok(())
+    true
 }
 
 #[test]
-fn tells_a_writer_that_takes_nothing(rt: HostRuntime) -> Result<(), Fail> {
-    let text = read(rt.alloc(), MIXED.as_bytes())?;
-    let mut full = failing_after(rt.alloc(), 0, 30);
-    assert!(rt; write_swf(&text, &mut full) == Err(WriteFault::Device));
-    assert!(rt; full.taken.is_empty());
-    Ok(())
+fn writes_a_prefix_where_the_writer_fails(rt: HostRuntime) {
+    let text = read(rt.alloc(), MIXED.as_bytes());
+    assert!(rt; text.is_some_and(|text| writes_prefixes(rt.alloc(), &text)));
+}
+
+// What is told of a writer that takes nothing, and how much it took.
+fn told_of_full(alloc: Global, text: &SwfText<Global>) -> (Result<(), WriteFault>, usize) {
+    let mut full = failing_after(alloc, 0, 30);
+    let answer = write_swf(text, &mut full);
+    (answer, full.taken.len())
 }
 
 #[test]
-fn writes_bytes_in_pieces(rt: HostRuntime) -> Result<(), Fail> {
-    let mut writer = failing_after(rt.alloc(), 2, 2);
-    assert!(rt; write_bytes(&mut writer, b"abcde") == Err(WriteFault::Device));
-    assert!(rt; writer.taken.as_slice() == b"abcd".as_slice());
-    let mut writer = failing_after(rt.alloc(), 2, 3);
-    assert!(rt; write_bytes(&mut writer, b"abcde") == Ok(()));
-    assert!(rt; writer.taken.as_slice() == b"abcde".as_slice());
-    Ok(())
+fn tells_a_writer_that_takes_nothing(rt: HostRuntime) {
+    let text = read(rt.alloc(), MIXED.as_bytes());
+    let wanted = (Err(WriteFault::Device), 0);
+    assert!(rt; text.is_some_and(|text| told_of_full(rt.alloc(), &text) == wanted));
+}
+
+// Whether a writer of so many calls of two bytes answers so, and takes these of five bytes.
+fn takes_of_five(alloc: Global, calls: u64, answer: Result<(), WriteFault>, taken: &[u8]) -> bool {
+    let mut writer = failing_after(alloc, 2, calls);
+    write_bytes(&mut writer, b"abcde") == answer && writer.taken.as_slice() == taken
+}
+
+#[test]
+fn writes_bytes_in_pieces(rt: HostRuntime) {
+    assert!(rt; takes_of_five(rt.alloc(), 2, Err(WriteFault::Device), b"abcd"));
+    assert!(rt; takes_of_five(rt.alloc(), 3, Ok(()), b"abcde"));
 }

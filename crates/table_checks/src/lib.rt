@@ -5,6 +5,10 @@
 #[cfg(test)]
 mod counts;
 #[cfg(test)]
+mod edits;
+#[cfg(test)]
 mod lists;
+#[cfg(test)]
+mod many;
 #[cfg(test)]
 mod tables;

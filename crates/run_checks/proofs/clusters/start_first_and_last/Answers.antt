@@ -4,7 +4,7 @@ use Rattle.scenarios.specs.Job.{EffectiveJob}
 use Rattle.cluster_state.specs.declared.running.Running.{Running}
 use Rattle.cluster_state.specs.State.{State, free, started, without, CanStartAll}
 use Rattle.cluster_state.proofs.StateLemmas.{sum_by-placed}
-use Rattle.cluster_state.proofs.tests.start_first_and_last.Goals as goal
+use Rattle.run_checks.proofs.clusters.start_first_and_last.Goals as goal
 
 three : (w : List EffectiveJob) (a b c : EffectiveJob) → length w ≡ 3 → a ≡ get_or w 0 a → b ≡ get_or w 1 b → c ≡ get_or w 2 c → w ≡ a ∷ b ∷ c ∷ []
 three [] a b c l p q r = absurd (omega (arith, l))
@@ -23,7 +23,7 @@ first-and-last s a b c now queue ne fits later =
     (first, fits, (last, later, tt))
 
 pub start_all-requires-clause-fits : goal.start_all-requires-clause-fits
-start_all-requires-clause-fits g c =
+start_all-requires-clause-fits c =
     let s : State = c.args.cluster.now.state in
     let first : EffectiveJob = c.index-waiting-0.result in
     let middle : EffectiveJob = c.index-waiting-1.result in

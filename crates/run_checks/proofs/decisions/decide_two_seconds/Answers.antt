@@ -1,0 +1,34 @@
+use Rattle.std.proofs.Common.{◌≡◌, ℕ, List, [], ◌∷◌, ◌++◌, append_assoc, length, None, Some, sym, ◌∙◌, ap, arith, subst}
+use Rattle.scenarios.specs.Job.{EffectiveJob}
+use Rattle.cluster_state.specs.State.{State, arrived}
+use Rattle.easy_rule.specs.Rule.{next, shadow_of}
+use Rattle.easy_rule.specs.Pass.{front}
+use Rattle.easy_rule.specs.Simulation.{joined}
+use Rattle.run_checks.proofs.decisions.decide_two_seconds.Given.{Over}
+use Rattle.run_checks.proofs.decisions.decide_two_seconds.Goals as goal
+
+-- one arrives after another
+both-join : (s a b : State) (j k : EffectiveJob) → a ≡ arrived s j → b ≡ arrived a k → b ≡ joined s (j ∷ k ∷ [])
+both-join s a b j k e f =
+    f ∙ ap (λ (z : State). arrived z k) e
+    ∙ ap (λ (w : List EffectiveJob). let z : State = record { machine = s.machine; order = s.order; waiting = w; running = s.running } in z) (append_assoc s.waiting (j ∷ []) (k ∷ []))
+
+pub decide_behind-requires-clause-settled : goal.decide_behind-requires-clause-settled
+decide_behind-requires-clause-settled g c =
+    let s : State = c.decide_with_shadow.new.cluster.state in
+    let js : List EffectiveJob = c.args.third ∷ c.args.fourth ∷ [] in
+    let join = both-join s c.arrive-2.new.self.state c.arrive-3.new.self.state c.args.third c.args.fourth c.in_ok-arrive-2.ensures.ok c.in_ok-arrive-3.ensures.ok in
+    let settled : next s 1 ≡ None = subst (λ (z : State). next z 1 ≡ None) (sym c.in_ok-shadow.ensures.state) (c.easy_is_a_rule.ensures.settles.after_decision c.arrive.new.self.state 1) in
+    let law = c.arrivals_unsettle_nobody.ensures s js 2 (c.easy_is_a_rule.ensures.settles.at_later_second s 1 2 (omega arith) settled) in
+    subst (λ (z : State). next (front z (length c.waiting-settled.result.now)) 2 ≡ None) (sym join)
+    (subst (λ (w : List EffectiveJob). next (front (joined s js) (length w)) 2 ≡ None) (sym c.waiting-settled.ensures.jobs) law.0)
+
+pub decide_behind-requires-clause-shadow : goal.decide_behind-requires-clause-shadow
+decide_behind-requires-clause-shadow g c =
+    let s : State = c.decide_with_shadow.new.cluster.state in
+    let js : List EffectiveJob = c.args.third ∷ c.args.fourth ∷ [] in
+    let join = both-join s c.arrive-2.new.self.state c.arrive-3.new.self.state c.args.third c.args.fourth c.in_ok-arrive-2.ensures.ok c.in_ok-arrive-3.ensures.ok in
+    let settled : next s 1 ≡ None = subst (λ (z : State). next z 1 ≡ None) (sym c.in_ok-shadow.ensures.state) (c.easy_is_a_rule.ensures.settles.after_decision c.arrive.new.self.state 1) in
+    let law = c.arrivals_unsettle_nobody.ensures s js 2 (c.easy_is_a_rule.ensures.settles.at_later_second s 1 2 (omega arith) settled) in
+    let known : shadow_of s ≡ Some c.in_default-Some.shadow = rw c.in_default-Some.is-1 at c.in_ok-shadow.ensures.shadow in
+    subst (λ (z : State). shadow_of z ≡ Some c.in_default-Some.shadow) (sym join) (law.1 c.in_default-Some.shadow known)
