@@ -7,7 +7,11 @@ mod clusters;
 #[cfg(test)]
 mod decisions;
 #[cfg(test)]
+mod ends;
+#[cfg(test)]
 mod engines;
+#[cfg(test)]
+mod equal_ends;
 #[cfg(test)]
 mod lines_told;
 #[cfg(test)]

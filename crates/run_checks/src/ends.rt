@@ -1,6 +1,6 @@
 ghost use Rattle.std.specs.Prelude.{◌<◌, ◌^◌};
 
-use crate::refusals::MANY;
+use crate::told::MANY;
 use easybook::{ProgramFault, Stop, WordsFault, read_input, run_words};
 use refusing::Refusing;
 use std::alloc::Allocator;
