@@ -1,5 +1,5 @@
 use Rattle.chunks.specs.Chunks.{flat}
-use Rattle.std.proofs.Common.{◌≡◌, List, length, rules, ap, sym, subst, ◌∙◌}
+use Rattle.std.proofs.Common.{◌≡◌, List, length, rules, ap, sym, subst, arith, ◌∙◌}
 use Rattle.std.specs.List.Sorted.{IsPermutation}
 use Rattle.std.proofs.lemmas.List.Sorted.{answers_always}
 use Rattle.swf_text.specs.Entry.{LogEntry}
@@ -26,7 +26,7 @@ invariant_of-result g c =
     record {
       table = subst IsTable (sym is) (log-table es c.requires);
       index = subst (λ (l : List LogEntry). IsIndex (flat c.in_ok-index.index) l) (c.as_slice.ensures.value ∙ sym c.in_ok-rows.ensures.list) c.in_ok-index.ensures;
-      count = c.len-len.ensures ∙ c.sort_by_key.new.self.ok.0 ∙ sym (ap length c.in_ok-rows.ensures.list);
+      count = omega (arith, c.sort_by_key.new.self.ok.0, ap length c.in_ok-rows.ensures.list);
     }
 
 pub returns : goal.returns
