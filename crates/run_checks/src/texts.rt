@@ -100,17 +100,23 @@ fn shown(name: &str, run: Arc<Run<Global>>) -> SideLine<'_, Global> {
     }
 }
 
+// Whether these lines are told.
+fn is_side(alloc: Global, lines: &[SideLine<'_, Global>]) -> bool {
+    reads(side_text(alloc, lines), SIDE)
+}
+
 // Whether the lines of both runs, of one not yet run and of one behind are told.
 fn are_side_by_side(alloc: Global, ten: Arc<Run<Global>>, sixteen: Arc<Run<Global>>) -> bool {
-    let lines = [
-        shown("base", ten),
-        shown("big", sixteen),
-        SideLine::NotYet { name: "other" },
-        SideLine::Behind {
-            name: "abcdefghijklmnop",
-        },
-    ];
-    reads(side_text(alloc, lines.as_slice()), SIDE)
+    let name = "abcdefghijklmnop";
+    is_side(
+        alloc,
+        &[
+            shown("base", ten),
+            shown("big", sixteen),
+            SideLine::NotYet { name: "other" },
+            SideLine::Behind { name },
+        ],
+    )
 }
 
 fn puts_side_by_side(alloc: Global) -> Option<bool> {

@@ -6,7 +6,7 @@ use crate::texts::FOUR_JOBS;
 use crate::writing::{MIXED, written};
 use std::alloc::{AllocError, Global};
 use swf_text::{
-    FaultKind, LineRead, SwfFault, SwfText, assemble, line_at, line_bounds, read_line, read_swf,
+    FaultKind, LineRead, Memory, SwfFault, SwfText, assemble, line_at, line_bounds, read_line, read_swf,
 };
 
 // What each line is, given its bounds.
@@ -24,10 +24,13 @@ fn readings_at(
 }
 
 // A log as it is read from the bounds and readings of its lines.
-fn read_by_lines(alloc: Global, bytes: &[u8]) -> Option<Result<SwfText<Global>, SwfFault>> {
-    let bounds = line_bounds(alloc, bytes).ok()?;
-    let readings = readings_at(alloc, bytes, &bounds).ok()?;
-    Some(assemble(alloc, bytes, &bounds, &readings))
+fn read_by_lines(
+    alloc: Global,
+    bytes: &[u8],
+) -> Result<Result<SwfText<Global>, SwfFault>, Memory> {
+    let bounds = line_bounds(alloc, bytes)?;
+    let readings = readings_at(alloc, bytes, &bounds)?;
+    Ok(assemble(alloc, bytes, &bounds, &readings))
 }
 
 // What is written of a reading, or its fault; none where memory is short.
@@ -53,13 +56,13 @@ fn are_alike(one: &Result<Vec<u8>, SwfFault>, other: &Result<Vec<u8>, SwfFault>)
 // Whether both ways of reading answer the same.
 fn reads_alike(alloc: Global, bytes: &[u8]) -> Option<bool> {
     let one = told_of(alloc, read_swf(alloc, bytes))?;
-    let other = told_of(alloc, read_by_lines(alloc, bytes)?)?;
+    let other = told_of(alloc, read_by_lines(alloc, bytes).ok()?)?;
     Some(are_alike(&one, &other))
 }
 
 // The fault of reading line by line.
 fn fault_by_lines(alloc: Global, bytes: &[u8]) -> Option<SwfFault> {
-    read_by_lines(alloc, bytes)?.err()
+    read_by_lines(alloc, bytes).ok()?.err()
 }
 
 const LOGS: [&str; 12] = [
