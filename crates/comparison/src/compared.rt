@@ -78,31 +78,25 @@ fn runs_so(
     }
 }
 
-// Whether event loop and run agree with the plain program's starts of this plan.
-fn agrees(
+// How many starts the plain program gives this plan, where event loop and run agree with it; none
+// where they don't.
+fn agreed_starts(
     alloc: Global,
     text: &SwfText<Global>,
     scenario: &Scenario,
     spacing: u32,
     plan: &LogPlan<Global>,
-) -> bool {
-    let Ok(starts) = reference::simulate(alloc, plan) else {
-        return false;
-    };
-    let Some(jobs) = placed_of(alloc, plan.jobs(), starts.as_slice()) else {
-        return false;
-    };
-    starts_so(alloc, text, scenario, starts.as_slice())
-        && runs_so(alloc, text, scenario, spacing, jobs.as_slice())
+) -> Option<u64> {
+    let starts = reference::simulate(alloc, plan).ok()?;
+    let jobs = placed_of(alloc, plan.jobs(), starts.as_slice())?;
+    let agreed = starts_so(alloc, text, scenario, starts.as_slice())
+        && runs_so(alloc, text, scenario, spacing, jobs.as_slice());
+    agreed.then_some(starts.len() as u64)
 }
 
-// Whether product and plain program agree on a log.
-pub(crate) fn is_agreed(alloc: Global, log: &[u8], scenario: &Scenario, spacing: u32) -> bool {
-    let Ok(text) = read_swf(alloc, log) else {
-        return false;
-    };
-    match LogPlan::of(alloc, &text, scenario) {
-        Err(_) => false,
-        Ok(plan) => agrees(alloc, &text, scenario, spacing, &plan),
-    }
+// How many starts product and plain program agree on, of a log; none where they differ.
+pub(crate) fn agreed(alloc: Global, log: &[u8], scenario: &Scenario, spacing: u32) -> Option<u64> {
+    let text = read_swf(alloc, log).ok()?;
+    let plan = LogPlan::of(alloc, &text, scenario).ok()?;
+    agreed_starts(alloc, &text, scenario, spacing, &plan)
 }

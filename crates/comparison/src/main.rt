@@ -9,7 +9,7 @@ mod sums;
 mod words;
 mod worked;
 
-use crate::compared::is_agreed;
+use crate::compared::agreed;
 use crate::logs::{large_log, small_log};
 use crate::words::words_of;
 use anyhow::Result;
@@ -17,19 +17,10 @@ use scenarios::{Order, Scenario};
 use std::alloc::Global;
 use std::process::ExitCode;
 
-/// How many small logs are generated.
-const SMALL_LOGS: u64 = 2_000;
-
-/// How many small logs are generated about the midnight that ends day 0.
-const MIDNIGHT_LOGS: u64 = 24;
-
-/// How many logs of 65 to 200 jobs are generated.
-const LARGE_LOGS: u64 = 300;
-
 /// The second about which logs lie at midnight.
 const BEFORE_MIDNIGHT: u64 = 86_370;
 
-/// The kinds of generated logs.
+/// A kind of generated logs.
 #[derive(Clone, Copy)]
 enum Kind {
     Small,
@@ -37,12 +28,58 @@ enum Kind {
     Large,
 }
 
-// What a kind is called, and how many logs there are of it.
-fn told(kind: Kind) -> (&'static str, u64) {
-    match kind {
-        Kind::Small => ("small", SMALL_LOGS),
-        Kind::Midnight => ("midnight", MIDNIGHT_LOGS),
-        Kind::Large => ("large", LARGE_LOGS),
+/// What is compared of a kind.
+#[derive(Clone, Copy)]
+struct Plan {
+    kind: Kind,
+    name: &'static str,
+    /// How many logs there are, each in both orders.
+    logs: u64,
+    /// How many jobs surely start in all of these together.
+    starts: u64,
+}
+
+const PLANS: [Plan; 3] = [
+    Plan {
+        kind: Kind::Small,
+        name: "small",
+        logs: 2_000,
+        starts: 10_000,
+    },
+    Plan {
+        kind: Kind::Midnight,
+        name: "midnight",
+        logs: 24,
+        starts: 150,
+    },
+    Plan {
+        kind: Kind::Large,
+        name: "large",
+        logs: 1_000,
+        starts: 100_000,
+    },
+];
+
+/// What the comparison of some logs gave.
+#[derive(Clone, Copy)]
+struct Found {
+    starts: u64,
+    differences: u64,
+}
+
+impl Found {
+    // With what another log gave: so many starts, or a difference.
+    fn with(self, agreed: Option<u64>) -> Found {
+        match agreed {
+            None => Found {
+                starts: self.starts,
+                differences: self.differences.saturating_add(1),
+            },
+            Some(starts) => Found {
+                starts: self.starts.saturating_add(starts),
+                differences: self.differences,
+            },
+        }
     }
 }
 
@@ -65,48 +102,61 @@ fn log_of(alloc: Global, kind: Kind, seed: u64, scenario: &Scenario) -> Result<S
     }
 }
 
-// In how many of the two orders product and plain program differ on a generated log.
-fn differences(alloc: Global, kind: Kind, seed: u64) -> Result<u64> {
+// What came before, with what a generated log gives in both orders.
+fn with_log(alloc: Global, kind: Kind, seed: u64, before: Found) -> Result<Found> {
     let Some(scenario) = scenario_of(kind, seed) else {
-        return Ok(2);
+        return Ok(before.with(None));
     };
     let log = log_of(alloc, kind, seed, &scenario)?;
     let spacing = [1, 2, 7, 256][seed as usize % 4];
-    let mut count = 0u64;
+    let mut found = before;
     for order in [Order::Arrival, Order::Shortest] {
-        if !is_agreed(alloc, log.as_bytes(), &scenario.ordered(order), spacing) {
-            count = count.wrapping_add(1);
-        }
+        let scenario = scenario.ordered(order);
+        found = found.with(agreed(alloc, log.as_bytes(), &scenario, spacing));
     }
-    Ok(count)
+    Ok(found)
 }
 
-// Compares all logs of a kind, and answers how many differences there are.
-fn compare<R: AllocGlobal + Print>(rt: &R, kind: Kind) -> Result<u64> {
-    let (name, logs) = told(kind);
-    let mut all = 0u64;
+// Compares all logs of a kind: whether nothing differs.
+fn compare<R: AllocGlobal + Print>(rt: &R, plan: Plan) -> Result<bool> {
+    let Plan {
+        kind,
+        name,
+        logs,
+        starts,
+    } = plan;
+    let mut found = Found {
+        starts: 0,
+        differences: 0,
+    };
     for seed in 0..logs {
-        let found = differences(rt.alloc(), kind, seed)?;
-        if found > 0 {
-            println!(rt; "{name} log {seed} differs in {found} orders")?;
+        let before = found.differences;
+        found = with_log(rt.alloc(), kind, seed, found)?;
+        if found.differences > before {
+            println!(rt; "{name} log {seed} differs")?;
         }
-        all = all.wrapping_add(found);
     }
-    println!(rt; "{name} logs: {logs} compared in 2 orders, {all} differences")?;
-    Ok(all)
+    let differences = found.differences;
+    println!(rt; "{name} logs: {logs} compared in 2 orders, {differences} differences")?;
+    if found.starts < starts {
+        println!(rt; "{name} logs: fewer than {starts} jobs started")?;
+    }
+    Ok(differences == 0 && found.starts >= starts)
 }
 
-// Compares all logs: whether there was no difference.
+// Compares all logs: whether nothing differs.
 fn run<R: AllocGlobal + Print>(rt: &R) -> Result<bool> {
     let right = worked::count_right(rt.alloc());
     println!(rt;
         "worked logs: {right} of {} right in both programs",
         worked::COUNT
     )?;
-    let small = compare(rt, Kind::Small)?;
-    let midnight = compare(rt, Kind::Midnight)?;
-    let large = compare(rt, Kind::Large)?;
-    Ok(right == worked::COUNT && small == 0 && midnight == 0 && large == 0)
+    let mut same = right == worked::COUNT;
+    for plan in PLANS {
+        let is_same = compare(rt, plan)?;
+        same = same && is_same;
+    }
+    Ok(same)
 }
 
 fn main(rt: HostRuntime) -> ExitCode {
