@@ -1,5 +1,5 @@
 use commands::{OpenTextFault, Opening, open_text, save_text};
-use scenarios::Scenario;
+use scenarios::{Scenario, ScenarioList};
 use std::alloc::Global;
 use swf_text::{SwfText, read_swf, write_swf};
 
@@ -73,10 +73,18 @@ const MACHINES: [(&str, Option<u64>, u64); 6] = [
     ("; Scenario: a 0 1000\n; MaxProcs: 4\n", None, 4),
 ];
 
+// The processors of a list's first scenario.
+fn first_machine(list: &ScenarioList<Global>) -> Option<u64> {
+    match list.at(0) {
+        Some(row) => Some(row.2.procs()),
+        None => None,
+    }
+}
+
 // The processors of an opened log's first scenario.
 fn machine_of(alloc: Global, comments: &str, procs: Option<u64>) -> Option<u64> {
     let log = open(alloc, comments, procs)?;
-    log.scenarios.at(0).map(|row| row.2.procs())
+    first_machine(&log.scenarios)
 }
 
 #[test]

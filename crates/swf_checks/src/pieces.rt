@@ -6,7 +6,8 @@ use crate::texts::FOUR_JOBS;
 use crate::writing::{MIXED, written};
 use std::alloc::{AllocError, Global};
 use swf_text::{
-    FaultKind, LineRead, Memory, SwfFault, SwfText, assemble, line_at, line_bounds, read_line, read_swf,
+    FaultKind, LineRead, Memory, SwfFault, SwfText, assemble, line_at, line_bounds, read_line,
+    read_swf,
 };
 
 // What each line is, given its bounds.
@@ -24,10 +25,7 @@ fn readings_at(
 }
 
 // A log as it is read from the bounds and readings of its lines.
-fn read_by_lines(
-    alloc: Global,
-    bytes: &[u8],
-) -> Result<Result<SwfText<Global>, SwfFault>, Memory> {
+fn read_by_lines(alloc: Global, bytes: &[u8]) -> Result<Result<SwfText<Global>, SwfFault>, Memory> {
     let bounds = line_bounds(alloc, bytes)?;
     let readings = readings_at(alloc, bytes, &bounds)?;
     Ok(assemble(alloc, bytes, &bounds, &readings))
