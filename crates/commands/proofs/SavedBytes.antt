@@ -125,16 +125,15 @@ saves_bytes procs again bytes once is =
     let text : LogText = saved_of t.comments (log_of t.entries) is.list in
     let back : IsText (lines (text_bytes text)) text = saved_read bytes t is.list is.is_text listing.0 in
     let reads : IsText (lines once) text = subst (λ (bs : List ℕ). IsText (lines bs) text) (sym is.written) back in
-    let same = saves_same t.comments (log_of t.entries) is.list table listing.0 listing.1 again in
-    (
+    let same = saves_same t.comments (log_of t.entries) is.list table listing.0 listing.1 again in (
       record { read = text; is_text = reads; list = same.0; opened_with = same.1; written = is.written ∙ ap text_bytes (sym same.2) },
       λ twice other.
-        let read_same : other.read ≡ text = one_text (lines once) text other.read reads other.is_text in
-        let opens : opened again text.comments ≡ Ok other.list = ap (λ (u : LogText). opened again u.comments) (sym read_same) ∙ other.opened_with in
-        let list_same : other.list ≡ same.0 = same_list other.list same.0 (opened again text.comments) opens same.1 in
-        other.written
-        ∙ ap (λ (u : LogText). text_bytes (saved_of u.comments (log_of u.entries) other.list)) read_same
-        ∙ ap (λ (l : Listing). text_bytes (saved_of text.comments (log_of text.entries) l)) list_same
-        ∙ ap text_bytes same.2
-        ∙ sym is.written,
+          let read_same : other.read ≡ text = one_text (lines once) text other.read reads other.is_text in
+          let opens : opened again text.comments ≡ Ok other.list = ap (λ (u : LogText). opened again u.comments) (sym read_same) ∙ other.opened_with in
+          let list_same : other.list ≡ same.0 = same_list other.list same.0 (opened again text.comments) opens same.1 in
+          other.written
+          ∙ ap (λ (u : LogText). text_bytes (saved_of u.comments (log_of u.entries) other.list)) read_same
+          ∙ ap (λ (l : Listing). text_bytes (saved_of text.comments (log_of text.entries) l)) list_same
+          ∙ ap text_bytes same.2
+          ∙ sym is.written,
     )
