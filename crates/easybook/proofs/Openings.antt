@@ -1,5 +1,5 @@
 -- What follows where a log is opened, or is not.
-use Rattle.std.proofs.Common.{◌≡◌, ℕ, ◌≤◌, Bool, true, eqb, List, [], ◌∷◌, length, Option, Some, None, Result, Ok, Err, refl, sym, ap, ◌∙◌, inl, inr}
+use Rattle.std.proofs.Common.{◌≡◌, ℕ, ◌≤◌, Bool, true, eqb, List, [], ◌∷◌, length, Option, Some, None, Result, Ok, Err, refl, sym, ap, subst, ◌∙◌, inl, inr}
 use Rattle.std.specs.Prelude.{is_some, slice_get}
 use Rattle.std.proofs.lemmas.Bool.{cases_Bool, eqb-false, true≢false}
 use Rattle.swf_text.specs.Entry.{LogEntry}
@@ -11,7 +11,7 @@ use Rattle.scenarios.specs.Scenario.{Setting, setting_of}
 use Rattle.scenarios.specs.ScenarioList.{Listed, Listing}
 use Rattle.commands.specs.Opening.{base_on, of_setting, machine_of, opened, told}
 use Rattle.commands.specs.declared.opening_fault.OpenTextFault.{OpenTextFault}
-use Rattle.report.specs.Schedule.{schedule_text}
+use Rattle.report.specs.Schedule.{schedule_text, HasALineForEachJob}
 use Rattle.easybook.specs.Plain.{IsScheduleOf, log_limit}
 
 -- a list has a first scenario, if there is a list
@@ -45,11 +45,16 @@ unfolding filled
 opened-some procs comments list is none = true≢false (sym (opened-filled procs comments) ∙ ap filled is ∙ ap is_some none)
 
 -- the parts of a schedule, put together
-pub schedule-is : (log : List ℕ) (procs : Option ℕ) (text : List ℕ) (read : LogText) (scenarios : Listing) (first : Listed) (table : List LogEntry) → length log ≤ log_limit → IsText (lines log) read → opened procs read.comments ≡ Ok scenarios → slice_get scenarios.scenarios 0 ≡ Some first → table ≡ log_of read.entries → text ≡ schedule_text first.name 0 (plan_of table first.setting) → IsScheduleOf log procs text
-schedule-is log procs text read scenarios first table within is_text opened_with is_first arranged schedule =
-    record { within = within; read = read; is_text = is_text; scenarios = scenarios; opened_with = opened_with; first = first; is_first = is_first; schedule = schedule ∙ ap (λ (es : List LogEntry). schedule_text first.name 0 (plan_of es first.setting)) arranged }
+pub schedule-is : (log : List ℕ) (procs : Option ℕ) (text : List ℕ) (read : LogText) (scenarios : Listing) (first : Listed) (table : List LogEntry) → length log ≤ log_limit → IsText (lines log) read → opened procs read.comments ≡ Ok scenarios → slice_get scenarios.scenarios 0 ≡ Some first → table ≡ log_of read.entries → text ≡ schedule_text first.name 0 (plan_of table first.setting) → HasALineForEachJob first.name 0 (plan_of table first.setting) text → IsScheduleOf log procs text
+schedule-is log procs text read scenarios first table within is_text opened_with is_first arranged schedule has_lines =
+    record { within = within; read = read; is_text = is_text; scenarios = scenarios; opened_with = opened_with; first = first; is_first = is_first; schedule = schedule ∙ ap (λ (es : List LogEntry). schedule_text first.name 0 (plan_of es first.setting)) arranged; lines_of_jobs = subst (λ (es : List LogEntry). HasALineForEachJob first.name 0 (plan_of es first.setting) text) arranged has_lines }
 
 -- the schedule of the plan of this log and scenario, where they are these
 pub of-plan : {text : List ℕ} {log table : List LogEntry} {setting scenario : Setting} → (name : List ℕ) → text ≡ schedule_text name 0 (plan_of log setting) → log ≡ table → setting ≡ scenario → text ≡ schedule_text name 0 (plan_of table scenario)
 of-plan {text} {log} {table} {setting} {scenario} name is same_log same_scenario =
     is ∙ ap (λ (es : List LogEntry). schedule_text name 0 (plan_of es setting)) same_log ∙ ap (λ (s : Setting). schedule_text name 0 (plan_of table s)) same_scenario
+
+-- its lines are those of the plan of this log and scenario, where they are these
+pub lines-of-plan : {text : List ℕ} {log table : List LogEntry} {setting scenario : Setting} → (name : List ℕ) → HasALineForEachJob name 0 (plan_of log setting) text → log ≡ table → setting ≡ scenario → HasALineForEachJob name 0 (plan_of table scenario) text
+lines-of-plan {text} {log} {table} {setting} {scenario} name has same_log same_scenario =
+    subst (λ (s : Setting). HasALineForEachJob name 0 (plan_of table s) text) same_scenario (subst (λ (es : List LogEntry). HasALineForEachJob name 0 (plan_of es setting) text) same_log has)

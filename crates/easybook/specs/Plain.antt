@@ -11,14 +11,14 @@ use Rattle.commands.specs.declared.opening_fault.OpenTextFault.{OpenTextFault}
 use Rattle.commands.specs.declared.opening_fault.OpenTextFault.TheVariants as openings
 use Rattle.easybook.specs.declared.fault.ProgramFault.{ProgramFault}
 use Rattle.easybook.specs.declared.fault.ProgramFault.TheVariants as faults
-use Rattle.report.specs.Schedule.{schedule_text}
+use Rattle.report.specs.Schedule.{schedule_text, HasALineForEachJob}
 
 -- a log has at most so many bytes
 abbrev pub log_limit : ℕ
 log_limit = 1073741824
 
 -- The text is the schedule of the log's first scenario: that of the simulation, second by second, of the log's plan
--- under it. The scenarios are those that the log is opened with.
+-- under it, with as many lines behind its heading as the plan has jobs. The scenarios are those that the log is opened with.
 pub record IsScheduleOf (log : List ℕ) (procs : Option ℕ) (text : List ℕ) : Type 0 where
   pub within : length log ≤ log_limit
   pub read : LogText
@@ -28,6 +28,7 @@ pub record IsScheduleOf (log : List ℕ) (procs : Option ℕ) (text : List ℕ) 
   pub first : Listed
   pub is_first : slice_get scenarios.scenarios 0 ≡ Some first
   pub schedule : text ≡ schedule_text first.name 0 (plan_of (log_of read.entries) first.setting)
+  pub lines_of_jobs : HasALineForEachJob first.name 0 (plan_of (log_of read.entries) first.setting) text
 
 -- the log is a text that is not opened, for this reason
 pub record IsNotOpened (log : List ℕ) (procs : Option ℕ) (fault : OpenTextFault) : Type 0 where

@@ -2,7 +2,7 @@ ghost use Rattle.std.specs.Prelude.{◌≡◌, IfOk, IfErr};
 ghost use Rattle.scenarios.specs.Plan.{plan_of};
 ghost use Rattle.checkpoints.specs.Cut.{IsShortCut};
 ghost use Rattle.checkpoints.specs.Spacing.{IsSpacing};
-ghost use Rattle.report.specs.Schedule.{schedule_text};
+ghost use Rattle.report.specs.Schedule.{schedule_text, HasALineForEachJob};
 ghost use Rattle.easybook.specs.Plain.{IsTextOrFault, Answers};
 
 use crate::fault::ProgramFault;
@@ -50,6 +50,7 @@ fn schedule_under<A: Allocator + Copy>(
 ) -> Result<Vec<u8, A>, ProgramFault>
     requires { IsSpacing spacing }
     ensures text { IfOk result (λ text. text.items ≡ schedule_text name.now 0 (plan_of table scenario)) }
+    ensures lines { IfOk result (λ text. HasALineForEachJob name.now 0 (plan_of table scenario) text.items) }
     ensures memory { IfErr result (λ fault. fault ≡ ProgramFault.Memory) }
 {
     let run = run_of(alloc, table, scenario, spacing)?;

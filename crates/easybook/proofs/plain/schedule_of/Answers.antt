@@ -12,3 +12,4 @@ returns g c =
     (sym c.in-Some.ensures.value)
     c.in_ok-_comments.ensures.table
     c.in_ok-schedule.ensures.text
+    c.in_ok-schedule.ensures.lines
