@@ -4,6 +4,7 @@
 
 #[cfg(test)]
 mod entries;
+pub mod example;
 #[cfg(test)]
 mod faults;
 #[cfg(test)]
