@@ -8,3 +8,5 @@ pub mod Skipping
 pub mod Placing
 pub mod Rows
 pub mod Worked
+pub mod Coming
+pub mod Alike

@@ -1,5 +1,5 @@
 -- An engine that works some event seconds.
-use Rattle.std.proofs.Common.{◌≡◌, ℕ, ◌+◌, ◌-◌, ◌≤◌, ◌<◌, true, false, List, [], ◌∷◌, ◌++◌, map, Option, Some, None, is_some, refl, sym, ◌∙◌, ap, arith, subst}
+use Rattle.std.proofs.Common.{◌≡◌, ℕ, ◌+◌, ◌-◌, ◌≤◌, ◌<◌, true, false, List, [], ◌∷◌, ◌++◌, map, Some, None, refl, sym, ◌∙◌, ap, arith, subst}
 use Rattle.std.proofs.lemmas.Bool.{false≢true}
 use Rattle.std.proofs.lemmas.List.{map-append}
 use Rattle.std.proofs.lemmas.List.Elements.{filter_map-append}
@@ -80,9 +80,6 @@ working-rises now new rs t going e running =
 pub working-ends : (old now : Progress) (starts : List Start) (placed : List Placed) (count : ℕ) → Working old now starts placed count → (count ≡ 0 → ⊥) → EndsWithEvent old.plan old.position now.position
 working-ends old now starts placed count h ne = h.some (omega (arith, ne))
 
-pub working-some : (old now : Progress) (starts : List Start) (placed : List Placed) (count : ℕ) → Working old now starts placed count → (IsNextEvent old.plan old.position None → ⊥) → IsNextEvent now.plan now.position None → count ≡ 0 → ⊥
-working-some old now starts placed count h coming none zero' = coming (subst (λ (p : Progress). IsNextEvent p.plan p.position None) (h.none zero') none)
-
 pub working-short : (old now : Progress) (starts : List Start) (placed : List Placed) (count n : ℕ) → Working old now starts placed count → count ≤ n → events_before old.plan now.position ≤ events_before old.plan old.position + n
 working-short old now starts placed count n h l =
     let a = h.counted in
@@ -130,15 +127,6 @@ cutting-first plan q n now ss e same none = record {
   same = ap (λ (p : Progress). p.plan) e ∙ same;
   chain = subst (λ (zs : List SegmentView). ShortChain plan n 0 zs now.position) (sym none) (sym (ap (λ (p : Progress). p.position) e));
 }
-
--- an event second comes, or none does
-pub comes : (now : Progress) (o : Option ℕ) → IsNextEvent now.plan now.position o → is_some o ≡ true → IsNextEvent now.plan now.position None → ⊥
-comes now None h e none = false≢true e
-comes now (Some t) h e none = none t h.0 h.1
-
-pub none-comes : (now : Progress) (o : Option ℕ) → IsNextEvent now.plan now.position o → is_some o ≡ false → IsNextEvent now.plan now.position None
-none-comes now None h e = h
-none-comes now (Some t) h e = absurd (false≢true (sym e))
 
 -- sums can be made over the jobs of a stretch
 pub working-can : (old now : Progress) (starts : List Start) (placed : List Placed) (count : ℕ) → Working old now starts placed count → (count ≡ 0 → ⊥) → CanSum placed

@@ -1,7 +1,9 @@
 pub mod Segment
 pub mod Cut
+pub mod Coming
 pub mod Sums
 pub mod Schedule
 pub mod Spacing
 pub mod RunView
 pub mod Names
+pub mod Alike

@@ -2,6 +2,7 @@
 //! tables.
 #![tactic(auto)]
 
+mod cutting;
 mod fault;
 pub mod laws;
 mod parts;
@@ -12,8 +13,10 @@ mod segment;
 mod simulation;
 mod sums;
 
+pub use cutting::{comes_before, next_segment};
 pub use fault::RunFault;
+pub use parts::{is_plan, job_in};
 pub use row::Row;
 pub use run::Run;
 pub use segment::Segment;
-pub use simulation::simulate;
+pub use simulation::{MAX_SPACING, simulate};

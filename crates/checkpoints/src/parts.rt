@@ -13,16 +13,17 @@ use scenarios::{Job, Scenario, effective};
 use std::alloc::Allocator;
 use swf_text::Memory;
 
-// The jobs of a table under a scenario make a plan.
-pub(crate) fn is_plan<A: Allocator + Copy>(table: &JobTable<A>, scenario: &Scenario)
+/// The jobs of a table under a scenario make a plan. It looks at no entry.
+pub fn is_plan<A: Allocator + Copy>(table: &JobTable<A>, scenario: &Scenario)
     ensures { IsPlan (plan_of table.now scenario.now) }
 {
     let _entries = table.len();
     let _procs = scenario.procs();
 }
 
-// The job of this number, where it is simulated.
-pub(crate) fn job_in<A: Allocator + Copy>(
+/// The job of this number in a table under a scenario; None where it is not simulated. It looks the
+/// number up, and goes over no other entries.
+pub fn job_in<A: Allocator + Copy>(
     table: &JobTable<A>,
     scenario: &Scenario,
     number: u64,

@@ -4,7 +4,7 @@ use Rattle.swf_text.specs.Entry.{LogEntry}
 use Rattle.scenarios.specs.Plan.{Plan, plan_of}
 use Rattle.timeline.specs.SoundPlan.{IsPlan}
 use Rattle.checkpoints.specs.Segment.{SegmentView}
-use Rattle.checkpoints.proofs.Worked.{Cutting, cutting-first, cutting-more, cutting-down, cut-done, comes, none-comes, push-seen}
+use Rattle.checkpoints.proofs.Worked.{Cutting, cutting-first, cutting-more, cutting-down, cut-done, push-seen}
 use Rattle.checkpoints.proofs.simulation.segments_of.Goals as goal
 
 pub segments-init : goal.segments-init
@@ -16,7 +16,7 @@ pub next_segment-requires-clause-going : goal.next_segment-requires-clause-going
 next_segment-requires-clause-going g c = c.segments.invariant.going
 
 pub next_segment-requires-clause-coming : goal.next_segment-requires-clause-coming
-next_segment-requires-clause-coming g c = comes c.segments.engine c.next_event.result (c.next_event.ensures.going c.segments.invariant.going) (sym c.is_some.ensures ∙ c.segments-test.true)
+next_segment-requires-clause-coming g c = c.comes_before.ensures.comes.0 c.segments-test.true
 
 pub segments-preserved : goal.segments-preserved
 segments-preserved g c =
@@ -33,4 +33,4 @@ segments-smaller g c =
 pub returns-clause-cut : goal.returns-clause-cut
 returns-clause-cut g c =
     cut-done (plan_of (arc_value c.args.table.now) c.args.scenario) c.args.spacing c.segments.engine (map arc_value c.segments.segments.items) c.segments.invariant
-    (none-comes c.segments.engine c.next_event.result (c.next_event.ensures.going c.segments.invariant.going) (sym c.is_some.ensures ∙ c.segments-test.false))
+    (c.comes_before.ensures.none c.segments-test.false)

@@ -1,5 +1,5 @@
 use Rattle.checkpoints.proofs.Worked.{segment-spans}
-use Rattle.checkpoints.proofs.simulation.next_segment.Goals as goal
+use Rattle.checkpoints.proofs.cutting.next_segment.Goals as goal
 
 pub returns-clause-spans : goal.returns-clause-spans
 returns-clause-spans g c =
