@@ -1,0 +1,153 @@
+ghost use Rattle.std.specs.Prelude.{◌≡◌, ◌≤◌, ◌<◌, ◌+◌, ◌↔◌, ◌∷◌, List, false, length, drop, map, IsTrue, IfOk, IfErr};
+ghost use Rattle.std.specs.Arc.{arc_value};
+ghost use Rattle.job_table.specs.Accepted.{AreAccepted};
+ghost use Rattle.job_table.specs.Edit.{edit_of, log_after};
+ghost use Rattle.scenarios.specs.Plan.{plan_of};
+ghost use Rattle.cluster_state.specs.Snapshot.{numbers_of};
+ghost use Rattle.easy_rule.specs.Simulation.{before};
+ghost use Rattle.event_loop.specs.Events.{begun};
+ghost use Rattle.checkpoints.specs.Segment.{SegmentView};
+ghost use Rattle.rejoin.specs.Kept.{next_first, IsKept, MayBegin};
+ghost use Rattle.rejoin.specs.Rejoining.{IsChange, IsClear};
+
+use crate::kept::{is_kept, none_within};
+use crate::touched::{touched_numbers, touched_submits};
+use checkpoints::{Run, RunFault, Segment, is_plan};
+use event_loop::Engine;
+use job_table::{Edit, JobTable};
+use std::alloc::Allocator;
+use std::marker::Model;
+use std::sync::Arc;
+use swf_text::Memory;
+
+// An old run, a new table, and the numbers in which they differ with their submit seconds.
+#[derive(Drop)]
+pub(crate) struct Change<'a, A: Allocator + Copy> {
+    run: &'a Run<A>,
+    table: &'a Arc<JobTable<A>, A>,
+    touched: Vec<u64, A>,
+    submits: Vec<u64, A>,
+}
+
+impl<'a, A: Allocator + Copy> Model for Change<'a, A> {
+    ghost use Rattle.std.specs.Arc.{arc_value};
+    ghost use Rattle.scenarios.specs.Plan.{plan_of};
+    ghost use Rattle.rejoin.specs.Rejoining.{ChangeView, IsChange};
+
+    ghost Value = { ChangeView };
+
+    ghost view = { λ c. record { was = plan_of c.run.now.log c.run.now.setting; is = plan_of (arc_value c.table.now) c.run.now.setting; old = c.run.now.segments; touched = c.touched.items; submits = c.submits.items } };
+
+    ghost invariant = { λ c. IsChange (record { was = plan_of c.run.now.log c.run.now.setting; is = plan_of (arc_value c.table.now) c.run.now.setting; old = c.run.now.segments; touched = c.touched.items; submits = c.submits.items }) };
+}
+
+impl<'a, A: Allocator + Copy> Change<'a, A> {
+    // The change that these edits make.
+    pub(crate) fn new(
+        alloc: A,
+        run: &'a Run<A>,
+        edits: &[Edit<A>],
+        table: &'a Arc<JobTable<A>, A>,
+    ) -> Result<Change<'a, A>, Memory>
+        requires accepted { AreAccepted run.now.log (map edit_of edits.now) }
+        requires table { arc_value table.now ≡ log_after run.now.log (map edit_of edits.now) }
+        ensures was { IfOk result (λ c. c.was ≡ plan_of run.now.log run.now.setting) }
+        ensures is { IfOk result (λ c. c.is ≡ plan_of (arc_value table.now) run.now.setting) }
+        ensures old { IfOk result (λ c. c.old ≡ run.now.segments) }
+    {
+        let scenario = run.scenario();
+        is_plan(run.table(), &scenario);
+        is_plan(table, &scenario);
+        let _segments = run.segments();
+        let touched = touched_numbers(alloc, run, edits, table)?;
+        let submits = touched_submits(alloc, run, table, touched.as_slice())?;
+        Ok(Change {
+            run,
+            table,
+            touched,
+            submits,
+        })
+    }
+
+    // How many old segments there are.
+    pub(crate) fn len(&self) -> usize
+        ensures count { result ≡ length self.now.old }
+        ensures sound { IsChange self.now }
+    {
+        self.run.segments().len()
+    }
+
+    // The first second of the old segment at this place; None behind the last.
+    pub(crate) fn first(&self, at: usize) -> Option<u64>
+        ensures { result ≡ next_first (drop at self.now.old) }
+    {
+        if at >= self.len() {
+            return None;
+        }
+        Some(self.segment(at).first())
+    }
+
+    // The old segment at this place.
+    pub(crate) fn segment(&self, at: usize) -> &Arc<Segment<A>, A>
+        requires { at < length self.now.old }
+        ensures { drop at self.now.old ≡ arc_value result.now ∷ drop (at + 1) self.now.old }
+    {
+        &self.run.segments()[at]
+    }
+
+    // Whether no touched number is submitted in the stretch of the old segment at this place.
+    pub(crate) fn is_clear(&self, at: usize) -> bool
+        requires { at < length self.now.old }
+        ensures { (s : SegmentView) (rest : List SegmentView) → drop at self.now.old ≡ s ∷ rest → IsTrue result ↔ IsClear self.now.was self.now.is s.first (next_first rest) }
+    {
+        let _segments = self.len();
+        let first = self.segment(at).first();
+        none_within(self.submits.as_slice(), first, self.first(at + 1))
+    }
+
+    // Whether the old segment at this place is kept, by an engine that stands before its first second.
+    pub(crate) fn keeps(&self, at: usize, engine: &Engine<A>) -> Result<bool, RunFault>
+        requires within { at < length self.now.old }
+        requires going { engine.now.failed ≡ false }
+        requires plan { engine.now.plan ≡ self.now.is }
+        requires begins { MayBegin self.now.is engine.now.position }
+        requires here { (s : SegmentView) (rest : List SegmentView) → drop at self.now.old ≡ s ∷ rest → engine.now.position ≡ s.first }
+        ensures kept { IfOk result (λ kept. (s : SegmentView) (rest : List SegmentView) → drop at self.now.old ≡ s ∷ rest → IsTrue kept ↔ IsKept self.now.was self.now.is s.first (next_first rest)) }
+        ensures fault { IfErr result (λ f. f ≡ RunFault.Memory) }
+    {
+        let _segments = self.len();
+        let old = self.segment(at);
+        let now = engine.snapshot()?;
+        let next = self.first(at + 1);
+        Ok(is_kept(
+            old.before(),
+            &now,
+            self.touched.as_slice(),
+            self.submits.as_slice(),
+            old.first(),
+            next,
+        ))
+    }
+
+    // An engine of the new plan before second 0.
+    pub(crate) fn begin(&self, alloc: A) -> Result<Engine<A>, RunFault>
+        ensures ok { IfOk result (λ e. e ≡ begun self.now.is 0) }
+        ensures fault { IfErr result (λ f. f ≡ RunFault.Memory) }
+    {
+        Ok(Engine::new(alloc, self.table.clone()?, self.run.scenario()))
+    }
+
+    // An engine of the new plan before the first second of the old segment at this place, from its
+    // snapshot.
+    pub(crate) fn resume(&self, alloc: A, at: usize) -> Result<Engine<A>, RunFault>
+        requires within { at < length self.now.old }
+        requires snapshot { (s : SegmentView) (rest : List SegmentView) → drop at self.now.old ≡ s ∷ rest → s.before ≡ numbers_of (before self.now.is s.first) }
+        ensures ok { IfOk result (λ e. (s : SegmentView) (rest : List SegmentView) → drop at self.now.old ≡ s ∷ rest → e ≡ begun self.now.is s.first) }
+        ensures fault { IfErr result (λ f. f ≡ RunFault.Memory) }
+    {
+        let old = self.segment(at);
+        let table = self.table.clone()?;
+        let engine = Engine::resume(alloc, old.before(), old.first(), table, self.run.scenario())?;
+        Ok(engine)
+    }
+}
