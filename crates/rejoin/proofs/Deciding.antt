@@ -13,7 +13,7 @@ use Rattle.rejoin.specs.Rejoining.{ChangeView, IsChange, IsClear}
 use Rattle.rejoin.proofs.Rejoining.{spans-here}
 use Rattle.rejoin.proofs.Tests.{of-none, none-of}
 
-heads : (x y : SegmentView) (xs ys : List SegmentView) → x ∷ xs ≡ y ∷ ys → x ≡ y
+pub heads : (x y : SegmentView) (xs ys : List SegmentView) → x ∷ xs ≡ y ∷ ys → x ≡ y
 heads x y xs ys e = cc
 
 tails : (x y : SegmentView) (xs ys : List SegmentView) → x ∷ xs ≡ y ∷ ys → xs ≡ ys

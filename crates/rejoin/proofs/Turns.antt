@@ -1,0 +1,180 @@
+-- Each turn of a re-simulation.
+use Rattle.std.proofs.Common.{◌≡◌, ◌≢◌, ℕ, zero, suc, ◌+◌, ◌-◌, ◌≤◌, ◌<◌, Bool, true, false, cond, List, [], ◌∷◌, ◌++◌, map, drop, length, Option, None, Some, IfSome, refl, sym, ◌∙◌, ap, subst, arith, append-nil, add-zero, inl, inr, ⊎_elim, ◌⊎◌}
+use Rattle.std.proofs.lemmas.Bool.{cases_lt}
+use Rattle.std.proofs.lemmas.List.{length-append, drop_all}
+use Rattle.scenarios.specs.Plan.{Plan}
+use Rattle.cluster_state.specs.Snapshot.{numbers_of}
+use Rattle.easy_rule.specs.Simulation.{IsEvent, before, bound}
+use Rattle.timeline.specs.SoundPlan.{IsPlan}
+use Rattle.timeline.proofs.Events.{events-end-by-the-bound}
+use Rattle.event_loop.specs.Events.{Progress, IsNextEvent, has_event, events_before, begun}
+use Rattle.event_loop.proofs.RunOn.{events_before-more}
+use Rattle.checkpoints.specs.Coming.{NoneComes}
+use Rattle.checkpoints.specs.Segment.{SegmentView}
+use Rattle.checkpoints.specs.Cut.{Spans, Over, IsCut}
+use Rattle.checkpoints.proofs.Chains.{span-bounded}
+use Rattle.rejoin.specs.Kept.{next_first, MayBegin, IsKept}
+use Rattle.rejoin.specs.Bound.{marked, MarksWork}
+use Rattle.rejoin.specs.Patch.{AreKept, Patched, IsRejoined}
+use Rattle.rejoin.specs.Rejoining.{ChangeView, IsChange, IsClear, AreTaken, IsSpent, IsOn, IsAfter, Stands}
+use Rattle.rejoin.proofs.Marks.{marks-grow}
+use Rattle.rejoin.proofs.Patching.{all-kept, patched-chain}
+use Rattle.rejoin.proofs.Rejoining.{on-begins, on-worked, on-passed, on-missed, on-kept, after-kept, after-snapshot, after-resumed, on-begun, on-few}
+
+-- event seconds only grow
+grow-for : (q : Plan) (a n : ℕ) → events_before q a ≤ events_before q (a + n)
+grow-for q a zero = let e = ap (events_before q) (add-zero a) in omega (arith, e)
+grow-for q a (suc n) =
+    let one : a + suc n ≡ (a + n) + 1 = omega arith in
+    let e = ap (events_before q) one ∙ events_before-more q (a + n) in
+    omega (arith, e, grow-for q a n)
+
+events-grow : (q : Plan) (a b : ℕ) → a ≤ b → events_before q a ≤ events_before q b
+events-grow q a b l = let whole : a + (b - a) ≡ b = omega arith in let e = ap (events_before q) whole in omega (arith, e, grow-for q a (b - a))
+
+-- ---- work
+
+pub stands-begun : (c : ChangeView) → IsChange c → (n : ℕ) (now : Progress) (ss : List SegmentView) → now ≡ begun c.is 0 → ss ≡ [] → Stands c n 0 false now ss 0 0
+stands-begun c ok n now ss e none = (
+  [],
+  refl,
+  ap (λ (x : Progress). x.failed) e,
+  ap (λ (x : Progress). x.plan) e,
+  subst (λ (zs : List SegmentView). IsOn c n c.old zs [] now.position (0 + now.handled)) (sym none)
+      (subst (λ (x : Progress). IsOn c n c.old [] [] x.position (0 + x.handled)) (sym e) (on-begins c ok n)),
+)
+
+pub stands-worked : (c : ChangeView) (n at : ℕ) (now new : Progress) (ss : List SegmentView) (s : SegmentView) (handled reused : ℕ) → Stands c n at false now ss handled reused → new.plan ≡ now.plan → new.failed ≡ false → Spans now.plan s now.position new.position → IfSome (next_first (drop at c.old)) (λ e. new.position ≤ e)
+    → events_before now.plan new.position ≤ events_before now.plan now.position + n → new.handled + events_before now.plan now.position ≡ now.handled + events_before now.plan new.position → Stands c n at false new (ss ++ s ∷ []) handled reused
+stands-worked c n at now new ss s handled reused (us, count, going, plan, on) same still spans within short counted =
+    let a = now.position in
+    let b = new.position in
+    let sp : Spans c.is s a b = subst (λ (q : Plan). Spans q s a b) plan spans in
+    let few : events_before c.is b ≤ events_before c.is a + n = subst (λ (q : Plan). events_before q b ≤ events_before q a + n) plan short in
+    let held : new.handled + events_before c.is a ≡ now.handled + events_before c.is b = subst (λ (q : Plan). new.handled + events_before q a ≡ now.handled + events_before q b) plan counted in
+    let x = sp.ends.1 in
+    let y = sp.ends.2 in
+    let grow = events-grow c.is a b (omega (arith, x, y)) in
+    let k = events_before c.is b - events_before c.is a in
+    let more = on-worked c n (drop at c.old) ss us s a b (handled + now.handled) k on sp within (omega (arith, grow)) (omega (arith, few)) in
+    let sum : (handled + now.handled) + k ≡ handled + new.handled = omega (arith, held, grow) in
+    (us, count, still, same ∙ plan, subst (λ h. IsOn c n (drop at c.old) (ss ++ s ∷ []) us b h) sum more)
+
+pub work-down : (c : ChangeView) → IsChange c → (n at : ℕ) (now new : Progress) (ss : List SegmentView) (s : SegmentView) (handled reused : ℕ) → Stands c n at false now ss handled reused → Spans now.plan s now.position new.position → bound c.is + 1 - new.position < bound c.is + 1 - now.position
+work-down c ok n at now new ss s handled reused (us, count, going, plan, on) spans =
+    let sp : Spans c.is s now.position new.position = subst (λ (q : Plan). Spans q s now.position new.position) plan spans in
+    let l = span-bounded c.is s now.position new.position ok.alike.right sp in
+    let x = sp.ends.1 in
+    let y = sp.ends.2 in
+    omega (arith, l, x, y)
+
+pub stands-going : (c : ChangeView) (n at : ℕ) (now : Progress) (ss : List SegmentView) (handled reused : ℕ) → Stands c n at false now ss handled reused → now.failed ≡ false
+stands-going c n at now ss handled reused (us, count, going, plan, on) = going
+
+pub stands-plan : (c : ChangeView) (n at : ℕ) (now : Progress) (ss : List SegmentView) (handled reused : ℕ) → Stands c n at false now ss handled reused → now.plan ≡ c.is
+stands-plan c n at now ss handled reused (us, count, going, plan, on) = plan
+
+pub stands-begins : (c : ChangeView) (n at : ℕ) (now : Progress) (ss : List SegmentView) (handled reused : ℕ) → Stands c n at false now ss handled reused → MayBegin c.is now.position
+stands-begins c n at now ss handled reused (us, count, going, plan, on) = on-begun c n (drop at c.old) ss us now.position (handled + now.handled) on
+
+pub stands-few : (c : ChangeView) (n at : ℕ) (now : Progress) (ss : List SegmentView) (handled reused : ℕ) → Stands c n at false now ss handled reused → handled + now.handled ≤ now.position
+stands-few c n at now ss handled reused (us, count, going, plan, on) = on-few c n (drop at c.old) ss us now.position (handled + now.handled) on
+
+-- ---- an old segment is reached, or not
+tails : (x y : SegmentView) (xs ys : List SegmentView) → x ∷ xs ≡ y ∷ ys → xs ≡ ys
+tails x y xs ys e = cc
+
+module _ (c : ChangeView) (ok : IsChange c) (n at : ℕ) (s : SegmentView) (here : drop at c.old ≡ s ∷ drop (at + 1) c.old) where
+  on-here : (ss us : List SegmentView) (a h : ℕ) → IsOn c n (drop at c.old) ss us a h → IsOn c n (s ∷ drop (at + 1) c.old) ss us a h
+  on-here ss us a h on = subst (λ (zs : List SegmentView). IsOn c n zs ss us a h) here on
+
+  after-here : (ss us : List SegmentView) (b h : ℕ) → IsAfter c n (drop at c.old) ss us b h → IsAfter c n (s ∷ drop (at + 1) c.old) ss us b h
+  after-here ss us b h af = subst (λ (zs : List SegmentView). IsAfter c n zs ss us b h) here af
+
+  one-more : (us : List SegmentView) (reused : ℕ) → reused ≡ length us → reused + 1 ≡ length (us ++ s ∷ [])
+  one-more us reused e = let l = length-append us (s ∷ []) in omega (arith, e, l)
+
+  pub pass-missed : (now : Progress) (ss : List SegmentView) (handled reused : ℕ) → Stands c n at false now ss handled reused → NoneComes now (next_first (drop at c.old)) → (now.position ≡ s.first → ⊥) → Stands c n (at + 1) false now ss handled reused
+  pass-missed now ss handled reused (us, count, going, plan, on) none ne =
+      let on' = on-here ss us now.position (handled + now.handled) on in
+      let quiet : NoneComes now (Some s.first) = subst (λ (o : Option ℕ). NoneComes now o) (ap next_first here) none in
+      let l : now.position ≤ s.first = on'.within in
+      (us, count, going, plan, on-missed c ok n s (drop (at + 1) c.old) ss us now.position (handled + now.handled) on' (omega (arith, l, ne)) (λ t x y ev. quiet t x y (subst (λ (q : Plan). IsEvent q t) (sym plan) ev)))
+
+  pub pass-refused : (now : Progress) (ss : List SegmentView) (handled reused : ℕ) → Stands c n at false now ss handled reused → (IsKept c.was c.is s.first (next_first (drop (at + 1) c.old)) → ⊥) → Stands c n (at + 1) false now ss handled reused
+  pass-refused now ss handled reused (us, count, going, plan, on) not-kept =
+      (us, count, going, plan, on-passed c ok n s (drop (at + 1) c.old) ss us now.position (handled + now.handled) (on-here ss us now.position (handled + now.handled) on) not-kept)
+
+  pub keep-reached : (now new : Progress) (ss : List SegmentView) (handled reused : ℕ) → Stands c n at false now ss handled reused → now.position ≡ s.first → IsKept c.was c.is s.first (next_first (drop (at + 1) c.old)) → Stands c n (at + 1) true new (ss ++ s ∷ []) (handled + now.handled) (reused + 1)
+  keep-reached now new ss handled reused (us, count, going, plan, on) e k =
+      (us ++ s ∷ [], one-more us reused count, on-kept c ok n s (drop (at + 1) c.old) ss us now.position (handled + now.handled) (on-here ss us now.position (handled + now.handled) on) e k)
+
+  pub keep-behind : (now new : Progress) (ss : List SegmentView) (handled reused : ℕ) → Stands c n at true now ss handled reused → IsClear c.was c.is s.first (next_first (drop (at + 1) c.old)) → Stands c n (at + 1) true new (ss ++ s ∷ []) handled (reused + 1)
+  keep-behind now new ss handled reused (us, count, (b, af)) clear =
+      (us ++ s ∷ [], one-more us reused count, after-kept c ok n s (drop (at + 1) c.old) ss us b handled (after-here ss us b handled af) clear)
+
+  pub behind-snapshot : (now : Progress) (ss : List SegmentView) (handled reused : ℕ) → Stands c n at true now ss handled reused → s.before ≡ numbers_of (before c.is s.first)
+  behind-snapshot now ss handled reused (us, count, (b, af)) = after-snapshot c ok n s (drop (at + 1) c.old) ss us b handled (after-here ss us b handled af)
+
+  pub resumed-behind : (now new : Progress) (ss : List SegmentView) (handled reused : ℕ) → Stands c n at true now ss handled reused → (IsClear c.was c.is s.first (next_first (drop (at + 1) c.old)) → ⊥) → new ≡ begun c.is s.first → Stands c n (at + 1) false new ss handled reused
+  resumed-behind now new ss handled reused (us, count, (b, af)) touched e =
+      let on : IsOn c n (drop (at + 1) c.old) ss us s.first handled = after-resumed c ok n s (drop (at + 1) c.old) ss us b handled (after-here ss us b handled af) touched in (
+        us,
+        count,
+        ap (λ (x : Progress). x.failed) e,
+        ap (λ (x : Progress). x.plan) e,
+        subst (λ (x : Progress). IsOn c n (drop (at + 1) c.old) ss us x.position (handled + x.handled)) (sym e)
+            (subst (λ h. IsOn c n (drop (at + 1) c.old) ss us s.first h) (sym (add-zero handled)) on),
+      )
+
+-- ---- all is done
+bounded : (q : Plan) (b : ℕ) → IsPlan q → MayBegin q b → b ≤ bound q + 1
+bounded q b p (inl e) = omega (arith, e)
+bounded q b p (inr (t, e, ev)) = let l = events-end-by-the-bound q t p ev in omega (arith, l, e)
+
+spent-all : (c : ChangeView) → IsChange c → (h b : ℕ) → IsSpent c h b → MayBegin c.is b → IsSpent c h (bound c.is + 1)
+spent-all c ok h b spent may marks all = let x = spent marks all in let y = marks-grow marks b (bound c.is + 1) (bounded c.is b ok.alike.right may) in omega (arith, x, y)
+
+taken-all : (c : ChangeView) (at : ℕ) (us : List SegmentView) → length c.old ≤ at → AreTaken c (drop at c.old) us → AreKept c.was c.is c.old [] us
+taken-all c at us l taken =
+    let none : drop at c.old ≡ [] = drop_all at c.old l in
+    let t : AreTaken c [] us = subst (λ (zs : List SegmentView). AreTaken c zs us) none taken in
+    all-kept c.was c.is c.old t.0 us t.1 t.2
+
+pub done-kept : (c : ChangeView) → IsChange c → (n at : ℕ) (now : Progress) (ss : List SegmentView) (handled reused : ℕ) → length c.old ≤ at → Stands c n at true now ss handled reused → IsRejoined c.was c.is c.old n ss handled reused
+done-kept c ok n at now ss handled reused l (us, count, (b, af)) =
+    let none : drop at c.old ≡ [] = drop_all at c.old l in
+    record {
+      taken = us;
+      kept = taken-all c at us l af.taken;
+      count = count;
+      patched = (b, af.patched, (let last : IsAfter c n [] ss us b handled = subst (λ (zs : List SegmentView). IsAfter c n zs ss us b handled) none af in last.ends));
+      spent = spent-all c ok handled b af.spent (inr af.event);
+    }
+
+pub done-worked : (c : ChangeView) → IsChange c → (n at : ℕ) (now : Progress) (ss : List SegmentView) (handled reused : ℕ) → length c.old ≤ at → Stands c n at false now ss handled reused → NoneComes now (next_first (drop at c.old)) → IsRejoined c.was c.is c.old n ss (handled + now.handled) reused
+done-worked c ok n at now ss handled reused l (us, count, going, plan, on) none =
+    let nothing : drop at c.old ≡ [] = drop_all at c.old l in
+    let over' : NoneComes now None = subst (λ (zs : List SegmentView). NoneComes now (next_first zs)) nothing none in
+    record {
+      taken = us;
+      kept = taken-all c at us l on.taken;
+      count = count;
+      patched = (now.position, on.patched, (λ t x ev. over' t x (subst (λ (q : Plan). IsEvent q t) (sym plan) ev)));
+      spent = spent-all c ok (handled + now.handled) now.position on.spent (on-begun c n (drop at c.old) ss us now.position (handled + now.handled) on);
+    }
+
+-- the same, as callers see it
+pub stands-taken : (c : ChangeView) (n at : ℕ) (kept : Bool) (engine : Progress) (ts ss : List SegmentView) (g h r k : ℕ) → kept ≡ true → ts ≡ ss → g ≡ h → r ≡ k → Stands c n at true engine ss h k → Stands c n at kept engine ts g r
+stands-taken c n at kept engine ts ss g h r k a b d e st =
+    subst (λ (y : Bool). Stands c n at y engine ts g r) (sym a)
+    (subst (λ (zs : List SegmentView). Stands c n at true engine zs g r) (sym b)
+    (subst (λ x. Stands c n at true engine ss x r) (sym d) (subst (λ x. Stands c n at true engine ss h x) (sym e) st)))
+
+pub stands-passed : (c : ChangeView) (n at : ℕ) (kept : Bool) (engine : Progress) (ss : List SegmentView) (h k : ℕ) → kept ≡ false → Stands c n at false engine ss h k → Stands c n at kept engine ss h k
+stands-passed c n at kept engine ss h k e st = subst (λ (y : Bool). Stands c n at y engine ss h k) (sym e) st
+
+-- the new segments are a cut
+pub rejoined-cut : (p q r : Plan) (old : List SegmentView) (n : ℕ) (ss : List SegmentView) (handled reused : ℕ) → IsRejoined p q old n ss handled reused → q ≡ r → IsCut r ss
+rejoined-cut p q r old n ss handled reused done e =
+    subst (λ (x : Plan). IsCut x ss) e (done.patched.0, patched-chain q n 0 done.patched.0 ss done.taken handled done.patched.1, done.patched.2)

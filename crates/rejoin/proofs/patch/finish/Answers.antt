@@ -1,0 +1,35 @@
+use Rattle.std.proofs.Common.{rules, ◌≡◌, ◌+◌, ◌≤◌, false, true, map, drop, length, sym, ap, subst, arith, List, Fits, w64}
+use Rattle.std.specs.Arc.{arc_value}
+use Rattle.checkpoints.specs.Segment.{SegmentView}
+use Rattle.rejoin.specs.Patch.{IsRejoined}
+use Rattle.rejoin.specs.Rejoining.{Stands}
+use Rattle.rejoin.proofs.Turns.{done-kept, done-worked, stands-few, stands-taken}
+use Rattle.rejoin.proofs.patch.finish.Goals as goal
+
+pub work_to-requires-clause-stands : goal.work_to-requires-clause-stands
+work_to-requires-clause-stands g c =
+    let change = c.args.change.now in
+    let at = subst (λ n. Stands change c.args.spacing n c.args.patch.now.kept c.args.patch.now.engine (map arc_value c.args.patch.now.segments.items) c.args.patch.now.handled c.args.patch.now.reused) (sym c.len-len.ensures.count) c.requires.stands in
+    subst (λ kept. Stands change c.args.spacing c.len-len.result kept c.args.patch.now.engine (map arc_value c.args.patch.now.segments.items) c.args.patch.now.handled c.args.patch.now.reused) c.if-patch.false at
+
+pub returns-then-patch-clause-done : goal.returns-then-patch-clause-done
+returns-then-patch-clause-done g c =
+    let change = c.args.change.now in
+    let stands = subst (λ kept. Stands change c.args.spacing (length change.old) kept c.args.patch.now.engine (map arc_value c.args.patch.now.segments.items) c.args.patch.now.handled c.args.patch.now.reused) c.if-patch.true c.requires.stands in
+    done-kept change c.len-len.ensures.sound c.args.spacing (length change.old) c.args.patch.now.engine (map arc_value c.args.patch.now.segments.items) c.args.patch.now.handled c.args.patch.now.reused (omega arith) stands
+
+pub overflow_add-patch : goal.overflow_add-patch
+overflow_add-patch g c =
+    let p = c.work_to.new.patch in
+    let few = stands-few c.args.change.now c.args.spacing c.len-len.result p.engine (map arc_value p.segments.items) p.handled p.reused c.in_ok-work_to.ensures.stands in
+    let here : p.handled + c.handled.result ≤ c.position-position.result = omega (arith, few, c.handled.ensures, c.position-position.ensures) in
+    let fits : Fits w64 c.position-position.result = search rules in
+    omega (arith, here, fits)
+
+pub returns-clause-done : goal.returns-clause-done
+returns-clause-done g c =
+    let change = c.args.change.now in
+    let p = c.work_to.new.patch in
+    let e = c.len-len.ensures.count in
+    let done = done-worked change c.len-len.ensures.sound c.args.spacing c.len-len.result p.engine (map arc_value p.segments.items) p.handled p.reused (omega (arith, e)) c.in_ok-work_to.ensures.stands c.in_ok-work_to.ensures.reached in
+    subst (λ n. IsRejoined change.was change.is change.old c.args.spacing (map arc_value p.segments.items) (p.handled + n) p.reused) (sym c.handled.ensures) done

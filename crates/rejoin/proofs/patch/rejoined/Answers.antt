@@ -1,0 +1,10 @@
+use Rattle.std.proofs.Common.{◌≡◌, map, ap, arith}
+use Rattle.std.specs.Arc.{arc_value}
+use Rattle.rejoin.proofs.Turns.{stands-begun}
+use Rattle.rejoin.proofs.patch.rejoined.Goals as goal
+
+pub loop-at-init : goal.loop-at-init
+loop-at-init g c = record {
+  stands = stands-begun c.args.change.now c.len-at-end.ensures.sound c.args.spacing _ _ c.in_ok-begin.ensures.ok (ap (map arc_value) c.new.ensures.items);
+  few = omega arith;
+}

@@ -1,0 +1,15 @@
+use Rattle.std.proofs.Common.{◌≡◌, ◌+◌, ◌-◌, false, map}
+use Rattle.std.specs.Arc.{arc_value}
+use Rattle.easy_rule.specs.Simulation.{bound}
+use Rattle.rejoin.specs.Rejoining.{Stands}
+use Rattle.rejoin.proofs.patch.work_to.Given as goal
+
+abbrev pub invariant-segments : goal.invariant-segments
+invariant-segments g l = record {
+  stands : Stands l.change l.spacing l.at false l.patch.engine (map arc_value l.patch.segments.items) l.patch.handled l.patch.reused;
+  kept : l.patch.kept ≡ l.fn.patch.kept;
+  reused : l.patch.reused ≡ l.fn.patch.reused;
+}
+
+abbrev pub decreases-segments : goal.decreases-segments
+decreases-segments g l = bound l.change.is + 1 - l.patch.engine.position

@@ -1,0 +1,182 @@
+ghost use Rattle.std.specs.Prelude.{◌≡◌, ◌≤◌, ◌<◌, ◌+◌, ◌∷◌, ◌++◌, [], List, true, false, drop, map, length, IfOk, IfErr, OnOk};
+ghost use Rattle.std.specs.Arc.{arc_value};
+ghost use Rattle.checkpoints.specs.Coming.{NoneComes};
+ghost use Rattle.checkpoints.specs.Segment.{SegmentView};
+ghost use Rattle.rejoin.specs.Kept.{next_first};
+ghost use Rattle.rejoin.specs.Patch.{IsRejoined};
+ghost use Rattle.rejoin.specs.Rejoining.{Stands};
+
+use crate::change::Change;
+use checkpoints::{RunFault, Segment, comes_before, next_segment};
+use event_loop::Engine;
+use std::alloc::Allocator;
+use std::sync::Arc;
+
+// The new segments so far, and the engine that works those that are not old ones.
+#[derive(Drop)]
+pub(crate) struct Patch<A: Allocator + Copy> {
+    engine: Engine<A>,
+    // Whether the last new segment is an old one: the engine has stayed behind then.
+    kept: bool,
+    pub(crate) segments: Vec<Arc<Segment<A>, A>, A>,
+    // The event seconds that were worked, but for those of an engine that is still at work.
+    pub(crate) handled: u64,
+    pub(crate) reused: u64,
+}
+
+// Works event seconds up to the first second of the old segment at this place, or to the end.
+fn work_to<A: Allocator + Copy>(
+    alloc: A,
+    change: &Change<'_, A>,
+    at: usize,
+    spacing: u32,
+    patch: &mut Patch<A>,
+) -> Result<(), RunFault>
+    requires spacing { 1 ≤ spacing }
+    requires stands { Stands change.now spacing at false patch.old.engine (map arc_value patch.old.segments.items) patch.old.handled patch.old.reused }
+    ensures stands { OnOk result (Stands change.now spacing at false patch.new.engine (map arc_value patch.new.segments.items) patch.new.handled patch.new.reused) }
+    ensures reached { OnOk result (NoneComes patch.new.engine (next_first (drop at change.now.old))) }
+    ensures kept { OnOk result (patch.new.kept ≡ patch.old.kept) }
+    ensures reused { OnOk result (patch.new.reused ≡ patch.old.reused) }
+    ensures fault { IfErr result (λ f. f ≡ RunFault.Memory) }
+{
+    let _segments = change.len();
+    let end = change.first(at);
+    'segments: while comes_before(&patch.engine, end) {
+        let segment = next_segment(alloc, &mut patch.engine, spacing, end)?;
+        patch.segments.push(Arc::new(alloc, segment)?)?;
+    }
+    Ok(())
+}
+
+// Takes over the old segment at this place.
+fn take<A: Allocator + Copy>(
+    change: &Change<'_, A>,
+    at: usize,
+    patch: &mut Patch<A>,
+) -> Result<(), RunFault>
+    requires within { at < length change.now.old }
+    requires few { patch.old.reused ≤ at }
+    ensures segments { OnOk result ((s : SegmentView) → drop at change.now.old ≡ s ∷ drop (at + 1) change.now.old → map arc_value patch.new.segments.items ≡ map arc_value patch.old.segments.items ++ s ∷ []) }
+    ensures reused { OnOk result (patch.new.reused ≡ patch.old.reused + 1) }
+    ensures handled { OnOk result (patch.new.handled ≡ patch.old.handled) }
+    ensures kept { OnOk result (patch.new.kept ≡ true) }
+    ensures fault { IfErr result (λ f. f ≡ RunFault.Memory) }
+{
+    let _segments = change.len();
+    let segment = change.segment(at).clone()?;
+    patch.segments.push(segment)?;
+    patch.reused += 1;
+    patch.kept = true;
+    Ok(())
+}
+
+// Works up to the old segment at this place, and takes it over where it is reached and kept.
+fn reach<A: Allocator + Copy>(
+    alloc: A,
+    change: &Change<'_, A>,
+    at: usize,
+    spacing: u32,
+    patch: &mut Patch<A>,
+) -> Result<(), RunFault>
+    requires spacing { 1 ≤ spacing }
+    requires within { at < length change.now.old }
+    requires few { patch.old.reused ≤ at }
+    requires behind { patch.old.kept ≡ false }
+    requires stands { Stands change.now spacing at false patch.old.engine (map arc_value patch.old.segments.items) patch.old.handled patch.old.reused }
+    ensures stands { OnOk result (Stands change.now spacing (at + 1) patch.new.kept patch.new.engine (map arc_value patch.new.segments.items) patch.new.handled patch.new.reused) }
+    ensures few { OnOk result (patch.new.reused ≤ at + 1) }
+    ensures fault { IfErr result (λ f. f ≡ RunFault.Memory) }
+{
+    let _segments = change.len();
+    work_to(alloc, change, at, spacing, patch)?;
+    let first = change.segment(at).first();
+    if patch.engine.position() != first {
+        return Ok(());
+    }
+    if !change.keeps(at, &patch.engine)? {
+        return Ok(());
+    }
+    patch.handled += patch.engine.handled();
+    take(change, at, patch)?;
+    Ok(())
+}
+
+// Behind an old segment that was taken over: takes over this one too, where no touched number is
+// submitted in its stretch, or puts an engine before its first second.
+fn follow<A: Allocator + Copy>(
+    alloc: A,
+    change: &Change<'_, A>,
+    at: usize,
+    spacing: u32,
+    patch: &mut Patch<A>,
+) -> Result<(), RunFault>
+    requires within { at < length change.now.old }
+    requires few { patch.old.reused ≤ at }
+    requires stands { Stands change.now spacing at true patch.old.engine (map arc_value patch.old.segments.items) patch.old.handled patch.old.reused }
+    ensures stands { OnOk result (Stands change.now spacing (at + 1) patch.new.kept patch.new.engine (map arc_value patch.new.segments.items) patch.new.handled patch.new.reused) }
+    ensures few { OnOk result (patch.new.reused ≤ at + 1) }
+    ensures fault { IfErr result (λ f. f ≡ RunFault.Memory) }
+{
+    let _segments = change.len();
+    let _spacing = spacing;
+    let _segment = change.segment(at);
+    if change.is_clear(at) {
+        take(change, at, patch)?;
+        return Ok(());
+    }
+    patch.engine = change.resume(alloc, at)?;
+    patch.kept = false;
+    Ok(())
+}
+
+// Works what is left behind the last old segment.
+fn finish<A: Allocator + Copy>(
+    alloc: A,
+    change: &Change<'_, A>,
+    spacing: u32,
+    patch: &mut Patch<A>,
+) -> Result<(), RunFault>
+    requires spacing { 1 ≤ spacing }
+    requires stands { Stands change.now spacing (length change.now.old) patch.old.kept patch.old.engine (map arc_value patch.old.segments.items) patch.old.handled patch.old.reused }
+    ensures done { OnOk result (IsRejoined change.now.was change.now.is change.now.old spacing (map arc_value patch.new.segments.items) patch.new.handled patch.new.reused) }
+    ensures fault { IfErr result (λ f. f ≡ RunFault.Memory) }
+{
+    let len = change.len();
+    if patch.kept {
+        return Ok(());
+    }
+    work_to(alloc, change, len, spacing, patch)?;
+    let _position = patch.engine.position();
+    patch.handled += patch.engine.handled();
+    Ok(())
+}
+
+// The segments of the new plan's simulation: the kept ones of the old segments, and between them
+// worked ones of up to `spacing` event seconds each.
+pub(crate) fn rejoined<A: Allocator + Copy>(
+    alloc: A,
+    change: &Change<'_, A>,
+    spacing: u32,
+) -> Result<Patch<A>, RunFault>
+    requires { 1 ≤ spacing }
+    ensures rejoined { IfOk result (λ p. IsRejoined change.now.was change.now.is change.now.old spacing (map arc_value p.segments.items) p.handled p.reused) }
+    ensures fault { IfErr result (λ f. f ≡ RunFault.Memory) }
+{
+    let mut patch = Patch {
+        engine: change.begin(alloc)?,
+        kept: false,
+        segments: Vec::new(alloc),
+        handled: 0,
+        reused: 0,
+    };
+    for at in 0..change.len() {
+        if patch.kept {
+            follow(alloc, change, at, spacing, &mut patch)?;
+        } else {
+            reach(alloc, change, at, spacing, &mut patch)?;
+        }
+    }
+    finish(alloc, change, spacing, &mut patch)?;
+    Ok(patch)
+}

@@ -1,0 +1,62 @@
+ghost use Rattle.std.specs.Prelude.{◌≡◌, ℕ, map, IfOk, IfErr, OnOk};
+ghost use Rattle.std.specs.Arc.{arc_value};
+ghost use Rattle.job_table.specs.Accepted.{AreAccepted};
+ghost use Rattle.job_table.specs.Edit.{edit_of, log_after};
+ghost use Rattle.scenarios.specs.Plan.{plan_of};
+ghost use Rattle.checkpoints.specs.RunView.{IsRun};
+ghost use Rattle.checkpoints.specs.Spacing.{IsSpacing, IsRefusal};
+ghost use Rattle.rejoin.specs.Patch.{IsRejoined};
+ghost use Rattle.rejoin.specs.Touched.{IsTouched};
+
+use crate::change::Change;
+use crate::patch::rejoined;
+use checkpoints::{MAX_SPACING, Run, RunFault};
+use job_table::{Edit, JobTable};
+use std::alloc::Allocator;
+use std::sync::Arc;
+
+/// What a run took that was made of an old one.
+#[derive(Clone, Copy, Debug, PartialEq, Eq)]
+pub struct Work {
+    /// The event seconds that were worked.
+    pub handled: u64,
+    /// The old segments that were taken over.
+    pub reused: u64,
+}
+
+/// Simulates a table after edits, of which an old run is the simulation before them, under the old
+/// scenario: only the event seconds that lie in no kept old segment's stretch are worked, and each
+/// kept segment is taken over. The other segments hold at least one and at most `spacing` event
+/// seconds.
+///
+/// Its condition: each edit is accepted, one after another, and the table is the old one after them;
+/// with no edit, an equal one. BadSpacing where `spacing` is not within 1 to 65,536; Memory where a
+/// growth was refused. The old run is as it was.
+pub fn rerun<A: Allocator + Copy>(
+    alloc: A,
+    run: &Run<A>,
+    edits: &[Edit<A>],
+    table: Arc<JobTable<A>, A>,
+    spacing: u32,
+) -> Result<(Run<A>, Work), RunFault>
+    requires accepted { AreAccepted run.now.log (map edit_of edits.now) }
+    requires table { arc_value table ≡ log_after run.now.log (map edit_of edits.now) }
+    ensures spacing { OnOk result (IsSpacing spacing) }
+    ensures log { IfOk result (λ (again, work). again.log ≡ arc_value table) }
+    ensures setting { IfOk result (λ (again, work). again.setting ≡ run.now.setting) }
+    ensures sound { IfOk result (λ (again, work). IsRun again) }
+    ensures rejoined { IfOk result (λ (again, work). IsRejoined (plan_of run.now.log run.now.setting) (plan_of (arc_value table) run.now.setting) run.now.segments spacing again.segments work.handled work.reused) }
+    ensures fault { IfErr result (λ f. IsRefusal spacing f) }
+{
+    if spacing < 1 || spacing > MAX_SPACING {
+        return Err(RunFault::BadSpacing);
+    }
+    let change = Change::new(alloc, run, edits, &table)?;
+    let patch = rejoined(alloc, &change, spacing)?;
+    let work = Work {
+        handled: patch.handled,
+        reused: patch.reused,
+    };
+    let again = Run::of_segments(alloc, table.clone()?, run.scenario(), patch.segments)?;
+    Ok((again, work))
+}
