@@ -1,0 +1,15 @@
+use Rattle.std.proofs.Common.{rules, ◌≡◌, get_or}
+use Rattle.job_table.specs.Edit.{edit_of}
+use Rattle.rejoin.proofs.Editing.{edited-first, edited-more, edited-all}
+use Rattle.rejoin.proofs.edits.edited.Goals as goal
+
+pub loop-edit-preserved : goal.loop-edit-preserved
+loop-edit-preserved g c =
+    let is : edit_of c.edit-item.result ≡ edit_of (get_or c.args.edits.now c.loop-edit.edit-index c.edit-item.result) = search rules in
+    edited-more edit_of c.args.table.now c.loop-edit.new c.apply.new.self c.args.edits.now c.loop-edit.edit-index c.edit-item.result _ c.loop-edit-test.true is c.is_edit.ensures c.in_ok-apply.ensures.accepted c.in_ok-apply.ensures.applied c.loop-edit.invariant
+
+pub returns-clause-accepted : goal.returns-clause-accepted
+returns-clause-accepted g c = (edited-all edit_of c.args.table.now c.loop-edit.new c.args.edits.now c.loop-edit.edit-index c.loop-edit-test.false c.loop-edit.invariant).accepted
+
+pub returns-clause-table : goal.returns-clause-table
+returns-clause-table g c = (edited-all edit_of c.args.table.now c.loop-edit.new c.args.edits.now c.loop-edit.edit-index c.loop-edit-test.false c.loop-edit.invariant).after
