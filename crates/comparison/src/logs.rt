@@ -151,3 +151,29 @@ pub(crate) fn large_log(alloc: Global, words: &mut Words, procs: u64) -> Result<
     }
     Ok(log)
 }
+
+// A log of up to forty jobs for ten processors, with numbers below 53. They come at once, or one
+// after another.
+pub(crate) fn edited_log(alloc: Global, words: &mut Words) -> Result<String> {
+    let count = words.within(1, 40);
+    let gap = [0, 5, 15, 25][words.below(4) as usize];
+    let mut log = String::new(alloc);
+    for place in 0..count {
+        let number = place.wrapping_mul(7) % 53;
+        let line = small_line(words, number, place.wrapping_mul(gap));
+        log.push_str(text_of(alloc, &line)?.as_str())?;
+    }
+    Ok(log)
+}
+
+// The line of a job for ten processors that is submitted at this second.
+pub(crate) fn line_at(
+    alloc: Global,
+    words: &mut Words,
+    number: u64,
+    second: u64,
+) -> Result<String> {
+    let mut line = small_line(words, number, 0);
+    line.submit = second;
+    text_of(alloc, &line)
+}

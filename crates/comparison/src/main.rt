@@ -1,16 +1,21 @@
 //! Compares the product with the plain program of the definitions: on worked logs, whose starts are
-//! told, and on many generated ones, each in both orders. It prints how many were compared, and the
-//! seed of each log where they differ; its status is 1 where one does.
+//! told, and on many generated ones, each in both orders; and what is made anew of an old run after
+//! edits with a run from nothing. It prints how many were compared, and the seed of each log where
+//! they differ; its status is 1 where one does.
 #![tactic(auto)]
 
 mod compared;
+mod edits;
 mod logs;
+mod reruns;
 mod sums;
 mod words;
+mod work_set;
 mod worked;
 
 use crate::compared::agreed;
 use crate::logs::{large_log, small_log};
+use crate::reruns::{Reruns, with_edits};
 use crate::words::words_of;
 use anyhow::Result;
 use scenarios::{Order, Scenario};
@@ -144,6 +149,27 @@ fn compare<R: AllocGlobal + Print>(rt: &R, plan: Plan) -> Result<bool> {
     Ok(differences == 0 && found.starts >= starts)
 }
 
+// Compares reruns after edits with runs from nothing: whether nothing differs.
+fn compare_reruns<R: AllocGlobal + Print>(rt: &R) -> Result<bool> {
+    let mut found = Reruns::NONE;
+    for seed in 0..reruns::LOGS {
+        let before = found.differences;
+        found = with_edits(rt.alloc(), seed, found);
+        if found.differences > before {
+            println!(rt; "rerun {seed} differs")?;
+        }
+    }
+    println!(rt;
+        "reruns: {} logs edited, compared in 2 orders at 3 spacings, {} differences",
+        reruns::LOGS,
+        found.differences
+    )?;
+    if !found.are_enough() {
+        println!(rt; "reruns: too few took over old segments")?;
+    }
+    Ok(found.differences == 0 && found.are_enough())
+}
+
 // Compares all logs: whether nothing differs.
 fn run<R: AllocGlobal + Print>(rt: &R) -> Result<bool> {
     let right = worked::count_right(rt.alloc());
@@ -156,7 +182,8 @@ fn run<R: AllocGlobal + Print>(rt: &R) -> Result<bool> {
         let is_same = compare(rt, plan)?;
         same = same && is_same;
     }
-    Ok(same)
+    let is_same = compare_reruns(rt)?;
+    Ok(same && is_same)
 }
 
 fn main(rt: HostRuntime) -> ExitCode {
