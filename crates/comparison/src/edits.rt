@@ -12,9 +12,42 @@ use swf_text::{Entry, Value, read_swf};
 /// The numbers of all jobs are below this.
 pub(crate) const NUMBERS: u64 = 64;
 
-/// The fields that are changed: submit and run time, size and estimate, user, and one that touches
-/// no job.
-const FIELDS: [u8; 6] = [2, 4, 8, 9, 12, 13];
+/// A kind of edits.
+#[derive(Clone, Copy)]
+enum Kind {
+    Insertion,
+    Removal,
+    /// A change of this field.
+    Change(u8),
+    /// A change of a skipped entry, where there is one.
+    OfSkipped(u8),
+}
+
+/// Besides insertion and removal, changes of submit and run time, estimate, size and user, of a
+/// field that touches no job, and of the user and the size of a skipped entry.
+const KINDS: [Kind; 10] = [
+    Kind::Insertion,
+    Kind::Removal,
+    Kind::Change(2),
+    Kind::Change(4),
+    Kind::Change(9),
+    Kind::Change(8),
+    Kind::Change(12),
+    Kind::Change(13),
+    Kind::OfSkipped(12),
+    Kind::OfSkipped(8),
+];
+
+/// How many kinds there are.
+const KIND_COUNT: u64 = 10;
+
+/// A kind of edits, and the place of the second of its job: 0 for the first second, 1 for a middle
+/// one, 2 for the last one, and else any up to then.
+#[derive(Clone, Copy)]
+struct Aim {
+    kind: Kind,
+    place: u64,
+}
 
 // A generated table.
 pub(crate) fn table_of(alloc: Global, words: &mut Words) -> Option<JobTable<Global>> {
@@ -32,10 +65,10 @@ fn last_second(table: &JobTable<Global>) -> u64 {
     last
 }
 
-// The first second, a middle one, the last one, or any up to then.
-fn second_of(words: &mut Words, table: &JobTable<Global>) -> u64 {
+// The second of a place.
+fn second_of(words: &mut Words, place: u64, table: &JobTable<Global>) -> u64 {
     let last = last_second(table);
-    match words.below(4) {
+    match place {
         0 => 0,
         1 => last / 2,
         2 => last,
@@ -43,25 +76,20 @@ fn second_of(words: &mut Words, table: &JobTable<Global>) -> u64 {
     }
 }
 
-// The number of the first entry that is skipped.
-fn skipped(table: &JobTable<Global>, scenario: &Scenario) -> Option<u64> {
-    for entry in table.from_second(0) {
+// The number of the first entry that is submitted at the second or later.
+fn number_from(table: &JobTable<Global>, second: u64) -> Option<u64> {
+    let entry = table.from_second(second).peek()?;
+    Some(entry.number())
+}
+
+// The number of the first one of these that is skipped; where none is, as `number_from`.
+fn skipped_from(table: &JobTable<Global>, second: u64, scenario: &Scenario) -> Option<u64> {
+    for entry in table.from_second(second) {
         if effective(entry, scenario).is_err() {
             return Some(entry.number());
         }
     }
-    None
-}
-
-// The number of an entry that is submitted at the first second, a middle one or the last one, or
-// that is skipped.
-fn number_of(words: &mut Words, table: &JobTable<Global>, scenario: &Scenario) -> Option<u64> {
-    if words.below(6) == 0 {
-        return skipped(table, scenario);
-    }
-    let second = second_of(words, table);
-    let entry = table.from_second(second).peek()?;
-    Some(entry.number())
+    number_from(table, second)
 }
 
 // The entry of a line.
@@ -70,9 +98,8 @@ fn entry_of(alloc: Global, line: &[u8]) -> Option<Entry<Global>> {
     text.entries().first()?.copy().ok()
 }
 
-// The edit by which a job joins.
-fn insertion(alloc: Global, words: &mut Words, table: &JobTable<Global>) -> Option<Edit<Global>> {
-    let second = second_of(words, table);
+// The edit by which a job joins, submitted at this second.
+fn insertion(alloc: Global, words: &mut Words, second: u64) -> Option<Edit<Global>> {
     let number = words.below(NUMBERS);
     let line = line_at(alloc, words, number, second).ok()?;
     let entry = entry_of(alloc, line.as_bytes())?;
@@ -88,7 +115,10 @@ fn value_of(alloc: Global, number: u64) -> Option<Value> {
 // A number for a field.
 fn drawn(words: &mut Words, field: u8, table: &JobTable<Global>) -> u64 {
     match field {
-        2 => second_of(words, table),
+        2 => {
+            let place = words.below(4);
+            second_of(words, place, table)
+        }
         4 => 5 * words.below(7),
         8 => words.below(12),
         9 => 5 * words.below(9),
@@ -101,10 +131,9 @@ fn change(
     alloc: Global,
     words: &mut Words,
     table: &JobTable<Global>,
-    scenario: &Scenario,
+    number: u64,
+    field: u8,
 ) -> Option<Edit<Global>> {
-    let number = number_of(words, table, scenario)?;
-    let field = FIELDS[words.below(6) as usize];
     let value = value_of(alloc, drawn(words, field, table))?;
     Some(Edit::Change {
         number,
@@ -117,13 +146,35 @@ fn change(
 fn edit(
     alloc: Global,
     words: &mut Words,
+    aim: Aim,
     table: &JobTable<Global>,
     scenario: &Scenario,
 ) -> Option<Edit<Global>> {
-    match words.below(8) {
-        0 | 1 => insertion(alloc, words, table),
-        2 => Some(Edit::Remove(number_of(words, table, scenario)?)),
-        _ => change(alloc, words, table, scenario),
+    let second = second_of(words, aim.place, table);
+    match aim.kind {
+        Kind::Insertion => insertion(alloc, words, second),
+        Kind::Removal => Some(Edit::Remove(number_from(table, second)?)),
+        Kind::Change(field) => change(alloc, words, table, number_from(table, second)?, field),
+        Kind::OfSkipped(field) => {
+            let number = skipped_from(table, second, scenario)?;
+            change(alloc, words, table, number, field)
+        }
+    }
+}
+
+// The aim of the next edit: of the first one as the seed says, so that all kinds come at all places,
+// and of later ones by chance.
+fn aim_of(words: &mut Words, seed: u64, is_first: bool) -> Aim {
+    if is_first {
+        Aim {
+            kind: KINDS[(seed % KIND_COUNT) as usize],
+            place: seed / KIND_COUNT % 3,
+        }
+    } else {
+        Aim {
+            kind: KINDS[words.below(KIND_COUNT) as usize],
+            place: words.below(4),
+        }
     }
 }
 
@@ -131,11 +182,12 @@ fn edit(
 fn add_edit(
     alloc: Global,
     words: &mut Words,
+    aim: Aim,
     scenario: &Scenario,
     table: &mut JobTable<Global>,
     edits: &mut Vec<Edit<Global>>,
 ) -> Option<()> {
-    let edit = edit(alloc, words, table, scenario)?;
+    let edit = edit(alloc, words, aim, table, scenario)?;
     table.apply(&edit).ok()?;
     edits.push(edit).ok()
 }
@@ -144,6 +196,7 @@ fn add_edit(
 pub(crate) fn edits_of(
     alloc: Global,
     words: &mut Words,
+    seed: u64,
     scenario: &Scenario,
     table: &JobTable<Global>,
 ) -> Option<Vec<Edit<Global>>> {
@@ -152,7 +205,8 @@ pub(crate) fn edits_of(
     let mut edits = Vec::new(alloc);
     for _ in 0..32 {
         if edits.len() < wanted {
-            let _ = add_edit(alloc, words, scenario, &mut edited, &mut edits);
+            let aim = aim_of(words, seed, edits.is_empty());
+            let _ = add_edit(alloc, words, aim, scenario, &mut edited, &mut edits);
         }
     }
     Some(edits)

@@ -17,7 +17,7 @@ const SPACINGS: [u32; 3] = [1, 3, 256];
 
 /// How many reruns surely took over old segments, worked a part of the event seconds, and took over
 /// the last old segment but not all of them.
-const FEWEST: u64 = 3_000;
+const FEWEST: u64 = 2_000;
 
 /// What reruns gave.
 #[derive(Clone, Copy)]
@@ -198,7 +198,7 @@ fn of_seed(alloc: Global, seed: u64, before: Reruns) -> Option<Reruns> {
     let scenario = Scenario::new(10, 1000)?;
     let mut words = words_of(seed, 77);
     let table = table_of(alloc, &mut words)?;
-    let edits = edits_of(alloc, &mut words, &scenario, &table)?;
+    let edits = edits_of(alloc, &mut words, seed, &scenario, &table)?;
     if edits.is_empty() {
         return None;
     }
