@@ -32,7 +32,7 @@ fn four_jobs<A: Allocator + Copy>(entries: &[Entry<A>], scenario: &Scenario) -> 
     ])
 }
 
-// Whether a job, of those that come one at a time, was decided on with want of memory.
+// Whether this job, which comes alone at second 0, starts then.
 fn begins_alone<A: Allocator + Copy>(
     alloc: A,
     cluster: &mut Cluster<A>,
