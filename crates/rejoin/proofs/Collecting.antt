@@ -1,13 +1,11 @@
 -- The touched numbers among those of edits, and their submit seconds.
-use Rattle.std.proofs.Common.{◌≡◌, ◌≢◌, ℕ, ◌≤◌, ◌<◌, ◌+◌, ◌⊎◌, Bool, true, false, IsTrue, ◌↔◌, List, [], ◌∷◌, ◌++◌, map, take, length, get_or, All, Option, None, Some, zero, suc, refl, sym, ◌∙◌, ap, subst, arith, append_assoc, append-nil, inl, inr}
+use Rattle.std.proofs.Common.{◌≡◌, ◌≢◌, ℕ, ◌≤◌, ◌<◌, ◌+◌, ◌⊎◌, List, [], ◌∷◌, ◌++◌, map, take, length, get_or, All, Option, None, Some, zero, suc, sym, ◌∙◌, ap, subst, arith, inl, inr}
 use Rattle.std.specs.Prelude.{IsSomeAnd}
 use Rattle.std.specs.List.{Contains, flat_map}
 use Rattle.std.proofs.Math.Decide.{ℕ_discrete}
 use Rattle.std.proofs.Math.Logic.{by_cases}
-use Rattle.std.proofs.lemmas.Bool.{false≢true}
 use Rattle.std.proofs.lemmas.List.{take_more, take_all, map-append}
 use Rattle.std.proofs.lemmas.List.Concat.{flat_map-cons}
-use Rattle.std.proofs.lemmas.Grind.{flat_map-append}
 use Rattle.std.proofs.lemmas.List.Elements.{All-push, All-cons, All-nil, All-head, All-tail, All-weaker, All-contains_itself, Contains-append_left, Contains-append_right, Contains-append_cases}
 use Rattle.swf_text.specs.Entry.{LogEntry}
 use Rattle.job_table.specs.Accepted.{AreAccepted}
@@ -29,12 +27,6 @@ pub record Collected (p q : Plan) (edits : List LogEdit) (ns : List ℕ) : Type 
 
 contains-nil : {X : Type 0} (x : X) → Contains [] x → ⊥
 contains-nil x (k, l, e) = absurd (omega (arith, l))
-
-pub collected-first : (p q : Plan) (edits : List LogEdit) (ns : List ℕ) → edits ≡ [] → ns ≡ [] → Collected p q edits ns
-collected-first p q edits ns e f = record {
-  each = subst (All (IsTouched p q)) (sym f) (All-nil (IsTouched p q));
-  whole = λ n h d. absurd (contains-nil n (subst (λ (x : List LogEdit). Contains (map named x) n) e h));
-}
 
 contains-one : (m n : ℕ) → Contains (m ∷ []) n → m ≡ n
 contains-one m n (zero, l, e) = e
@@ -134,18 +126,6 @@ submits-all p q ns ts those is = record {
   where
     All-all : (ts : List ℕ) → ((t : ℕ) → Contains ts t → IsTouchedSubmit p q t) → All (IsTouchedSubmit p q) ts
     All-all ts h = All-weaker (Contains ts) (IsTouchedSubmit p q) h ts (All-contains_itself ts)
-
-pub submits-more : (p q : Plan) (ns : List ℕ) (i d : ℕ) (xs ys zs : List ℕ) (j k : Option EffectiveJob) → i < length ns → xs ≡ flat_map (submits_of p q) (take i ns) → ys ≡ xs ++ submit_in j → zs ≡ ys ++ submit_in k → j ≡ job_numbered p.jobs (get_or ns i d) → k ≡ job_numbered q.jobs (get_or ns i d)
-    → zs ≡ flat_map (submits_of p q) (take (i + 1) ns)
-submits-more p q ns i d xs ys zs j k l had first then is was =
-    let n = get_or ns i d in
-    then
-    ∙ ap (λ x. x ++ submit_in k) first
-    ∙ append_assoc xs (submit_in j) (submit_in k)
-    ∙ ap (λ x. xs ++ (submit_in x ++ submit_in k)) is
-    ∙ ap (λ x. xs ++ (submit_in (job_numbered p.jobs n) ++ submit_in x)) was
-    ∙ ap (λ x. x ++ submits_of p q n) had
-    ∙ sym (ap (flat_map (submits_of p q)) (take_more ns i d l) ∙ flat_map-append (submits_of p q) (take i ns) (n ∷ []) ∙ ap (λ x. flat_map (submits_of p q) (take i ns) ++ x) (flat_map-cons (submits_of p q) n [] ∙ append-nil (submits_of p q n)))
 
 -- a loop over the edits
 module _ {X : Type 0} (f : X → LogEdit) where

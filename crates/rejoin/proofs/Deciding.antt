@@ -1,13 +1,12 @@
 -- One old segment, at its place among the others.
-use Rattle.std.proofs.Common.{◌≡◌, ℕ, ◌+◌, ◌≤◌, ◌<◌, Bool, IsTrue, ◌↔◌, List, [], ◌∷◌, ◌++◌, map, take, drop, length, get_or, Option, None, Some, refl, sym, ◌∙◌, ap, subst, arith}
+use Rattle.std.proofs.Common.{◌≡◌, ℕ, ◌+◌, ◌<◌, Bool, IsTrue, ◌↔◌, List, ◌∷◌, ◌++◌, map, take, drop, length, get_or, Option, sym, ◌∙◌, ap, subst, arith}
 use Rattle.std.proofs.lemmas.List.{drop_more, drop-map, length-map, take-append-drop}
 use Rattle.scenarios.specs.Plan.{Plan}
 use Rattle.cluster_state.specs.Snapshot.{Numbers, numbers_of}
 use Rattle.easy_rule.specs.Simulation.{before}
 use Rattle.checkpoints.specs.Segment.{SegmentView}
-use Rattle.checkpoints.specs.Cut.{IsCut}
 use Rattle.rejoin.specs.Kept.{next_first, InStretch}
-use Rattle.rejoin.specs.Tested.{AreThose, NoneWithin}
+use Rattle.rejoin.specs.Tested.{NoneWithin}
 use Rattle.rejoin.specs.Touched.{IsTouchedSubmit}
 use Rattle.rejoin.specs.Rejoining.{ChangeView, IsChange, IsClear}
 use Rattle.rejoin.proofs.Rejoining.{spans-here}

@@ -19,9 +19,6 @@ accepted-more log [] e a is ok = (is, ok, tt)
 accepted-more log (x ∷ xs) e (y, z, a) is ok = (y, z, accepted-more (applied x log) xs e a is ok)
 
 module _ {X : Type 0} (f : X → LogEdit) where
-  pub edited-first : (log now : List LogEntry) (xs : List X) → now ≡ log → Edited log (map f (take 0 xs)) now
-  edited-first log now xs e = record { accepted = tt; after = e }
-
   pub edited-more : (log now new : List LogEntry) (xs : List X) (i : ℕ) (d : X) (e : LogEdit) → i < length xs → e ≡ f (get_or xs i d) → IsEdit e → fault_of e now ≡ None → new ≡ applied e now → Edited log (map f (take i xs)) now → Edited log (map f (take (i + 1) xs)) new
   edited-more log now new xs i d e l is sound ok put h =
       let more : map f (take i xs) ++ e ∷ [] ≡ map f (take (i + 1) xs) = ap (λ (x : LogEdit). map f (take i xs) ++ x ∷ []) is ∙ sym (ap (map f) (take_more xs i d l) ∙ map-append f (take i xs) (get_or xs i d ∷ [])) in

@@ -1,7 +1,6 @@
 -- New segments, one more after the others.
 use Rattle.std.proofs.Common.{◌≡◌, ℕ, ◌+◌, ◌≤◌, List, [], ◌∷◌, ◌++◌, refl, sym, ◌∙◌, ap, subst, arith, append_assoc, append-nil, inl, inr}
 use Rattle.scenarios.specs.Plan.{Plan}
-use Rattle.easy_rule.specs.Simulation.{IsEvent}
 use Rattle.event_loop.specs.Events.{events_before}
 use Rattle.checkpoints.specs.Segment.{SegmentView}
 use Rattle.checkpoints.specs.Cut.{Spans, Chain}

@@ -1,21 +1,20 @@
 -- Each turn of a re-simulation.
-use Rattle.std.proofs.Common.{◌≡◌, ◌≢◌, ℕ, zero, suc, ◌+◌, ◌-◌, ◌≤◌, ◌<◌, Bool, true, false, cond, List, [], ◌∷◌, ◌++◌, map, drop, length, Option, None, Some, IfSome, refl, sym, ◌∙◌, ap, subst, arith, append-nil, add-zero, inl, inr, ⊎_elim, ◌⊎◌}
-use Rattle.std.proofs.lemmas.Bool.{cases_lt}
+use Rattle.std.proofs.Common.{◌≡◌, ℕ, zero, suc, ◌+◌, ◌-◌, ◌^◌, ◌≤◌, ◌<◌, Bool, true, false, List, [], ◌∷◌, ◌++◌, drop, length, Option, None, Some, IfSome, refl, sym, ◌∙◌, ap, subst, arith, add-zero, inl, inr}
 use Rattle.std.proofs.lemmas.List.{length-append, drop_all}
 use Rattle.scenarios.specs.Plan.{Plan}
 use Rattle.cluster_state.specs.Snapshot.{numbers_of}
 use Rattle.easy_rule.specs.Simulation.{IsEvent, before, bound}
 use Rattle.timeline.specs.SoundPlan.{IsPlan}
 use Rattle.timeline.proofs.Events.{events-end-by-the-bound}
-use Rattle.event_loop.specs.Events.{Progress, IsNextEvent, has_event, events_before, begun}
+use Rattle.timeline.proofs.Short.{short-plan}
+use Rattle.event_loop.specs.Events.{Progress, events_before, begun}
 use Rattle.event_loop.proofs.RunOn.{events_before-more}
 use Rattle.checkpoints.specs.Coming.{NoneComes}
 use Rattle.checkpoints.specs.Segment.{SegmentView}
-use Rattle.checkpoints.specs.Cut.{Spans, Over, IsCut}
+use Rattle.checkpoints.specs.Cut.{Spans, IsCut}
 use Rattle.checkpoints.proofs.Chains.{span-bounded}
 use Rattle.rejoin.specs.Kept.{next_first, MayBegin, IsKept}
-use Rattle.rejoin.specs.Bound.{marked, MarksWork}
-use Rattle.rejoin.specs.Patch.{AreKept, Patched, IsRejoined}
+use Rattle.rejoin.specs.Patch.{AreKept, IsRejoined}
 use Rattle.rejoin.specs.Rejoining.{ChangeView, IsChange, IsClear, AreTaken, IsSpent, IsOn, IsAfter, Stands}
 use Rattle.rejoin.proofs.Marks.{marks-grow}
 use Rattle.rejoin.proofs.Patching.{all-kept, patched-chain}
@@ -29,7 +28,7 @@ grow-for q a (suc n) =
     let e = ap (events_before q) one ∙ events_before-more q (a + n) in
     omega (arith, e, grow-for q a n)
 
-events-grow : (q : Plan) (a b : ℕ) → a ≤ b → events_before q a ≤ events_before q b
+pub events-grow : (q : Plan) (a b : ℕ) → a ≤ b → events_before q a ≤ events_before q b
 events-grow q a b l = let whole : a + (b - a) ≡ b = omega arith in let e = ap (events_before q) whole in omega (arith, e, grow-for q a (b - a))
 
 -- ---- work
@@ -68,17 +67,21 @@ work-down c ok n at now new ss s handled reused (us, count, going, plan, on) spa
     let y = sp.ends.2 in
     omega (arith, l, x, y)
 
-pub stands-going : (c : ChangeView) (n at : ℕ) (now : Progress) (ss : List SegmentView) (handled reused : ℕ) → Stands c n at false now ss handled reused → now.failed ≡ false
-stands-going c n at now ss handled reused (us, count, going, plan, on) = going
-
-pub stands-plan : (c : ChangeView) (n at : ℕ) (now : Progress) (ss : List SegmentView) (handled reused : ℕ) → Stands c n at false now ss handled reused → now.plan ≡ c.is
-stands-plan c n at now ss handled reused (us, count, going, plan, on) = plan
-
 pub stands-begins : (c : ChangeView) (n at : ℕ) (now : Progress) (ss : List SegmentView) (handled reused : ℕ) → Stands c n at false now ss handled reused → MayBegin c.is now.position
 stands-begins c n at now ss handled reused (us, count, going, plan, on) = on-begun c n (drop at c.old) ss us now.position (handled + now.handled) on
 
-pub stands-few : (c : ChangeView) (n at : ℕ) (now : Progress) (ss : List SegmentView) (handled reused : ℕ) → Stands c n at false now ss handled reused → handled + now.handled ≤ now.position
-stands-few c n at now ss handled reused (us, count, going, plan, on) = on-few c n (drop at c.old) ss us now.position (handled + now.handled) on
+-- a segment begins at most one second after the bound
+bounded : (q : Plan) (b : ℕ) → IsPlan q → MayBegin q b → b ≤ bound q + 1
+bounded q b p (inl e) = omega (arith, e)
+bounded q b p (inr (t, e, ev)) = let l = events-end-by-the-bound q t p ev in omega (arith, l, e)
+
+-- no more event seconds are worked than seconds pass
+pub stands-short : (c : ChangeView) → IsChange c → (n at : ℕ) (now : Progress) (ss : List SegmentView) (handled reused : ℕ) → Stands c n at false now ss handled reused → handled + now.handled < 2 ^ 49
+stands-short c ok n at now ss handled reused (us, count, going, plan, on) =
+    let few = on-few c n (drop at c.old) ss us now.position (handled + now.handled) on in
+    let l = bounded c.is now.position ok.alike.right (on-begun c n (drop at c.old) ss us now.position (handled + now.handled) on) in
+    let short = short-plan c.is ok.alike.right in
+    omega (arith, few, l, short)
 
 -- ---- an old segment is reached, or not
 tails : (x y : SegmentView) (xs ys : List SegmentView) → x ∷ xs ≡ y ∷ ys → xs ≡ ys
@@ -128,10 +131,6 @@ module _ (c : ChangeView) (ok : IsChange c) (n at : ℕ) (s : SegmentView) (here
       )
 
 -- ---- all is done
-bounded : (q : Plan) (b : ℕ) → IsPlan q → MayBegin q b → b ≤ bound q + 1
-bounded q b p (inl e) = omega (arith, e)
-bounded q b p (inr (t, e, ev)) = let l = events-end-by-the-bound q t p ev in omega (arith, l, e)
-
 spent-all : (c : ChangeView) → IsChange c → (h b : ℕ) → IsSpent c h b → MayBegin c.is b → IsSpent c h (bound c.is + 1)
 spent-all c ok h b spent may marks all = let x = spent marks all in let y = marks-grow marks b (bound c.is + 1) (bounded c.is b ok.alike.right may) in omega (arith, x, y)
 

@@ -32,3 +32,9 @@ pub record IsRejoined (p q : Plan) (old : List SegmentView) (n : ℕ) (new : Lis
   pub count : reused ≡ length taken
   pub patched : (e : ℕ) × Patched q n 0 new taken handled e × Over q e
   pub spent : (marks : ℕ → Bool) → MarksWork p q old marks → handled ≤ marked marks (bound q + 1)
+
+-- all old segments were taken over, no other one stands beside them, and no event second was worked
+pub record IsTakenOver (old new : List SegmentView) (handled reused : ℕ) : Type 0 where
+  pub same : new ≡ old
+  pub none : handled ≡ 0
+  pub all : reused ≡ length old

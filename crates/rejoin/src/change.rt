@@ -1,4 +1,4 @@
-ghost use Rattle.std.specs.Prelude.{◌≡◌, ◌≤◌, ◌<◌, ◌+◌, ◌↔◌, ◌∷◌, List, false, length, drop, map, IsTrue, IfOk, IfErr};
+ghost use Rattle.std.specs.Prelude.{◌≡◌, ◌≤◌, ◌<◌, ◌+◌, ◌^◌, ◌↔◌, ◌∷◌, List, false, length, drop, map, IsTrue, IfOk, IfErr};
 ghost use Rattle.std.specs.Arc.{arc_value};
 ghost use Rattle.job_table.specs.Accepted.{AreAccepted};
 ghost use Rattle.job_table.specs.Edit.{edit_of, log_after};
@@ -54,6 +54,7 @@ impl<'a, A: Allocator + Copy> Change<'a, A> {
         ensures was { IfOk result (λ c. c.was ≡ plan_of run.now.log run.now.setting) }
         ensures is { IfOk result (λ c. c.is ≡ plan_of (arc_value table.now) run.now.setting) }
         ensures old { IfOk result (λ c. c.old ≡ run.now.segments) }
+        ensures sound { IfOk result IsChange }
     {
         let scenario = run.scenario();
         is_plan(run.table(), &scenario);
@@ -79,7 +80,8 @@ impl<'a, A: Allocator + Copy> Change<'a, A> {
 
     // The first second of the old segment at this place; None behind the last.
     pub(crate) fn first(&self, at: usize) -> Option<u64>
-        ensures { result ≡ next_first (drop at self.now.old) }
+        ensures first { result ≡ next_first (drop at self.now.old) }
+        ensures sound { IsChange self.now }
     {
         if at >= self.len() {
             return None;
@@ -90,7 +92,9 @@ impl<'a, A: Allocator + Copy> Change<'a, A> {
     // The old segment at this place.
     pub(crate) fn segment(&self, at: usize) -> &Arc<Segment<A>, A>
         requires { at < length self.now.old }
-        ensures { drop at self.now.old ≡ arc_value result.now ∷ drop (at + 1) self.now.old }
+        ensures here { drop at self.now.old ≡ arc_value result.now ∷ drop (at + 1) self.now.old }
+        ensures next { at + 1 < 2 ^ 64 }
+        ensures sound { IsChange self.now }
     {
         &self.run.segments()[at]
     }
@@ -100,7 +104,6 @@ impl<'a, A: Allocator + Copy> Change<'a, A> {
         requires { at < length self.now.old }
         ensures { (s : SegmentView) (rest : List SegmentView) → drop at self.now.old ≡ s ∷ rest → IsTrue result ↔ IsClear self.now.was self.now.is s.first (next_first rest) }
     {
-        let _segments = self.len();
         let first = self.segment(at).first();
         none_within(self.submits.as_slice(), first, self.first(at + 1))
     }
@@ -115,7 +118,6 @@ impl<'a, A: Allocator + Copy> Change<'a, A> {
         ensures kept { IfOk result (λ kept. (s : SegmentView) (rest : List SegmentView) → drop at self.now.old ≡ s ∷ rest → IsTrue kept ↔ IsKept self.now.was self.now.is s.first (next_first rest)) }
         ensures fault { IfErr result (λ f. f ≡ RunFault.Memory) }
     {
-        let _segments = self.len();
         let old = self.segment(at);
         let now = engine.snapshot()?;
         let next = self.first(at + 1);

@@ -1,7 +1,6 @@
-ghost use Rattle.std.specs.Prelude.{◌≡◌, ◌≤◌, ◌<◌, ◌+◌, ◌∷◌, ◌++◌, [], List, true, false, drop, map, length, IfOk, IfErr, OnOk};
+ghost use Rattle.std.specs.Prelude.{◌≡◌, ◌≤◌, ◌<◌, ◌+◌, ◌^◌, ◌∷◌, ◌++◌, [], true, false, drop, map, length, IfOk, IfErr, OnOk};
 ghost use Rattle.std.specs.Arc.{arc_value};
 ghost use Rattle.checkpoints.specs.Coming.{NoneComes};
-ghost use Rattle.checkpoints.specs.Segment.{SegmentView};
 ghost use Rattle.rejoin.specs.Kept.{next_first};
 ghost use Rattle.rejoin.specs.Patch.{IsRejoined};
 ghost use Rattle.rejoin.specs.Rejoining.{Stands};
@@ -40,7 +39,6 @@ fn work_to<A: Allocator + Copy>(
     ensures reused { OnOk result (patch.new.reused ≡ patch.old.reused) }
     ensures fault { IfErr result (λ f. f ≡ RunFault.Memory) }
 {
-    let _segments = change.len();
     let end = change.first(at);
     'segments: while comes_before(&patch.engine, end) {
         let segment = next_segment(alloc, &mut patch.engine, spacing, end)?;
@@ -49,22 +47,19 @@ fn work_to<A: Allocator + Copy>(
     Ok(())
 }
 
-// Takes over the old segment at this place.
+// Takes over an old segment.
 fn take<A: Allocator + Copy>(
-    change: &Change<'_, A>,
-    at: usize,
+    segment: &Arc<Segment<A>, A>,
     patch: &mut Patch<A>,
 ) -> Result<(), RunFault>
-    requires within { at < length change.now.old }
-    requires few { patch.old.reused ≤ at }
-    ensures segments { OnOk result ((s : SegmentView) → drop at change.now.old ≡ s ∷ drop (at + 1) change.now.old → map arc_value patch.new.segments.items ≡ map arc_value patch.old.segments.items ++ s ∷ []) }
+    requires few { patch.old.reused + 1 < 2 ^ 64 }
+    ensures segments { OnOk result (map arc_value patch.new.segments.items ≡ map arc_value patch.old.segments.items ++ arc_value segment.now ∷ []) }
     ensures reused { OnOk result (patch.new.reused ≡ patch.old.reused + 1) }
     ensures handled { OnOk result (patch.new.handled ≡ patch.old.handled) }
     ensures kept { OnOk result (patch.new.kept ≡ true) }
     ensures fault { IfErr result (λ f. f ≡ RunFault.Memory) }
 {
-    let _segments = change.len();
-    let segment = change.segment(at).clone()?;
+    let segment = segment.clone()?;
     patch.segments.push(segment)?;
     patch.reused += 1;
     patch.kept = true;
@@ -88,17 +83,16 @@ fn reach<A: Allocator + Copy>(
     ensures few { OnOk result (patch.new.reused ≤ at + 1) }
     ensures fault { IfErr result (λ f. f ≡ RunFault.Memory) }
 {
-    let _segments = change.len();
     work_to(alloc, change, at, spacing, patch)?;
-    let first = change.segment(at).first();
-    if patch.engine.position() != first {
+    let segment = change.segment(at);
+    if patch.engine.position() != segment.first() {
         return Ok(());
     }
     if !change.keeps(at, &patch.engine)? {
         return Ok(());
     }
     patch.handled += patch.engine.handled();
-    take(change, at, patch)?;
+    take(segment, patch)?;
     Ok(())
 }
 
@@ -108,21 +102,19 @@ fn follow<A: Allocator + Copy>(
     alloc: A,
     change: &Change<'_, A>,
     at: usize,
-    spacing: u32,
+    _spacing: u32,
     patch: &mut Patch<A>,
 ) -> Result<(), RunFault>
     requires within { at < length change.now.old }
     requires few { patch.old.reused ≤ at }
-    requires stands { Stands change.now spacing at true patch.old.engine (map arc_value patch.old.segments.items) patch.old.handled patch.old.reused }
-    ensures stands { OnOk result (Stands change.now spacing (at + 1) patch.new.kept patch.new.engine (map arc_value patch.new.segments.items) patch.new.handled patch.new.reused) }
+    requires stands { Stands change.now _spacing at true patch.old.engine (map arc_value patch.old.segments.items) patch.old.handled patch.old.reused }
+    ensures stands { OnOk result (Stands change.now _spacing (at + 1) patch.new.kept patch.new.engine (map arc_value patch.new.segments.items) patch.new.handled patch.new.reused) }
     ensures few { OnOk result (patch.new.reused ≤ at + 1) }
     ensures fault { IfErr result (λ f. f ≡ RunFault.Memory) }
 {
-    let _segments = change.len();
-    let _spacing = spacing;
-    let _segment = change.segment(at);
+    let segment = change.segment(at);
     if change.is_clear(at) {
-        take(change, at, patch)?;
+        take(segment, patch)?;
         return Ok(());
     }
     patch.engine = change.resume(alloc, at)?;
@@ -147,7 +139,6 @@ fn finish<A: Allocator + Copy>(
         return Ok(());
     }
     work_to(alloc, change, len, spacing, patch)?;
-    let _position = patch.engine.position();
     patch.handled += patch.engine.handled();
     Ok(())
 }

@@ -5,8 +5,8 @@ ghost use Rattle.job_table.specs.Edit.{edit_of, log_after};
 ghost use Rattle.scenarios.specs.Plan.{plan_of};
 ghost use Rattle.checkpoints.specs.RunView.{IsRun};
 ghost use Rattle.checkpoints.specs.Spacing.{IsSpacing, IsRefusal};
-ghost use Rattle.rejoin.specs.Patch.{IsRejoined};
-ghost use Rattle.rejoin.specs.Touched.{IsTouched};
+ghost use Rattle.rejoin.specs.Patch.{IsRejoined, IsTakenOver};
+ghost use Rattle.rejoin.specs.Touched.{NothingTouched};
 
 use crate::change::Change;
 use crate::patch::rejoined;
@@ -27,7 +27,8 @@ pub struct Work {
 /// Simulates a table after edits, of which an old run is the simulation before them, under the old
 /// scenario: only the event seconds that lie in no kept old segment's stretch are worked, and each
 /// kept segment is taken over. The other segments hold at least one and at most `spacing` event
-/// seconds.
+/// seconds. Where the edits touch no job, all old segments are taken over and no event second is
+/// worked.
 ///
 /// Its condition: each edit is accepted, one after another, and the table is the old one after them;
 /// with no edit, an equal one. BadSpacing where `spacing` is not within 1 to 65,536; Memory where a
@@ -46,6 +47,7 @@ pub fn rerun<A: Allocator + Copy>(
     ensures setting { IfOk result (λ (again, work). again.setting ≡ run.now.setting) }
     ensures sound { IfOk result (λ (again, work). IsRun again) }
     ensures rejoined { IfOk result (λ (again, work). IsRejoined (plan_of run.now.log run.now.setting) (plan_of (arc_value table) run.now.setting) run.now.segments spacing again.segments work.handled work.reused) }
+    ensures untouched { NothingTouched (plan_of run.now.log run.now.setting) (plan_of (arc_value table) run.now.setting) → IfOk result (λ (again, work). IsTakenOver run.now.segments again.segments work.handled work.reused) }
     ensures fault { IfErr result (λ f. IsRefusal spacing f) }
 {
     if spacing < 1 || spacing > MAX_SPACING {

@@ -1,6 +1,6 @@
 use Rattle.std.proofs.Common.{rules, ◌≡◌, get_or}
 use Rattle.job_table.specs.Edit.{edit_of}
-use Rattle.rejoin.proofs.Editing.{edited-first, edited-more, edited-all}
+use Rattle.rejoin.proofs.Editing.{edited-more, edited-all}
 use Rattle.rejoin.proofs.edits.edited.Goals as goal
 
 pub loop-edit-preserved : goal.loop-edit-preserved

@@ -1,9 +1,8 @@
-use Rattle.std.proofs.Common.{rules, ◌≡◌, ◌+◌, ◌≤◌, false, true, map, drop, length, sym, ap, subst, arith, List, Fits, w64}
+use Rattle.std.proofs.Common.{◌+◌, map, length, sym, subst, arith}
 use Rattle.std.specs.Arc.{arc_value}
-use Rattle.checkpoints.specs.Segment.{SegmentView}
 use Rattle.rejoin.specs.Patch.{IsRejoined}
 use Rattle.rejoin.specs.Rejoining.{Stands}
-use Rattle.rejoin.proofs.Turns.{done-kept, done-worked, stands-few, stands-taken}
+use Rattle.rejoin.proofs.Turns.{done-kept, done-worked, stands-short}
 use Rattle.rejoin.proofs.patch.finish.Goals as goal
 
 pub work_to-requires-clause-stands : goal.work_to-requires-clause-stands
@@ -21,10 +20,8 @@ returns-then-patch-clause-done g c =
 pub overflow_add-patch : goal.overflow_add-patch
 overflow_add-patch g c =
     let p = c.work_to.new.patch in
-    let few = stands-few c.args.change.now c.args.spacing c.len-len.result p.engine (map arc_value p.segments.items) p.handled p.reused c.in_ok-work_to.ensures.stands in
-    let here : p.handled + c.handled.result ≤ c.position-position.result = omega (arith, few, c.handled.ensures, c.position-position.ensures) in
-    let fits : Fits w64 c.position-position.result = search rules in
-    omega (arith, here, fits)
+    let few = stands-short c.args.change.now c.len-len.ensures.sound c.args.spacing c.len-len.result p.engine (map arc_value p.segments.items) p.handled p.reused c.in_ok-work_to.ensures.stands in
+    omega (arith, few, c.handled.ensures)
 
 pub returns-clause-done : goal.returns-clause-done
 returns-clause-done g c =

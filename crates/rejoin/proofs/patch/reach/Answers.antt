@@ -1,22 +1,20 @@
-use Rattle.std.proofs.Common.{rules, ◌≡◌, ◌∙◌, ◌+◌, ◌≤◌, ◌∷◌, ◌++◌, [], false, true, map, drop, sym, ap, subst, arith, List, Fits, w64}
+use Rattle.std.proofs.Common.{rules, ◌≡◌, ◌∙◌, ◌+◌, ◌∷◌, ◌++◌, [], false, true, map, drop, sym, ap, arith, List}
 use Rattle.std.specs.Arc.{arc_value}
 use Rattle.std.proofs.lemmas.Bool.{false≢true}
 use Rattle.checkpoints.specs.Segment.{SegmentView}
-use Rattle.rejoin.specs.Rejoining.{Stands}
-use Rattle.rejoin.proofs.Deciding.{heads}
-use Rattle.rejoin.proofs.Turns.{pass-missed, pass-refused, keep-reached, stands-begins, stands-few, stands-passed, stands-taken}
+use Rattle.rejoin.proofs.Turns.{pass-missed, pass-refused, keep-reached, stands-begins, stands-short, stands-passed, stands-taken}
 use Rattle.rejoin.proofs.patch.reach.Goals as goal
 
 pub returns-then-position-first-clause-stands : goal.returns-then-position-first-clause-stands
 returns-then-position-first-clause-stands g c =
     let change = c.args.change.now in
     let p = c.work_to.new.patch in
-    let s = arc_value c.segment.result.now in
-    let here = c.segment.ensures in
+    let s = arc_value c.segment-segment.result.now in
+    let here = c.segment-segment.ensures.here in
     let ss : List SegmentView = map arc_value p.segments.items in
     let other : p.engine.position ≡ s.first → ⊥ = search rules in
     stands-passed change c.args.spacing (c.args.at + 1) p.kept p.engine ss p.handled p.reused (c.in_ok-work_to.ensures.kept ∙ c.requires.behind)
-    (pass-missed change c.len-segments.ensures.sound c.args.spacing c.args.at s here p.engine ss p.handled p.reused c.in_ok-work_to.ensures.stands c.in_ok-work_to.ensures.reached other)
+    (pass-missed change c.segment-segment.ensures.sound c.args.spacing c.args.at s here p.engine ss p.handled p.reused c.in_ok-work_to.ensures.stands c.in_ok-work_to.ensures.reached other)
 
 pub keeps-requires-clause-begins : goal.keeps-requires-clause-begins
 keeps-requires-clause-begins g c =
@@ -27,32 +25,30 @@ pub returns-then-not-branch-clause-stands : goal.returns-then-not-branch-clause-
 returns-then-not-branch-clause-stands g c =
     let change = c.args.change.now in
     let p = c.work_to.new.patch in
-    let s = arc_value c.segment.result.now in
+    let s = arc_value c.segment-segment.result.now in
     let rest = drop (c.args.at + 1) change.old in
-    let here = c.segment.ensures in
+    let here = c.segment-segment.ensures.here in
     let fails : c.in_ok-keeps.field-0 ≡ false = search rules in
     stands-passed change c.args.spacing (c.args.at + 1) p.kept p.engine (map arc_value p.segments.items) p.handled p.reused (c.in_ok-work_to.ensures.kept ∙ c.requires.behind)
-    (pass-refused change c.len-segments.ensures.sound c.args.spacing c.args.at s here p.engine (map arc_value p.segments.items) p.handled p.reused c.in_ok-work_to.ensures.stands
+    (pass-refused change c.segment-segment.ensures.sound c.args.spacing c.args.at s here p.engine (map arc_value p.segments.items) p.handled p.reused c.in_ok-work_to.ensures.stands
     (λ k. false≢true (sym fails ∙ (c.in_ok-keeps.ensures.kept s rest here).1 k)))
 
 pub overflow_add-patch : goal.overflow_add-patch
 overflow_add-patch g c =
     let p = c.work_to.new.patch in
-    let few = stands-few c.args.change.now c.args.spacing c.args.at p.engine (map arc_value p.segments.items) p.handled p.reused c.in_ok-work_to.ensures.stands in
-    let here : p.handled + c.handled.result ≤ c.position.result = omega (arith, few, c.handled.ensures, c.position.ensures) in
-    let fits : Fits w64 c.position.result = search rules in
-    omega (arith, here, fits)
+    let few = stands-short c.args.change.now c.segment-segment.ensures.sound c.args.spacing c.args.at p.engine (map arc_value p.segments.items) p.handled p.reused c.in_ok-work_to.ensures.stands in
+    omega (arith, few, c.handled.ensures)
 
 pub returns-clause-stands : goal.returns-clause-stands
 returns-clause-stands g c =
     let change = c.args.change.now in
     let p = c.work_to.new.patch in
-    let s = arc_value c.segment.result.now in
+    let s = arc_value c.segment-segment.result.now in
     let rest = drop (c.args.at + 1) change.old in
-    let here = c.segment.ensures in
+    let here = c.segment-segment.ensures.here in
     let ss : List SegmentView = map arc_value p.segments.items in
     let holds : c.in_ok-keeps.field-0 ≡ true = search rules in
     let reached : p.engine.position ≡ s.first = search rules in
     stands-taken change c.args.spacing (c.args.at + 1) c.take.new.patch.kept c.take.new.patch.engine (map arc_value c.take.new.patch.segments.items) (ss ++ s ∷ []) c.take.new.patch.handled (p.handled + p.engine.handled) c.take.new.patch.reused (p.reused + 1)
-    c.in_ok-take.ensures.kept (c.in_ok-take.ensures.segments s here) (c.in_ok-take.ensures.handled ∙ ap (λ n. p.handled + n) c.handled.ensures) c.in_ok-take.ensures.reused
-    (keep-reached change c.len-segments.ensures.sound c.args.spacing c.args.at s here p.engine c.take.new.patch.engine ss p.handled p.reused c.in_ok-work_to.ensures.stands reached ((c.in_ok-keeps.ensures.kept s rest here).0 holds))
+    c.in_ok-take.ensures.kept c.in_ok-take.ensures.segments (c.in_ok-take.ensures.handled ∙ ap (λ n. p.handled + n) c.handled.ensures) c.in_ok-take.ensures.reused
+    (keep-reached change c.segment-segment.ensures.sound c.args.spacing c.args.at s here p.engine c.take.new.patch.engine ss p.handled p.reused c.in_ok-work_to.ensures.stands reached ((c.in_ok-keeps.ensures.kept s rest here).0 holds))

@@ -1,4 +1,4 @@
-use Rattle.std.proofs.Common.{◌≡◌, map, ap, arith}
+use Rattle.std.proofs.Common.{map, ap, arith}
 use Rattle.std.specs.Arc.{arc_value}
 use Rattle.rejoin.proofs.Turns.{stands-begun}
 use Rattle.rejoin.proofs.patch.rejoined.Goals as goal

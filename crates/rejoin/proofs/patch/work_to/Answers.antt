@@ -1,4 +1,4 @@
-use Rattle.std.proofs.Common.{◌≡◌, ◌≤◌, false, map, subst, sym, List, IfSome}
+use Rattle.std.proofs.Common.{◌≤◌, false, map, subst, sym, List, IfSome}
 use Rattle.std.specs.Arc.{arc_value}
 use Rattle.checkpoints.specs.Segment.{SegmentView}
 use Rattle.checkpoints.proofs.Worked.{push-seen}
@@ -13,7 +13,7 @@ segments-preserved g c =
     let s = c.in_ok-segment.segment in
     let before' : List SegmentView = map arc_value c.segments.patch.segments.items in
     let more = stands-worked c.args.change.now c.args.spacing c.args.at now new before' s c.segments.patch.handled c.segments.patch.reused c.segments.invariant.stands c.in_ok-segment.ensures.plan c.in_ok-segment.ensures.going c.in_ok-segment.ensures.spans
-    (subst (λ o. IfSome o (λ e. new.position ≤ e)) c.first-end.ensures c.in_ok-segment.ensures.within) c.in_ok-segment.ensures.short c.in_ok-segment.ensures.counted in
+    (subst (λ o. IfSome o (λ e. new.position ≤ e)) c.first-end.ensures.first c.in_ok-segment.ensures.within) c.in_ok-segment.ensures.short c.in_ok-segment.ensures.counted in
     record {
       stands = subst (λ (ss : List SegmentView). Stands c.args.change.now c.args.spacing c.args.at false new ss c.segments.patch.handled c.segments.patch.reused)
           (sym (push-seen arc_value c.segments.patch.segments.items c.push.new.self.items c.in_ok-new.field-0 s c.in_ok-push.ensures.items c.in_ok-new.ensures.ok)) more;
@@ -23,4 +23,4 @@ segments-preserved g c =
 
 pub segments-smaller : goal.segments-smaller
 segments-smaller g c =
-    work-down c.args.change.now c.len-segments.ensures.sound c.args.spacing c.args.at c.segments.patch.engine c.next_segment.new.engine (map arc_value c.segments.patch.segments.items) c.in_ok-segment.segment c.segments.patch.handled c.segments.patch.reused c.segments.invariant.stands c.in_ok-segment.ensures.spans
+    work-down c.args.change.now c.first-end.ensures.sound c.args.spacing c.args.at c.segments.patch.engine c.next_segment.new.engine (map arc_value c.segments.patch.segments.items) c.in_ok-segment.segment c.segments.patch.handled c.segments.patch.reused c.segments.invariant.stands c.in_ok-segment.ensures.spans

@@ -2,6 +2,7 @@ use Rattle.std.proofs.Common.{rules, ◌≡◌, map}
 use Rattle.std.specs.Arc.{arc_value}
 use Rattle.scenarios.specs.Plan.{plan_of}
 use Rattle.rejoin.proofs.Turns.{rejoined-cut}
+use Rattle.rejoin.proofs.Untouched.{taken-over-all}
 use Rattle.rejoin.proofs.simulation.rerun.Goals as goal
 
 pub of_segments-requires : goal.of_segments-requires
@@ -10,3 +11,10 @@ of_segments-requires g c =
     let patch = c.in_ok-patch.patch in
     let plan : change.is ≡ plan_of (arc_value c.in_ok-clone.field-0) c.scenario.result = search rules in
     rejoined-cut change.was change.is (plan_of (arc_value c.in_ok-clone.field-0) c.scenario.result) change.old c.args.spacing (map arc_value patch.segments.items) patch.handled patch.reused c.in_ok-patch.ensures.rejoined plan
+
+pub returns-clause-untouched : goal.returns-clause-untouched
+returns-clause-untouched g c =
+    let change = c.in_ok-change.change in
+    let patch = c.in_ok-patch.patch in
+    taken-over-all change (plan_of c.args.run.now.log c.args.run.now.setting) (plan_of (arc_value c.args.table) c.args.run.now.setting) c.args.run.now.segments (map arc_value patch.segments.items) c.in_ok-again.again.segments c.args.spacing patch.handled patch.reused
+    c.in_ok-change.ensures.sound c.in_ok-change.ensures.was c.in_ok-change.ensures.is c.in_ok-change.ensures.old c.in_ok-again.ensures.segments c.in_ok-patch.ensures.rejoined

@@ -11,4 +11,4 @@ resume-requires g c =
     let first : c.first.result ≡ seg.first = search rules in
     let was : c.before-2.result.now ≡ seg.before = search rules in
     let plan : change.is ≡ plan_of (arc_value c.in_ok-table.table) c.scenario.result = search rules in
-    resumed-from change.is (plan_of (arc_value c.in_ok-table.table) c.scenario.result) seg c.before-2.result.now c.first.result (c.requires.snapshot seg (drop (c.args.at + 1) change.old) c.segment-old.ensures) was first plan
+    resumed-from change.is (plan_of (arc_value c.in_ok-table.table) c.scenario.result) seg c.before-2.result.now c.first.result (c.requires.snapshot seg (drop (c.args.at + 1) change.old) c.segment-old.ensures.here) was first plan
