@@ -24,21 +24,23 @@ use swf_text::Memory;
 #[derive(Drop)]
 pub(crate) struct Change<'a, A: Allocator + Copy> {
     run: &'a Run<A>,
+    segments: &'a [Arc<Segment<A>, A>],
     table: &'a Arc<JobTable<A>, A>,
     touched: Vec<u64, A>,
     submits: Vec<u64, A>,
 }
 
 impl<'a, A: Allocator + Copy> Model for Change<'a, A> {
+    ghost use Rattle.std.specs.Prelude.{map};
     ghost use Rattle.std.specs.Arc.{arc_value};
     ghost use Rattle.scenarios.specs.Plan.{plan_of};
     ghost use Rattle.rejoin.specs.Rejoining.{ChangeView, IsChange};
 
     ghost Value = { ChangeView };
 
-    ghost view = { λ c. record { was = plan_of c.run.now.log c.run.now.setting; is = plan_of (arc_value c.table.now) c.run.now.setting; old = c.run.now.segments; touched = c.touched.items; submits = c.submits.items } };
+    ghost view = { λ c. record { was = plan_of c.run.now.log c.run.now.setting; is = plan_of (arc_value c.table.now) c.run.now.setting; old = map arc_value c.segments.now; touched = c.touched.items; submits = c.submits.items } };
 
-    ghost invariant = { λ c. IsChange (record { was = plan_of c.run.now.log c.run.now.setting; is = plan_of (arc_value c.table.now) c.run.now.setting; old = c.run.now.segments; touched = c.touched.items; submits = c.submits.items }) };
+    ghost invariant = { λ c. IsChange (record { was = plan_of c.run.now.log c.run.now.setting; is = plan_of (arc_value c.table.now) c.run.now.setting; old = map arc_value c.segments.now; touched = c.touched.items; submits = c.submits.items }) };
 }
 
 impl<'a, A: Allocator + Copy> Change<'a, A> {
@@ -59,11 +61,11 @@ impl<'a, A: Allocator + Copy> Change<'a, A> {
         let scenario = run.scenario();
         is_plan(run.table(), &scenario);
         is_plan(table, &scenario);
-        let _segments = run.segments();
         let touched = touched_numbers(alloc, run, edits, table)?;
         let submits = touched_submits(alloc, run, table, touched.as_slice())?;
         Ok(Change {
             run,
+            segments: run.segments(),
             table,
             touched,
             submits,
@@ -75,7 +77,7 @@ impl<'a, A: Allocator + Copy> Change<'a, A> {
         ensures count { result ≡ length self.now.old }
         ensures sound { IsChange self.now }
     {
-        self.run.segments().len()
+        self.segments.len()
     }
 
     // The first second of the old segment at this place; None behind the last.
@@ -96,7 +98,8 @@ impl<'a, A: Allocator + Copy> Change<'a, A> {
         ensures next { at + 1 < 2 ^ 64 }
         ensures sound { IsChange self.now }
     {
-        &self.run.segments()[at]
+        let segments = self.segments;
+        &segments[at]
     }
 
     // Whether no touched number is submitted in the stretch of the old segment at this place.
