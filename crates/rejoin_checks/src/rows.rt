@@ -10,7 +10,7 @@ use scenarios::{Order, Scenario};
 use std::alloc::Global;
 use std::process::Abort;
 use std::sync::Arc;
-use swf_text::{Value, read_swf};
+use swf_text::{Entry, Value, read_swf};
 
 /// Jobs of sizes 6, 8, 4 and 2 at 0 to 3.
 const FOUR: &[u8] = b"1 0 -1 100 6 -1 -1 6 100 -1 1 7 -1 -1 -1 -1 -1 -1
@@ -44,12 +44,28 @@ const LONG: &[u8] = b"1 0 -1 50 10 -1 -1 10 100 -1 1 7 -1 -1 -1 -1 -1 -1
 2 10 -1 10 10 -1 -1 10 100 -1 1 7 -1 -1 -1 -1 -1 -1
 ";
 
-/// A log on ten processors with a segment for each event second, changes of fields of its jobs, and
-/// what is worked and taken over then.
+/// An entry without processors, which is skipped.
+const SKIPPED: &[u8] = b"1 0 -1 5 -1 -1 -1 -1 5 -1 1 7 -1 -1 -1 -1 -1 -1\n";
+
+/// Jobs of the whole machine that join it.
+const SECOND: &[u8] = b"2 5 -1 10 10 -1 -1 10 10 -1 1 7 -1 -1 -1 -1 -1 -1\n";
+
+const THIRD: &[u8] = b"3 8 -1 20 10 -1 -1 10 20 -1 1 7 -1 -1 -1 -1 -1 -1\n";
+
+/// An edit, as it is written.
+enum Written {
+    /// A field of a job gets another value.
+    Change(u64, u8, &'static [u8]),
+    /// The entry of this line joins the log.
+    Insert(&'static [u8]),
+}
+
+/// A log on ten processors with a segment for each event second, edits of it, and what is worked
+/// and taken over then.
 struct Row {
     log: &'static [u8],
-    changes: &'static [(u64, u8, &'static [u8])],
-    /// The most event seconds that are worked.
+    edits: &'static [Written],
+    /// The event seconds that are worked.
     handled: u64,
     /// The first seconds of the segments that are taken over.
     reused: &'static [u64],
@@ -62,7 +78,7 @@ const ROWS: &[Row] = &[
     // Job 3 is submitted later: 3, 100, 150, 300, 390 and 503 are worked.
     Row {
         log: FOUR,
-        changes: &[(3, 2, b"300")],
+        edits: &[Written::Change(3, 2, b"300")],
         handled: 6,
         reused: &[0, 1],
         starts: &[(1, 0), (2, 100), (4, 3), (3, 300)],
@@ -70,7 +86,7 @@ const ROWS: &[Row] = &[
     // Job 2 runs longer: 100, 120 and 200.
     Row {
         log: THREE,
-        changes: &[(2, 4, b"20"), (2, 9, b"20")],
+        edits: &[Written::Change(2, 4, b"20"), Written::Change(2, 9, b"20")],
         handled: 3,
         reused: &[0, 1, 201],
         starts: &[(1, 0), (2, 100), (3, 200)],
@@ -78,7 +94,7 @@ const ROWS: &[Row] = &[
     // Job 1 runs longer, and the same numbers wait and run at 1 and 11: 0, 10, 70 and 80.
     Row {
         log: SHORT,
-        changes: &[(1, 4, b"70")],
+        edits: &[Written::Change(1, 4, b"70")],
         handled: 4,
         reused: &[],
         starts: &[(1, 0), (2, 70)],
@@ -86,7 +102,7 @@ const ROWS: &[Row] = &[
     // A field that no job depends on.
     Row {
         log: FOUR,
-        changes: &[(1, 3, b"5")],
+        edits: &[Written::Change(1, 3, b"5")],
         handled: 0,
         reused: &[0, 1, 2, 3, 4, 93, 101, 151],
         starts: &[(1, 0), (2, 100), (3, 2), (4, 92)],
@@ -94,7 +110,12 @@ const ROWS: &[Row] = &[
     // Jobs 2 and 5 run longer: 100, 120, 200, 400, 420 and 500.
     Row {
         log: SIX,
-        changes: &[(2, 4, b"20"), (2, 9, b"20"), (5, 4, b"20"), (5, 9, b"20")],
+        edits: &[
+            Written::Change(2, 4, b"20"),
+            Written::Change(2, 9, b"20"),
+            Written::Change(5, 4, b"20"),
+            Written::Change(5, 9, b"20"),
+        ],
         handled: 6,
         reused: &[0, 1, 201, 211, 301, 501],
         starts: &[(1, 0), (2, 100), (3, 200), (4, 300), (5, 400), (6, 500)],
@@ -102,10 +123,18 @@ const ROWS: &[Row] = &[
     // Job 2 runs longer: 10, 50 and 70.
     Row {
         log: LONG,
-        changes: &[(2, 4, b"20")],
+        edits: &[Written::Change(2, 4, b"20")],
         handled: 3,
         reused: &[0],
         starts: &[(1, 0), (2, 50)],
+    },
+    // There was no job, and two come: 5, 8, 15 and 35.
+    Row {
+        log: SKIPPED,
+        edits: &[Written::Insert(SECOND), Written::Insert(THIRD)],
+        handled: 4,
+        reused: &[],
+        starts: &[(2, 5), (3, 15)],
     },
 ];
 
@@ -116,18 +145,29 @@ fn run_of(alloc: Global, log: &[u8], order: Order) -> Option<Run<Global>> {
     simulate(alloc, table, Scenario::new(10, 1000)?.ordered(order), 1).ok()
 }
 
-// The edits that make these changes.
-fn edits_of(alloc: Global, changes: &[(u64, u8, &'static [u8])]) -> Option<Vec<Edit<Global>>> {
+// The entry of a line.
+fn read_entry(alloc: Global, line: &[u8]) -> Option<Entry<Global>> {
+    let text = read_swf(alloc, line).ok()?;
+    text.entries().first()?.copy().ok()
+}
+
+// The edit that is written so.
+fn read_edit(alloc: Global, written: &Written) -> Option<Edit<Global>> {
+    match written {
+        Written::Change(number, field, value) => Some(Edit::Change {
+            number: *number,
+            field: *field,
+            value: Value::from_bytes(value)?,
+        }),
+        Written::Insert(line) => Some(Edit::Insert(read_entry(alloc, line)?)),
+    }
+}
+
+// The edits that are written so.
+fn edits_of(alloc: Global, written: &[Written]) -> Option<Vec<Edit<Global>>> {
     let mut edits = Vec::new(alloc);
-    for (number, field, value) in changes {
-        let value = Value::from_bytes(value)?;
-        edits
-            .push(Edit::Change {
-                number: *number,
-                field: *field,
-                value,
-            })
-            .ok()?;
+    for each in written {
+        edits.push(read_edit(alloc, each)?).ok()?;
     }
     Some(edits)
 }
@@ -178,7 +218,7 @@ fn all_begin(run: &Run<Global>, seconds: &[u64]) -> bool {
 fn answers(alloc: Global, row: &Row, run: &Run<Global>, edits: &[Edit<Global>]) -> Option<bool> {
     let table = table_after(alloc, run, edits)?;
     let (again, work) = rerun(alloc, run, edits, table, 1).ok()?;
-    if work.handled > row.handled || work.reused != row.reused.len() as u64 {
+    if work.handled != row.handled || work.reused != row.reused.len() as u64 {
         return Some(false);
     }
     Some(has_starts(&again, row.starts) && all_begin(&again, row.reused))
@@ -187,7 +227,7 @@ fn answers(alloc: Global, row: &Row, run: &Run<Global>, edits: &[Edit<Global>]) 
 // Whether a row holds in this order of backfills.
 fn holds(alloc: Global, row: &Row, order: Order) -> Option<bool> {
     let run = run_of(alloc, row.log, order)?;
-    let edits = edits_of(alloc, row.changes)?;
+    let edits = edits_of(alloc, row.edits)?;
     answers(alloc, row, &run, edits.as_slice())
 }
 
