@@ -1,20 +1,9 @@
 -- What an edit of one chunk makes of a row.
-use Rattle.std.proofs.Common.{◌≡◌, ℕ, zero, suc, ◌+◌, ◌-◌, ◌<◌, ◌≤◌, Bool, true, false, nat_le, if◌then◌else◌, List, [], ◌∷◌, ◌++◌, length, take, drop, get_or, set, insert, remove, refl, ap, sym, subst, ◌∙◌, append_assoc, arith}
-use Rattle.std.proofs.lemmas.Bool.Decides.{nat_tests}
+use Rattle.std.proofs.Common.{◌≡◌, ℕ, zero, suc, ◌+◌, ◌-◌, ◌<◌, ◌≤◌, List, [], ◌∷◌, ◌++◌, length, take, drop, get_or, set, insert, remove, refl, ap, sym, subst, ◌∙◌, append_assoc, arith}
 use Rattle.std.proofs.lemmas.List.{set-append_left, set-append_right}
 use Rattle.std.proofs.lemmas.List.Concat.{flat_map-append}
 use Rattle.std.proofs.lemmas.List.Edits.{insert-append_left, insert-append_right, remove-append_left, remove-append_right}
-use Rattle.chunks.specs.Chunks.{flat, start, moved, AreSized}
-
-pub moved-most : (n : ℕ) → n ≤ 257 → moved n ≤ 129
-moved-most n h = go (nat_le n 256)
-  where
-    go : (b : Bool) → (if b then 0 else n - 128) ≤ 129
-    go true = omega arith
-    go false = omega arith
-
-pub moved-none : (n : ℕ) → n ≤ 256 → moved n ≡ 0
-moved-none n h = let e : nat_le n 256 ≡ true = grind (arith, nat_tests) in rw e refl
+use Rattle.chunks.specs.Chunks.{flat, start, AreSized}
 
 module _ {X : Type 0} where
   -- ---- one chunk among the others

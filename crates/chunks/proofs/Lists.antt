@@ -1,12 +1,11 @@
 -- A list in chunks, read as one list.
-use Rattle.std.proofs.Common.{◌≡◌, ℕ, zero, suc, ◌+◌, ◌-◌, ◌<◌, ◌≤◌, List, [], ◌∷◌, ◌++◌, length, length-drop, take, drop, get_or, slice_get, refl, ap, sym, subst, ◌∙◌, arith, append_assoc}
+use Rattle.std.proofs.Common.{◌≡◌, ℕ, zero, suc, ◌+◌, ◌-◌, ◌<◌, ◌≤◌, List, [], ◌∷◌, ◌++◌, length, length-drop, take, drop, get_or, slice_get, refl, ap, sym, subst, ◌∙◌, arith}
 use Rattle.std.specs.List.Sorted.{IsPartitionedBy}
 use Rattle.std.proofs.Math.Seq.{drop-append-add}
-use Rattle.std.proofs.lemmas.List.{drop-append-le, take_all, append-nil}
-use Rattle.std.proofs.lemmas.List.Concat.{flat_map-append}
+use Rattle.std.proofs.lemmas.List.{drop-append-le, take_all}
 use Rattle.std.specs.declared.sync.Arc.{Arc}
 use Rattle.std.specs.declared.vec.Vec.{Vec}
-use Rattle.chunks.specs.Chunks.{flat, contents, start, stands, place_in, touched, joining, moved, IsFront, AreSized, AreWhole, AreFull}
+use Rattle.chunks.specs.Chunks.{flat, contents, start, stands, place_in, touched, joining, moved, AreSized, AreWhole, AreFull}
 use Rattle.chunks.proofs.Changes.{flat_at}
 
 add_parts : (a b c : ℕ) → a + b + c ≡ a + (b + c)
@@ -35,22 +34,12 @@ module _ {X : Type 0} where
       go (b ∷ d ∷ bs) t = (t.0, go (d ∷ bs) t.1)
 
   -- ---- one chunk more at the end
-  pub flat_push : (cs : List (List X)) (c : List X) → flat (cs ++ c ∷ []) ≡ flat cs ++ c
-  flat_push cs c = flat_map-append (λ (x : List X). x) cs (c ∷ []) ∙ ap (λ (x : List X). flat cs ++ x) (append-nil c)
-
   pub sized_push : (cs : List (List X)) (c : List X) → AreSized cs → 1 ≤ length c → length c ≤ 256 → AreSized (cs ++ c ∷ [])
   sized_push [] c s low high = (record { low = low; high = high }, tt)
   sized_push (d ∷ cs) c s low high = (s.0, sized_push cs c s.1 low high)
 
   pub sized_full : (cs ds : List (List X)) (c : List X) → ds ≡ cs ++ c ∷ [] → AreSized cs → 1 ≤ length c → length c ≤ 256 → AreSized ds
   sized_full cs ds c e s low high = subst AreSized (sym e) (sized_push cs c s low high)
-
-  pub flat_open : (cs : List (List X)) (kept new : List X) (item : X) → new ≡ kept ++ item ∷ [] → flat cs ++ new ≡ flat cs ++ kept ++ item ∷ []
-  flat_open cs kept new item e = ap (λ (x : List X). flat cs ++ x) e ∙ sym (append_assoc (flat cs) kept (item ∷ []))
-
-  pub flat_full : (cs ds : List (List X)) (kept none new : List X) (item : X) → ds ≡ cs ++ kept ∷ [] → none ≡ [] → new ≡ none ++ item ∷ [] → flat ds ++ new ≡ flat cs ++ kept ++ item ∷ []
-  flat_full cs ds kept none new item e f h =
-      ap (λ (r : List (List X)). flat r ++ new) e ∙ ap (λ (x : List X). x ++ new) (flat_push cs kept) ∙ ap (λ (x : List X). flat cs ++ kept ++ x) (h ∙ ap (λ (x : List X). x ++ item ∷ []) f)
 
   -- ---- the element at a place
   pub slice_get-drop : (n : ℕ) (xs : List X) → slice_get (drop n xs) 0 ≡ slice_get xs n
@@ -68,35 +57,6 @@ module _ {X : Type 0} where
       ap (λ (x : List X). x ++ flat later) (front ∙ ap (drop at) e) ∙ ap (λ (r : List (List X)). drop at (get_or cs k []) ++ flat r) (f ∙ ap (λ (m : ℕ). drop m cs) next)
       ∙ sym (drop-append-le at (get_or cs k []) (flat (drop (suc k) cs)) le)
       ∙ sym (ap (drop (start k cs + at)) (flat_at k cs) ∙ drop-append-add (flat (take k cs)) (get_or cs k [] ++ flat (drop (suc k) cs)) at)
-
-  -- ---- elements before those of some chunks
-  pub front_some : (xs : List X) (cs : List (List X)) → 1 ≤ length xs → IsFront xs cs
-  front_some [] cs low = absurd (omega (arith, low))
-  front_some (x ∷ xs) cs low = tt
-
-  pub front_first : (cs later : List (List X)) (chunk : List X) → AreSized cs → chunk ≡ get_or cs 0 [] → later ≡ drop (0 + 1) cs → IsFront chunk later
-  front_first cs later chunk s e f = subst (λ (c : List X). IsFront c later) (sym e) (subst (λ (r : List (List X)). IsFront (get_or cs 0 []) r) (sym f) (go cs s))
-    where
-      go : (ds : List (List X)) → AreSized ds → IsFront (get_or ds 0 []) (drop 1 ds)
-      go [] t = tt
-      go (d ∷ ds) t = front_some d ds t.0.low
-
-  pub flat_first : (xs : List X) (cs later : List (List X)) (chunk : List X) → length xs ≡ 0 → chunk ≡ get_or cs 0 [] → later ≡ drop (0 + 1) cs → chunk ++ flat later ≡ xs ++ flat cs
-  flat_first [] cs later chunk none e f = ap (λ (c : List X). c ++ flat later) e ∙ ap (λ (r : List (List X)). get_or cs 0 [] ++ flat r) f ∙ go cs
-    where
-      go : (ds : List (List X)) → get_or ds 0 [] ++ flat (drop 1 ds) ≡ flat ds
-      go [] = refl
-      go (d ∷ ds) = refl
-  flat_first (x ∷ xs) cs later chunk none e f = absurd (omega (arith, none))
-
-  pub first_is : (xs : List X) (cs : List (List X)) → IsFront xs cs → slice_get xs 0 ≡ slice_get (xs ++ flat cs) 0
-  first_is [] [] h = refl
-  first_is [] (c ∷ cs) h = absurd h
-  first_is (x ∷ xs) cs h = refl
-
-  pub none_left : (cs : List (List X)) → IsFront [] cs → flat cs ≡ []
-  none_left [] h = refl
-  none_left (c ∷ cs) h = absurd h
 
   -- ---- what a search wants and gives
   module _ {A : Type 0} (first second : X → ℕ) (a b p q : ℕ) (rows inside : List (Arc (Vec X A) A)) (cs : List (List X)) (same : rows ≡ inside) (view : contents inside ≡ cs) (one : a ≡ p) (two : b ≡ q) where

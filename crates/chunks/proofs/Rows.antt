@@ -1,6 +1,6 @@
 -- Rows of shared chunks, read as lists.
-use Rattle.std.proofs.Common.{◌≡◌, ℕ, ◌+◌, ◌<◌, ◌≤◌, arith, List, [], ◌∷◌, ◌++◌, length, take, drop, get_or, ap, sym, ◌∙◌, append_assoc, take-append-drop}
-use Rattle.std.proofs.lemmas.List.{map_push, take_more, get_or-map, append-nil, length-map, take-map, drop-map, drop_all, get_or_past}
+use Rattle.std.proofs.Common.{◌≡◌, ℕ, ◌+◌, ◌<◌, List, [], ◌∷◌, ◌++◌, length, take, drop, get_or, ap, sym, ◌∙◌, append_assoc, take-append-drop}
+use Rattle.std.proofs.lemmas.List.{map_push, take_more, get_or-map, append-nil, length-map, take-map, drop-map}
 use Rattle.std.specs.declared.sync.Arc.{Arc}
 use Rattle.std.specs.declared.vec.Vec.{Vec}
 use Rattle.chunks.specs.Chunks.{flat, contents}
@@ -49,12 +49,6 @@ module _ {X A : Type 0} where
   pub after_is : (row : List (Arc (Vec X A) A)) (k : ℕ) → contents (drop (k + 1) row) ≡ drop (k + 1) (contents row)
   after_is row k = sym (drop-map items_of (k + 1) row)
 
-  pub after_all : (row : List (Arc (Vec X A) A)) (k : ℕ) → length row ≤ k → [] ≡ drop (k + 1) (contents row)
-  after_all row k h = let n : length (contents row) ≡ length row = length-map row items_of in sym (drop_all (k + 1) (contents row) (omega arith))
-
   -- the elements of one chunk
   pub chunk_at : (row : List (Arc (Vec X A) A)) (k : ℕ) (chunk : Arc (Vec X A) A) → k < length row → chunk ≡ get_or row k chunk → items_of chunk ≡ get_or (contents row) k []
   chunk_at row k chunk h e = ap items_of e ∙ sym (get_or-map items_of row k chunk [] h)
-
-  pub chunk_past : (row : List (Arc (Vec X A) A)) (k : ℕ) → length row ≤ k → [] ≡ get_or (contents row) k []
-  chunk_past row k h = let n : length (contents row) ≡ length row = length-map row items_of in sym (get_or_past (contents row) k [] (omega arith))
