@@ -12,3 +12,4 @@ pub mod Edited
 pub mod Stored
 pub mod Accepted
 pub mod Counted
+pub mod FromZero

@@ -1,4 +1,4 @@
--- The entries of a table, from its first one on.
+-- All entries of a table come from second 0 on.
 use Rattle.std.proofs.Common.{◌≡◌, List, [], ◌∷◌, nat_le, refl, ap, ◌∙◌, arith}
 use Rattle.std.proofs.lemmas.Bool.{cond-true, le-leb}
 use Rattle.swf_text.specs.Entry.{LogEntry, submit_of}
