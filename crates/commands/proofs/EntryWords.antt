@@ -6,8 +6,8 @@ use Rattle.std.proofs.Math.Seq.{take-suc-set}
 use Rattle.std.proofs.Math.ListN.{drop_of_length-le}
 use Rattle.std.proofs.lemmas.Grind.{common_steps}
 use Rattle.std.proofs.lemmas.List.{append-nil, take_all}
-use Rattle.swf_text.specs.Number.{Spells, are_digits, decimal, number_of}
-use Rattle.swf_text.specs.Entry.{field, whole_number, is_negative, is_partial, entry_made}
+use Rattle.swf_text.specs.Number.{Spells, are_digits, decimal, number_of, is_below_zero}
+use Rattle.swf_text.specs.Entry.{field, whole_number, is_partial, entry_made}
 use Rattle.swf_text.specs.Line.{value_then}
 use Rattle.swf_text.proofs.Numbers.{Spells-number_of, number_of-Spells}
 use Rattle.swf_text.proofs.Words.{onto, onto-value_then}
@@ -119,10 +119,10 @@ stands place (Some u) v h = go (may_stand place u) refl h
     go true e h' = let is : Some u ≡ Some v = rw e at h' in let same : u ≡ v = cc in ap (may_stand place) (sym same) ∙ e
     go false e h' = let wrong : None ≡ Some v = rw e at h' in absurd (cc)
 
-not_negative : (v : ℤ) → may_stand 2 v ≡ true → is_negative v ≡ false
-not_negative v h = go (is_negative v) refl h
+not_negative : (v : ℤ) → may_stand 2 v ≡ true → is_below_zero v ≡ false
+not_negative v h = go (is_below_zero v) refl h
   where
-    go : (b : Bool) → is_negative v ≡ b → may_stand 2 v ≡ true → is_negative v ≡ false
+    go : (b : Bool) → is_below_zero v ≡ b → may_stand 2 v ≡ true → is_below_zero v ≡ false
     go true e h' = let wrong : false ≡ true = rw e at h' in absurd (cc)
     go false e h' = e
 
@@ -133,7 +133,7 @@ not_partial v h = go (is_partial v) refl h
     go true e h' = let wrong : false ≡ true = rw e at h' in absurd (cc)
     go false e h' = e
 
-made_by : (values : List ℤ) (n : ℕ) → whole_number (field values 1) ≡ Some n → is_negative (field values 2) ≡ false → is_partial (field values 11) ≡ false → entry_made values [] ≡ Ok (record { main = values; parts = [] })
+made_by : (values : List ℤ) (n : ℕ) → whole_number (field values 1) ≡ Some n → is_below_zero (field values 2) ≡ false → is_partial (field values 11) ≡ false → entry_made values [] ≡ Ok (record { main = values; parts = [] })
 made_by values n number submit status = rw (number, submit, status) refl
 
 -- the values are an entry's

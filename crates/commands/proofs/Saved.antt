@@ -1,20 +1,18 @@
 -- The comments that tell of scenarios, as they are written, read and kept.
-use Rattle.std.proofs.Common.{◌≡◌, ℕ, ◌+◌, ◌-◌, ◌*◌, ◌%◌, ◌<◌, ◌≤◌, ◌^◌, Bool, true, false, ◌&&◌, ltb, leb, List, [], ◌∷◌, ◌++◌, length, get_or, take, drop, Some, refl, sym, ap, ◌∙◌, length-append, arith}
-use Rattle.std.specs.List.{list_all, position_or_len}
+use Rattle.std.proofs.Common.{◌≡◌, ℕ, ◌<◌, ◌≤◌, true, false, ◌&&◌, ltb, leb, List, [], ◌∷◌, ◌++◌, length, Some, refl, sym, ap, ◌∙◌, arith}
+use Rattle.std.specs.List.{list_all}
 use Rattle.std.specs.Char.{is_ascii_digit}
 use Rattle.std.specs.Fmt.{decimal as decimal_text}
 use Rattle.std.proofs.lemmas.Bool.{lt-ltb}
 use Rattle.std.proofs.lemmas.Bool.Decides.{nat_tests}
-use Rattle.std.proofs.lemmas.Fmt.{decimal_by_steps, decimal_nonempty, length-decimal-le}
+use Rattle.std.proofs.lemmas.Fmt.{decimal_nonempty, length-decimal-le}
 use Rattle.std.proofs.lemmas.Grind.{common_steps}
-use Rattle.std.proofs.lemmas.List.{append-nil, take_at, drop_at}
-use Rattle.std.proofs.lemmas.List.Sums.{fold-append}
-use Rattle.std.proofs.lemmas.List.Folds.{list_all-append}
-use Rattle.swf_text.specs.Number.{decimal}
+use Rattle.std.proofs.lemmas.List.{append-nil}
 use Rattle.swf_text.specs.Line.{is_blank, fields}
-use Rattle.swf_text.specs.Scan.{ends}
-use Rattle.swf_text.proofs.Numbers.{and_first, and_second}
-use Rattle.swf_text.proofs.Words.{fields-word, fields-blank}
+use Rattle.swf_text.proofs.Numbers.{and_first}
+use Rattle.swf_text.proofs.Plains.{solid_fields}
+use Rattle.swf_text.proofs.Spellings.{spelled}
+use Rattle.swf_text.proofs.Words.{fields-blank}
 use Rattle.scenarios.specs.declared.order.Order.{Order}
 use Rattle.scenarios.specs.declared.order.Order.TheVariants.{Arrival, Shortest}
 use Rattle.scenarios.specs.Name.{is_name, is_name_byte}
@@ -26,23 +24,6 @@ use Rattle.commands.proofs.LineWords.{name_bytes}
 
 -- ---- words without blanks
 
-module _ (p : ℕ → Bool) (solid : (b : ℕ) → p b ≡ true → is_blank b ≡ false) where
-  word_end : (w rest : List ℕ) → list_all p w ≡ true → ends rest ≡ true → position_or_len is_blank (w ++ rest) ≡ length w
-  word_end [] [] all end = refl
-  word_end [] (b ∷ bs) all end = rw end refl
-  word_end (b ∷ w) rest all end = let other = solid b (and_first _ _ all) in rw other (omega (arith, word_end w rest (and_second (p b) (list_all p w) all) end))
-
-  front_solid : (w rest : List ℕ) → list_all p w ≡ true → 0 < length w → is_blank (get_or (w ++ rest) 0 0) ≡ false
-  front_solid [] rest all some = absurd (omega arith)
-  front_solid (b ∷ w) rest all some = solid b (and_first _ _ all)
-
-  pub solid_fields : (w rest : List ℕ) → list_all p w ≡ true → 0 < length w → ends rest ≡ true → fields (w ++ rest) ≡ w ∷ fields rest
-  solid_fields w rest all some end =
-      let place = word_end w rest all end in
-      fields-word (w ++ rest) (omega (arith, length-append w rest)) (front_solid w rest all some)
-      ∙ ap (λ (k : ℕ). take k (w ++ rest) ∷ fields (drop k (w ++ rest))) place
-      ∙ rw (take_at w rest (length w) refl, drop_at w rest (length w) refl) refl
-
 name_solid : (b : ℕ) → is_name_byte b ≡ true → is_blank b ≡ false
 name_solid b h = grind (arith, common_steps)
 
@@ -50,21 +31,6 @@ digit_solid : (b : ℕ) → is_ascii_digit b ≡ true → is_blank b ≡ false
 digit_solid b h = grind (arith, common_steps)
 
 -- ---- numbers in digits
-
-digit_tests : (n : ℕ) → n < 10 → is_ascii_digit (48 + n) ≡ true
-digit_tests n lt = grind (arith, common_steps)
-
-abbrev Spelled : ℕ → List ℕ → Type 0
-Spelled n ds = (list_all is_ascii_digit ds ≡ true) × (decimal ds ≡ n)
-
-pub spelled : (n : ℕ) → n < 2 ^ 64 → Spelled n (decimal_text n)
-spelled n lt = decimal_by_steps Spelled
-    (λ n small. (rw (digit_tests n small) refl, omega arith))
-    (λ n ds big below. (
-      rw (list_all-append is_ascii_digit ds ((48 + n % 10) ∷ []), below.0, digit_tests (n % 10) (omega arith)) refl,
-      fold-append (λ m digit. 10 * m + (digit - 48)) 0 ds ((48 + n % 10) ∷ []) ∙ rw (below.1) (omega arith),
-    ))
-    n lt
 
 short_decimal : (n : ℕ) → n < 100000000 → short_number (decimal_text n) ≡ Some n
 short_decimal n lt =

@@ -26,7 +26,8 @@ use Rattle.commands.specs.Opening.{kept, with_setting, in_order, with_line, told
 use Rattle.commands.specs.Laws.{SavesSoundComments, SavesTheSame}
 use Rattle.commands.proofs.LineWords.{name_bytes, length-name}
 use Rattle.commands.proofs.Told.{kept-append, told_from, told_from-append}
-use Rattle.commands.proofs.Saved.{spelled, line_for, scenario_line-comment}
+use Rattle.commands.proofs.Saved.{line_for, scenario_line-comment}
+use Rattle.swf_text.proofs.Spellings.{spelled}
 
 leb_of : (a b : ℕ) → a ≤ b → leb a b ≡ true
 leb_of a b h = grind (arith, nat_tests)

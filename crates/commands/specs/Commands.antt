@@ -1,6 +1,7 @@
 -- The commands of a script: one a line, its words between blanks.
 use Rattle.std.specs.Prelude.{ℕ, List, [], ◌∷◌, length, ◌==◌, nat_lt, if◌then◌else◌, Option, Some, None, Result, Ok, Err, ℤ, codes, slice_index_or}
 use Rattle.std.specs.Str.{bytes_eq}
+use Rattle.swf_text.specs.Limits.{line_limit}
 use Rattle.swf_text.specs.Number.{number_of}
 use Rattle.swf_text.specs.Line.{without_returns, fields}
 use Rattle.scenarios.specs.declared.order.Order.{Order}
@@ -121,4 +122,4 @@ module _ {A : Type 0} where
 
   -- the command of a line, which is given without its line feed: none, or the first fault
   abbrev pub command_of_line : List ℕ → Result (Option (Command A)) CommandFault
-  command_of_line line = if nat_lt 65536 (length line) then Err TooLong else command_of_words (fields (without_returns line))
+  command_of_line line = if nat_lt line_limit (length line) then Err TooLong else command_of_words (fields (without_returns line))

@@ -2,8 +2,8 @@
 use Rattle.std.specs.Prelude.{ℕ, ◌+◌, ◌*◌, List, [], ◌∷◌, Bool, ◌&&◌, ◌||◌, ◌==◌, not, nat_le, if◌then◌else◌, Option, Some, None, Result, Ok, ℤ, pos, codes}
 use Rattle.std.specs.Option.{option_map}
 use Rattle.std.specs.Str.{bytes_eq}
-use Rattle.swf_text.specs.Number.{are_digits, decimal, number_of}
-use Rattle.swf_text.specs.Entry.{is_negative, is_partial}
+use Rattle.swf_text.specs.Number.{are_digits, decimal, number_of, is_below_zero}
+use Rattle.swf_text.specs.Entry.{is_partial}
 use Rattle.swf_text.specs.Line.{value_then}
 use Rattle.scenarios.specs.declared.order.Order.{Order}
 use Rattle.scenarios.specs.declared.order.Order.TheVariants.{Arrival, Shortest}
@@ -46,7 +46,7 @@ job_value word = option_map (λ n. pos (1000000 * n)) (job_number word)
 
 -- a submit time isn't negative, and a status isn't that of a partial execution
 abbrev pub may_stand : ℕ → ℤ → Bool
-may_stand place v = not ((place == 2 && is_negative v) || (place == 11 && is_partial v))
+may_stand place v = not ((place == 2 && is_below_zero v) || (place == 11 && is_partial v))
 
 -- the value, where it may stand at this place
 abbrev pub standing : ℕ → Option ℤ → Option ℤ

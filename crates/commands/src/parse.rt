@@ -10,10 +10,7 @@ use crate::values::{JOB_LIMIT, entry_values, number_between, order_of, value_of}
 use crate::words::words_of;
 use scenarios::{Order, Scenario};
 use std::alloc::Allocator;
-use swf_text::{Entry, Fields, without_returns};
-
-/// The most bytes of a line, its line feed not counted.
-const LINE_LIMIT: usize = 65_536;
+use swf_text::{Entry, Fields, LINE_LIMIT, without_returns};
 
 /// The greatest field.
 const FIELD_LIMIT: u64 = 255;

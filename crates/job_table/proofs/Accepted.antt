@@ -4,8 +4,8 @@ use Rattle.std.specs.Prelude.{nat_abs}
 use Rattle.std.proofs.Math.ListN.{set}
 use Rattle.std.proofs.lemmas.Bool.{cases_eq, eq-eqb, ltb-false, leb-false, true≢false}
 use Rattle.std.proofs.lemmas.List.{get_or-set_same, get_or-set_other, length-set}
-use Rattle.swf_text.specs.Number.{greatest}
-use Rattle.swf_text.specs.Entry.{LogEntry, IsEntry, is_negative, is_partial, field, number_of_entry}
+use Rattle.swf_text.specs.Number.{greatest, is_below_zero}
+use Rattle.swf_text.specs.Entry.{LogEntry, IsEntry, is_partial, field, number_of_entry}
 use Rattle.job_table.specs.declared.fault.EditFault.TheVariants as faults
 use Rattle.job_table.specs.Edit.{LogEdit, Insert, Remove, Change, entry_of, with_field, change_fault, fault_of, applied, log_after, log_at}
 use Rattle.job_table.specs.Table.{IsTable}
@@ -18,13 +18,13 @@ use Rattle.job_table.proofs.Edited.{table-more, log-more, log-less, log-changed,
 record MayChange (place : ℕ) (value : ℤ) : Type 0 where
   low : 2 ≤ place
   high : place ≤ 18
-  early : (place == 2 && is_negative value) ≡ false
+  early : (place == 2 && is_below_zero value) ≡ false
   status : (place == 11 && is_partial value) ≡ false
 
 may-change : (place : ℕ) (value : ℤ) → change_fault place value ≡ None → MayChange place value
-may-change place value h = go (nat_lt place 2) (nat_lt 18 place) (place == 2 && is_negative value) (place == 11 && is_partial value) refl refl refl refl h
+may-change place value h = go (nat_lt place 2) (nat_lt 18 place) (place == 2 && is_below_zero value) (place == 11 && is_partial value) refl refl refl refl h
   where
-    go : (a b c d : Bool) → nat_lt place 2 ≡ a → nat_lt 18 place ≡ b → (place == 2 && is_negative value) ≡ c → (place == 11 && is_partial value) ≡ d
+    go : (a b c d : Bool) → nat_lt place 2 ≡ a → nat_lt 18 place ≡ b → (place == 2 && is_below_zero value) ≡ c → (place == 11 && is_partial value) ≡ d
         → (if a || b then Some faults.BadField else (if c || d then Some faults.BadValue else None)) ≡ None → MayChange place value
     go true b c d p q r s k = cc
     go false true c d p q r s k = cc
@@ -46,7 +46,7 @@ field-kept P main place other value low high all some here there = elim (cases_e
   | inr ne ↦ subst P (sym (other-field main place other value low some (λ e. ne (sym e)))) there
 ]
 
-not-negative : (v : ℤ) → is_negative v ≡ false → pos 0 ≤ℤ v
+not-negative : (v : ℤ) → is_below_zero v ≡ false → pos 0 ≤ℤ v
 not-negative (pos m) h = search rules
 not-negative (negsuc m) h = absurd (true≢false h)
 
@@ -60,7 +60,7 @@ changed-sound place value e m small h = record {
   eighteen = length-set e.main (place - 1) value ∙ h.eighteen;
   numbered = field-kept (λ v. v ≡ pos (1000000 * h.number)) e.main place 1 value m.low m.high h.eighteen (omega arith) (λ is. absurd (let low = m.low in omega arith)) h.numbered;
   number_limit = h.number_limit;
-  submit = field-kept (λ v. pos 0 ≤ℤ v) e.main place 2 value m.low m.high h.eighteen (omega arith) (λ is. not-negative value (second-of (place == 2) (is_negative value) (eq-eqb place 2 is) m.early)) h.submit;
+  submit = field-kept (λ v. pos 0 ≤ℤ v) e.main place 2 value m.low m.high h.eighteen (omega arith) (λ is. not-negative value (second-of (place == 2) (is_below_zero value) (eq-eqb place 2 is) m.early)) h.submit;
   submit_limit = field-kept (λ v. nat_abs v ≤ greatest) e.main place 2 value m.low m.high h.eighteen (omega arith) (λ is. small) h.submit_limit;
   summary = field-kept (λ v. is_partial v ≡ false) e.main place 11 value m.low m.high h.eighteen (omega arith) (λ is. second-of (place == 11) (is_partial value) (eq-eqb place 11 is) m.status) h.summary;
   parts = h.parts;

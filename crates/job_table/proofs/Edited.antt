@@ -1,24 +1,21 @@
 -- A table after an edit, as the code makes it.
-use Rattle.std.proofs.Common.{◌≡◌, ℕ, suc, ◌-◌, ◌<◌, ◌≤◌, List, [], ◌∷◌, Some, None, Bool, true, false, ◌==◌, ◌&&◌, ◌||◌, nat_lt, not, length, insert, get_or, ℤ, pos, refl, ap, sym, ◌∙◌, arith, if◌then◌else◌}
+use Rattle.std.proofs.Common.{◌≡◌, ℕ, suc, ◌-◌, ◌<◌, ◌≤◌, List, [], ◌∷◌, Some, None, Bool, true, false, ◌==◌, ◌&&◌, ◌||◌, nat_lt, length, get_or, ℤ, pos, refl, ap, sym, ◌∙◌, arith, if◌then◌else◌}
 use Rattle.std.proofs.Math.ListN.{set}
 use Rattle.std.specs.Prelude.{unwrap_or}
-use Rattle.std.specs.List.{position_or_len}
 use Rattle.std.proofs.lemmas.Bool.{ltb-false}
 use Rattle.swf_text.specs.declared.fault.EntryFault.{EntryFault}
 use Rattle.swf_text.specs.declared.fault.EntryFault.TheVariants as refusals
-use Rattle.swf_text.specs.Entry.{LogEntry, IsEntry, whole_number, is_negative, is_partial, submit_of, number_of_entry, field_change}
+use Rattle.swf_text.specs.Entry.{LogEntry, IsEntry, whole_number, is_partial, submit_of, number_of_entry, field_change}
+use Rattle.swf_text.specs.Number.{is_below_zero}
 use Rattle.swf_text.specs.Log.{with_entry, log_of}
 use Rattle.std.specs.Prelude.{Ok, Err, Result}
 use Rattle.job_table.specs.declared.fault.EditFault.TheVariants as faults
 use Rattle.job_table.specs.Edit.{entry_of, with_field, without, changed, change_fault}
-use Rattle.job_table.specs.Table.{IsTable, stands_before}
-use Rattle.job_table.proofs.Keyed.{placed, insert_at, found-number, Lacks-from_none, arranged-turned}
+use Rattle.job_table.specs.Table.{IsTable}
+use Rattle.job_table.proofs.Keyed.{placed, found-number, Lacks-from_none, arranged-turned}
 use Rattle.job_table.proofs.Tables.{table-rising, table-apart, table-placed, table-left, placed-is, arranged-is, log_of-rising}
 
 -- ---- an entry more
-pub put-at : (e : LogEntry) (old ys zs : List LogEntry) (s n i : ℕ) → ys ≡ old → zs ≡ ys → s ≡ submit_of e → n ≡ number_of_entry e → i ≡ position_or_len (λ x. not (stands_before s n x)) zs → insert ys i e ≡ placed submit_of number_of_entry e old
-put-at e old ys zs s n i a z b c d = insert_at submit_of number_of_entry e old ys s n i a b c (d ∙ ap (position_or_len (λ x. not (stands_before s n x))) z)
-
 pub table-more : (e : LogEntry) (old : List LogEntry) → IsTable old → IsEntry e → entry_of (number_of_entry e) old ≡ None → length old < 4194304 → IsTable (placed submit_of number_of_entry e old)
 table-more e old t h new room = table-placed e old t h (Lacks-from_none submit_of number_of_entry (number_of_entry e) old new) room
 
@@ -43,12 +40,12 @@ number-kept place value h e =
 pub change-places : (place : ℕ) (value : ℤ) → change_fault place value ≡ None → 2 ≤ place
 change-places place value h = go (nat_lt place 2) refl (nat_lt 18 place) h
   where
-    go : (a : Bool) → nat_lt place 2 ≡ a → (b : Bool) → (if a || b then Some faults.BadField else (if (place == 2 && is_negative value) || (place == 11 && is_partial value) then Some faults.BadValue else None)) ≡ None → 2 ≤ place
+    go : (a : Bool) → nat_lt place 2 ≡ a → (b : Bool) → (if a || b then Some faults.BadField else (if (place == 2 && is_below_zero value) || (place == 11 && is_partial value) then Some faults.BadValue else None)) ≡ None → 2 ≤ place
     go true t b k = cc
     go false t b k = ltb-false place 2 t
 
 pub change-taken : (place : ℕ) (value : ℤ) → change_fault place value ≡ None → field_change place value ≡ Ok tt
-change-taken place value h = go (nat_lt place 2 || nat_lt 18 place) (place == 2 && is_negative value) (place == 11 && is_partial value) h
+change-taken place value h = go (nat_lt place 2 || nat_lt 18 place) (place == 2 && is_below_zero value) (place == 11 && is_partial value) h
   where
     go : (a b c : Bool) → (if a then Some faults.BadField else (if b || c then Some faults.BadValue else None)) ≡ None
         → (let r : Result (Unit {0}) EntryFault = (if a then Err refusals.BadJobNumber else (if b then Err refusals.BadSubmit else (if c then Err refusals.BadStatus else Ok tt))) in r) ≡ Ok tt

@@ -5,7 +5,7 @@ use Rattle.std.specs.List.{position_or_len}
 use Rattle.std.proofs.lemmas.List.Sums.{position_or_len_is}
 use Rattle.std.proofs.lemmas.List.Folds.{find_at}
 use Rattle.std.proofs.lemmas.Bool.Decides.{nat_tests}
-use Rattle.std.proofs.lemmas.Option.{slice_get_within, slice_get_read}
+use Rattle.std.proofs.lemmas.Option.{slice_get_within}
 use Rattle.job_table.proofs.Arrangement.{comes, comes-trans, comes-itself, comes-back, comes-other, Leads, Rises}
 
 one_more : (k : ℕ) → 1 + k ≡ suc k
@@ -335,12 +335,6 @@ module _ {X : Type 0} (at num : X → ℕ) where
   pub insert_at : (e : X) (xs ys : List X) (s n i : ℕ) → ys ≡ xs → s ≡ (at e) → n ≡ (num e) → i ≡ position_or_len (λ x. not (stands s n x)) ys → insert ys i e ≡ placed e xs
   insert_at e xs ys s n i a b c d = rw (d, a, b, c) (insert-placed e xs)
 
-  pub get_at : (n s : ℕ) (xs ys : List X) (i : ℕ) → Rise xs → Some s ≡ option_map at (found n xs) → ys ≡ xs → i ≡ position_or_len (λ x. not (stands s n x)) ys → slice_get xs i ≡ found n xs
-  get_at n s xs ys i r h a d = rw (d, a) (get_place n s xs r h)
-
-  pub remove_at : (n s : ℕ) (xs ys : List X) (i : ℕ) → Rise xs → Apart xs → Some s ≡ option_map at (found n xs) → ys ≡ xs → i ≡ position_or_len (λ x. not (stands s n x)) ys → remove xs i ≡ left n xs
-  remove_at n s xs ys i r w h a d = rw (d, a) (remove_place n s xs r w h)
-
   pub at_within : (n s : ℕ) (xs : List X) (i : ℕ) → Some s ≡ option_map at (found n xs) → slice_get xs i ≡ found n xs → i < length xs
   at_within n s xs i h k = go (found n xs) refl h
     where
@@ -411,8 +405,3 @@ module _ {X : Type 0} (at num : X → ℕ) where
       last : (b : Bool) → (if b then Some (at e) else option_map at (found q xs)) ≡ option_map at (if b then Some e else (if b then None else found q xs))
       last true = refl
       last false = refl
-
-  pub taken_at : (n s : ℕ) (xs ys : List X) (i : ℕ) (e : X) → Rise xs → Some s ≡ option_map at (found n xs) → ys ≡ xs → i ≡ position_or_len (λ x. not (stands s n x)) ys → e ≡ get_or xs i e → found n xs ≡ Some e
-  taken_at n s xs ys i e r h a d g =
-      let there : slice_get xs i ≡ found n xs = get_at n s xs ys i r h a d in
-      sym there ∙ slice_get_read xs (length xs) i e refl (at_within n s xs i h there) g

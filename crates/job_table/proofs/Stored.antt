@@ -98,9 +98,6 @@ known-is n es old ps i e = ap is_some (i.gives n) ∙ go (entry_of n es) ∙ ap 
     go None = refl
     go (Some x) = refl
 
-pub same-by : (r : Bool) (a b x y : List LogEntry) → a ≡ x → b ≡ y → (IsTrue r → a ≡ b) × (a ≡ b → IsTrue r) → (IsTrue r → x ≡ y) × (x ≡ y → IsTrue r)
-same-by r a b x y e f h = ((λ t. sym e ∙ h.0 t ∙ f), (λ t. h.1 (e ∙ t ∙ sym f)))
-
 -- ---- an entry more
 module _ (e copy : LogEntry) (es old : List LogEntry) (ps : List Numbered) (t : IsTable es) (i : IsIndex ps es) (view : es ≡ old) (same : copy ≡ e) (new : entry_of (number_of_entry e) old ≡ None) where
   pub lacks-it : entry_of (number_of_entry copy) es ≡ None

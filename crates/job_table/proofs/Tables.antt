@@ -1,9 +1,10 @@
 -- Logs in their order: what holds of one after an edit.
-use Rattle.std.proofs.Common.{◌≡◌, ◌≢◌, ℕ, zero, suc, ◌+◌, ◌*◌, ◌/◌, ◌%◌, ◌<◌, ◌≤◌, List, [], ◌∷◌, Some, Bool, true, false, ◌==◌, nat_eq, nat_le, not, cond, filter, length, drop, count_by, pos, refl, ap, sym, subst, ◌∙◌, arith, if◌then◌else◌}
+use Rattle.std.proofs.Common.{◌≡◌, ◌≢◌, ℕ, zero, suc, ◌+◌, ◌<◌, ◌≤◌, List, [], ◌∷◌, Some, Bool, true, false, ◌==◌, nat_eq, nat_le, not, cond, filter, length, drop, count_by, refl, ap, sym, subst, ◌∙◌, arith, if◌then◌else◌}
 use Rattle.std.specs.List.{AllByRecursion, position_or_len}
 use Rattle.std.proofs.lemmas.Bool.{eq-eqb, cond-true}
 use Rattle.std.proofs.lemmas.Bool.Decides.{nat_tests}
 use Rattle.std.proofs.lemmas.List.Sums.{sum_by-cons}
+use Rattle.swf_text.proofs.Grammars.{exact_number}
 use Rattle.swf_text.specs.Entry.{LogEntry, IsEntry, has_number, is_some_number, whole_number, field, number_of_entry, submit_of}
 use Rattle.swf_text.specs.Log.{IsLog, comes_before, with_entry, log_of}
 use Rattle.job_table.specs.Table.{IsTable}
@@ -143,15 +144,9 @@ length-rest (suc k) [] = omega arith
 length-rest (suc k) (x ∷ xs) = omega (arith, length-rest k xs)
 
 -- ---- the numbers of entries
-whole : (m : ℕ) → whole_number (pos (1000000 * m)) ≡ Some m
-whole m =
-    let a : (1000000 * m) % 1000000 ≡ 0 = omega arith in
-    let b : (1000000 * m) / 1000000 ≡ m = omega arith in
-    rw (a, b) refl
-
 number-is : (e : LogEntry) → IsEntry e → whole_number (field e.main 1) ≡ Some (number_of_entry e)
 number-is e h =
-    let w : whole_number (field e.main 1) ≡ Some h.number = ap whole_number h.numbered ∙ whole h.number in
+    let w : whole_number (field e.main 1) ≡ Some h.number = exact_number (field e.main 1) h.number h.numbered in
     rw w refl
 
 has-is : (n : ℕ) (e : LogEntry) → IsEntry e → has_number n e ≡ nat_eq (number_of_entry e) n

@@ -1,7 +1,9 @@
 -- The edits of a log, which of them are refused, and the log that an edit makes.
 -- Fields are those of the Standard Workload Format, version 2.
 use Rattle.std.specs.Prelude.{◌≡◌, ℕ, ◌-◌, ◌==◌, ◌&&◌, ◌||◌, nat_lt, nat_le, not, if◌then◌else◌, Bool, List, [], ◌∷◌, length, take, find, filter, map, Option, Some, None, is_some, ℤ, slice_set}
-use Rattle.swf_text.specs.Entry.{LogEntry, number_of_entry, is_negative, is_partial}
+use Rattle.swf_text.specs.Limits.{entry_limit}
+use Rattle.swf_text.specs.Entry.{LogEntry, number_of_entry, is_partial}
+use Rattle.swf_text.specs.Number.{is_below_zero}
 use Rattle.swf_text.specs.Log.{log_of}
 use Rattle.job_table.specs.declared.edit.Edit.{Edit}
 use Rattle.job_table.specs.declared.edit.Edit.TheVariants as edits
@@ -59,13 +61,13 @@ applied edit log = log_of (edited edit log)
 abbrev pub change_fault : ℕ → ℤ → Option EditFault
 change_fault place value =
     if nat_lt place 2 || nat_lt 18 place then Some faults.BadField
-    else (if (place == 2 && is_negative value) || (place == 11 && is_partial value) then Some faults.BadValue else None)
+    else (if (place == 2 && is_below_zero value) || (place == 11 && is_partial value) then Some faults.BadValue else None)
 
 -- the first fault of an edit of a log
 abbrev pub fault_of : LogEdit → List LogEntry → Option EditFault
 fault_of (Insert entry) log =
     if holds (number_of_entry entry) log then Some faults.DuplicateJob
-    else (if nat_le 4194304 (length log) then Some faults.TableFull else None)
+    else (if nat_le entry_limit (length log) then Some faults.TableFull else None)
 fault_of (Remove number) log = if holds number log then None else Some faults.NoSuchJob
 fault_of (Change number place value) log = if holds number log then change_fault place value else Some faults.NoSuchJob
 

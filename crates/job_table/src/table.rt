@@ -1,6 +1,9 @@
-ghost use Rattle.std.specs.Prelude.{◌≡◌, ◌≤◌, ◌<◌, ◌↔◌, ◌∷◌, length, map, IsTrue, IfOk, IfErr, IfSome, OnOk, OnErr, Some, None, option_copied};
+ghost use Rattle.std.specs.Prelude.{◌≡◌, ◌≤◌, ◌<◌, ◌↔◌, ◌∷◌, length, map, IsTrue, IfOk, IfErr, IfSome, OnOk, OnErr, Some, None, nat_abs, option_copied};
 ghost use Rattle.swf_text.specs.Entry.{IsEntry, number_of_entry, submit_of};
+ghost use Rattle.swf_text.specs.Limits.{entry_limit};
 ghost use Rattle.swf_text.specs.Log.{IsLog, log_of};
+ghost use Rattle.swf_text.specs.Number.{greatest};
+ghost use Rattle.job_table.specs.Accepted.{IsEdit};
 ghost use Rattle.job_table.specs.Counted.{fewest};
 ghost use Rattle.job_table.specs.Edit.{Change, Insert, Remove, edit_of, entry_of, holds, without, changed, applied, change_fault, fault_of, IsRefusal};
 ghost use Rattle.job_table.specs.Table.{IsTable, entries_from};
@@ -16,10 +19,7 @@ use crate::rows::{
 use chunks::Chunks;
 use std::alloc::Allocator;
 use std::marker::Model;
-use swf_text::{Entry, Memory, SwfText, Value};
-
-/// The most entries of a log.
-const ENTRY_LIMIT: usize = 4_194_304;
+use swf_text::{ENTRY_LIMIT, Entry, Memory, SwfText, Value};
 
 /// The entries of a log, by submit second, and of one second by job number. Job numbers are
 /// distinct, and there are at most 4,194,304 entries.
@@ -47,14 +47,16 @@ impl<A: Allocator + Copy> Model for JobTable<A> {
 fn check_field(field: u8, value: &Value) -> Result<(), EditFault>
     ensures ok { OnOk result (change_fault field value.now ≡ None) }
     ensures fault { IfErr result (λ fault. change_fault field value.now ≡ Some fault) }
+    ensures within { nat_abs value.now ≤ greatest }
 {
+    let millionths = value.millionths();
     if field < 2 || field > 18 {
         return Err(EditFault::BadField);
     }
-    if field == 2 && value.millionths() < 0 {
+    if field == 2 && millionths < 0 {
         return Err(EditFault::BadValue);
     }
-    if field == 11 && matches!(value.millionths(), 2_000_000 | 3_000_000 | 4_000_000) {
+    if field == 11 && matches!(millionths, 2_000_000 | 3_000_000 | 4_000_000) {
         return Err(EditFault::BadValue);
     }
     Ok(())
@@ -112,7 +114,7 @@ impl<A: Allocator + Copy> JobTable<A> {
     /// How many entries there are, at most 4,194,304.
     pub fn len(&self) -> usize
         ensures count { result ≡ length self.now }
-        ensures limit { result ≤ 4194304 }
+        ensures limit { result ≤ entry_limit }
         ensures sound { IsTable self.now }
     {
         self.len
@@ -155,6 +157,7 @@ impl<A: Allocator + Copy> JobTable<A> {
     pub fn check(&self, edit: &Edit<A>) -> Result<(), EditFault>
         ensures ok { OnOk result (fault_of (edit_of edit.now) self.now ≡ None) }
         ensures fault { IfErr result (λ fault. fault_of (edit_of edit.now) self.now ≡ Some fault) }
+        ensures sound { OnOk result (IsEdit (edit_of edit.now)) }
     {
         match edit {
             Edit::Insert(entry) => {
@@ -188,7 +191,7 @@ impl<A: Allocator + Copy> JobTable<A> {
     // An entry more, whose number is new. Answers the count of `apply_counted`.
     fn insert(&mut self, entry: &Entry<A>) -> Result<u32, Memory>
         requires new { entry_of (number_of_entry entry.now) self.old ≡ None }
-        requires room { length self.old < 4194304 }
+        requires room { length self.old < entry_limit }
         ensures ok { OnOk result (self.new ≡ log_of (entry.now ∷ self.old)) }
         ensures err { OnErr result (self.new ≡ self.old) }
         ensures least { IfOk result (λ count. fewest (Insert entry.now) self.old ≤ count) }
@@ -253,6 +256,7 @@ impl<A: Allocator + Copy> JobTable<A> {
     /// accepted. A change of field 2 moves the entry to its place.
     pub fn apply(&mut self, edit: &Edit<A>) -> Result<(), EditFault>
         ensures accepted { OnOk result (fault_of (edit_of edit.now) self.old ≡ None) }
+        ensures sound { OnOk result (IsEdit (edit_of edit.now)) }
         ensures applied { OnOk result (self.new ≡ applied (edit_of edit.now) self.old) }
         ensures fault { IfErr result (λ fault. IsRefusal fault (edit_of edit.now) self.old) }
         ensures kept { OnErr result (self.new ≡ self.old) }
@@ -266,6 +270,7 @@ impl<A: Allocator + Copy> JobTable<A> {
     /// one for an entry that is new or changed.
     pub fn apply_counted(&mut self, edit: &Edit<A>) -> Result<u32, EditFault>
         ensures accepted { OnOk result (fault_of (edit_of edit.now) self.old ≡ None) }
+        ensures sound { OnOk result (IsEdit (edit_of edit.now)) }
         ensures applied { OnOk result (self.new ≡ applied (edit_of edit.now) self.old) }
         ensures fault { IfErr result (λ fault. IsRefusal fault (edit_of edit.now) self.old) }
         ensures kept { OnErr result (self.new ≡ self.old) }

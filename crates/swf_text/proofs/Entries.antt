@@ -9,8 +9,8 @@ use Rattle.std.proofs.lemmas.List.Sums.{sum_by-cons}
 use Rattle.std.proofs.lemmas.List.Folds.{list_any-append}
 use Rattle.swf_text.specs.declared.fault.EntryFault.TheVariants as faults
 use Rattle.swf_text.specs.declared.fault.FaultKind.TheVariants as kinds
-use Rattle.swf_text.specs.Number.{greatest}
-use Rattle.swf_text.specs.Entry.{LogEntry, IsEntry, IsPart, field, has_number, is_negative, is_part, is_partial, is_some_number, whole_number, entry_made, entry_numbered}
+use Rattle.swf_text.specs.Number.{greatest, is_below_zero}
+use Rattle.swf_text.specs.Entry.{LogEntry, IsEntry, IsPart, field, has_number, is_part, is_partial, is_some_number, whole_number, entry_made, entry_numbered}
 use Rattle.swf_text.specs.Log.{IsLog}
 use Rattle.swf_text.specs.Text.{LogText}
 use Rattle.swf_text.specs.Reading.{with_job, with_numbered}
@@ -30,7 +30,7 @@ all_parts number (part ∷ parts) h =
     )
 
 -- what the tests of a summary line say of its entry
-pub entry_sound : (main : List ℤ) (parts : List (List ℤ)) (number : ℕ) → length main ≡ 18 → whole_number (field main 1) ≡ Some number → number ≤ 1000000000000 → is_negative (field main 2) ≡ false → nat_abs (field main 2) ≤ greatest → is_partial (field main 11) ≡ false → list_all (is_part number) parts ≡ true → IsEntry (record { main = main; parts = parts })
+pub entry_sound : (main : List ℤ) (parts : List (List ℤ)) (number : ℕ) → length main ≡ 18 → whole_number (field main 1) ≡ Some number → number ≤ 1000000000000 → is_below_zero (field main 2) ≡ false → nat_abs (field main 2) ≤ greatest → is_partial (field main 11) ≡ false → list_all (is_part number) parts ≡ true → IsEntry (record { main = main; parts = parts })
 entry_sound main parts number eighteen numbered small submit early summary all = record {
   number = number;
   eighteen = eighteen;
@@ -118,7 +118,7 @@ log_more old new job number log entry is numbered none room = record {
 
 -- ---- what a job line adds
 
-module _ (t : LogText) (job : List ℤ) (number : ℕ) (numbered : whole_number (field job 1) ≡ Some number) (summary : is_partial (field job 11) ≡ false) (submit : is_negative (field job 2) ≡ false) where
+module _ (t : LogText) (job : List ℤ) (number : ℕ) (numbered : whole_number (field job 1) ≡ Some number) (summary : is_partial (field job 11) ≡ false) (submit : is_below_zero (field job 2) ≡ false) where
   pub job_known : list_any (has_number number) t.entries ≡ true → with_job t job ≡ Err kinds.DuplicateJob
   job_known there = ap (with_numbered t job) numbered ∙ rw (summary, submit, there) refl
 
@@ -168,7 +168,7 @@ put_in inside t job j new seen same put =
 
 -- ---- an entry of given lines
 
-module _ (main : List ℤ) (parts : List (List ℤ)) (number : ℕ) (numbered : whole_number (field main 1) ≡ Some number) (submit : is_negative (field main 2) ≡ false) (summary : is_partial (field main 11) ≡ false) where
+module _ (main : List ℤ) (parts : List (List ℤ)) (number : ℕ) (numbered : whole_number (field main 1) ≡ Some number) (submit : is_below_zero (field main 2) ≡ false) (summary : is_partial (field main 11) ≡ false) where
   pub made_bad : list_all (is_part number) parts ≡ false → Err faults.BadPart ≡ entry_made main parts
   made_bad bad = sym (ap (entry_numbered main parts) numbered ∙ rw (submit, summary, bad) refl)
 

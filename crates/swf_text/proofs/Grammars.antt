@@ -1,7 +1,8 @@
 -- The reading from left to right keeps to the grammar.
 use Rattle.std.proofs.Common.{◌≡◌, ℕ, suc, ◌+◌, ◌-◌, ◌*◌, ◌/◌, ◌%◌, ◌<◌, ◌≤◌, Bool, true, false, cond, eqb, leb, List, [], ◌∷◌, ◌++◌, length, get_or, take, drop, set, Option, Some, None, Result, Ok, Err, ℤ, pos, negsuc, refl, sym, ap, ◌∙◌, arith, inl, inr, ◌⊎◌}
 use Rattle.std.specs.Prelude.{◌≤ℤ◌}
-use Rattle.swf_text.specs.Entry.{HasNumber, LogEntry, field, has_number, is_negative, is_partial, is_some_number, whole_number}
+use Rattle.swf_text.specs.Entry.{HasNumber, LogEntry, field, has_number, is_partial, is_some_number, whole_number}
+use Rattle.swf_text.specs.Number.{is_below_zero}
 use Rattle.swf_text.specs.Text.{LogText}
 use Rattle.std.specs.List.{AllByRecursion, list_any, slice_get}
 use Rattle.std.proofs.lemmas.Bool.{cases_Bool, eqb-true, eq-eqb, leb-false, lt-leb, true≢false}
@@ -59,11 +60,11 @@ exact_number v n h =
     let whole : 1000000 * n / 1000000 ≡ n = omega arith in
     ap whole_number h ∙ rw (rest, whole) refl
 
-pub negative_not : (v : ℤ) → is_negative v ≡ false → pos 0 ≤ℤ v
+pub negative_not : (v : ℤ) → is_below_zero v ≡ false → pos 0 ≤ℤ v
 negative_not (pos m) h = omega (arith, ints)
 negative_not (negsuc m) h = absurd cc
 
-not_negative : (v : ℤ) → pos 0 ≤ℤ v → is_negative v ≡ false
+not_negative : (v : ℤ) → pos 0 ≤ℤ v → is_below_zero v ≡ false
 not_negative (pos m) h = refl
 not_negative (negsuc m) h = absurd (omega (arith, ints))
 
@@ -139,7 +140,7 @@ job_adds t job (Some number) u o_is h =
     elim (chosen (is_partial (field job 11)) _ _ _ h) [
       | inl part ↦ inr (part_adds t job number u (slice_get t.entries (length t.entries - 1)) refl numbered part.0 part.1)
       | inr summary ↦
-          elim (chosen (is_negative (field job 2)) _ _ _ summary.1) [
+          elim (chosen (is_below_zero (field job 2)) _ _ _ summary.1) [
             | inl negative ↦ absurd (let e = negative.1 in cc)
             | inr submit ↦
                 elim (chosen (list_any (has_number number) t.entries) _ _ _ submit.1) [

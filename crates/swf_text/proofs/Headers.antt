@@ -25,10 +25,6 @@ front_digits (b ∷ bs) = elim (cases_Bool (is_ascii_digit b)) [
   | inr other ↦ let count : digit_len (b ∷ bs) ≡ 0 = rw other refl in ap (λ (k : ℕ). list_all is_ascii_digit (take k (b ∷ bs))) count
 ]
 
--- the first digits of the bytes are digits
-pub digits_are : (bs : List ℕ) (n : ℕ) → n ≡ digit_len bs → list_all is_ascii_digit (take n bs) ≡ true
-digits_are bs n is = ap (λ (k : ℕ). list_all is_ascii_digit (take k bs)) is ∙ front_digits bs
-
 blank_no_digit : (b : ℕ) → is_blank b ≡ true → is_ascii_digit b ≡ false
 blank_no_digit b h = grind (arith, common_steps)
 

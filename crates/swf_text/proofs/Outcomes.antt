@@ -1,7 +1,8 @@
 -- The first fault of a text's lines, and what a reading answers.
 use Rattle.std.proofs.Common.{◌≡◌, ℕ, suc, ◌+◌, ◌-◌, ◌<◌, ◌≤◌, true, leb, List, [], ◌∷◌, ◌++◌, length, get_or, take, set, Option, Some, None, Result, Ok, Err, ℤ, pos, negsuc, refl, sym, ap, subst, ◌∙◌, arith, inl, inr}
 use Rattle.std.specs.Prelude.{◌<ℤ◌, IfOk, IfErr}
-use Rattle.swf_text.specs.Entry.{HasNumber, LogEntry, field, has_number, is_negative, is_partial, whole_number}
+use Rattle.swf_text.specs.Entry.{HasNumber, LogEntry, field, has_number, is_partial, whole_number}
+use Rattle.swf_text.specs.Number.{is_below_zero}
 use Rattle.swf_text.specs.Text.{empty, LogText}
 use Rattle.std.specs.List.{list_any, slice_get}
 use Rattle.std.proofs.lemmas.Bool.{leb-true}
@@ -28,7 +29,7 @@ err_is x y h = cc
 
 -- ---- the fault of a line
 
-negative_is : (v : ℤ) → is_negative v ≡ true → v <ℤ pos 0
+negative_is : (v : ℤ) → is_below_zero v ≡ true → v <ℤ pos 0
 negative_is (pos m) h = absurd cc
 negative_is (negsuc m) h = omega (arith, ints)
 
@@ -71,7 +72,7 @@ job_refused t job (Some number) kind o_is whole h =
           (number, record { numbered = numbered; partial = part.0 }, no_last t job number kind whole numbered part.0)
       | inr summary ↦
           let line : IsSummary job number = record { numbered = numbered; summary = summary.0 } in
-          elim (chosen (is_negative (field job 2)) _ _ _ summary.1) [
+          elim (chosen (is_below_zero (field job 2)) _ _ _ summary.1) [
             | inl negative ↦ subst (IsJobFault t job) (sym (kind_is {A = LogText} kinds.BadSubmit kind negative.1)) (number, line, negative_is (field job 2) negative.0)
             | inr submit ↦
                 elim (chosen (list_any (has_number number) t.entries) _ _ _ submit.1) [

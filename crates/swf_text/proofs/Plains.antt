@@ -48,21 +48,26 @@ spelling_plain bytes v h =
 pub plain_no_blank : (b : ℕ) → is_plain b ≡ true → is_blank b ≡ false
 plain_no_blank b h = grind (arith, common_steps)
 
-word_end : (w rest : List ℕ) → list_all is_plain w ≡ true → ends rest ≡ true → position_or_len is_blank (w ++ rest) ≡ length w
-word_end [] [] plain end = refl
-word_end [] (b ∷ bs) plain end = rw end refl
-word_end (b ∷ w) rest plain end = let other = plain_no_blank b (and_first _ _ plain) in rw other (omega (arith, word_end w rest (and_second (is_plain b) (list_all is_plain w) plain) end))
+-- words of bytes of which none is a blank
+module _ (p : ℕ → Bool) (solid : (b : ℕ) → p b ≡ true → is_blank b ≡ false) where
+  word_end : (w rest : List ℕ) → list_all p w ≡ true → ends rest ≡ true → position_or_len is_blank (w ++ rest) ≡ length w
+  word_end [] [] all end = refl
+  word_end [] (b ∷ bs) all end = rw end refl
+  word_end (b ∷ w) rest all end = let other = solid b (and_first _ _ all) in rw other (omega (arith, word_end w rest (and_second (p b) (list_all p w) all) end))
 
-front_no_blank : (w rest : List ℕ) → list_all is_plain w ≡ true → 0 < length w → is_blank (get_or (w ++ rest) 0 0) ≡ false
-front_no_blank [] rest plain some = absurd (omega arith)
-front_no_blank (b ∷ w) rest plain some = plain_no_blank b (and_first _ _ plain)
+  front_solid : (w rest : List ℕ) → list_all p w ≡ true → 0 < length w → is_blank (get_or (w ++ rest) 0 0) ≡ false
+  front_solid [] rest all some = absurd (omega arith)
+  front_solid (b ∷ w) rest all some = solid b (and_first _ _ all)
+
+  pub solid_fields : (w rest : List ℕ) → list_all p w ≡ true → 0 < length w → ends rest ≡ true → fields (w ++ rest) ≡ w ∷ fields rest
+  solid_fields w rest all some end =
+      let place = word_end w rest all end in
+      fields-word (w ++ rest) (omega (arith, length-append w rest)) (front_solid w rest all some)
+      ∙ ap (λ (k : ℕ). take k (w ++ rest) ∷ fields (drop k (w ++ rest))) place
+      ∙ rw (take_at w rest (length w) refl, drop_at w rest (length w) refl) refl
 
 pub word_fields : (w rest : List ℕ) → list_all is_plain w ≡ true → 0 < length w → ends rest ≡ true → fields (w ++ rest) ≡ w ∷ fields rest
-word_fields w rest plain some end =
-    let place = word_end w rest plain end in
-    fields-word (w ++ rest) (omega (arith, length-append w rest)) (front_no_blank w rest plain some)
-    ∙ ap (λ (k : ℕ). take k (w ++ rest) ∷ fields (drop k (w ++ rest))) place
-    ∙ rw (take_at w rest (length w) refl, drop_at w rest (length w) refl) refl
+word_fields w rest plain some end = solid_fields is_plain plain_no_blank w rest plain some end
 
 plain_low : (b : ℕ) → is_plain b ≡ true → is_high b ≡ false
 plain_low b h = grind (arith, common_steps)

@@ -23,10 +23,11 @@ ne_zero (suc n) h = omega arith
 digit_tests : (n : ℕ) → n < 10 → is_ascii_digit (48 + n) ≡ true
 digit_tests n lt = grind (arith, common_steps)
 
-abbrev Spelled : ℕ → List ℕ → Type 0
+-- the digits of a number spell it
+abbrev pub Spelled : ℕ → List ℕ → Type 0
 Spelled n ds = (list_all is_ascii_digit ds ≡ true) × (decimal ds ≡ n)
 
-spelled : (n : ℕ) → n < 2 ^ 64 → Spelled n (decimal_text n)
+pub spelled : (n : ℕ) → n < 2 ^ 64 → Spelled n (decimal_text n)
 spelled n lt = decimal_by_steps Spelled
     (λ n small. (rw (digit_tests n small) refl, omega arith))
     (λ n ds big below. (

@@ -1,5 +1,5 @@
 -- One walk over a good line.
-use Rattle.std.proofs.Common.{◌≡◌, ℕ, suc, ◌+◌, ◌-◌, ◌*◌, ◌<◌, ◌≤◌, Bool, true, false, eqb, ltb, ◌||◌, List, [], ◌∷◌, ◌++◌, length, get_or, take, drop, set, Option, Some, None, Ok, ℤ, refl, sym, ap, subst, ◌∙◌, append_assoc, arith, inl, inr, add-one, length-set}
+use Rattle.std.proofs.Common.{◌≡◌, ℕ, suc, ◌+◌, ◌*◌, ◌<◌, ◌≤◌, Bool, true, false, eqb, ltb, ◌||◌, List, [], ◌∷◌, ◌++◌, length, take, drop, set, Option, Some, None, Ok, ℤ, refl, sym, ap, subst, ◌∙◌, append_assoc, arith, inl, inr, add-one, length-set}
 use Rattle.std.specs.Prelude.{IsTrue}
 use Rattle.std.specs.List.{list_all, list_any, prefix_len}
 use Rattle.std.specs.Char.{is_ascii_digit}
@@ -116,7 +116,3 @@ walk_end line values place rest front sized done within counted low read is none
     let count : eqb (length (fields line)) 18 ≡ true = let c : length (fields line) ≡ 18 = omega (arith, ap length no_words) in rw c refl in
     let all : values_from 1 (fields line) ≡ Ok values = sym read ∙ values_end (take place values) (place + 1) rest (ap length no_words) ∙ ap Ok (take_all place values (omega arith)) in
     rw (low', count, all) refl
-
-pub point_first : (bs : List ℕ) (n : ℕ) → 0 < length bs → get_or bs 0 0 ≡ 46 → length bs - 1 ≤ n → bs ≡ 46 ∷ take n (drop 1 bs)
-point_first [] n some is le = absurd (omega arith)
-point_first (b ∷ bs) n some is le = ap (λ (x : ℕ). x ∷ bs) is ∙ ap (λ (l : List ℕ). 46 ∷ l) (sym (take_all n bs (omega arith)))

@@ -129,12 +129,6 @@ pub values_end : (front : List ℤ) (place : ℕ) (rest : List ℕ) → length (
 unfolding values_from
 values_end front place rest none = ap (λ (ws : List (List ℕ)). onto front (values_from place ws)) (nil_from_length (fields rest) none) ∙ ap Ok (append-nil front)
 
-pub values_start : (place : ℕ) (words : List (List ℕ)) → onto [] (values_from place words) ≡ values_from place words
-values_start place words = onto-nil (values_from place words) where
-  onto-nil : (r : Result (List ℤ) ℕ) → onto [] r ≡ r
-  onto-nil (Ok vs) = refl
-  onto-nil (Err p) = refl
-
 -- ---- a loop over eighteen words
 
 pub stop_is : (line : List ℕ) (values : List ℤ) (place : ℕ) (rest word : List ℕ) → place + length (fields rest) ≡ 18 → place < 18 → onto (take place values) (values_from (place + 1) (fields rest)) ≡ values_from 1 (fields line) → word ≡ first_word rest → number_of word ≡ None → Err (place + 1) ≡ values_from 1 (fields line)

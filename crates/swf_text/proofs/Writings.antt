@@ -37,9 +37,6 @@ module _ {X Y : Type 0} (f : Y → List ℕ) (v : X → Y) where
   pub texts_more : (xs : List X) (i : ℕ) (d : X) → i < length xs → flat_map f (map v (take (i + 1) xs)) ≡ flat_map f (map v (take i xs)) ++ f (v (get_or xs i d))
   texts_more xs i d lt = ap (λ (l : List X). flat_map f (map v l)) (take_more xs i d lt) ∙ ap (flat_map f) (map-append v (take i xs) (get_or xs i d ∷ [])) ∙ sym (flat_map_more f [] (map v (take i xs)) (v (get_or xs i d)))
 
-  pub texts_all : (xs : List X) (i : ℕ) → length xs ≤ i → flat_map f (map v (take i xs)) ≡ flat_map f (map v xs)
-  texts_all xs i le = ap (λ (l : List X). flat_map f (map v l)) (take_all i xs le)
-
   pub texts_front : (xs : List X) (i : ℕ) (d : X) → i < length xs → flat_map f (map v xs) ≡ flat_map f (map v (take i xs)) ++ (f (v (get_or xs i d)) ++ flat_map f (map v (drop (suc i) xs)))
   texts_front [] i d lt = absurd (omega arith)
   texts_front (x ∷ xs) zero d lt = refl

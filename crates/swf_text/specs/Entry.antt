@@ -4,7 +4,7 @@ use Rattle.std.specs.List.{AllByRecursion, list_all}
 use Rattle.swf_text.specs.declared.line.Fields.{Fields}
 use Rattle.swf_text.specs.declared.fault.EntryFault.{EntryFault}
 use Rattle.swf_text.specs.declared.fault.EntryFault.TheVariants as faults
-use Rattle.swf_text.specs.Number.{greatest, whole_of}
+use Rattle.swf_text.specs.Number.{greatest, is_below_zero, whole_of}
 
 -- the values of a job's summary line, and those of each of its partial lines, in millionths
 pub record LogEntry : Type 0 where
@@ -25,11 +25,6 @@ field line place = slice_index_or line (place - 1) (pos 0)
 abbrev pub whole_number : ℤ → Option ℕ
 whole_number (pos m) = if m % 1000000 == 0 then Some (m / 1000000) else None
 whole_number (negsuc m) = None
-
--- a value below 0
-abbrev pub is_negative : ℤ → Bool
-is_negative (pos m) = false
-is_negative (negsuc m) = true
 
 -- the status of a partial execution: exactly 2, 3 or 4
 abbrev pub is_partial : ℤ → Bool
@@ -100,7 +95,7 @@ is_part number part = is_some_number number (whole_number (field part 1)) && is_
 abbrev pub entry_numbered : List ℤ → List (List ℤ) → Option ℕ → Result LogEntry EntryFault
 entry_numbered main parts None = Err faults.BadJobNumber
 entry_numbered main parts (Some number) =
-    if is_negative (field main 2) then Err faults.BadSubmit
+    if is_below_zero (field main 2) then Err faults.BadSubmit
     else (if is_partial (field main 11) then Err faults.BadStatus
     else (if list_all (is_part number) parts then Ok (record { main = main; parts = parts })
     else Err faults.BadPart))
@@ -116,6 +111,6 @@ entry_made main parts = entry_numbered main parts (whole_number (field main 1))
 abbrev pub field_change : ℕ → ℤ → Result (Unit {0}) EntryFault
 field_change place value =
     if nat_lt place 2 || nat_lt 18 place then Err faults.BadJobNumber
-    else (if place == 2 && is_negative value then Err faults.BadSubmit
+    else (if place == 2 && is_below_zero value then Err faults.BadSubmit
     else (if place == 11 && is_partial value then Err faults.BadStatus
     else Ok tt))

@@ -1,13 +1,14 @@
 -- Which lines are a text, and which fault is their first: facts on whole lists of lines.
 use Rattle.std.specs.Prelude.{◌≡◌, ◌≢◌, ℕ, ◌-◌, ◌<◌, ◌≤◌, List, [], ◌∷◌, ◌++◌, length, take, slice_index_or, false, true, Result, Ok, Err, ℤ, pos, ◌≤ℤ◌, ◌<ℤ◌, ◌⊎◌}
 use Rattle.std.specs.List.{AllByRecursion, list_any}
+use Rattle.swf_text.specs.Limits.{entry_limit}
 use Rattle.swf_text.specs.declared.fault.FaultKind.{FaultKind}
 use Rattle.swf_text.specs.declared.fault.FaultKind.TheVariants as kinds
 use Rattle.swf_text.specs.declared.fault.SwfFault.{SwfFault}
 use Rattle.swf_text.specs.declared.line.LineRead.{LineRead}
 use Rattle.swf_text.specs.declared.line.LineRead.TheVariants as read
 use Rattle.swf_text.specs.Line.{IsReadAs, from_first, without_returns}
-use Rattle.swf_text.specs.Entry.{LogEntry, HasNumber, has_number, field, is_partial}
+use Rattle.swf_text.specs.Entry.{LogEntry, HasNumber, IsPart, has_number, field, is_partial}
 use Rattle.swf_text.specs.Fault.{kind_of}
 use Rattle.swf_text.specs.Text.{LogText, empty}
 
@@ -15,11 +16,6 @@ use Rattle.swf_text.specs.Text.{LogText, empty}
 pub record IsSummary (job : List ℤ) (number : ℕ) : Type 0 where
   pub numbered : HasNumber job number
   pub summary : is_partial (field job 11) ≡ false
-
--- a partial line of this job number
-pub record IsPartial (part : List ℤ) (number : ℕ) : Type 0 where
-  pub numbered : HasNumber part number
-  pub partial : is_partial (field part 11) ≡ true
 
 -- no entry has this job number
 abbrev pub IsNew : ℕ → List LogEntry → Type 0
@@ -31,13 +27,13 @@ pub record AddsJob (t : LogText) (job : List ℤ) (u : LogText) : Type 0 where
   pub line : IsSummary job number
   pub submit : pos 0 ≤ℤ field job 2
   pub new : IsNew number t.entries
-  pub room : length t.entries < 4194304
+  pub room : length t.entries < entry_limit
   pub value : u ≡ record t { entries = t.entries ++ record { main = job; parts = [] } ∷ [] }
 
 -- a partial line joins the last entry, which has its number
 pub record AddsPart (t : LogText) (part : List ℤ) (u : LogText) : Type 0 where
   pub number : ℕ
-  pub line : IsPartial part number
+  pub line : IsPart number part
   pub front : List LogEntry
   pub last : LogEntry
   pub entries : t.entries ≡ front ++ last ∷ []
@@ -73,12 +69,12 @@ IsText lines t = IsTextFrom empty lines t
 abbrev pub IsJobFault : LogText → List ℤ → FaultKind → Type 0
 IsJobFault t job kinds.BadJobNumber = (number : ℕ) → HasNumber job number → ⊥
 IsJobFault t job kinds.OrphanPartial =
-    (number : ℕ) × IsPartial job number × ((front : List LogEntry) (last : LogEntry) → t.entries ≡ front ++ last ∷ [] → HasNumber last.main number → ⊥)
+    (number : ℕ) × IsPart number job × ((front : List LogEntry) (last : LogEntry) → t.entries ≡ front ++ last ∷ [] → HasNumber last.main number → ⊥)
 IsJobFault t job kinds.BadSubmit = (number : ℕ) × IsSummary job number × (field job 2 <ℤ pos 0)
 IsJobFault t job kinds.DuplicateJob =
     (number : ℕ) × IsSummary job number × (pos 0 ≤ℤ field job 2) × (list_any (has_number number) t.entries ≡ true)
 IsJobFault t job kinds.TooManyJobs =
-    (number : ℕ) × IsSummary job number × (pos 0 ≤ℤ field job 2) × IsNew number t.entries × (4194304 ≤ length t.entries)
+    (number : ℕ) × IsSummary job number × (pos 0 ≤ℤ field job 2) × IsNew number t.entries × (entry_limit ≤ length t.entries)
 IsJobFault t job kind = ⊥
 
 -- the first fault of a line that is read so, behind a text

@@ -1,3 +1,4 @@
+pub mod Limits
 pub mod Number
 pub mod Line
 pub mod Fault

@@ -1,6 +1,7 @@
 -- What one line of a log is, without its line feed (Standard Workload Format, version 2).
 use Rattle.std.specs.Prelude.{◌≡◌, ◌≢◌, ℕ, ◌+◌, ◌-◌, ◌<◌, ◌≤◌, List, [], ◌∷◌, length, take, drop, Bool, true, false, ◌||◌, ◌==◌, nat_lt, nat_le, if◌then◌else◌, Option, Some, None, Result, Ok, Err, ℤ, slice_get, slice_index_or}
 use Rattle.std.specs.List.{filter, list_all, list_any, slice_split, prefix_len, suffix_len}
+use Rattle.swf_text.specs.Limits.{line_limit}
 use Rattle.swf_text.specs.declared.line.LineFault.TheVariants.{LineTooLong, NotAscii, FieldCount, BadNumber}
 use Rattle.swf_text.specs.declared.line.LineRead.{LineRead}
 use Rattle.swf_text.specs.declared.line.LineRead.TheVariants as read
@@ -53,7 +54,7 @@ pub record IsFirstBad (words : List (List ℕ)) (place : ℕ) : Type 0 where
 
 -- a line within the limit whose first byte that is no blank is there, and is no `;`
 pub record IsForJob (line : List ℕ) : Type 0 where
-  pub short : length line ≤ 65536
+  pub short : length line ≤ line_limit
   pub first : ℕ
   pub begins : slice_get (from_first (without_returns line)) 0 ≡ Some first
   pub other : first ≢ 59
@@ -71,10 +72,10 @@ pub record IsJobLine (line : List ℕ) (values : List ℤ) : Type 0 where
 
 -- what a line is, and where it is nothing else its first fault
 abbrev pub IsReadAs : List ℕ → LineRead → Type 0
-IsReadAs line read.Blank = (length line ≤ 65536) × (list_all is_blank (without_returns line) ≡ true)
-IsReadAs line read.Comment = (length line ≤ 65536) × (slice_get (from_first (without_returns line)) 0 ≡ Some 59)
+IsReadAs line read.Blank = (length line ≤ line_limit) × (list_all is_blank (without_returns line) ≡ true)
+IsReadAs line read.Comment = (length line ≤ line_limit) × (slice_get (from_first (without_returns line)) 0 ≡ Some 59)
 IsReadAs line (read.Job job) = IsJobLine line job.0
-IsReadAs line (read.Fault LineTooLong) = 65536 < length line
+IsReadAs line (read.Fault LineTooLong) = line_limit < length line
 IsReadAs line (read.Fault NotAscii) = IsForJob line × (list_any is_high (without_returns line) ≡ true)
 IsReadAs line (read.Fault FieldCount) = IsAsciiForJob line × (length (fields (without_returns line)) ≢ 18)
 IsReadAs line (read.Fault (BadNumber place)) = IsAsciiForJob line × (length (fields (without_returns line)) ≡ 18) × IsFirstBad (fields (without_returns line)) place
@@ -112,5 +113,5 @@ line_by_front line (byte ∷ bytes) = if byte == 59 then read.Comment else job_l
 -- what a line is: the first fault in the order of checks, where there is one
 abbrev pub line_of : List ℕ → LineRead
 line_of bytes =
-    if nat_lt 65536 (length bytes) then read.Fault LineTooLong
+    if nat_lt line_limit (length bytes) then read.Fault LineTooLong
     else line_by_front (without_returns bytes) (from_first (without_returns bytes))

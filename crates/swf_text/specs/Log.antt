@@ -1,13 +1,14 @@
 -- The log: which entries may stand together, and the order that they are worked in.
 use Rattle.std.specs.Prelude.{ℕ, ◌≤◌, List, [], ◌∷◌, length, Bool, ◌&&◌, ◌||◌, ◌==◌, nat_lt, IsTrue, if◌then◌else◌}
 use Rattle.std.specs.List.{AllByRecursion, count_by}
+use Rattle.swf_text.specs.Limits.{entry_limit}
 use Rattle.swf_text.specs.Entry.{LogEntry, IsEntry, has_number, number_of_entry, submit_of}
 
 -- entries of which no two have one job number, and no more than a log may have
 pub record IsLog (entries : List LogEntry) : Type 0 where
   pub sound : AllByRecursion IsEntry entries
   pub distinct : (n : ℕ) → count_by (has_number n) entries ≤ 1
-  pub room : length entries ≤ 4194304
+  pub room : length entries ≤ entry_limit
 
 -- the earlier submit second comes first, and of one second the smaller job number
 abbrev pub comes_before : LogEntry → LogEntry → Bool

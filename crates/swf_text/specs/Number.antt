@@ -57,6 +57,11 @@ abbrev pub signed : Bool → ℕ → ℤ
 signed true n = neg_ℤ (pos n)
 signed false n = pos n
 
+-- a value below 0, which is written with a `-`
+abbrev pub is_below_zero : ℤ → Bool
+is_below_zero (pos n) = false
+is_below_zero (negsuc n) = true
+
 -- a trillion, in millionths
 abbrev pub greatest : ℕ
 greatest = 1000000000000000000
@@ -126,11 +131,6 @@ is_zero digit = digit == 48
 -- without the zeros at the end
 abbrev pub without_zeros : List ℕ → List ℕ
 without_zeros digits = take (length digits - suffix_len is_zero digits) digits
-
--- a value that is written with a `-`
-abbrev pub is_below_zero : ℤ → Bool
-is_below_zero (pos n) = false
-is_below_zero (negsuc n) = true
 
 -- the whole part without leading zeros, and the decimals without trailing zeros where they aren't all zero
 abbrev pub canonical_parts : ℤ → Parts

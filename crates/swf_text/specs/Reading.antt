@@ -1,6 +1,7 @@
 -- The reading of a log as one step after another: each line adds to the text before it, or ends the reading.
 use Rattle.std.specs.Prelude.{◌≡◌, ℕ, ◌+◌, ◌-◌, List, [], ◌∷◌, ◌++◌, length, nat_le, if◌then◌else◌, Option, Some, None, Result, Ok, Err, ℤ, slice_get, slice_set}
 use Rattle.std.specs.List.{list_any}
+use Rattle.swf_text.specs.Limits.{entry_limit}
 use Rattle.swf_text.specs.declared.line.LineRead.{LineRead}
 use Rattle.swf_text.specs.declared.line.LineRead.TheVariants as read
 use Rattle.swf_text.specs.declared.fault.FaultKind.{FaultKind}
@@ -8,7 +9,8 @@ use Rattle.swf_text.specs.declared.fault.FaultKind.TheVariants as kinds
 use Rattle.swf_text.specs.declared.fault.SwfFault.{SwfFault}
 use Rattle.swf_text.specs.Line.{line_of, from_first, without_returns}
 use Rattle.swf_text.specs.Fault.{kind_of}
-use Rattle.swf_text.specs.Entry.{LogEntry, field, whole_number, is_negative, is_partial, has_number}
+use Rattle.swf_text.specs.Entry.{LogEntry, field, whole_number, is_partial, has_number}
+use Rattle.swf_text.specs.Number.{is_below_zero}
 use Rattle.swf_text.specs.Text.{LogText, empty, lines}
 
 -- ---- one line more
@@ -26,9 +28,9 @@ abbrev pub with_numbered : LogText → List ℤ → Option ℕ → Result LogTex
 with_numbered text job None = Err kinds.BadJobNumber
 with_numbered text job (Some number) =
     if is_partial (field job 11) then with_part text job number (slice_get text.entries (length text.entries - 1))
-    else (if is_negative (field job 2) then Err kinds.BadSubmit
+    else (if is_below_zero (field job 2) then Err kinds.BadSubmit
     else (if list_any (has_number number) text.entries then Err kinds.DuplicateJob
-    else (if nat_le 4194304 (length text.entries) then Err kinds.TooManyJobs
+    else (if nat_le entry_limit (length text.entries) then Err kinds.TooManyJobs
     else Ok (record text { entries = text.entries ++ record { main = job; parts = [] } ∷ [] }))))
 
 -- the text with a job line more, or the first fault of that line

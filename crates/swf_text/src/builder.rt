@@ -7,6 +7,7 @@ ghost use Rattle.swf_text.specs.Reading.{with_part, with_job, with_read, with_li
 use crate::checks::{is_before_start, is_partial_line, job_number};
 use crate::entry::Entry;
 use crate::fault::FaultKind;
+use crate::limits::ENTRY_LIMIT;
 use crate::line::{Fields, LineRead};
 use crate::scan::{from_first, read_line, without_returns};
 use crate::seen::SeenNumbers;
@@ -14,9 +15,6 @@ use crate::text::SwfText;
 use crate::value::Value;
 use std::alloc::Allocator;
 use std::marker::Model;
-
-/// The most entries of a log.
-const ENTRY_LIMIT: usize = 4_194_304;
 
 /// The part of a log that was read, and the numbers of its jobs.
 #[derive(Drop)]

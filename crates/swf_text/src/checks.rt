@@ -1,7 +1,7 @@
 ghost use Rattle.std.specs.Prelude.{◌≡◌, ◌≤◌, IfSome, nat_abs};
 ghost use Rattle.std.specs.List.{list_all};
-ghost use Rattle.swf_text.specs.Entry.{field, whole_number, is_partial, is_negative, is_part, values};
-ghost use Rattle.swf_text.specs.Number.{greatest};
+ghost use Rattle.swf_text.specs.Entry.{field, whole_number, is_partial, is_part, values};
+ghost use Rattle.swf_text.specs.Number.{greatest, is_below_zero};
 
 use crate::line::Fields;
 use crate::value::Value;
@@ -24,8 +24,8 @@ fn whole_number(value: &Value) -> Option<u64>
 }
 
 // Whether a value is below 0.
-pub(crate) fn is_negative(value: &Value) -> bool
-    ensures value { result ≡ is_negative value.now }
+pub(crate) fn is_below_zero(value: &Value) -> bool
+    ensures value { result ≡ is_below_zero value.now }
     ensures limit { nat_abs value.now ≤ greatest }
 {
     value.millionths() < 0
@@ -48,10 +48,10 @@ pub(crate) fn job_number(fields: &Fields) -> Option<u64>
 
 // Whether the submit time of a line is negative.
 pub(crate) fn is_before_start(fields: &Fields) -> bool
-    ensures value { result ≡ is_negative (field fields.now.0 2) }
+    ensures value { result ≡ is_below_zero (field fields.now.0 2) }
     ensures limit { nat_abs (field fields.now.0 2) ≤ greatest }
 {
-    is_negative(&fields.0[1])
+    is_below_zero(&fields.0[1])
 }
 
 // Whether a line has the status of a partial execution.

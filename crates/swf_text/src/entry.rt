@@ -1,9 +1,9 @@
 ghost use Rattle.std.specs.Prelude.{◌≡◌, ◌++◌, ◌∷◌, ◌≤◌, ◌&&◌, ◌-◌, [], OnOk, OnErr, IfOk, slice_set, map, true, false, IsTrue, is_some, nat_le, pos, Some, None, if◌then◌else◌};
-ghost use Rattle.swf_text.specs.Entry.{HasNumber, is_partial, field, values, entry_made, is_negative, whole_number, IsEntry, number_of_entry, submit_of, field_change};
-ghost use Rattle.swf_text.specs.Number.{whole_of};
+ghost use Rattle.swf_text.specs.Entry.{HasNumber, is_partial, field, values, entry_made, whole_number, IsEntry, number_of_entry, submit_of, field_change};
+ghost use Rattle.swf_text.specs.Number.{whole_of, is_below_zero};
 
 use crate::checks::{
-    are_parts, is_before_start, is_negative, is_partial, is_partial_line, job_number,
+    are_parts, is_before_start, is_below_zero, is_partial, is_partial_line, job_number,
 };
 use crate::fault::EntryFault;
 use crate::line::Fields;
@@ -67,6 +67,7 @@ impl<A: Allocator + Copy> Entry<A> {
         ensures exact { HasNumber self.now.main result }
         ensures number { result ≡ number_of_entry self.now }
         ensures limit { result ≤ 1000000000000 }
+        ensures entry { IsEntry self.now }
     {
         self.main.0[0].millionths() as u64 / 1_000_000
     }
@@ -131,7 +132,7 @@ impl<A: Allocator + Copy> Entry<A> {
         if place < 2 || place > 18 {
             return Err(EntryFault::BadJobNumber);
         }
-        if place == 2 && is_negative(&value) {
+        if place == 2 && is_below_zero(&value) {
             return Err(EntryFault::BadSubmit);
         }
         if place == 11 && is_partial(&value) {

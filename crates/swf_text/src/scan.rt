@@ -4,13 +4,11 @@ ghost use Rattle.swf_text.specs.Line.{is_blank, is_return, is_high, without_retu
 ghost use Rattle.swf_text.specs.Scan.{first_word, after_word};
 ghost use Rattle.swf_text.specs.declared.line.LineRead.{LineRead};
 
+use crate::limits::LINE_LIMIT;
 use crate::line::{Fields, LineFault, LineRead};
 use crate::number::number;
 use crate::value::Value;
 use crate::walk::values_at;
-
-/// The most bytes of a line, its line feed not counted.
-const LINE_LIMIT: usize = 65_536;
 
 // Whether a byte is a space or a tab.
 fn is_blank(byte: u8) -> bool
