@@ -6,15 +6,16 @@ use Rattle.scenarios.specs.Scenario.{Setting}
 use Rattle.scenarios.specs.Plan.{Plan, jobs_of, plan_of}
 use Rattle.easy_rule.specs.declared.start.Start.{Start}
 use Rattle.easy_rule.specs.Simulation.{sim}
-use Rattle.timeline.specs.SoundPlan.{IsPlan}
-use Rattle.metrics.specs.Part.{PartSums, IsPartOf}
+use Rattle.scenarios.specs.SoundPlan.{IsPlan}
+use Rattle.metrics.specs.Part.{PartSums}
 use Rattle.metrics.specs.Tables.{TableRows, tables_of}
 use Rattle.metrics.proofs.Unique.{one_part}
 use Rattle.checkpoints.specs.Cut.{all_starts}
-use Rattle.checkpoints.specs.Sums.{all_placed, skips_of, IsTablesOf}
+use Rattle.scenarios.specs.Skips.{skips_of}
+use Rattle.checkpoints.specs.Sums.{all_placed, IsTablesOf}
 use Rattle.checkpoints.specs.Schedule.{row_of}
 use Rattle.checkpoints.specs.RunView.{RunView, IsRun}
-use Rattle.checkpoints.specs.Alike.{schedule_of, RunsOfOneTableAreAlike}
+use Rattle.checkpoints.specs.Alike.{RunsOfOneTableAreAlike}
 use Rattle.checkpoints.proofs.Chains.{cut-told}
 
 -- a log has one such table

@@ -4,7 +4,7 @@ use Rattle.std.specs.List.Sorted.{IsNonDecreasingBy}
 use Rattle.std.proofs.lemmas.List.Concat.{flat_map-cons}
 use Rattle.scenarios.specs.Plan.{Plan}
 use Rattle.easy_rule.specs.Simulation.{starts_before, sim, bound}
-use Rattle.timeline.specs.SoundPlan.{IsPlan}
+use Rattle.scenarios.specs.SoundPlan.{IsPlan}
 use Rattle.timeline.proofs.Events.{events-end-by-the-bound}
 use Rattle.event_loop.specs.Events.{events_before}
 use Rattle.event_loop.proofs.RunOn.{told-all}
@@ -29,11 +29,6 @@ pub chain-split : (plan : Plan) (i a b : ℕ) (ss : List SegmentView) → Chain 
 chain-split plan zero a b ss c l = (a, refl, c)
 chain-split plan (suc i) a b [] c l = absurd (omega arith)
 chain-split plan (suc i) a b (s ∷ ss) (m, sp, rest) l = let k = chain-split plan i m b ss rest (omega arith) in (k.0, (m, sp, k.1), k.2)
-
--- the first second of a chain's first segment
-pub chain-first : (plan : Plan) (a b : ℕ) (ss : List SegmentView) (d : SegmentView) → Chain plan a ss b → 0 < length ss → (get_or ss 0 d).first ≡ a
-chain-first plan a b [] d c l = absurd (omega arith)
-chain-first plan a b (s ∷ ss) d (m, sp, rest) l = sp.first
 
 -- each part is that of its segment's starts
 pub chain-part : (plan : Plan) (i a b : ℕ) (ss : List SegmentView) (d : SegmentView) → Chain plan a ss b → i < length ss → IsPartOf (placed_of plan.jobs (get_or ss i d).starts) (get_or ss i d).part

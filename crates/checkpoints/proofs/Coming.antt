@@ -4,7 +4,7 @@ use Rattle.std.proofs.lemmas.Bool.{cases_lt, ltb-true, ltb-false, lt-ltb, false�
 use Rattle.scenarios.specs.Plan.{Plan}
 use Rattle.event_loop.specs.Events.{Progress, IsNextEvent}
 use Rattle.easy_rule.specs.declared.start.Start.{Start}
-use Rattle.metrics.specs.declared.placed.Placed.{Placed}
+use Rattle.scenarios.specs.declared.placed.Placed.{Placed}
 use Rattle.checkpoints.proofs.Worked.{Working}
 use Rattle.checkpoints.specs.Coming.{ComesBefore, NoneComes}
 
@@ -18,10 +18,6 @@ one-next plan a t u h k =
     (λ (m : t ≤ u). omega arith)
     (cases_lt u t))
     (cases_lt t u)
-
-pub before-end : (now : Progress) (end : Option ℕ) → ComesBefore now end → IfSome end (λ e. now.position ≤ e)
-before-end now None c = tt
-before-end now (Some e) c = let a = c.1.0 in let b = c.2 in omega (arith, a, b)
 
 pub step-before-end : (now new : Progress) (end : Option ℕ) (t : ℕ) → ComesBefore now end → IsNextEvent now.plan now.position (Some t) → new ≡ record now { position = t + 1; handled = now.handled + 1 } → IfSome end (λ e. new.position ≤ e)
 step-before-end now new None t c next is = tt

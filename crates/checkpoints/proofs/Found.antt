@@ -1,20 +1,13 @@
 -- The starts of jobs by their numbers.
-use Rattle.std.proofs.Common.{◌≡◌, ℕ, ◌≤◌, ◌<◌, ◌^◌, ◌&&◌, Bool, true, false, cond, eqb, not, nat_eq, nat_le, List, [], ◌∷◌, ◌++◌, Option, Some, None, Ok, All, filter, refl, sym, ap, arith, append_assoc, ◌∙◌, ⊎_elim}
+use Rattle.std.proofs.Common.{◌≡◌, ℕ, ◌≤◌, ◌<◌, ◌^◌, ◌&&◌, Bool, true, false, cond, eqb, not, nat_eq, List, [], ◌∷◌, ◌++◌, Option, Some, None, All, filter, refl, sym, ap, arith, append_assoc, ◌∙◌, ⊎_elim}
 use Rattle.std.specs.Prelude.{IfSome, find}
 use Rattle.std.specs.List.Sorted.{IsStableByKey, ties}
 use Rattle.std.specs.Option.{option_map}
 use Rattle.std.specs.Ordering.{nat_cmp, is_lt}
-use Rattle.std.proofs.lemmas.Bool.{cond-true, le-leb, cases_eq, cases_lt, eq-eqb, ne_eqb, lt-ltb, le-ltb}
+use Rattle.std.proofs.lemmas.Bool.{cases_eq, cases_lt, eq-eqb, ne_eqb, lt-ltb, le-ltb}
 use Rattle.std.proofs.lemmas.List.Elements.{All-head, All-tail}
 use Rattle.std.specs.List.{filter_map}
-use Rattle.std.specs.Result.{result_ok}
-use Rattle.swf_text.specs.Entry.{LogEntry, submit_of}
-use Rattle.job_table.specs.Table.{entries_from}
 use Rattle.scenarios.specs.Job.{EffectiveJob}
-use Rattle.scenarios.specs.Scenario.{Setting}
-use Rattle.scenarios.specs.Effective.{effective}
-use Rattle.scenarios.specs.Plan.{jobs_of}
-use Rattle.event_loop.proofs.ToCome.{left-some}
 use Rattle.checkpoints.specs.declared.row.Row.{Row}
 use Rattle.checkpoints.specs.Schedule.{row_at, row_of}
 use Rattle.easy_rule.specs.declared.start.Start.{Start}
@@ -69,30 +62,12 @@ pub found-early : (xs : List Start) (n : ℕ) → All (λ (s : Start). s.at < 2 
 found-early [] n all = tt
 found-early (x ∷ xs) n all = early-first (eqb x.number n) x xs n refl (All-head (λ (s : Start). s.at < 2 ^ 49) x xs all) (found-early xs n (All-tail (λ (s : Start). s.at < 2 ^ 49) x xs all))
 
--- all entries of a table
-pub from-zero : (es : List LogEntry) → entries_from 0 es ≡ es
-from-zero [] = refl
-from-zero (e ∷ es) = cond-true (nat_le 0 (submit_of e)) (e ∷ entries_from 0 es) (entries_from 0 es) (le-leb 0 (submit_of e) (omega arith)) ∙ ap (λ l. e ∷ l) (from-zero es)
-
 pub front-empty : {X : Type 0} (xs ys zs : List X) → xs ≡ [] → ys ≡ zs → xs ++ ys ≡ zs
 front-empty xs ys zs none same = ap (λ l. l ++ ys) none ∙ same
 
 -- the rows so far and those to come
-pub rows-more : (starts : List Start) (s : Setting) (coming rest : List LogEntry) (e : LogEntry) (job : EffectiveJob) (start : ℕ) (old new all : List Row) → old ++ filter_map (row_of starts) (jobs_of coming s) ≡ all → coming ≡ e ∷ rest → Ok job ≡ effective e s → start_of starts job.number ≡ Some start → new ≡ old ++ row_at job start ∷ []
-    → new ++ filter_map (row_of starts) (jobs_of rest s) ≡ all
-rows-more starts s coming rest e job start old new all h is ok found put =
-    let left : filter_map (row_of starts) (jobs_of coming s) ≡ row_at job start ∷ filter_map (row_of starts) (jobs_of rest s) =
-    ap (filter_map (row_of starts)) (left-some s coming rest e job is ok) ∙ rw found refl in
-    ap (λ l. l ++ filter_map (row_of starts) (jobs_of rest s)) put ∙ append_assoc old (row_at job start ∷ []) (filter_map (row_of starts) (jobs_of rest s)) ∙ ap (λ l. old ++ l) (sym left) ∙ h
-
--- an entry that is skipped
-pub rows-skip : (starts : List Start) (s : Setting) (coming rest : List LogEntry) (e : LogEntry) (old all : List Row) → old ++ filter_map (row_of starts) (jobs_of coming s) ≡ all → coming ≡ e ∷ rest → result_ok (effective e s) ≡ None
-    → old ++ filter_map (row_of starts) (jobs_of rest s) ≡ all
-rows-skip starts s coming rest e old all h is skip =
-    ap (λ js. old ++ filter_map (row_of starts) js) (sym (ap (λ es. jobs_of es s) is ∙ rw skip refl)) ∙ h
-
--- a job that does not start
-pub rows-none : (starts : List Start) (s : Setting) (coming rest : List LogEntry) (e : LogEntry) (job : EffectiveJob) (old all : List Row) → old ++ filter_map (row_of starts) (jobs_of coming s) ≡ all → coming ≡ e ∷ rest → Ok job ≡ effective e s → start_of starts job.number ≡ None
-    → old ++ filter_map (row_of starts) (jobs_of rest s) ≡ all
-rows-none starts s coming rest e job old all h is ok none =
-    ap (λ l. old ++ l) (sym (ap (filter_map (row_of starts)) (left-some s coming rest e job is ok) ∙ rw none refl)) ∙ h
+pub rows-more : (starts : List Start) (coming rest : List EffectiveJob) (job : EffectiveJob) (start : ℕ) (old new all : List Row) → old ++ filter_map (row_of starts) coming ≡ all → coming ≡ job ∷ rest → start_of starts job.number ≡ Some start → new ≡ old ++ row_at job start ∷ []
+    → new ++ filter_map (row_of starts) rest ≡ all
+rows-more starts coming rest job start old new all h is found put =
+    let left : filter_map (row_of starts) coming ≡ row_at job start ∷ filter_map (row_of starts) rest = ap (filter_map (row_of starts)) is ∙ rw found refl in
+    ap (λ l. l ++ filter_map (row_of starts) rest) put ∙ append_assoc old (row_at job start ∷ []) (filter_map (row_of starts) rest) ∙ ap (λ l. old ++ l) (sym left) ∙ h

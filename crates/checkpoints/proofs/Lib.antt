@@ -4,7 +4,6 @@ pub mod Totals
 pub mod Lookups
 pub mod Searches
 pub mod Found
-pub mod Skipping
 pub mod Placing
 pub mod Rows
 pub mod Worked

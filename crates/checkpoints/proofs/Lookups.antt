@@ -5,17 +5,16 @@ use Rattle.std.specs.Option.{option_map, option_or}
 use Rattle.std.proofs.Math.Seq.{drop-cons}
 use Rattle.std.proofs.lemmas.Bool.{false≢true, leb-true}
 use Rattle.std.proofs.lemmas.Grind.{flat_map-append}
-use Rattle.std.proofs.lemmas.List.{drop_all, drop-map, get_or-map, length-map, length-drop, take_all, take-append-drop}
+use Rattle.std.proofs.lemmas.List.{drop-map, get_or-map, length-map, length-drop, take_all, take-append-drop}
 use Rattle.std.proofs.lemmas.List.Concat.{flat_map-cons}
 use Rattle.std.proofs.lemmas.List.Folds.{find-append}
 use Rattle.std.specs.List.Sorted.{IsPartitionedBy}
 use Rattle.std.proofs.lemmas.List.Sorted.{IsPartitionedBy-leb}
 use Rattle.scenarios.specs.Job.{EffectiveJob}
-use Rattle.scenarios.specs.Plan.{Plan}
-use Rattle.cluster_state.specs.Snapshot.{job_numbered}
+use Rattle.scenarios.specs.Plan.{Plan, job_numbered}
 use Rattle.easy_rule.specs.declared.start.Start.{Start}
 use Rattle.easy_rule.specs.Simulation.{sim, start_of, starts_before}
-use Rattle.timeline.specs.SoundPlan.{IsPlan}
+use Rattle.scenarios.specs.SoundPlan.{IsPlan}
 use Rattle.checkpoints.specs.Segment.{SegmentView}
 use Rattle.checkpoints.specs.Cut.{Chain, IsCut, all_starts}
 use Rattle.checkpoints.proofs.Chains.{chain-told, chain-split, cut-told, firsts-rise}
@@ -57,9 +56,6 @@ module _ {X : Type 0} (f : X → SegmentView) where
       ∙ flat_map-cons (λ (s : SegmentView). s.starts) (f (get_or xs i d)) (map f (drop (suc i) xs))
       ∙ ap (λ k. (f (get_or xs i d)).starts ++ starts-from xs k) (sym (add-one i))
 
-  pub no-starts : (xs : List X) (i : ℕ) → length xs ≤ i → starts-from xs i ≡ []
-  no-starts xs i l = ap (λ ys. all_starts (map f ys)) (drop_all i xs l)
-
   -- a loop over the segments
   pub found-here : (n : ℕ) (xs : List X) (i : ℕ) (d : X) (o w : Option ℕ) → i < length xs → o ≡ start_of (f (get_or xs i d)).starts n → is_some o ≡ true → start_of (starts-from xs i) n ≡ w → o ≡ w
   found-here n xs i d o w l e s h =
@@ -68,9 +64,6 @@ module _ {X : Type 0} (f : X → SegmentView) where
   pub found-later : (n : ℕ) (xs : List X) (i : ℕ) (d : X) (o w : Option ℕ) → i < length xs → o ≡ start_of (f (get_or xs i d)).starts n → is_some o ≡ false → start_of (starts-from xs i) n ≡ w → start_of (starts-from xs (i + 1)) n ≡ w
   found-later n xs i d o w l e s h =
       sym (start-later n (f (get_or xs i d)).starts (starts-from xs (i + 1)) (ap is_some (sym e) ∙ s)) ∙ ap (λ ys. start_of ys n) (sym (next-starts xs i d l)) ∙ h
-
-  pub found-nowhere : (n : ℕ) (xs : List X) (i : ℕ) (w : Option ℕ) → length xs ≤ i → start_of (starts-from xs i) n ≡ w → None ≡ w
-  found-nowhere n xs i w l h = ap (λ ys. start_of ys n) (sym (no-starts xs i l)) ∙ h
 
   -- the segments before one that begins by the submit second have no start of the job
   pub found-from : (plan : Plan) (xs : List X) (n i : ℕ) (d : X) (job : EffectiveJob) → IsPlan plan → IsCut plan (map f xs) → job_numbered plan.jobs n ≡ Some job → i < length xs → (f (get_or xs i d)).first ≤ job.submit

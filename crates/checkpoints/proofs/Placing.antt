@@ -7,20 +7,19 @@ use Rattle.std.proofs.lemmas.Bool.{cases_Bool, cond-true, cond-false, cond_both,
 use Rattle.std.proofs.lemmas.List.Sums.{sum_by-cons, get_or-le-sum_by}
 use Rattle.std.proofs.lemmas.List.Elements.{All-nil, All-cons, All-head, All-tail, All-weaker, All-filter}
 use Rattle.scenarios.specs.Job.{EffectiveJob}
-use Rattle.scenarios.specs.Plan.{Plan}
-use Rattle.cluster_state.specs.declared.running.Running.{Running}
-use Rattle.cluster_state.specs.State.{State, real_end, placed, started}
-use Rattle.cluster_state.specs.Snapshot.{job_numbered}
+use Rattle.scenarios.specs.Plan.{Plan, job_numbered}
+use Rattle.scenarios.specs.declared.placed.Placed.{Placed}
+use Rattle.scenarios.specs.Placed.{real_end}
+use Rattle.cluster_state.specs.State.{State, placed, started}
 use Rattle.cluster_state.proofs.StateLemmas.{sum_by-placed, All-placed}
 use Rattle.easy_rule.specs.declared.start.Start.{Start}
 use Rattle.easy_rule.specs.Rule.{next, decided, decisions}
 use Rattle.easy_rule.specs.Simulation.{before, ready, starts_in}
 use Rattle.easy_rule.proofs.NextLemmas.{decided-start, decided-stop, decisions-start, decisions-stop}
 use Rattle.easy_rule.proofs.Decisions.{cases_option, decided-keeps}
-use Rattle.timeline.specs.SoundPlan.{IsPlan}
+use Rattle.scenarios.specs.SoundPlan.{IsPlan}
 use Rattle.timeline.proofs.Facts.{before-more}
 use Rattle.event_loop.proofs.Kept.{before-of-plan}
-use Rattle.metrics.specs.declared.placed.Placed.{Placed}
 use Rattle.checkpoints.specs.Cut.{placed_at, placed_of}
 use Rattle.checkpoints.proofs.Searches.{has}
 
@@ -28,8 +27,8 @@ use Rattle.checkpoints.proofs.Searches.{has}
 abbrev starts_of : ℕ → List Start → ℕ
 starts_of n xs = count_by (λ (x : Start). nat_eq x.number n) xs
 
-abbrev runs_with : ℕ → List Running → ℕ
-runs_with n rs = count_by (λ (r : Running). nat_eq r.job.number n) rs
+abbrev runs_with : ℕ → List Placed → ℕ
+runs_with n rs = count_by (λ (r : Placed). nat_eq r.job.number n) rs
 
 -- each start adds a running job of its number
 runs-more : (n k : ℕ) (s : State) (now : ℕ) → starts_of n (decisions k s now) + runs_with n s.running ≡ runs_with n (decided k s now).running
@@ -46,11 +45,11 @@ runs-more n (suc k) s now =
     let s' = started s job now in
     let one : suc k - 1 ≡ k = omega arith in
     let x : Start = record { number = job.number; at = now } in
-    let r : Running = record { job = job; start = now } in
+    let r : Placed = record { job = job; start = now } in
     let a = ap (starts_of n) (decisions-start (suc k) s job now (omega arith) f.1 ∙ ap (λ m. x ∷ decisions m s' now) one) in
     let b = ap (λ (z : State). runs_with n z.running) (decided-start (suc k) s job now (omega arith) f.1 ∙ ap (λ m. decided m s' now) one) in
     let i = runs-more n k s' now in
-    omega (arith, a, b, i, sum_by-cons (λ (y : Start). cond {A = ℕ} (nat_eq y.number n) 1 0) x (decisions k s' now), sum_by-placed (λ (y : Running). cond {A = ℕ} (nat_eq y.job.number n) 1 0) r s.running))
+    omega (arith, a, b, i, sum_by-cons (λ (y : Start). cond {A = ℕ} (nat_eq y.number n) 1 0) x (decisions k s' now), sum_by-placed (λ (y : Placed). cond {A = ℕ} (nat_eq y.job.number n) 1 0) r s.running))
     (cases_option (next s now))
 
 -- so who starts at a second runs before the next one
@@ -62,16 +61,16 @@ starts-run plan t n =
     omega (arith, a, b)
 
 -- where running jobs are the plan's of their numbers, a number that runs has the same job among them as in the plan
-abbrev Own : Plan → Running → Type 0
+abbrev Own : Plan → Placed → Type 0
 Own plan r = job_numbered plan.jobs r.job.number ≡ Some r.job
 
-abbrev pub jobs_running : List Running → List EffectiveJob
-jobs_running rs = map (λ (r : Running). r.job) rs
+abbrev pub jobs_running : List Placed → List EffectiveJob
+jobs_running rs = map (λ (r : Placed). r.job) rs
 
-found-own : (plan : Plan) (rs : List Running) (n : ℕ) → All (Own plan) rs → 1 ≤ runs_with n rs → job_numbered (jobs_running rs) n ≡ job_numbered plan.jobs n
+found-own : (plan : Plan) (rs : List Placed) (n : ℕ) → All (Own plan) rs → 1 ≤ runs_with n rs → job_numbered (jobs_running rs) n ≡ job_numbered plan.jobs n
 found-own plan [] n own l = absurd (omega arith)
 found-own plan (r ∷ rs) n own l =
-    let e = sum_by-cons (λ (y : Running). cond {A = ℕ} (nat_eq y.job.number n) 1 0) r rs in
+    let e = sum_by-cons (λ (y : Placed). cond {A = ℕ} (nat_eq y.job.number n) 1 0) r rs in
     ⊎_elim
     (λ (here : nat_eq r.job.number n ≡ true).
     cond-true (nat_eq r.job.number n) (Some r.job) (job_numbered (jobs_running rs) n) here ∙ sym (All-head (Own plan) r rs own) ∙ ap (job_numbered plan.jobs) (eqb-true r.job.number n here))
@@ -100,14 +99,14 @@ starts-placed plan t p =
     found-own plan (before plan (t + 1)).running n (before-of-plan plan (t + 1) p).running (omega (arith, one, yes', more)))
 
 -- ---- the order of the running jobs
-abbrev Onward : Running → Running → Type 0
+abbrev Onward : Placed → Placed → Type 0
 Onward r x = r.job.number ≤ x.job.number
 
-abbrev Rises : List Running → Type 0
+abbrev Rises : List Placed → Type 0
 Rises [] = Unit {0}
 Rises (r ∷ rs) = All (Onward r) rs × Rises rs
 
-rises-placed : (r : Running) (rs : List Running) → Rises rs → Rises (placed r rs)
+rises-placed : (r : Placed) (rs : List Placed) → Rises rs → Rises (placed r rs)
 rises-placed r [] h = (All-nil (Onward r), tt)
 rises-placed r (x ∷ xs) h =
     ⊎_elim
@@ -121,7 +120,7 @@ rises-placed r (x ∷ xs) h =
     (All-placed (Onward x) r xs (omega (arith, l)) h.0, rises-placed r xs h.1))
     (cases_Bool (nat_lt r.job.number x.job.number))
 
-rises-filter : (keeps : Running → Bool) (rs : List Running) → Rises rs → Rises (filter keeps rs)
+rises-filter : (keeps : Placed → Bool) (rs : List Placed) → Rises rs → Rises (filter keeps rs)
 rises-filter keeps [] h = tt
 rises-filter keeps (r ∷ rs) h =
     cond_both (keeps r) (r ∷ filter keeps rs) (filter keeps rs) Rises
@@ -134,9 +133,9 @@ rises-before plan zero = tt
 rises-before plan (suc t) =
     let s = ready plan (before plan t) t in
     decided-keeps (λ z. Rises z.running) t (λ z job e h. rises-placed (record { job = job; start = t }) z.running h) (length s.waiting) s
-    (rises-filter (λ (r : Running). not (nat_eq (real_end r) t)) (before plan t).running (rises-before plan t))
+    (rises-filter (λ (r : Placed). not (nat_eq (real_end r) t)) (before plan t).running (rises-before plan t))
 
-rises-all : (rs : List Running) → Rises rs → IsNonDecreasingBy (λ (r : Running). r.job.number) rs
+rises-all : (rs : List Placed) → Rises rs → IsNonDecreasingBy (λ (r : Placed). r.job.number) rs
 rises-all [] h i j d le l = absurd (omega arith)
 rises-all (r ∷ rs) h zero zero d le l = omega arith
 rises-all (r ∷ rs) h zero (suc j) d le l = h.0 j d (omega arith)
@@ -144,14 +143,14 @@ rises-all (r ∷ rs) h (suc i) zero d le l = absurd (omega arith)
 rises-all (r ∷ rs) h (suc i) (suc j) d le l = rises-all rs h.1 i j d (omega arith) (omega arith)
 
 -- the running jobs before each second rise by number
-pub numbers-rise : (plan : Plan) (t : ℕ) → IsNonDecreasingBy (λ (r : Running). r.job.number) (before plan t).running
+pub numbers-rise : (plan : Plan) (t : ℕ) → IsNonDecreasingBy (λ (r : Placed). r.job.number) (before plan t).running
 numbers-rise plan t = rises-all (before plan t).running (rises-before plan t)
 
 -- the job of a number, from the running one
-pub job-of : (rs : List Running) (n : ℕ) → job_numbered (jobs_running rs) n ≡ option_map (λ (r : Running). r.job) (find (has (λ (r : Running). r.job.number) n) rs)
+pub job-of : (rs : List Placed) (n : ℕ) → job_numbered (jobs_running rs) n ≡ option_map (λ (r : Placed). r.job) (find (has (λ (r : Placed). r.job.number) n) rs)
 job-of [] n = refl
 job-of (r ∷ rs) n = go (nat_eq r.job.number n) (job-of rs n) where
-  go : (b : Bool) → job_numbered (jobs_running rs) n ≡ option_map (λ (x : Running). x.job) (find (has (λ (x : Running). x.job.number) n) rs)
-      → cond b (Some r.job) (job_numbered (jobs_running rs) n) ≡ option_map (λ (x : Running). x.job) (cond b (Some r) (find (has (λ (x : Running). x.job.number) n) rs))
+  go : (b : Bool) → job_numbered (jobs_running rs) n ≡ option_map (λ (x : Placed). x.job) (find (has (λ (x : Placed). x.job.number) n) rs)
+      → cond b (Some r.job) (job_numbered (jobs_running rs) n) ≡ option_map (λ (x : Placed). x.job) (cond b (Some r) (find (has (λ (x : Placed). x.job.number) n) rs))
   go true i = refl
   go false i = i

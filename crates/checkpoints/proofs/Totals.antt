@@ -8,13 +8,14 @@ use Rattle.swf_text.specs.Entry.{LogEntry}
 use Rattle.scenarios.specs.Scenario.{Setting}
 use Rattle.scenarios.specs.Plan.{Plan, plan_of, jobs_of}
 use Rattle.easy_rule.specs.declared.start.Start.{Start}
-use Rattle.timeline.specs.SoundPlan.{IsPlan}
-use Rattle.metrics.specs.declared.placed.Placed.{Placed}
+use Rattle.scenarios.specs.SoundPlan.{IsPlan}
+use Rattle.scenarios.specs.declared.placed.Placed.{Placed}
 use Rattle.metrics.specs.declared.totals.Totals.{Totals}
 use Rattle.metrics.specs.Part.{PartSums, IsPartOf}
-use Rattle.metrics.specs.declared.rows.Skips.{Skips}
+use Rattle.scenarios.specs.declared.skips.Skips.{Skips}
 use Rattle.metrics.specs.Tables.{TableRows, tables_of}
-use Rattle.checkpoints.specs.Sums.{IsTablesOf, skips_of}
+use Rattle.scenarios.specs.Skips.{skips_of}
+use Rattle.checkpoints.specs.Sums.{IsTablesOf}
 use Rattle.checkpoints.specs.Segment.{SegmentView}
 use Rattle.checkpoints.specs.Cut.{IsCut, all_starts, placed_of, placed_at}
 use Rattle.checkpoints.proofs.Chains.{chain-part, cut-told}

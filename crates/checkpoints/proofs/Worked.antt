@@ -1,20 +1,18 @@
 -- An engine that works some event seconds.
-use Rattle.std.proofs.Common.{◌≡◌, ℕ, ◌+◌, ◌-◌, ◌≤◌, ◌<◌, true, false, List, [], ◌∷◌, ◌++◌, map, Some, None, refl, sym, ◌∙◌, ap, arith, subst}
-use Rattle.std.proofs.lemmas.Bool.{false≢true}
+use Rattle.std.proofs.Common.{◌≡◌, ℕ, ◌+◌, ◌-◌, ◌≤◌, ◌<◌, false, List, [], ◌∷◌, ◌++◌, map, Some, None, sym, ◌∙◌, ap, arith, subst}
 use Rattle.std.proofs.lemmas.List.{map-append}
 use Rattle.std.proofs.lemmas.List.Elements.{filter_map-append}
 use Rattle.std.specs.List.Sorted.{IsNonDecreasingBy}
 use Rattle.scenarios.specs.Plan.{Plan}
-use Rattle.cluster_state.specs.declared.running.Running.{Running}
+use Rattle.scenarios.specs.declared.placed.Placed.{Placed}
 use Rattle.cluster_state.specs.Snapshot.{Numbers, numbers_of}
 use Rattle.easy_rule.specs.declared.start.Start.{Start}
 use Rattle.easy_rule.specs.Simulation.{IsEvent, before, starts_in, bound}
-use Rattle.timeline.specs.SoundPlan.{IsPlan}
+use Rattle.scenarios.specs.SoundPlan.{IsPlan}
 use Rattle.timeline.proofs.Events.{events-end-by-the-bound}
 use Rattle.event_loop.specs.Events.{Progress, IsNextEvent, begun, events_before}
 use Rattle.event_loop.specs.Going.{IsRunOn}
-use Rattle.event_loop.proofs.RunOn.{run-on-first, run-on-step}
-use Rattle.metrics.specs.declared.placed.Placed.{Placed}
+use Rattle.event_loop.proofs.RunOn.{run-on-step}
 use Rattle.metrics.specs.Part.{PartSums, IsPartOf}
 use Rattle.metrics.specs.Placed.{CanSum}
 use Rattle.checkpoints.specs.Segment.{SegmentView}
@@ -32,18 +30,8 @@ pub record Working (old now : Progress) (starts : List Start) (placed : List Pla
   pub some : 0 < count → EndsWithEvent old.plan old.position now.position
   pub plan : 0 < count → IsPlan old.plan
 
-pub working-first : (old : Progress) (starts : List Start) (placed : List Placed) → old.failed ≡ false → starts ≡ [] → placed ≡ [] → Working old old starts placed 0
-working-first old starts placed going none nobody = record {
-  run = subst (IsRunOn old old) (sym none) (run-on-first old going);
-  jobs = nobody ∙ ap (placed_of old.plan.jobs) (sym none);
-  counted = omega arith;
-  none = λ e. refl;
-  some = λ l. absurd (omega (arith, l));
-  plan = λ l. absurd (omega (arith, l));
-}
-
 -- the jobs of one second more
-jobs-more : (plan now new : Plan) (t position : ℕ) (xs ys zs : List Start) (ps qs : List Placed) (rs : List Running) → IsPlan plan → now ≡ plan → new ≡ now → position ≡ t + 1 → ps ≡ placed_of plan.jobs xs → ys ≡ starts_in now t → zs ≡ xs ++ ys → rs ≡ (before new position).running → qs ≡ ps ++ placed_of (jobs_running rs) ys
+jobs-more : (plan now new : Plan) (t position : ℕ) (xs ys zs : List Start) (ps qs : List Placed) (rs : List Placed) → IsPlan plan → now ≡ plan → new ≡ now → position ≡ t + 1 → ps ≡ placed_of plan.jobs xs → ys ≡ starts_in now t → zs ≡ xs ++ ys → rs ≡ (before new position).running → qs ≡ ps ++ placed_of (jobs_running rs) ys
     → qs ≡ placed_of plan.jobs zs
 jobs-more plan now new t position xs ys zs ps qs rs p same still at had told put running more =
     let here : ys ≡ starts_in plan t = told ∙ ap (λ (q : Plan). starts_in q t) same in
@@ -53,7 +41,7 @@ jobs-more plan now new t position xs ys zs ps qs rs p same still at had told put
     more ∙ ap (λ l. l ++ placed_of (jobs_running rs) ys) had ∙ ap (λ l. placed_of plan.jobs xs ++ l) those
     ∙ sym (filter_map-append (placed_at plan.jobs) xs ys) ∙ ap (placed_of plan.jobs) (sym put)
 
-pub working-more : (old now new : Progress) (xs ys zs : List Start) (ps qs : List Placed) (rs : List Running) (t count : ℕ) → Working old now xs ps count → now.failed ≡ false → IsNextEvent now.plan now.position (Some t) → ys ≡ starts_in now.plan t → new ≡ record now { position = t + 1; handled = now.handled + 1 } → zs ≡ xs ++ ys
+pub working-more : (old now new : Progress) (xs ys zs : List Start) (ps qs : List Placed) (rs : List Placed) (t count : ℕ) → Working old now xs ps count → now.failed ≡ false → IsNextEvent now.plan now.position (Some t) → ys ≡ starts_in now.plan t → new ≡ record now { position = t + 1; handled = now.handled + 1 } → zs ≡ xs ++ ys
     → IsPlan new.plan → (new.failed ≡ false → rs ≡ (before new.plan new.position).running) → qs ≡ ps ++ placed_of (jobs_running rs) ys → Working old new zs qs (count + 1)
 working-more old now new xs ys zs ps qs rs t count h going next is e put p running more =
     let pos : new.position ≡ t + 1 = ap (λ (p : Progress). p.position) e in
@@ -72,9 +60,9 @@ working-more old now new xs ys zs ps qs rs t count h going next is e put p runni
     }
 
 -- who runs after a step stands by number
-pub working-rises : (now new : Progress) (rs : List Running) (t : ℕ) → now.failed ≡ false → new ≡ record now { position = t + 1; handled = now.handled + 1 } → (new.failed ≡ false → rs ≡ (before new.plan new.position).running) → IsNonDecreasingBy (λ (r : Running). r.job.number) rs
+pub working-rises : (now new : Progress) (rs : List Placed) (t : ℕ) → now.failed ≡ false → new ≡ record now { position = t + 1; handled = now.handled + 1 } → (new.failed ≡ false → rs ≡ (before new.plan new.position).running) → IsNonDecreasingBy (λ (r : Placed). r.job.number) rs
 working-rises now new rs t going e running =
-    subst (IsNonDecreasingBy (λ (r : Running). r.job.number)) (sym (running (ap (λ (p : Progress). p.failed) e ∙ going))) (numbers-rise new.plan new.position)
+    subst (IsNonDecreasingBy (λ (r : Placed). r.job.number)) (sym (running (ap (λ (p : Progress). p.failed) e ∙ going))) (numbers-rise new.plan new.position)
 
 -- where an event second comes, and up to n of them were worked, at least one was
 pub working-ends : (old now : Progress) (starts : List Start) (placed : List Placed) (count : ℕ) → Working old now starts placed count → (count ≡ 0 → ⊥) → EndsWithEvent old.plan old.position now.position

@@ -2,7 +2,7 @@
 use Rattle.std.specs.Prelude.{◌≡◌, List}
 use Rattle.std.specs.List.{filter_map}
 use Rattle.scenarios.specs.Plan.{jobs_of, plan_of}
-use Rattle.timeline.specs.SoundPlan.{IsPlan}
+use Rattle.scenarios.specs.SoundPlan.{IsPlan}
 use Rattle.checkpoints.specs.declared.row.Row.{Row}
 use Rattle.checkpoints.specs.Schedule.{row_of}
 use Rattle.checkpoints.specs.Cut.{all_starts}

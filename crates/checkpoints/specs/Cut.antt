@@ -3,12 +3,12 @@ use Rattle.std.specs.Prelude.{◌≡◌, ℕ, ◌+◌, ◌≤◌, List, [], ◌�
 use Rattle.std.specs.List.{filter_map, flat_map}
 use Rattle.std.specs.Option.{option_map}
 use Rattle.scenarios.specs.Job.{EffectiveJob}
-use Rattle.scenarios.specs.Plan.{Plan}
-use Rattle.cluster_state.specs.Snapshot.{numbers_of, job_numbered}
+use Rattle.scenarios.specs.Plan.{Plan, job_numbered}
+use Rattle.cluster_state.specs.Snapshot.{numbers_of}
 use Rattle.easy_rule.specs.declared.start.Start.{Start}
 use Rattle.easy_rule.specs.Simulation.{IsEvent, before, starts_before}
 use Rattle.event_loop.specs.Events.{events_before}
-use Rattle.metrics.specs.declared.placed.Placed.{Placed}
+use Rattle.scenarios.specs.declared.placed.Placed.{Placed}
 use Rattle.metrics.specs.Part.{IsPartOf}
 use Rattle.checkpoints.specs.Segment.{SegmentView}
 

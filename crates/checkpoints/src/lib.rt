@@ -15,7 +15,6 @@ mod sums;
 
 pub use cutting::{comes_before, next_segment};
 pub use fault::RunFault;
-pub use parts::{is_plan, job_in};
 pub use row::Row;
 pub use run::Run;
 pub use segment::Segment;

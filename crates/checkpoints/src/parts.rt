@@ -1,42 +1,15 @@
 ghost use Rattle.std.specs.Prelude.{◌≡◌, ◌++◌, map, OnOk};
 ghost use Rattle.std.specs.List.Sorted.{IsNonDecreasingBy};
-ghost use Rattle.scenarios.specs.Plan.{jobs_of, plan_of};
-ghost use Rattle.timeline.specs.SoundPlan.{IsPlan};
-ghost use Rattle.cluster_state.specs.Snapshot.{job_numbered};
+ghost use Rattle.scenarios.specs.Plan.{job_numbered};
 ghost use Rattle.checkpoints.specs.Cut.{placed_of};
 
-use cluster_state::Running;
 use easy_rule::Start;
-use job_table::JobTable;
-use metrics::Placed;
-use scenarios::{Job, Scenario, effective};
+use scenarios::{Job, Placed};
 use std::alloc::Allocator;
 use swf_text::Memory;
 
-/// The jobs of a table under a scenario make a plan. It looks at no entry.
-pub fn is_plan<A: Allocator + Copy>(table: &JobTable<A>, scenario: &Scenario)
-    ensures { IsPlan (plan_of table.now scenario.now) }
-{
-    let _entries = table.len();
-    let _procs = scenario.procs();
-}
-
-/// The job of this number in a table under a scenario; None where it is not simulated. It looks the
-/// number up, and goes over no other entries.
-pub fn job_in<A: Allocator + Copy>(
-    table: &JobTable<A>,
-    scenario: &Scenario,
-    number: u64,
-) -> Option<Job>
-    ensures { result ≡ job_numbered (jobs_of table.now scenario.now) number }
-{
-    let _entries = table.len();
-    let entry = table.get(number)?;
-    effective(entry, scenario).ok()
-}
-
 // The job of this number among running ones, which rise by number.
-fn running_job(running: &[Running], number: u64) -> Option<Job>
+fn running_job(running: &[Placed], number: u64) -> Option<Job>
     requires { IsNonDecreasingBy (λ r. r.job.number) running.now }
     ensures { result ≡ job_numbered (map (λ r. r.job) running.now) number }
 {
@@ -52,7 +25,7 @@ fn running_job(running: &[Running], number: u64) -> Option<Job>
 pub(crate) fn add_placed<A: Allocator + Copy>(
     placed: &mut Vec<Placed, A>,
     starts: &[Start],
-    running: &[Running],
+    running: &[Placed],
 ) -> Result<(), Memory>
     requires { IsNonDecreasingBy (λ r. r.job.number) running.now }
     ensures { OnOk result (placed.new.items ≡ placed.old.items ++ placed_of (map (λ r. r.job) running.now) starts.now) }

@@ -1,14 +1,13 @@
 ghost use Rattle.std.specs.Prelude.{◌≡◌, map, length, IfOk};
 ghost use Rattle.std.specs.Arc.{arc_value};
 
-use crate::parts::{is_plan, job_in};
 use crate::row::Row;
 use crate::schedule::{rows_of, start_in, starts_in};
 use crate::segment::Segment;
 use crate::sums::tables_of;
 use job_table::JobTable;
 use metrics::Tables;
-use scenarios::Scenario;
+use scenarios::{Plan, Scenario};
 use std::alloc::Allocator;
 use std::marker::Model;
 use std::sync::Arc;
@@ -21,8 +20,7 @@ use swf_text::Memory;
 #[derive(Drop)]
 pub struct Run<A: Allocator + Copy> {
     alloc: A,
-    table: Arc<JobTable<A>, A>,
-    scenario: Scenario,
+    plan: Plan<A>,
     segments: Vec<Arc<Segment<A>, A>, A>,
     tables: Tables<A>,
 }
@@ -34,13 +32,14 @@ impl<A: Allocator + Copy> Model for Run<A> {
 
     ghost Value = { RunView };
 
-    ghost view = { λ r. record { log = arc_value r.table; setting = r.scenario; segments = map arc_value r.segments.items; tables = r.tables } };
+    ghost view = { λ r. record { log = r.plan.log; setting = r.plan.setting; segments = map arc_value r.segments.items; tables = r.tables } };
 
-    ghost invariant = { λ r. IsRun (record { log = arc_value r.table; setting = r.scenario; segments = map arc_value r.segments.items; tables = r.tables }) };
+    ghost invariant = { λ r. IsRun (record { log = r.plan.log; setting = r.plan.setting; segments = map arc_value r.segments.items; tables = r.tables }) };
 }
 
 impl<A: Allocator + Copy> Run<A> {
     ghost use Rattle.scenarios.specs.Plan.{jobs_of, plan_of};
+    ghost use Rattle.scenarios.specs.PlanView.{plan_in};
     ghost use Rattle.scenarios.specs.Scenario.{IsSetting};
     ghost use Rattle.job_table.specs.Table.{IsTable};
     ghost use Rattle.easy_rule.specs.Simulation.{sim, start_of};
@@ -64,11 +63,26 @@ impl<A: Allocator + Copy> Run<A> {
         ensures segments { IfOk result (λ run. run.segments ≡ map arc_value segments.items) }
         ensures sound { IfOk result IsRun }
     {
-        let tables = tables_of(alloc, &table, &scenario, segments.as_slice())?;
+        let run = Run::of_plan(alloc, Plan::new(table, scenario), segments)?;
+        Ok(run)
+    }
+
+    // The run of these segments, which are those of the plan's simulation.
+    pub(crate) fn of_plan(
+        alloc: A,
+        plan: Plan<A>,
+        segments: Vec<Arc<Segment<A>, A>, A>,
+    ) -> Result<Run<A>, Memory>
+        requires { IsCut (plan_in plan) (map arc_value segments.items) }
+        ensures log { IfOk result (λ run. run.log ≡ plan.log) }
+        ensures setting { IfOk result (λ run. run.setting ≡ plan.setting) }
+        ensures segments { IfOk result (λ run. run.segments ≡ map arc_value segments.items) }
+        ensures sound { IfOk result IsRun }
+    {
+        let tables = tables_of(alloc, &plan.view(), segments.as_slice())?;
         Ok(Run {
             alloc,
-            table,
-            scenario,
+            plan,
             segments,
             tables,
         })
@@ -78,14 +92,23 @@ impl<A: Allocator + Copy> Run<A> {
     pub fn table(&self) -> &Arc<JobTable<A>, A>
         ensures { arc_value result.now ≡ self.now.log }
     {
-        &self.table
+        self.plan.table()
     }
 
     /// The scenario.
     pub fn scenario(&self) -> Scenario
         ensures { result ≡ self.now.setting }
     {
-        self.scenario
+        self.plan.scenario()
+    }
+
+    /// The plan: the table under the scenario.
+    pub fn plan(&self) -> &Plan<A>
+        ensures log { result.now.log ≡ self.now.log }
+        ensures setting { result.now.setting ≡ self.now.setting }
+        ensures sound { IsRun self.now }
+    {
+        &self.plan
     }
 
     /// The tables: plain sums over all jobs of the table under the scenario, each at its start.
@@ -112,8 +135,7 @@ impl<A: Allocator + Copy> Run<A> {
     pub fn start_of(&self, number: u64) -> Option<u64>
         ensures { result ≡ start_of (sim (plan_of self.now.log self.now.setting)) number }
     {
-        is_plan(&self.table, &self.scenario);
-        let job = job_in(&self.table, &self.scenario, number)?;
+        let job = self.plan.view().job(number)?;
         let submit = job.submit();
         let later = self.segments.partition_point(|s| s.first() <= submit);
         start_in(&self.segments.as_slice()[later.saturating_sub(1)..], number)
@@ -126,9 +148,9 @@ impl<A: Allocator + Copy> Run<A> {
         ensures each { IfOk result (λ rows. map (λ r. r.number) rows.items ≡ map (λ j. j.number) (jobs_of self.now.log self.now.setting)) }
         ensures count { IfOk result (λ rows. length rows.items ≡ length (jobs_of self.now.log self.now.setting)) }
     {
-        is_plan(&self.table, &self.scenario);
+        let plan = self.plan.view();
         let starts = starts_in(self.alloc, self.segments.as_slice())?;
-        let rows = rows_of(self.alloc, &self.table, &self.scenario, starts)?;
+        let rows = rows_of(self.alloc, &plan, starts)?;
         Ok(rows)
     }
 }

@@ -2,7 +2,7 @@ ghost use Rattle.std.specs.Prelude.{◌≡◌, ℕ, ◌<◌, ◌^◌, map, All, 
 ghost use Rattle.std.specs.Arc.{arc_value};
 ghost use Rattle.std.specs.List.{filter_map};
 ghost use Rattle.std.specs.List.Sorted.{IsNonDecreasingBy};
-ghost use Rattle.scenarios.specs.Plan.{jobs_of};
+ghost use Rattle.scenarios.specs.PlanView.{plan_in};
 ghost use Rattle.easy_rule.specs.Simulation.{start_of};
 ghost use Rattle.checkpoints.specs.Cut.{all_starts};
 ghost use Rattle.checkpoints.specs.Schedule.{row_of};
@@ -10,8 +10,7 @@ ghost use Rattle.checkpoints.specs.Schedule.{row_of};
 use crate::row::Row;
 use crate::segment::Segment;
 use easy_rule::Start;
-use job_table::JobTable;
-use scenarios::{Scenario, effective};
+use scenarios::PlanRef;
 use std::alloc::{AllocError, Allocator};
 use std::sync::Arc;
 use swf_text::Memory;
@@ -75,23 +74,19 @@ fn start_among(starts: &[Start], number: u64) -> Option<u64>
     Some(found.at)
 }
 
-// The rows of a table's jobs that start, in its order.
+// The rows of a plan's jobs that start, in its order.
 pub(crate) fn rows_of<A: Allocator + Copy>(
     alloc: A,
-    table: &JobTable<A>,
-    scenario: &Scenario,
+    plan: &PlanRef<'_, A>,
     mut starts: Vec<Start, A>,
 ) -> Result<Vec<Row, A>, Memory>
     requires { All (λ x. x.at < 2 ^ 49) starts.items }
-    ensures { IfOk result (λ rows. rows.items ≡ filter_map (row_of starts.items) (jobs_of table.now scenario.now)) }
+    ensures { IfOk result (λ rows. rows.items ≡ filter_map (row_of starts.items) (plan_in plan.now).jobs) }
 {
     sort_by_number(&mut starts)?;
     let mut rows = Vec::with_capacity(alloc, starts.len())?;
-    let mut coming = table.from_second(0);
-    'entries: while let Some(entry) = coming.next() {
-        let Ok(job) = effective(entry, scenario) else {
-            continue;
-        };
+    let mut coming = plan.jobs();
+    'jobs: while let Some(job) = coming.next() {
         let Some(start) = start_among(starts.as_slice(), job.number()) else {
             continue;
         };

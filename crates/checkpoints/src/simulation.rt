@@ -1,37 +1,35 @@
 ghost use Rattle.std.specs.Prelude.{◌≡◌, ◌≤◌, map, IfOk, IfErr, OnOk};
 ghost use Rattle.std.specs.Arc.{arc_value};
 ghost use Rattle.scenarios.specs.Plan.{plan_of};
+ghost use Rattle.scenarios.specs.PlanView.{plan_in};
 ghost use Rattle.checkpoints.specs.Cut.{IsShortCut};
 ghost use Rattle.checkpoints.specs.RunView.{IsRun};
 ghost use Rattle.checkpoints.specs.Spacing.{IsSpacing, IsRefusal};
 
 use crate::cutting::{comes_before, next_segment};
 use crate::fault::RunFault;
-use crate::parts::is_plan;
 use crate::run::Run;
 use crate::segment::Segment;
 use event_loop::Engine;
 use job_table::JobTable;
-use scenarios::Scenario;
+use scenarios::{Plan, Scenario};
 use std::alloc::Allocator;
 use std::sync::Arc;
 
 /// The most event seconds that a segment may be asked to hold.
 pub const MAX_SPACING: u32 = 65_536;
 
-// The segments of a table's simulation under a scenario, of up to `spacing` event seconds each.
+// The segments of a plan's simulation, of up to `spacing` event seconds each.
 fn segments_of<A: Allocator + Copy>(
     alloc: A,
-    table: &Arc<JobTable<A>, A>,
-    scenario: Scenario,
+    plan: &Plan<A>,
     spacing: u32,
 ) -> Result<Vec<Arc<Segment<A>, A>, A>, RunFault>
     requires { 1 ≤ spacing }
-    ensures cut { IfOk result (λ segments. IsShortCut (plan_of (arc_value table.now) scenario) spacing (map arc_value segments.items)) }
+    ensures cut { IfOk result (λ segments. IsShortCut (plan_in plan.now) spacing (map arc_value segments.items)) }
     ensures fault { IfErr result (λ f. f ≡ RunFault.Memory) }
 {
-    is_plan(table, &scenario);
-    let mut engine = Engine::new(alloc, table.clone()?, scenario);
+    let mut engine = Engine::new(alloc, plan.table().clone()?, plan.scenario());
     let mut segments = Vec::new(alloc);
     'segments: while comes_before(&engine, None) {
         let segment = next_segment(alloc, &mut engine, spacing, None)?;
@@ -61,7 +59,8 @@ pub fn simulate<A: Allocator + Copy>(
     if spacing < 1 || spacing > MAX_SPACING {
         return Err(RunFault::BadSpacing);
     }
-    let segments = segments_of(alloc, &table, scenario, spacing)?;
-    let run = Run::of_segments(alloc, table, scenario, segments)?;
+    let plan = Plan::new(table, scenario);
+    let segments = segments_of(alloc, &plan, spacing)?;
+    let run = Run::of_plan(alloc, plan, segments)?;
     Ok(run)
 }

@@ -9,20 +9,21 @@ use Rattle.std.proofs.lemmas.List.Sorted.{sum_by_popped, sum_by_pushed, IsPermut
 use Rattle.std.proofs.lemmas.List.Elements.{All-cons, All-head, All-tail, All-nil, All-weaker, All-filter}
 use Rattle.std.proofs.lemmas.Bool.{cond_both, cond-true, cond-false, cases_Bool, cases_lt, lt-ltb, ltb-true, ltb-false, le-ltb, eq-eqb, eqb-true, and_from, and_parts, or_left, or_right, true≢false}
 use Rattle.scenarios.specs.Job.{EffectiveJob}
-use Rattle.cluster_state.specs.declared.running.Running.{Running}
-use Rattle.cluster_state.specs.State.{State, IsSound, expected_end, real_end, placed, waiting_job, ended_until}
+use Rattle.scenarios.specs.declared.placed.Placed.{Placed}
+use Rattle.scenarios.specs.Placed.{expected_end, real_end}
+use Rattle.cluster_state.specs.State.{State, IsSound, placed, waiting_job, ended_until}
 use Rattle.cluster_state.specs.Ends.{is_sooner, entered, by_end, EndsSooner, RisesByEnd}
 use Rattle.cluster_state.proofs.StateLemmas.{position-is, sum_by-placed, sum_by-without}
 
 -- ---- the order
-abbrev pub Sooner : Running → Running → Type 0
+abbrev pub Sooner : Placed → Placed → Type 0
 Sooner a b = EndsSooner a b
 
 -- a is not later than b
-abbrev pub NotLater : Running → Running → Type 0
+abbrev pub NotLater : Placed → Placed → Type 0
 NotLater a b = (expected_end a < expected_end b) ⊎ ((expected_end a ≡ expected_end b) × (a.job.number ≤ b.job.number))
 
-sooner-is : (a b : Running) → is_sooner a b ≡ true → Sooner a b
+sooner-is : (a b : Placed) → is_sooner a b ≡ true → Sooner a b
 sooner-is a b h =
     let l = nat_lt (expected_end a) (expected_end b) in
     let e = expected_end a == expected_end b && nat_lt a.job.number b.job.number in
@@ -34,14 +35,14 @@ sooner-is a b h =
     inr (eqb-true (expected_end a) (expected_end b) p.0, ltb-true a.job.number b.job.number p.1))
     (cases_Bool l)
 
-is-sooner : (a b : Running) → Sooner a b → is_sooner a b ≡ true
+is-sooner : (a b : Placed) → Sooner a b → is_sooner a b ≡ true
 is-sooner a b (inl l) = or_left (nat_lt (expected_end a) (expected_end b)) (expected_end a == expected_end b && nat_lt a.job.number b.job.number) (lt-ltb (expected_end a) (expected_end b) l)
 is-sooner a b (inr p) =
     or_right (nat_lt (expected_end a) (expected_end b)) (expected_end a == expected_end b && nat_lt a.job.number b.job.number)
     (and_from (expected_end a == expected_end b) (nat_lt a.job.number b.job.number) (eq-eqb (expected_end a) (expected_end b) p.0) (lt-ltb a.job.number b.job.number p.1))
 
 -- one of two is sooner, or the other is not later
-sooner-or : (a b : Running) → Sooner a b ⊎ NotLater b a
+sooner-or : (a b : Placed) → Sooner a b ⊎ NotLater b a
 sooner-or a b =
     ⊎_elim
     (λ (l : expected_end a < expected_end b). inl (inl l))
@@ -57,85 +58,82 @@ sooner-or a b =
     (cases_lt (expected_end b) (expected_end a)))
     (cases_lt (expected_end a) (expected_end b))
 
-sooner-never : (a b : Running) → Sooner a b → NotLater b a → ⊥
+sooner-never : (a b : Placed) → Sooner a b → NotLater b a → ⊥
 sooner-never a b (inl l) (inl m) = omega arith
 sooner-never a b (inl l) (inr m) = let k = m.0 in omega (arith, k)
 sooner-never a b (inr l) (inl m) = let k = l.0 in omega (arith, k)
 sooner-never a b (inr l) (inr m) = let k = l.1 in let n = m.1 in omega (arith, k, n)
 
-not-sooner : (a b : Running) → NotLater b a → is_sooner a b ≡ false
+not-sooner : (a b : Placed) → NotLater b a → is_sooner a b ≡ false
 not-sooner a b h = ⊎_elim (λ (y : is_sooner a b ≡ true). absurd (sooner-never a b (sooner-is a b y) h)) (λ (n : is_sooner a b ≡ false). n) (cases_Bool (is_sooner a b))
 
-not-later : (a b : Running) → is_sooner a b ≡ false → NotLater b a
-not-later a b n = ⊎_elim (λ (s : Sooner a b). absurd (true≢false (sym (is-sooner a b s) ∙ n))) (λ (h : NotLater b a). h) (sooner-or a b)
-
 -- of two numbers one is sooner
-strictly : (a b : Running) → a.job.number ≢ b.job.number → NotLater a b → Sooner a b
+strictly : (a b : Placed) → a.job.number ≢ b.job.number → NotLater a b → Sooner a b
 strictly a b ne (inl l) = inl l
 strictly a b ne (inr p) = inr (p.0, (let k = p.1 in ⊎_elim (λ (l : a.job.number < b.job.number). l) (λ (l : b.job.number ≤ a.job.number). absurd (ne (omega (arith, k)))) (cases_lt a.job.number b.job.number)))
 
-sooner-than : (a b c : Running) → Sooner a b → NotLater b c → Sooner a c
+sooner-than : (a b c : Placed) → Sooner a b → NotLater b c → Sooner a c
 sooner-than a b c (inl l) (inl m) = inl (omega arith)
 sooner-than a b c (inl l) (inr m) = inl (let k = m.0 in omega (arith, k))
 sooner-than a b c (inr l) (inl m) = inl (let k = l.0 in omega (arith, k))
 sooner-than a b c (inr l) (inr m) = inr ((let k = l.0 in let n = m.0 in omega (arith, k, n)), (let k = l.1 in let n = m.1 in omega (arith, k, n)))
 
-weaker : (a b : Running) → Sooner a b → NotLater a b
+weaker : (a b : Placed) → Sooner a b → NotLater a b
 weaker a b (inl l) = inl l
 weaker a b (inr p) = inr (p.0, (let k = p.1 in omega (arith, k)))
 
-no-later-than : (a b c : Running) → NotLater a b → NotLater b c → NotLater a c
+no-later-than : (a b c : Placed) → NotLater a b → NotLater b c → NotLater a c
 no-later-than a b c (inl l) (inl m) = inl (omega arith)
 no-later-than a b c (inl l) (inr m) = inl (let k = m.0 in omega (arith, k))
 no-later-than a b c (inr l) (inl m) = inl (let k = l.0 in omega (arith, k))
 no-later-than a b c (inr l) (inr m) = inr ((let k = l.0 in let n = m.0 in omega (arith, k, n)), (let k = l.1 in let n = m.1 in omega (arith, k, n)))
 
 -- ---- one more
-enters-before : (r x : Running) (xs : List Running) → Sooner r x → entered r (x ∷ xs) ≡ r ∷ x ∷ xs
+enters-before : (r x : Placed) (xs : List Placed) → Sooner r x → entered r (x ∷ xs) ≡ r ∷ x ∷ xs
 enters-before r x xs s = cond-true (is_sooner r x) (r ∷ x ∷ xs) (x ∷ entered r xs) (is-sooner r x s)
 
-enters-behind : (r x : Running) (xs : List Running) → NotLater x r → entered r (x ∷ xs) ≡ x ∷ entered r xs
+enters-behind : (r x : Placed) (xs : List Placed) → NotLater x r → entered r (x ∷ xs) ≡ x ∷ entered r xs
 enters-behind r x xs n = cond-false (is_sooner r x) (r ∷ x ∷ xs) (x ∷ entered r xs) (not-sooner r x n)
 
-pub sum_by-entered : (f : Running → ℕ) (r : Running) (xs : List Running) → sum_by f (entered r xs) ≡ f r + sum_by f xs
+pub sum_by-entered : (f : Placed → ℕ) (r : Placed) (xs : List Placed) → sum_by f (entered r xs) ≡ f r + sum_by f xs
 sum_by-entered f r [] = omega arith
 sum_by-entered f r (x ∷ xs) =
     cond_both (is_sooner r x) (r ∷ x ∷ xs) (x ∷ entered r xs) (λ l. sum_by f l ≡ f r + sum_by f (x ∷ xs))
     (λ _. sum_by-cons f r (x ∷ xs))
     (λ _. sum_by-cons f x (entered r xs) ∙ omega (arith, sum_by-entered f r xs, sum_by-cons f x xs))
 
-pub sum_by-by_end : (f : Running → ℕ) (rs : List Running) → sum_by f (by_end rs) ≡ sum_by f rs
+pub sum_by-by_end : (f : Placed → ℕ) (rs : List Placed) → sum_by f (by_end rs) ≡ sum_by f rs
 sum_by-by_end f [] = refl
 sum_by-by_end f (r ∷ rs) = omega (arith, sum_by-entered f r (by_end rs), sum_by-by_end f rs, sum_by-cons f r rs)
 
-pub All-entered : (P : Running → Type 0) (r : Running) (xs : List Running) → P r → All P xs → All P (entered r xs)
+pub All-entered : (P : Placed → Type 0) (r : Placed) (xs : List Placed) → P r → All P xs → All P (entered r xs)
 All-entered P r [] h a = All-cons P r [] h a
 All-entered P r (x ∷ xs) h a =
     cond_both (is_sooner r x) (r ∷ x ∷ xs) (x ∷ entered r xs) (λ l. All P l)
     (λ _. All-cons P r (x ∷ xs) h a)
     (λ _. All-cons P x (entered r xs) (All-head P x xs a) (All-entered P r xs h (All-tail P x xs a)))
 
-pub All-by_end : (P : Running → Type 0) (rs : List Running) → All P rs → All P (by_end rs)
+pub All-by_end : (P : Placed → Type 0) (rs : List Placed) → All P rs → All P (by_end rs)
 All-by_end P [] a = a
 All-by_end P (r ∷ rs) a = All-entered P r (by_end rs) (All-head P r rs a) (All-by_end P rs (All-tail P r rs a))
 
-pub length-entered : (r : Running) (xs : List Running) → length (entered r xs) ≡ length xs + 1
+pub length-entered : (r : Placed) (xs : List Placed) → length (entered r xs) ≡ length xs + 1
 length-entered r [] = refl
 length-entered r (x ∷ xs) =
     cond_both (is_sooner r x) (r ∷ x ∷ xs) (x ∷ entered r xs) (λ l. length l ≡ length (x ∷ xs) + 1)
     (λ _. omega arith)
     (λ _. let k = length-entered r xs in omega (arith, k))
 
-pub length-by_end : (rs : List Running) → length (by_end rs) ≡ length rs
+pub length-by_end : (rs : List Placed) → length (by_end rs) ≡ length rs
 length-by_end [] = refl
 length-by_end (r ∷ rs) = let k = length-entered r (by_end rs) in let i = length-by_end rs in omega (arith, k, i)
 
 -- none ends sooner than one before it
-abbrev pub Rises : List Running → Type 0
+abbrev pub Rises : List Placed → Type 0
 Rises [] = Unit {0}
 Rises (x ∷ xs) = All (NotLater x) xs × Rises xs
 
-rises-entered : (r : Running) (xs : List Running) → Rises xs → Rises (entered r xs)
+rises-entered : (r : Placed) (xs : List Placed) → Rises xs → Rises (entered r xs)
 rises-entered r [] h = (All-nil (NotLater r), tt)
 rises-entered r (x ∷ xs) h =
     ⊎_elim
@@ -143,12 +141,12 @@ rises-entered r (x ∷ xs) h =
     (λ (n : NotLater x r). subst Rises (sym (enters-behind r x xs n)) (All-entered (NotLater x) r xs n h.0, rises-entered r xs h.1))
     (sooner-or r x)
 
-pub rises-by_end : (rs : List Running) → Rises (by_end rs)
+pub rises-by_end : (rs : List Placed) → Rises (by_end rs)
 rises-by_end [] = tt
 rises-by_end (r ∷ rs) = rises-entered r (by_end rs) (rises-by_end rs)
 
 -- ---- who enters first makes no difference
-entered-entered : (a b : Running) (xs : List Running) → a.job.number ≢ b.job.number → entered a (entered b xs) ≡ entered b (entered a xs)
+entered-entered : (a b : Placed) (xs : List Placed) → a.job.number ≢ b.job.number → entered a (entered b xs) ≡ entered b (entered a xs)
 entered-entered a b [] ne =
     ⊎_elim
     (λ (s : Sooner a b). enters-before a b [] s ∙ sym (enters-behind b a [] (weaker a b s)))
@@ -180,21 +178,21 @@ entered-entered a b (x ∷ xs) ne =
     (sooner-or a x)
 
 -- who starts enters the row
-pub by_end-placed : (r : Running) (rs : List Running) → count_by (λ (x : Running). nat_eq x.job.number r.job.number) rs ≡ 0 → by_end (placed r rs) ≡ entered r (by_end rs)
+pub by_end-placed : (r : Placed) (rs : List Placed) → count_by (λ (x : Placed). nat_eq x.job.number r.job.number) rs ≡ 0 → by_end (placed r rs) ≡ entered r (by_end rs)
 by_end-placed r [] none = refl
 by_end-placed r (x ∷ rs) none =
-    let k = sum_by-cons (λ (x : Running). cond {A = ℕ} (nat_eq x.job.number r.job.number) 1 0) x rs in
+    let k = sum_by-cons (λ (x : Placed). cond {A = ℕ} (nat_eq x.job.number r.job.number) 1 0) x rs in
     let other : r.job.number ≢ x.job.number = λ e. (let one = cond-true {A = ℕ} (nat_eq x.job.number r.job.number) 1 0 (eq-eqb x.job.number r.job.number (sym e)) in omega (arith, none, k, one)) in
     cond_both (nat_lt r.job.number x.job.number) (r ∷ x ∷ rs) (x ∷ placed r rs) (λ l. by_end l ≡ entered r (entered x (by_end rs)))
     (λ _. refl)
     (λ _. ap (entered x) (by_end-placed r rs (omega (arith, none, k))) ∙ sym (entered-entered r x (by_end rs) other))
 
 -- ---- who ends leaves the row
-enters-first : (r : Running) (xs : List Running) → All (Sooner r) xs → entered r xs ≡ r ∷ xs
+enters-first : (r : Placed) (xs : List Placed) → All (Sooner r) xs → entered r xs ≡ r ∷ xs
 enters-first r [] a = refl
 enters-first r (x ∷ xs) a = enters-before r x xs (All-head (Sooner r) x xs a)
 
-filter-entered : (p : Running → Bool) (r : Running) (xs : List Running) → Rises xs → filter p (entered r xs) ≡ cond (p r) (entered r (filter p xs)) (filter p xs)
+filter-entered : (p : Placed → Bool) (r : Placed) (xs : List Placed) → Rises xs → filter p (entered r xs) ≡ cond (p r) (entered r (filter p xs)) (filter p xs)
 filter-entered p r [] h = refl
 filter-entered p r (x ∷ xs) h =
     ⊎_elim
@@ -215,7 +213,7 @@ filter-entered p r (x ∷ xs) h =
     go false true n = refl
     go false false n = refl
 
-pub by_end-filter : (p : Running → Bool) (rs : List Running) → by_end (filter p rs) ≡ filter p (by_end rs)
+pub by_end-filter : (p : Placed → Bool) (rs : List Placed) → by_end (filter p rs) ≡ filter p (by_end rs)
 by_end-filter p [] = refl
 by_end-filter p (r ∷ rs) =
     cond_both (p r) (r ∷ filter p rs) (filter p rs) (λ l. by_end l ≡ cond (p r) (entered r (filter p (by_end rs))) (filter p (by_end rs)))
@@ -224,16 +222,16 @@ by_end-filter p (r ∷ rs) =
     ∙ sym (filter-entered p r (by_end rs) (rises-by_end rs))
 
 -- ---- the code's place
-entered-at : (r : Running) (rs : List Running) → entered r rs ≡ insert rs (position_or_len (λ (x : Running). is_sooner r x) rs) r
+entered-at : (r : Placed) (rs : List Placed) → entered r rs ≡ insert rs (position_or_len (λ (x : Placed). is_sooner r x) rs) r
 entered-at r [] = refl
 entered-at r (x ∷ rs) =
-    elim (is_sooner r x) as (λ b. cond b (r ∷ x ∷ rs) (x ∷ entered r rs) ≡ insert (x ∷ rs) (cond (not b) (1 + position_or_len (λ (x : Running). is_sooner r x) rs) 0) r) [
+    elim (is_sooner r x) as (λ b. cond b (r ∷ x ∷ rs) (x ∷ entered r rs) ≡ insert (x ∷ rs) (cond (not b) (1 + position_or_len (λ (x : Placed). is_sooner r x) rs) 0) r) [
       | true ↦ refl
       | false ↦ rw one-add (ap (λ l. x ∷ l) (entered-at r rs))
     ]
 
-pub entered-position : (r : Running) (rs : List Running) → entered r rs ≡ insert rs (unwrap_or (position (λ (x : Running). is_sooner r x) rs) (length rs)) r
-entered-position r rs = entered-at r rs ∙ ap (λ i. insert rs i r) (sym (position-is (λ (x : Running). is_sooner r x) rs))
+pub entered-position : (r : Placed) (rs : List Placed) → entered r rs ≡ insert rs (unwrap_or (position (λ (x : Placed). is_sooner r x) rs) (length rs)) r
+entered-position r rs = entered-at r rs ∙ ap (λ i. insert rs i r) (sym (position-is (λ (x : Placed). is_sooner r x) rs))
 
 -- ---- the seconds at which they end
 -- what is added up only where the test passes
@@ -297,30 +295,30 @@ adds-one P p xs f (k, x, l, at, h) =
 
 module _ {E : Type 0} (at : E → ℕ) where
   -- these are the ends of the running jobs
-  abbrev pub EndsOf : List E → List Running → Type 0
+  abbrev pub EndsOf : List E → List Placed → Type 0
   EndsOf ends rs = (f : ℕ → ℕ) → sum_by (λ e. f (at e)) ends ≡ sum_by (λ r. f (real_end r)) rs
 
-  pub as-many : (ends : List E) (rs : List Running) → EndsOf ends rs → length ends ≡ length rs
+  pub as-many : (ends : List E) (rs : List Placed) → EndsOf ends rs → length ends ≡ length rs
   as-many ends rs h = sym (sum_by-ones ends) ∙ h (λ _. 1) ∙ sum_by-ones rs
 
-  pub one-ends : (ends : List E) (rs : List Running) (t i : ℕ) (d : E) → EndsOf ends rs → i < length ends → at (get_or ends i d) ≡ t → Any (λ r. real_end r ≡ t) rs
+  pub one-ends : (ends : List E) (rs : List Placed) (t i : ℕ) (d : E) → EndsOf ends rs → i < length ends → at (get_or ends i d) ≡ t → Any (λ r. real_end r ≡ t) rs
   one-ends ends rs t i d h l here =
       let f : ℕ → ℕ = λ n. cond (nat_eq n t) 1 0 in
       let one = cond-true {A = ℕ} (nat_eq (at (get_or ends i d)) t) 1 0 (eq-eqb (at (get_or ends i d)) t here) in
       let some = get_or-le-sum_by (λ e. f (at e)) ends i d l in
       let k = h f in
-      one-adds (λ (r : Running). real_end r ≡ t) (λ r. nat_eq (real_end r) t) rs (λ r e. eqb-true (real_end r) t e) (omega (arith, one, some, k))
+      one-adds (λ (r : Placed). real_end r ≡ t) (λ r. nat_eq (real_end r) t) rs (λ r e. eqb-true (real_end r) t e) (omega (arith, one, some, k))
 
-  pub none-sooner : (ends : List E) (rs : List Running) (t : ℕ) → EndsOf ends rs → All (λ e. t ≤ at e) ends → All (λ r. t ≤ real_end r) rs
+  pub none-sooner : (ends : List E) (rs : List Placed) (t : ℕ) → EndsOf ends rs → All (λ e. t ≤ at e) ends → All (λ r. t ≤ real_end r) rs
   none-sooner ends rs t h a =
       let f : ℕ → ℕ = λ n. cond (nat_lt n t) 1 0 in
       let zero' = adds-none (λ e. nat_lt (at e) t) ends (All-weaker (λ e. t ≤ at e) (λ e. nat_lt (at e) t ≡ false) (λ e l. le-ltb (at e) t l) ends a) in
-      All-weaker (λ (r : Running). nat_lt (real_end r) t ≡ false) (λ r. t ≤ real_end r) (λ r n. ltb-false (real_end r) t n) rs
-      (none-adds (λ (r : Running). nat_lt (real_end r) t) rs (sym (h f) ∙ zero'))
+      All-weaker (λ (r : Placed). nat_lt (real_end r) t ≡ false) (λ r. t ≤ real_end r) (λ r n. ltb-false (real_end r) t n) rs
+      (none-adds (λ (r : Placed). nat_lt (real_end r) t) rs (sym (h f) ∙ zero'))
 
   -- those that end by second t leave on both sides
-  pub ends-left : (ends ends' : List E) (rs : List Running) (t : ℕ) → EndsOf ends rs → ((f : ℕ → ℕ) → sum_by (λ e. f (at e)) ends' ≡ sum_by (λ e. cond (nat_lt t (at e)) (f (at e)) 0) ends) → EndsOf ends' (filter (λ r. nat_lt t (real_end r)) rs)
-  ends-left ends ends' rs t h k = λ f. k f ∙ h (λ n. cond (nat_lt t n) (f n) 0) ∙ sym (sum_by-filter (λ r. f (real_end r)) (λ (r : Running). nat_lt t (real_end r)) rs)
+  pub ends-left : (ends ends' : List E) (rs : List Placed) (t : ℕ) → EndsOf ends rs → ((f : ℕ → ℕ) → sum_by (λ e. f (at e)) ends' ≡ sum_by (λ e. cond (nat_lt t (at e)) (f (at e)) 0) ends) → EndsOf ends' (filter (λ r. nat_lt t (real_end r)) rs)
+  ends-left ends ends' rs t h k = λ f. k f ∙ h (λ n. cond (nat_lt t n) (f n) 0) ∙ sym (sum_by-filter (λ r. f (real_end r)) (λ (r : Placed). nat_lt t (real_end r)) rs)
 
 -- the first of the heap
 pub first-is : {E : Type 0} (at : E → ℕ) (ends : List E) (x : E) (t : ℕ) → Some t ≡ option_map at (slice_get ends 0) → x ≡ get_or ends 0 x → at x ≡ t
@@ -331,7 +329,7 @@ pub first-none : {E : Type 0} (at : E → ℕ) (ends : List E) → option_map at
 first-none at [] e = refl
 first-none at (y ∷ ys) e = let k : Some (at y) ≡ None = e in cc
 
-pub first-some : {E : Type 0} (at : E → ℕ) (ends : List E) (t : ℕ) → option_map at (slice_get ends 0) ≡ Some t → (rs : List Running) → ((f : ℕ → ℕ) → sum_by (λ e. f (at e)) ends ≡ sum_by (λ r. f (real_end r)) rs) → Any (λ r. real_end r ≡ t) rs
+pub first-some : {E : Type 0} (at : E → ℕ) (ends : List E) (t : ℕ) → option_map at (slice_get ends 0) ≡ Some t → (rs : List Placed) → ((f : ℕ → ℕ) → sum_by (λ e. f (at e)) ends ≡ sum_by (λ r. f (real_end r)) rs) → Any (λ r. real_end r ≡ t) rs
 first-some at [] t e rs h = let k : None ≡ Some t = e in cc
 first-some at (y ∷ ys) t e rs h = let k : Some (at y) ≡ Some t = e in let same : at y ≡ t = cc in one-ends at (y ∷ ys) rs t 0 y h (omega arith) same
 
@@ -340,20 +338,20 @@ pub kept-later : {E : Type 0} (at : E → ℕ) (ends : List E) (t : ℕ) (f : �
 kept-later at ends t f a = sum_by-all (λ e. f (at e)) (λ e. nat_lt t (at e)) ends (All-weaker (λ e. t < at e) (λ e. nat_lt t (at e) ≡ true) (λ e l. lt-ltb t (at e) l) ends a)
 
 -- who outlasts t stays
-pub filter-later : (t : ℕ) (rs : List Running) → All (λ r. t < real_end r) rs → filter (λ r. nat_lt t (real_end r)) rs ≡ rs
+pub filter-later : (t : ℕ) (rs : List Placed) → All (λ r. t < real_end r) rs → filter (λ r. nat_lt t (real_end r)) rs ≡ rs
 filter-later t [] a = refl
 filter-later t (r ∷ rs) a =
     cond-true (nat_lt t (real_end r)) (r ∷ filter (λ r. nat_lt t (real_end r)) rs) (filter (λ r. nat_lt t (real_end r)) rs) (lt-ltb t (real_end r) (All-head (λ r. t < real_end r) r rs a))
     ∙ ap (λ l. r ∷ l) (filter-later t rs (All-tail (λ r. t < real_end r) r rs a))
 
 -- nobody of the number of a waiting job runs
-pub not-running : (s : State) (n : ℕ) (job : EffectiveJob) → IsSound s → waiting_job s n ≡ Some job → job.number ≡ n → count_by (λ (x : Running). nat_eq x.job.number n) s.running ≡ 0
+pub not-running : (s : State) (n : ℕ) (job : EffectiveJob) → IsSound s → waiting_job s n ≡ Some job → job.number ≡ n → count_by (λ (x : Placed). nat_eq x.job.number n) s.running ≡ 0
 not-running s n job h found same =
     let one = cond-true {A = ℕ} (nat_eq job.number n) 1 0 (eq-eqb job.number n same) in
     omega (arith, one, h.once n, sum_by-without (λ (j : EffectiveJob). cond (nat_eq j.number n) 1 0) n s.waiting job found)
 
 -- ---- what the first of the heap tells of the running jobs
-pub next-end-none : {E : Type 0} (at : E → ℕ) (ends : List E) (rs : List Running) (o : Option ℕ) → o ≡ option_map at (slice_get ends 0) → EndsOf at ends rs → (IsNone o → rs ≡ []) × (rs ≡ [] → IsNone o)
+pub next-end-none : {E : Type 0} (at : E → ℕ) (ends : List E) (rs : List Placed) (o : Option ℕ) → o ≡ option_map at (slice_get ends 0) → EndsOf at ends rs → (IsNone o → rs ≡ []) × (rs ≡ [] → IsNone o)
 next-end-none at ends rs None e h = (
   λ _. nil_from_length rs (sym (as-many at ends rs h) ∙ ap length (first-none at ends (sym e))),
   λ _. refl,
@@ -365,11 +363,11 @@ next-end-none at ends rs (Some t) e h = (
       cc,
 )
 
-pub next-end-found : {E : Type 0} (at : E → ℕ) (ends : List E) (rs : List Running) (o : Option ℕ) → o ≡ option_map at (slice_get ends 0) → EndsOf at ends rs → IfSome o (λ t. Any (λ r. real_end r ≡ t) rs)
+pub next-end-found : {E : Type 0} (at : E → ℕ) (ends : List E) (rs : List Placed) (o : Option ℕ) → o ≡ option_map at (slice_get ends 0) → EndsOf at ends rs → IfSome o (λ t. Any (λ r. real_end r ≡ t) rs)
 next-end-found at ends rs None e h = tt
 next-end-found at ends rs (Some t) e h = first-some at ends t (sym e) rs h
 
-pub next-end-least : {E : Type 0} (at : E → ℕ) (ends : List E) (rs : List Running) (o : Option ℕ) → IfSome o (λ t. All (λ e. t ≤ at e) ends) → EndsOf at ends rs → IfSome o (λ t. All (λ r. t ≤ real_end r) rs)
+pub next-end-least : {E : Type 0} (at : E → ℕ) (ends : List E) (rs : List Placed) (o : Option ℕ) → IfSome o (λ t. All (λ e. t ≤ at e) ends) → EndsOf at ends rs → IfSome o (λ t. All (λ r. t ≤ real_end r) rs)
 next-end-least at ends rs None a h = tt
 next-end-least at ends rs (Some t) a h = none-sooner at ends rs t h a
 
@@ -385,10 +383,10 @@ ended-later at ends s t h a =
     let more : All (λ e. suc t ≤ at e) ends = All-weaker (λ e. t < at e) (λ e. suc t ≤ at e) (λ e l. omega arith) ends a in
     let later = none-sooner at ends s.running (suc t) h more in
     let all : All (λ r. t < real_end r) s.running = All-weaker (λ r. suc t ≤ real_end r) (λ r. t < real_end r) (λ r l. omega arith) s.running later in
-    sym (ap (λ (rs : List Running). let z : State = record { machine = s.machine; order = s.order; waiting = s.waiting; running = rs } in z) (filter-later t s.running all))
+    sym (ap (λ (rs : List Placed). let z : State = record { machine = s.machine; order = s.order; waiting = s.waiting; running = rs } in z) (filter-later t s.running all))
 
 -- who starts joins the ends
-pub ends-joined : {E : Type 0} (at : E → ℕ) (ends ends' : List E) (r : Running) (rs : List Running) → EndsOf at ends rs → ((f : ℕ → ℕ) → sum_by (λ e. f (at e)) ends' ≡ f (real_end r) + sum_by (λ e. f (at e)) ends) → EndsOf at ends' (placed r rs)
+pub ends-joined : {E : Type 0} (at : E → ℕ) (ends ends' : List E) (r : Placed) (rs : List Placed) → EndsOf at ends rs → ((f : ℕ → ℕ) → sum_by (λ e. f (at e)) ends' ≡ f (real_end r) + sum_by (λ e. f (at e)) ends) → EndsOf at ends' (placed r rs)
 ends-joined at ends ends' r rs h k = λ f. (let a = k f in let b = h f in let c = sum_by-placed (λ r. f (real_end r)) r rs in omega (arith, a, b, c))
 
 -- ---- the steps of the heap
@@ -408,16 +406,16 @@ due at ends ends' x (Some u) t e by is p f = step-left at ends ends' x t u f e b
 pub pushed : {E : Type 0} (at : E → ℕ) (ends ends' : List E) (x : E) (n : ℕ) (f : ℕ → ℕ) → IsPermutation (x ∷ ends) ends' → at x ≡ n → sum_by (λ e. f (at e)) ends' ≡ f n + sum_by (λ e. f (at e)) ends
 pushed at ends ends' x n f p here = (let k = sum_by_pushed (λ e. f (at e)) x ends ends' p in let e = ap f here in omega (arith, k, e))
 
-pub pushed-more : {E : Type 0} (at : E → ℕ) (ends ends' : List E) (x : E) (i : ℕ) (r : Running) (rs : List Running) (f : ℕ → ℕ) → sum_by (λ e. f (at e)) ends ≡ sum_by (λ r. f (real_end r)) (take i rs)
+pub pushed-more : {E : Type 0} (at : E → ℕ) (ends ends' : List E) (x : E) (i : ℕ) (r : Placed) (rs : List Placed) (f : ℕ → ℕ) → sum_by (λ e. f (at e)) ends ≡ sum_by (λ r. f (real_end r)) (take i rs)
     → IsPermutation (x ∷ ends) ends' → at x ≡ real_end r → i < length rs → r ≡ get_or rs i r → sum_by (λ e. f (at e)) ends' ≡ sum_by (λ r. f (real_end r)) (take (i + 1) rs)
 pushed-more at ends ends' x i r rs f h p here l is =
     let a = pushed at ends ends' x (real_end r) f p here in
-    let b = sum_by_more (λ (r : Running). f (real_end r)) rs i r l in
-    let e = ap (λ (r : Running). f (real_end r)) is in
+    let b = sum_by_more (λ (r : Placed). f (real_end r)) rs i r l in
+    let e = ap (λ (r : Placed). f (real_end r)) is in
     omega (arith, a, b, e, h)
 
 -- ---- no two of them tie
-strict-entered : (r : Running) (xs : List Running) → RisesByEnd xs → All (λ x. x.job.number ≢ r.job.number) xs → RisesByEnd (entered r xs)
+strict-entered : (r : Placed) (xs : List Placed) → RisesByEnd xs → All (λ x. x.job.number ≢ r.job.number) xs → RisesByEnd (entered r xs)
 strict-entered r [] h a = (All-nil (EndsSooner r), tt)
 strict-entered r (x ∷ xs) h a =
     ⊎_elim
@@ -428,25 +426,25 @@ strict-entered r (x ∷ xs) h a =
     subst RisesByEnd (sym (enters-behind r x xs n)) (All-entered (EndsSooner x) r xs (strictly x r other n) h.0, strict-entered r xs h.1 (All-tail (λ x. x.job.number ≢ r.job.number) x xs a)))
     (sooner-or r x)
 
-pub strict-by_end : (rs : List Running) → ((n : ℕ) → count_by (λ (x : Running). nat_eq x.job.number n) rs ≤ 1) → RisesByEnd (by_end rs)
+pub strict-by_end : (rs : List Placed) → ((n : ℕ) → count_by (λ (x : Placed). nat_eq x.job.number n) rs ≤ 1) → RisesByEnd (by_end rs)
 strict-by_end [] once = tt
 strict-by_end (r ∷ rs) once =
     let n = r.job.number in
-    let k = sum_by-cons (λ (x : Running). cond {A = ℕ} (nat_eq x.job.number n) 1 0) r rs in
+    let k = sum_by-cons (λ (x : Placed). cond {A = ℕ} (nat_eq x.job.number n) 1 0) r rs in
     let one = cond-true {A = ℕ} (nat_eq r.job.number n) 1 0 (eq-eqb r.job.number n refl) in
-    let none = none-adds (λ (x : Running). nat_eq x.job.number n) rs (let o = once n in omega (arith, o, k, one)) in
+    let none = none-adds (λ (x : Placed). nat_eq x.job.number n) rs (let o = once n in omega (arith, o, k, one)) in
     let others = All-weaker (λ x. nat_eq x.job.number n ≡ false) (λ x. x.job.number ≢ n) (λ x f e. true≢false (sym (eq-eqb x.job.number n e) ∙ f)) rs none in
     strict-entered r (by_end rs)
-    (strict-by_end rs (λ m. (let o = once m in let l = sum_by-cons (λ (x : Running). cond {A = ℕ} (nat_eq x.job.number m) 1 0) r rs in omega (arith, o, l))))
+    (strict-by_end rs (λ m. (let o = once m in let l = sum_by-cons (λ (x : Placed). cond {A = ℕ} (nat_eq x.job.number m) 1 0) r rs in omega (arith, o, l))))
     (All-by_end (λ x. x.job.number ≢ n) rs others)
 
 pub rises-of : (s : State) → IsSound s → RisesByEnd (by_end s.running)
 rises-of s h = strict-by_end s.running (λ n. (let o = h.once n in omega (arith, o)))
 
 -- and each stands there once
-pub permuted-by_end : (rs : List Running) → IsPermutation rs (by_end rs)
+pub permuted-by_end : (rs : List Placed) → IsPermutation rs (by_end rs)
 permuted-by_end [] = IsPermutation-refl []
 permuted-by_end (r ∷ rs) =
     let row = by_end rs in
     IsPermutation-trans (r ∷ rs) (r ∷ row) (entered r row) (IsPermutation-cons r rs row (permuted-by_end rs))
-    (subst (IsPermutation (r ∷ row)) (sym (entered-at r row)) (IsPermutation-insert row (position_or_len (λ (x : Running). is_sooner r x) row) r))
+    (subst (IsPermutation (r ∷ row)) (sym (entered-at r row)) (IsPermutation-insert row (position_or_len (λ (x : Placed). is_sooner r x) row) r))

@@ -1,7 +1,6 @@
 pub mod StateLemmas
 pub mod RowLemmas
 pub mod SnapshotLemmas
-pub mod EffectiveLemmas
 pub mod LookupLemmas
 pub mod EndLemmas
 pub mod StartAllLemmas

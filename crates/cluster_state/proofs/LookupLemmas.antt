@@ -1,40 +1,24 @@
 -- Numbers looked up in a table one after another.
 use Rattle.std.proofs.Common.{◌≡◌, ℕ, ◌+◌, ◌^◌, ◌≤◌, ◌<◌, cond, nat_eq, List, [], ◌∷◌, ◌++◌, length, take, drop, get_or, Option, Some, None, IsSome, All, count_by, refl, sym, ◌∙◌, ap, arith, subst}
 use Rattle.std.specs.List.{filter_map, cons_option}
-use Rattle.std.specs.Option.{option_and_then, option_map, option_to_list}
-use Rattle.std.specs.Result.{result_ok}
+use Rattle.std.specs.Option.{option_map, option_to_list}
 use Rattle.std.proofs.lemmas.List.{take_more, take-append-drop}
 use Rattle.std.proofs.lemmas.List.Sums.{sum_by-cons, sum_by-append, sum_by_push, sum_by-take-le}
 use Rattle.std.proofs.lemmas.List.Elements.{All-nil, All-cons, All-push, All-head, All-tail, filter_map-append}
 use Rattle.std.proofs.lemmas.Bool.{eq-eqb, eqb-true}
-use Rattle.swf_text.specs.Entry.{LogEntry}
-use Rattle.job_table.specs.Edit.{entry_of}
-use Rattle.job_table.specs.Table.{IsTable}
 use Rattle.scenarios.specs.Job.{EffectiveJob, IsWithinLimits}
-use Rattle.scenarios.specs.Scenario.{Setting}
-use Rattle.scenarios.specs.Effective.{effective}
-use Rattle.scenarios.specs.Plan.{Plan, jobs_of}
-use Rattle.cluster_state.specs.declared.running.Running.{Running}
+use Rattle.scenarios.specs.Plan.{Plan, job_numbered}
+use Rattle.scenarios.specs.declared.placed.Placed.{Placed}
 use Rattle.cluster_state.specs.declared.snapshot.RunningNumber.{RunningNumber}
 use Rattle.cluster_state.specs.State.{State, IsSound, busy, holders}
-use Rattle.cluster_state.specs.Snapshot.{Numbers, IsSnapshot, job_numbered, running_numbered, restored, Fits}
+use Rattle.cluster_state.specs.Snapshot.{Numbers, IsSnapshot, running_numbered, restored, Fits}
 use Rattle.cluster_state.proofs.StateLemmas.{test-find}
-use Rattle.cluster_state.proofs.EffectiveLemmas.{kept, look-up, once-numbered}
-
--- the job of a number in a table
-pub found-none : (log : List LogEntry) (s : Setting) (n : ℕ) → IsTable log → None ≡ entry_of n log → job_numbered (jobs_of log s) n ≡ None
-found-none log s n t e =
-    look-up s n log (omega (arith, once-numbered n log t.log.sound, t.log.distinct n)) ∙ ap (option_and_then (kept s)) (sym e)
-
-pub found-some : (log : List LogEntry) (s : Setting) (n : ℕ) (x : LogEntry) → IsTable log → Some x ≡ entry_of n log → job_numbered (jobs_of log s) n ≡ result_ok (effective x s)
-found-some log s n x t e =
-    look-up s n log (omega (arith, once-numbered n log t.log.sound, t.log.distinct n)) ∙ ap (option_and_then (kept s)) (sym e)
 
 -- the job that runs since a second
-abbrev since : ℕ → Option EffectiveJob → Option Running
+abbrev since : ℕ → Option EffectiveJob → Option Placed
 since start o = option_map (λ job. record { job = job; start = start }) o
 
-abbrev run_of : List EffectiveJob → List RunningNumber → List Running
+abbrev run_of : List EffectiveJob → List RunningNumber → List Placed
 run_of jobs rs = filter_map (running_numbered jobs) rs
 
 -- one more number
@@ -44,21 +28,21 @@ run-more jobs rs i d o l e =
     ap (run_of jobs) (take_more rs i d l) ∙ filter_map-append (running_numbered jobs) (take i rs) (get_or rs i d ∷ [])
     ∙ ap (λ xs. run_of jobs (take i rs) ++ xs) (ap (λ p. cons_option (since (get_or rs i d).start p) []) (sym e) ∙ one (since (get_or rs i d).start o))
   where
-    one : (p : Option Running) → cons_option p [] ≡ option_to_list p
+    one : (p : Option Placed) → cons_option p [] ≡ option_to_list p
     one None = refl
     one (Some r) = refl
 
 pub busy-more : (jobs : List EffectiveJob) (rs : List RunningNumber) (i : ℕ) (d : RunningNumber) (job : EffectiveJob) → i < length rs → Some job ≡ job_numbered jobs (get_or rs i d).number
     → busy (run_of jobs (take (i + 1) rs)) ≡ busy (run_of jobs (take i rs)) + job.size
 busy-more jobs rs i d job l e =
-    ap busy (run-more jobs rs i d (Some job) l e) ∙ sum_by_push (λ (r : Running). r.job.size) (run_of jobs (take i rs)) (record { job = job; start = (get_or rs i d).start })
+    ap busy (run-more jobs rs i d (Some job) l e) ∙ sum_by_push (λ (r : Placed). r.job.size) (run_of jobs (take i rs)) (record { job = job; start = (get_or rs i d).start })
 
 -- a part holds no more
 pub busy-part : (jobs : List EffectiveJob) (rs : List RunningNumber) (k : ℕ) → busy (run_of jobs (take k rs)) ≤ busy (run_of jobs rs)
 busy-part jobs rs k =
     let whole = ap (run_of jobs) (sym (take-append-drop k rs)) ∙ filter_map-append (running_numbered jobs) (take k rs) (drop k rs) in
     let e = ap busy whole in
-    omega (arith, e, sum_by-append (λ (r : Running). r.job.size) (run_of jobs (take k rs)) (run_of jobs (drop k rs)))
+    omega (arith, e, sum_by-append (λ (r : Placed). r.job.size) (run_of jobs (take k rs)) (run_of jobs (drop k rs)))
 
 pub All-more : {X : Type 0} (P : X → Type 0) (xs : List X) (i : ℕ) (d : X) → i < length xs → All P (take i xs) → P (get_or xs i d) → All P (take (i + 1) xs)
 All-more P xs i d l a p = subst (λ ys. All P ys) (sym (take_more xs i d l)) (All-push P (take i xs) (get_or xs i d) a p)
@@ -78,37 +62,37 @@ waiting-counts jobs m (n ∷ ns) = go (job_numbered jobs n) refl (waiting-counts
         let same = ap (λ k. cond {A = ℕ} (nat_eq k m) 1 0) (job-number jobs n job e) in
         omega (arith, i, same, sum_by-cons (λ (n : ℕ). cond {A = ℕ} (nat_eq n m) 1 0) n ns, sum_by-cons (λ (j : EffectiveJob). cond {A = ℕ} (nat_eq j.number m) 1 0) job (filter_map (job_numbered jobs) ns))
 
-running-counts : (jobs : List EffectiveJob) (m : ℕ) (rs : List RunningNumber) → count_by (λ (r : Running). nat_eq r.job.number m) (run_of jobs rs) ≤ count_by (λ (r : RunningNumber). nat_eq r.number m) rs
+running-counts : (jobs : List EffectiveJob) (m : ℕ) (rs : List RunningNumber) → count_by (λ (r : Placed). nat_eq r.job.number m) (run_of jobs rs) ≤ count_by (λ (r : RunningNumber). nat_eq r.number m) rs
 running-counts jobs m [] = omega arith
 running-counts jobs m (r ∷ rs) = go (job_numbered jobs r.number) refl (running-counts jobs m rs)
   where
-    go : (o : Option EffectiveJob) → job_numbered jobs r.number ≡ o → count_by (λ (r : Running). nat_eq r.job.number m) (run_of jobs rs) ≤ count_by (λ (r : RunningNumber). nat_eq r.number m) rs
-        → count_by (λ (r : Running). nat_eq r.job.number m) (cons_option (since r.start o) (run_of jobs rs)) ≤ count_by (λ (r : RunningNumber). nat_eq r.number m) (r ∷ rs)
+    go : (o : Option EffectiveJob) → job_numbered jobs r.number ≡ o → count_by (λ (r : Placed). nat_eq r.job.number m) (run_of jobs rs) ≤ count_by (λ (r : RunningNumber). nat_eq r.number m) rs
+        → count_by (λ (r : Placed). nat_eq r.job.number m) (cons_option (since r.start o) (run_of jobs rs)) ≤ count_by (λ (r : RunningNumber). nat_eq r.number m) (r ∷ rs)
     go None e i = omega (arith, i, sum_by-cons (λ (r : RunningNumber). cond {A = ℕ} (nat_eq r.number m) 1 0) r rs)
     go (Some job) e i =
         let same = ap (λ k. cond {A = ℕ} (nat_eq k m) 1 0) (job-number jobs r.number job e) in
-        omega (arith, i, same, sum_by-cons (λ (r : RunningNumber). cond {A = ℕ} (nat_eq r.number m) 1 0) r rs, sum_by-cons (λ (r : Running). cond {A = ℕ} (nat_eq r.job.number m) 1 0) (record { job = job; start = r.start }) (run_of jobs rs))
+        omega (arith, i, same, sum_by-cons (λ (r : RunningNumber). cond {A = ℕ} (nat_eq r.number m) 1 0) r rs, sum_by-cons (λ (r : Placed). cond {A = ℕ} (nat_eq r.job.number m) 1 0) (record { job = job; start = r.start }) (run_of jobs rs))
 
 -- the running jobs of a snapshot that fits are a sound state
-pub sound-running : (p : Numbers) (plan : Plan) (rs : List Running) → IsSnapshot p → Fits p plan → plan.machine ≤ 16777216 → rs ≡ run_of plan.jobs p.running → All (λ r. IsWithinLimits r.job) rs
+pub sound-running : (p : Numbers) (plan : Plan) (rs : List Placed) → IsSnapshot p → Fits p plan → plan.machine ≤ 16777216 → rs ≡ run_of plan.jobs p.running → All (λ r. IsWithinLimits r.job) rs
     → IsSound (record { machine = plan.machine; order = plan.order; waiting = []; running = rs })
 sound-running p plan rs h fits small is limits = record {
   limited = small;
   fits = (let e = ap busy is in let s = fits.sizes in omega (arith, e, s));
-  once = λ n. (let e = ap (λ xs. count_by (λ (r : Running). nat_eq r.job.number n) xs) is in omega (arith, e, running-counts plan.jobs n p.running, h.once n));
+  once = λ n. (let e = ap (λ xs. count_by (λ (r : Placed). nat_eq r.job.number n) xs) is in omega (arith, e, running-counts plan.jobs n p.running, h.once n));
   waiting_fit = All-nil (λ (j : EffectiveJob). j.size ≤ plan.machine);
   waiting_limits = All-nil IsWithinLimits;
   running_limits = limits;
-  started = subst (λ xs. All (λ (r : Running). r.start < 2 ^ 49) xs) (sym is) (starts p.running h.started);
+  started = subst (λ xs. All (λ (r : Placed). r.start < 2 ^ 49) xs) (sym is) (starts p.running h.started);
 }
   where
-    starts : (xs : List RunningNumber) → All (λ (r : RunningNumber). r.start < 2 ^ 49) xs → All (λ (r : Running). r.start < 2 ^ 49) (run_of plan.jobs xs)
-    starts [] a = All-nil (λ (r : Running). r.start < 2 ^ 49)
+    starts : (xs : List RunningNumber) → All (λ (r : RunningNumber). r.start < 2 ^ 49) xs → All (λ (r : Placed). r.start < 2 ^ 49) (run_of plan.jobs xs)
+    starts [] a = All-nil (λ (r : Placed). r.start < 2 ^ 49)
     starts (x ∷ xs) a = go (job_numbered plan.jobs x.number) (starts xs (All-tail (λ (r : RunningNumber). r.start < 2 ^ 49) x xs a))
       where
-        go : (o : Option EffectiveJob) → All (λ (r : Running). r.start < 2 ^ 49) (run_of plan.jobs xs) → All (λ (r : Running). r.start < 2 ^ 49) (cons_option (since x.start o) (run_of plan.jobs xs))
+        go : (o : Option EffectiveJob) → All (λ (r : Placed). r.start < 2 ^ 49) (run_of plan.jobs xs) → All (λ (r : Placed). r.start < 2 ^ 49) (cons_option (since x.start o) (run_of plan.jobs xs))
         go None i = i
-        go (Some job) i = All-cons (λ (r : Running). r.start < 2 ^ 49) (record { job = job; start = x.start }) (run_of plan.jobs xs) (All-head (λ (r : RunningNumber). r.start < 2 ^ 49) x xs a) i
+        go (Some job) i = All-cons (λ (r : Placed). r.start < 2 ^ 49) (record { job = job; start = x.start }) (run_of plan.jobs xs) (All-head (λ (r : RunningNumber). r.start < 2 ^ 49) x xs a) i
 
 -- the numbers up to a place of the queue
 abbrev pub up_to : ℕ → Numbers → Numbers

@@ -5,12 +5,12 @@ use Rattle.std.proofs.lemmas.List.Sums.{sum_by-cons}
 use Rattle.std.proofs.lemmas.List.Elements.{All-cons, All-head, All-tail, All-nil}
 use Rattle.std.proofs.lemmas.Bool.{eq-eqb}
 use Rattle.scenarios.specs.Job.{EffectiveJob}
-use Rattle.scenarios.specs.Plan.{Plan}
+use Rattle.scenarios.specs.Plan.{Plan, job_numbered}
 use Rattle.scenarios.specs.declared.order.Order.{Order}
-use Rattle.cluster_state.specs.declared.running.Running.{Running}
+use Rattle.scenarios.specs.declared.placed.Placed.{Placed}
 use Rattle.cluster_state.specs.declared.snapshot.RunningNumber.{RunningNumber}
 use Rattle.cluster_state.specs.State.{State, IsSound, busy, holders}
-use Rattle.cluster_state.specs.Snapshot.{Numbers, IsSnapshot, number_of, numbers_of, standing, job_numbered, running_numbered, restored, IsOfPlan}
+use Rattle.cluster_state.specs.Snapshot.{Numbers, IsSnapshot, number_of, numbers_of, standing, running_numbered, restored, IsOfPlan}
 use Rattle.cluster_state.specs.Laws.{NumbersGiveTheStateBack, EqualNumbersAreEqualStates}
 
 -- a number stands among a state's as often as a job has it
@@ -19,10 +19,10 @@ counts-waiting n [] = refl
 counts-waiting n (j ∷ js) =
     omega (arith, counts-waiting n js, sum_by-cons (λ (j : EffectiveJob). cond {A = ℕ} (nat_eq j.number n) 1 0) j js, sum_by-cons (λ (m : ℕ). cond {A = ℕ} (nat_eq m n) 1 0) j.number (map (λ (j : EffectiveJob). j.number) js))
 
-pub counts-running : (n : ℕ) (rs : List Running) → count_by (λ (r : RunningNumber). nat_eq r.number n) (map number_of rs) ≡ count_by (λ (r : Running). nat_eq r.job.number n) rs
+pub counts-running : (n : ℕ) (rs : List Placed) → count_by (λ (r : RunningNumber). nat_eq r.number n) (map number_of rs) ≡ count_by (λ (r : Placed). nat_eq r.job.number n) rs
 counts-running n [] = refl
 counts-running n (r ∷ rs) =
-    omega (arith, counts-running n rs, sum_by-cons (λ (r : Running). cond {A = ℕ} (nat_eq r.job.number n) 1 0) r rs, sum_by-cons (λ (r : RunningNumber). cond {A = ℕ} (nat_eq r.number n) 1 0) (number_of r) (map number_of rs))
+    omega (arith, counts-running n rs, sum_by-cons (λ (r : Placed). cond {A = ℕ} (nat_eq r.job.number n) 1 0) r rs, sum_by-cons (λ (r : RunningNumber). cond {A = ℕ} (nat_eq r.number n) 1 0) (number_of r) (map number_of rs))
 
 pub standing-numbers : (s : State) (n : ℕ) → standing (numbers_of s) n ≡ holders s n
 standing-numbers s n = omega (arith, counts-waiting n s.waiting, counts-running n s.running)
@@ -30,7 +30,7 @@ standing-numbers s n = omega (arith, counts-waiting n s.waiting, counts-running 
 pub sound-numbers : (s : State) → IsSound s → IsSnapshot (numbers_of s)
 sound-numbers s h = record { once = λ n. omega (arith, standing-numbers s n, h.once n); started = starts s.running h.started }
   where
-    starts : (rs : List Running) → All (λ r. r.start < 2 ^ 49) rs → All (λ (r : RunningNumber). r.start < 2 ^ 49) (map number_of rs)
+    starts : (rs : List Placed) → All (λ r. r.start < 2 ^ 49) rs → All (λ (r : RunningNumber). r.start < 2 ^ 49) (map number_of rs)
     starts [] a = All-nil (λ (r : RunningNumber). r.start < 2 ^ 49)
     starts (r ∷ rs) a = All-cons (λ (r : RunningNumber). r.start < 2 ^ 49) (number_of r) (map number_of rs) (All-head (λ r. r.start < 2 ^ 49) r rs a) (starts rs (All-tail (λ r. r.start < 2 ^ 49) r rs a))
 
@@ -43,7 +43,7 @@ look-waiting jobs (j ∷ js) a =
     let rest = look-waiting jobs js (All-tail (λ j. job_numbered jobs j.number ≡ Some j) j js a) in
     (rw (here, rest.0) refl, All-cons (λ n. IsSome (job_numbered jobs n)) j.number (map (λ (j : EffectiveJob). j.number) js) (rw here refl) rest.1)
 
-look-running : (jobs : List EffectiveJob) (rs : List Running) → All (λ r. job_numbered jobs r.job.number ≡ Some r.job) rs
+look-running : (jobs : List EffectiveJob) (rs : List Placed) → All (λ r. job_numbered jobs r.job.number ≡ Some r.job) rs
     → (filter_map (running_numbered jobs) (map number_of rs) ≡ rs) × All (λ r. IsSome (job_numbered jobs r.number)) (map number_of rs)
 look-running jobs [] a = (refl, All-nil (λ (r : RunningNumber). IsSome (job_numbered jobs r.number)))
 look-running jobs (r ∷ rs) a =
@@ -51,10 +51,10 @@ look-running jobs (r ∷ rs) a =
     let rest = look-running jobs rs (All-tail (λ r. job_numbered jobs r.job.number ≡ Some r.job) r rs a) in
     (rw (here, rest.0) refl, All-cons (λ (r : RunningNumber). IsSome (job_numbered jobs r.number)) (number_of r) (map number_of rs) (rw here refl) rest.1)
 
-abbrev made : ℕ → Order → List EffectiveJob → List Running → State
+abbrev made : ℕ → Order → List EffectiveJob → List Placed → State
 made m o js rs = record { machine = m; order = o; waiting = js; running = rs }
 
-same-state : (m m' : ℕ) (o o' : Order) (js js' : List EffectiveJob) (rs rs' : List Running) → m ≡ m' → o ≡ o' → js ≡ js' → rs ≡ rs' → made m o js rs ≡ made m' o' js' rs'
+same-state : (m m' : ℕ) (o o' : Order) (js js' : List EffectiveJob) (rs rs' : List Placed) → m ≡ m' → o ≡ o' → js ≡ js' → rs ≡ rs' → made m o js rs ≡ made m' o' js' rs'
 same-state m m' o o' js js' rs rs' a b c d = rw (a, b, c, d) refl
 
 pub gives-back : (s : State) (plan : Plan) → IsOfPlan s plan → restored (numbers_of s) plan ≡ s

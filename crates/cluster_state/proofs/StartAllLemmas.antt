@@ -6,8 +6,9 @@ use Rattle.std.proofs.lemmas.List.Elements.{All-head, All-tail, All-nil, All-con
 use Rattle.std.proofs.lemmas.Bool.{cond_both, cond-true, cond-false, cases_Bool}
 use Rattle.scenarios.specs.Job.{EffectiveJob}
 use Rattle.scenarios.specs.declared.order.Order.{Order}
-use Rattle.cluster_state.specs.declared.running.Running.{Running}
-use Rattle.cluster_state.specs.State.{State, IsSound, free, started, placed, without, without_all, all_started, CanStartAll, real_end}
+use Rattle.scenarios.specs.declared.placed.Placed.{Placed}
+use Rattle.scenarios.specs.Placed.{real_end}
+use Rattle.cluster_state.specs.State.{State, IsSound, free, started, placed, without, without_all, all_started, CanStartAll}
 use Rattle.cluster_state.specs.Row.{row_of}
 use Rattle.cluster_state.specs.Ends.{entered, by_end}
 use Rattle.cluster_state.proofs.StateLemmas.{sound-started, sum_by-placed}
@@ -84,11 +85,11 @@ row-all o (j ∷ js) xs once =
     ap (without_all js) (row-started o j.number xs (once j.number)) ∙ row-all o js (without j.number xs) (once-without j.number xs once)
 
 -- ---- what all the starts leave
-abbrev pub all_run : ℕ → List EffectiveJob → List Running → List Running
-all_run now js rs = fold (λ (rs : List Running) (j : EffectiveJob). placed (record { job = j; start = now }) rs) rs js
+abbrev pub all_run : ℕ → List EffectiveJob → List Placed → List Placed
+all_run now js rs = fold (λ (rs : List Placed) (j : EffectiveJob). placed (record { job = j; start = now }) rs) rs js
 
-abbrev pub all_entered : ℕ → List EffectiveJob → List Running → List Running
-all_entered now js rs = fold (λ (rs : List Running) (j : EffectiveJob). entered (record { job = j; start = now }) rs) rs js
+abbrev pub all_entered : ℕ → List EffectiveJob → List Placed → List Placed
+all_entered now js rs = fold (λ (rs : List Placed) (j : EffectiveJob). entered (record { job = j; start = now }) rs) rs js
 
 pub all_started-is : (js : List EffectiveJob) (s : State) (now : ℕ)
     → all_started s js now ≡ (let z : State = record { machine = s.machine; order = s.order; waiting = without_all js s.waiting; running = all_run now js s.running } in z)
@@ -99,10 +100,10 @@ pub sound-all : (js : List EffectiveJob) (s : State) (now : ℕ) → now < 2 ^ 4
 sound-all [] s now early h can = h
 sound-all (j ∷ js) s now early h can = sound-all js (started s j now) now early (sound-started s j now h can.0 can.1 early) can.2
 
-pub sum_by-all_run : (f : Running → ℕ) (now : ℕ) (js : List EffectiveJob) (rs : List Running) → sum_by f (all_run now js rs) ≡ sum_by (λ (j : EffectiveJob). f (record { job = j; start = now })) js + sum_by f rs
+pub sum_by-all_run : (f : Placed → ℕ) (now : ℕ) (js : List EffectiveJob) (rs : List Placed) → sum_by f (all_run now js rs) ≡ sum_by (λ (j : EffectiveJob). f (record { job = j; start = now })) js + sum_by f rs
 sum_by-all_run f now [] rs = omega arith
 sum_by-all_run f now (j ∷ js) rs =
-    let r : Running = record { job = j; start = now } in
+    let r : Placed = record { job = j; start = now } in
     let g : EffectiveJob → ℕ = λ j. f (record { job = j; start = now }) in
     omega (arith, sum_by-all_run f now js (placed r rs), sum_by-placed f r rs, sum_by-cons g j js)
 
@@ -110,18 +111,18 @@ sum_by-all_run f now (j ∷ js) rs =
 pub sizes-fit : (js : List EffectiveJob) (s : State) (now : ℕ) → CanStartAll s js now → sum_by (λ (j : EffectiveJob). j.size) js ≤ free s
 sizes-fit [] s now can = omega arith
 sizes-fit (j ∷ js) s now can =
-    let r : Running = record { job = j; start = now } in
+    let r : Placed = record { job = j; start = now } in
     let fits = can.1 in
-    omega (arith, fits, sizes-fit js (started s j now) now can.2, sum_by-placed (λ (r : Running). r.job.size) r s.running, sum_by-cons (λ (j : EffectiveJob). j.size) j js)
+    omega (arith, fits, sizes-fit js (started s j now) now can.2, sum_by-placed (λ (r : Placed). r.job.size) r s.running, sum_by-cons (λ (j : EffectiveJob). j.size) j js)
 
 pub by_end-all : (js : List EffectiveJob) (s : State) (now : ℕ) → now < 2 ^ 49 → IsSound s → CanStartAll s js now → by_end (all_run now js s.running) ≡ all_entered now js (by_end s.running)
 by_end-all [] s now early h can = refl
 by_end-all (j ∷ js) s now early h can =
-    let r : Running = record { job = j; start = now } in
+    let r : Placed = record { job = j; start = now } in
     by_end-all js (started s j now) now early (sound-started s j now h can.0 can.1 early) can.2
     ∙ ap (all_entered now js) (by_end-placed r s.running (not-running s j.number j h can.0 refl))
 
-pub ends-all : {E : Type 0} (at : E → ℕ) (ends ends' : List E) (now : ℕ) (js : List EffectiveJob) (rs : List Running)
+pub ends-all : {E : Type 0} (at : E → ℕ) (ends ends' : List E) (now : ℕ) (js : List EffectiveJob) (rs : List Placed)
     → ((f : ℕ → ℕ) → sum_by (λ e. f (at e)) ends ≡ sum_by (λ r. f (real_end r)) rs)
     → ((f : ℕ → ℕ) → sum_by (λ e. f (at e)) ends' ≡ sum_by (λ (j : EffectiveJob). f (now + j.length)) js + sum_by (λ e. f (at e)) ends)
     → (f : ℕ → ℕ) → sum_by (λ e. f (at e)) ends' ≡ sum_by (λ r. f (real_end r)) (all_run now js rs)

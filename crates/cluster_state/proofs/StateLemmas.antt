@@ -5,11 +5,12 @@ use Rattle.std.proofs.lemmas.List.Sums.{sum_by-cons, sum_by_push, prefix_len-le-
 use Rattle.std.proofs.lemmas.List.Elements.{All-cons, All-head, All-tail, All-push, All-filter}
 use Rattle.std.proofs.lemmas.Bool.{cond_both, ltb-false, eqb-true, cases_Bool, cases_eq, eq-eqb, ne_eqb}
 use Rattle.scenarios.specs.Job.{EffectiveJob, IsWithinLimits}
-use Rattle.cluster_state.specs.declared.running.Running.{Running}
-use Rattle.cluster_state.specs.State.{State, IsSound, arrived, started, ended_until, without, placed, waiting_job, holders, free, real_end}
+use Rattle.scenarios.specs.declared.placed.Placed.{Placed}
+use Rattle.scenarios.specs.Placed.{real_end}
+use Rattle.cluster_state.specs.State.{State, IsSound, arrived, started, ended_until, without, placed, waiting_job, holders, free}
 
 -- a sum with one more running job
-pub sum_by-placed : (f : Running → ℕ) (r : Running) (xs : List Running) → sum_by f (placed r xs) ≡ f r + sum_by f xs
+pub sum_by-placed : (f : Placed → ℕ) (r : Placed) (xs : List Placed) → sum_by f (placed r xs) ≡ f r + sum_by f xs
 sum_by-placed f r [] = omega arith
 sum_by-placed f r (x ∷ xs) =
     cond_both (nat_lt r.job.number x.job.number) (r ∷ x ∷ xs) (x ∷ placed r xs) (λ l. sum_by f l ≡ f r + sum_by f (x ∷ xs))
@@ -17,7 +18,7 @@ sum_by-placed f r (x ∷ xs) =
     (λ _. sum_by-cons f x (placed r xs) ∙ omega (arith, sum_by-placed f r xs, sum_by-cons f x xs))
 
 -- what holds of all, with one more running job
-pub All-placed : (P : Running → Type 0) (r : Running) (xs : List Running) → P r → All P xs → All P (placed r xs)
+pub All-placed : (P : Placed → Type 0) (r : Placed) (xs : List Placed) → P r → All P xs → All P (placed r xs)
 All-placed P r [] h a = All-cons P r [] h a
 All-placed P r (x ∷ xs) h a =
     cond_both (nat_lt r.job.number x.job.number) (r ∷ x ∷ xs) (x ∷ placed r xs) (λ l. All P l)
@@ -90,7 +91,7 @@ sound-arrived s job h absent fits limits = record {
 
 pub sound-started : (s : State) (job : EffectiveJob) (now : ℕ) → IsSound s → waiting_job s job.number ≡ Some job → job.size ≤ free s → now < 2 ^ 49 → IsSound (started s job now)
 sound-started s job now h found fits early =
-    let r : Running = record { job = job; start = now } in
+    let r : Placed = record { job = job; start = now } in
     record {
       limited = h.limited;
       fits = omega (arith, h.fits, sum_by-placed (λ r. r.job.size) r s.running);
@@ -115,11 +116,11 @@ sound-found s job n now h found fits early =
 
 pub sound-ended : (s : State) (t : ℕ) → IsSound s → IsSound (ended_until s t)
 sound-ended s t h =
-    let keeps : Running → Bool = λ r. nat_lt t (real_end r) in
+    let keeps : Placed → Bool = λ r. nat_lt t (real_end r) in
     record {
       limited = h.limited;
-      fits = omega (arith, h.fits, sum_by-filter-le (λ (r : Running). r.job.size) keeps s.running);
-      once = λ n. omega (arith, h.once n, sum_by-filter-le (λ (r : Running). cond (nat_eq r.job.number n) 1 0) keeps s.running);
+      fits = omega (arith, h.fits, sum_by-filter-le (λ (r : Placed). r.job.size) keeps s.running);
+      once = λ n. omega (arith, h.once n, sum_by-filter-le (λ (r : Placed). cond (nat_eq r.job.number n) 1 0) keeps s.running);
       waiting_fit = h.waiting_fit;
       waiting_limits = h.waiting_limits;
       running_limits = All-filter keeps (λ r. IsWithinLimits r.job) s.running h.running_limits;
@@ -135,10 +136,10 @@ without-at n (j ∷ js) =
       | false ↦ rw one-add (ap (λ l. j ∷ l) (without-at n js))
     ]
 
-pub placed-at : (r : Running) (rs : List Running) → placed r rs ≡ insert rs (position_or_len (λ (x : Running). nat_lt r.job.number x.job.number) rs) r
+pub placed-at : (r : Placed) (rs : List Placed) → placed r rs ≡ insert rs (position_or_len (λ (x : Placed). nat_lt r.job.number x.job.number) rs) r
 placed-at r [] = refl
 placed-at r (x ∷ rs) =
-    elim (nat_lt r.job.number x.job.number) as (λ b. cond b (r ∷ x ∷ rs) (x ∷ placed r rs) ≡ insert (x ∷ rs) (cond (not b) (1 + position_or_len (λ (x : Running). nat_lt r.job.number x.job.number) rs) 0) r) [
+    elim (nat_lt r.job.number x.job.number) as (λ b. cond b (r ∷ x ∷ rs) (x ∷ placed r rs) ≡ insert (x ∷ rs) (cond (not b) (1 + position_or_len (λ (x : Placed). nat_lt r.job.number x.job.number) rs) 0) r) [
       | true ↦ refl
       | false ↦ rw one-add (ap (λ l. x ∷ l) (placed-at r rs))
     ]
@@ -162,5 +163,5 @@ pub without-some : (n i : ℕ) (js : List EffectiveJob) → position (λ (j : Ef
 without-some n i js e =
     without-at n js ∙ ap (λ i. remove js i) (sym (position-is (λ (j : EffectiveJob). nat_eq j.number n) js) ∙ ap (λ o. unwrap_or o (length js)) e)
 
-pub placed-position : (r : Running) (rs : List Running) → placed r rs ≡ insert rs (unwrap_or (position (λ (x : Running). nat_lt r.job.number x.job.number) rs) (length rs)) r
-placed-position r rs = placed-at r rs ∙ ap (λ i. insert rs i r) (sym (position-is (λ (x : Running). nat_lt r.job.number x.job.number) rs))
+pub placed-position : (r : Placed) (rs : List Placed) → placed r rs ≡ insert rs (unwrap_or (position (λ (x : Placed). nat_lt r.job.number x.job.number) rs) (length rs)) r
+placed-position r rs = placed-at r rs ∙ ap (λ i. insert rs i r) (sym (position-is (λ (x : Placed). nat_lt r.job.number x.job.number) rs))

@@ -1,10 +1,10 @@
 -- What the numbers of a state tell of it, and what the order of expected ends is.
 use Rattle.std.specs.Prelude.{◌≡◌, ℕ, ◌≤◌, List, IsPermutation}
-use Rattle.scenarios.specs.Plan.{Plan}
-use Rattle.cluster_state.specs.declared.running.Running.{Running}
+use Rattle.scenarios.specs.Plan.{Plan, job_numbered}
+use Rattle.scenarios.specs.declared.placed.Placed.{Placed}
 use Rattle.cluster_state.specs.State.{State, IsSound, busy}
 use Rattle.cluster_state.specs.Ends.{by_end, RisesByEnd}
-use Rattle.cluster_state.specs.Snapshot.{numbers_of, standing, job_numbered, restored, Fits, IsOfPlan}
+use Rattle.cluster_state.specs.Snapshot.{numbers_of, standing, restored, Fits, IsOfPlan}
 
 -- a state of the plan's jobs fits the plan by its numbers, and these give it back
 abbrev pub NumbersGiveTheStateBack : Type 0
@@ -25,4 +25,4 @@ ExpectedEndsRise = (s : State) → IsSound s → RisesByEnd (by_end s.running)
 
 -- running jobs by their expected ends are these jobs in another order: each stands there once
 abbrev pub ExpectedEndsRearrange : Type 0
-ExpectedEndsRearrange = (rs : List Running) → IsPermutation rs (by_end rs)
+ExpectedEndsRearrange = (rs : List Placed) → IsPermutation rs (by_end rs)

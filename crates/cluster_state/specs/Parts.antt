@@ -2,7 +2,8 @@
 use Rattle.std.specs.Prelude.{◌≡◌, ℕ, ◌+◌, ◌-◌, min, sum_by, vec_len, vec_capacity}
 use Rattle.std.specs.BinaryHeap.{heap_items, heap_len, heap_capacity, IsHeap}
 use Rattle.std.specs.Ordering.{nat_cmp}
-use Rattle.cluster_state.specs.State.{State, ClusterView, IsSound, busy, real_end}
+use Rattle.scenarios.specs.Placed.{real_end}
+use Rattle.cluster_state.specs.State.{State, ClusterView, IsSound, busy}
 use Rattle.cluster_state.specs.Row.{row_of}
 use Rattle.cluster_state.specs.Ends.{by_end}
 use Rattle.cluster_state.specs.declared.cluster.Cluster.TheInside.{Inside}

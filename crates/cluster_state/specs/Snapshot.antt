@@ -4,7 +4,7 @@ use Rattle.std.specs.List.{filter_map}
 use Rattle.std.specs.Option.{option_map}
 use Rattle.scenarios.specs.Job.{EffectiveJob}
 use Rattle.scenarios.specs.Plan.{Plan}
-use Rattle.cluster_state.specs.declared.running.Running.{Running}
+use Rattle.scenarios.specs.declared.placed.Placed.{Placed}
 use Rattle.cluster_state.specs.declared.snapshot.RunningNumber.{RunningNumber}
 use Rattle.cluster_state.specs.State.{State, busy}
 
@@ -14,7 +14,7 @@ pub record Numbers : Type 0 where
   pub running : List RunningNumber
 
 -- a running job's number and start
-abbrev pub number_of : Running → RunningNumber
+abbrev pub number_of : Placed → RunningNumber
 number_of r = record { number = r.job.number; start = r.start }
 
 -- the numbers of a state
@@ -35,7 +35,7 @@ abbrev pub job_numbered : List EffectiveJob → ℕ → Option EffectiveJob
 job_numbered jobs n = find (λ j. nat_eq j.number n) jobs
 
 -- the job of a running number, running since its start
-abbrev pub running_numbered : List EffectiveJob → RunningNumber → Option Running
+abbrev pub running_numbered : List EffectiveJob → RunningNumber → Option Placed
 running_numbered jobs r = option_map (λ job. record { job = job; start = r.start }) (job_numbered jobs r.number)
 
 -- the state of these numbers, where each stands for the plan's job

@@ -3,7 +3,7 @@ use Rattle.std.specs.Prelude.{◌≡◌, ℕ, ◌+◌, ◌-◌, ◌^◌, ◌≤�
 use Rattle.std.specs.Option.{option_map_or}
 use Rattle.scenarios.specs.Job.{EffectiveJob, IsWithinLimits}
 use Rattle.scenarios.specs.declared.order.Order.{Order}
-use Rattle.cluster_state.specs.declared.running.Running.{Running}
+use Rattle.scenarios.specs.declared.placed.Placed.{Placed}
 
 -- A machine's processors, the order in which later jobs are looked at, the waiting jobs in order of arrival, and the
 -- running ones, with their starts, rising by number.
@@ -11,7 +11,7 @@ pub record State : Type 0 where
   pub machine : ℕ
   pub order : Order
   pub waiting : List EffectiveJob
-  pub running : List Running
+  pub running : List Placed
 
 -- What callers see of a cluster: its state, and how many starts it has room for.
 pub record ClusterView : Type 0 where
@@ -23,7 +23,7 @@ abbrev pub empty : ℕ → Order → State
 empty procs order = record { machine = procs; order = order; waiting = []; running = [] }
 
 -- the processors that running jobs hold
-abbrev pub busy : List Running → ℕ
+abbrev pub busy : List Placed → ℕ
 busy rs = sum_by (λ r. r.job.size) rs
 
 -- the processors that no running job holds
@@ -31,15 +31,15 @@ abbrev pub free : State → ℕ
 free s = s.machine - busy s.running
 
 -- the second by which a running job has surely ended
-abbrev pub expected_end : Running → ℕ
+abbrev pub expected_end : Placed → ℕ
 expected_end r = r.start + r.job.estimate
 
 -- the second at which it ends
-abbrev pub real_end : Running → ℕ
+abbrev pub real_end : Placed → ℕ
 real_end r = r.start + r.job.length
 
 -- the processors that a running job has given back by second t, if it runs as long as is expected
-abbrev pub back_by : ℕ → Running → ℕ
+abbrev pub back_by : ℕ → Placed → ℕ
 back_by t r = if nat_le (expected_end r) t then r.job.size else 0
 
 -- the processors that are free now or come back by second t, where each running job ends when it is expected to
@@ -77,7 +77,7 @@ without_all [] xs = xs
 without_all (j ∷ js) xs = without_all js (without j.number xs)
 
 -- one more running job among those that rise by number
-abbrev pub placed : Running → List Running → List Running
+abbrev pub placed : Placed → List Placed → List Placed
 placed r [] = r ∷ []
 placed r (x ∷ xs) = if nat_lt r.job.number x.job.number then r ∷ x ∷ xs else x ∷ placed r xs
 

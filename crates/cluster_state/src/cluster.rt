@@ -4,12 +4,12 @@ ghost use Rattle.scenarios.specs.declared.order.Order.TheVariants.{Arrival};
 
 use crate::ends::{drop_until, first_end, heap_of_ends, is_by};
 use crate::join::{join, join_all};
-use crate::lookup::{job_in, running_in};
+use crate::lookup::running_in;
 use crate::queue::{find_job, put_job, remove_job, remove_jobs, sizes};
-use crate::running::{Running, drop_ended, held, row_by_end};
+use crate::running::{drop_ended, held, row_by_end};
 use crate::snapshot::Snapshot;
 use job_table::JobTable;
-use scenarios::{Job, Order, Scenario};
+use scenarios::{Job, Order, Placed, PlanRef, Scenario};
 use std::alloc::Allocator;
 use std::cmp::Reverse;
 use std::collections::BinaryHeap;
@@ -26,8 +26,8 @@ pub struct Cluster<A: Allocator + Copy> {
     free: u64,
     waiting: Vec<Job, A>,
     shortest: Vec<Job, A>,
-    running: Vec<Running, A>,
-    by_end: Vec<Running, A>,
+    running: Vec<Placed, A>,
+    by_end: Vec<Placed, A>,
     ends: BinaryHeap<Reverse<u64>, A>,
 }
 
@@ -44,7 +44,8 @@ impl<A: Allocator + Copy> Model for Cluster<A> {
 }
 
 impl<A: Allocator + Copy> Cluster<A> {
-    ghost use Rattle.cluster_state.specs.State.{empty, free, real_end, arrived, after_start, all_started};
+    ghost use Rattle.scenarios.specs.Placed.{real_end};
+    ghost use Rattle.cluster_state.specs.State.{empty, free, arrived, after_start, all_started};
     ghost use Rattle.cluster_state.specs.State.{ended_until, holders, CanArrive, CanStart, CanStartAll, IsSound};
     ghost use Rattle.cluster_state.specs.Row.{in_order};
     ghost use Rattle.cluster_state.specs.Ends.{by_end, RisesByEnd};
@@ -88,7 +89,7 @@ impl<A: Allocator + Copy> Cluster<A> {
         alloc: A,
         procs: u64,
         order: Order,
-        running: Vec<Running, A>,
+        running: Vec<Placed, A>,
     ) -> Result<Cluster<A>, Memory>
         requires { IsSound (record { machine = procs; order = order; waiting = []; running = running.items }) }
         ensures { IfOk result (λ c. c.state ≡ record { machine = procs; order = order; waiting = []; running = running.items }) }
@@ -120,7 +121,8 @@ impl<A: Allocator + Copy> Cluster<A> {
         requires { Fits snapshot.now (plan_of table.now scenario.now) }
         ensures { IfOk result (λ c. c.state ≡ restored snapshot.now (plan_of table.now scenario.now)) }
     {
-        let running = running_in(alloc, snapshot.running(), table, scenario)?;
+        let plan = PlanRef::of(table, *scenario);
+        let running = running_in(alloc, snapshot.running(), &plan)?;
         let mut cluster = Cluster::with_running(
             alloc,
             scenario.procs(),
@@ -128,7 +130,7 @@ impl<A: Allocator + Copy> Cluster<A> {
             running,
         )?;
         for number in snapshot.waiting() {
-            if let Some(job) = job_in(table, scenario, *number) {
+            if let Some(job) = plan.job(*number) {
                 cluster.arrive(job)?;
             }
         }
@@ -170,7 +172,7 @@ impl<A: Allocator + Copy> Cluster<A> {
     }
 
     /// The running jobs with their starts, rising by number.
-    pub fn running(&self) -> &[Running]
+    pub fn running(&self) -> &[Placed]
         ensures jobs { result.now ≡ self.now.state.running }
         ensures sound { IsSound self.now.state }
     {
@@ -186,7 +188,7 @@ impl<A: Allocator + Copy> Cluster<A> {
 
     /// The running jobs with their starts, rising by the second by which they have surely ended (start
     /// plus estimate), and of one second by number.
-    pub fn running_by_end(&self) -> &[Running]
+    pub fn running_by_end(&self) -> &[Placed]
         ensures order { result.now ≡ by_end self.now.state.running }
         ensures rising { RisesByEnd result.now }
         ensures each { IsPermutation self.now.state.running result.now }
@@ -286,7 +288,7 @@ impl<A: Allocator + Copy> Cluster<A> {
         self.running.reserve(1)?;
         self.by_end.reserve(1)?;
         self.ends.reserve(1)?;
-        let r = Running { job, start: now };
+        let r = Placed { job, start: now };
         join(&mut self.running, &mut self.by_end, &mut self.ends, r);
         remove_job(&mut self.waiting, number);
         remove_job(&mut self.shortest, number);
@@ -354,7 +356,7 @@ impl<A: Allocator + Copy> Cluster<A> {
 }
 
 // Whether no job of this number waits or runs.
-fn is_absent(waiting: &[Job], running: &[Running], number: u64) -> bool
+fn is_absent(waiting: &[Job], running: &[Placed], number: u64) -> bool
     ensures { IsTrue result
         ↔ (count_by (λ j. nat_eq j.number number) waiting.now
         + count_by (λ r. nat_eq r.job.number number) running.now ≡ 0) }

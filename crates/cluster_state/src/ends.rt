@@ -2,9 +2,9 @@ ghost use Rattle.std.specs.Prelude.{◌≡◌, ◌≤◌, ◌<◌, ◌^◌, ◌�
 ghost use Rattle.std.specs.Option.{option_map};
 ghost use Rattle.std.specs.BinaryHeap.{heap_items, heap_len, heap_capacity, IsHeap};
 ghost use Rattle.std.specs.Ordering.{nat_cmp};
-ghost use Rattle.cluster_state.specs.State.{real_end};
+ghost use Rattle.scenarios.specs.Placed.{real_end};
 
-use crate::running::{Running, end_of};
+use scenarios::Placed;
 use std::alloc::Allocator;
 use std::cmp::Reverse;
 use std::collections::BinaryHeap;
@@ -50,7 +50,7 @@ pub(crate) fn drop_until<A: Allocator>(ends: &mut BinaryHeap<Reverse<u64>, A>, t
 // The seconds at which these jobs end.
 pub(crate) fn heap_of_ends<A: Allocator>(
     alloc: A,
-    running: &[Running],
+    running: &[Placed],
 ) -> Result<BinaryHeap<Reverse<u64>, A>, Memory>
     requires { All (λ r. r.start < 2 ^ 49) running.now }
     ensures heap { IfOk result (λ ends. IsHeap (λ x y. nat_cmp y.0 x.0) (heap_items ends)) }
@@ -58,7 +58,7 @@ pub(crate) fn heap_of_ends<A: Allocator>(
 {
     let mut ends = BinaryHeap::with_capacity(alloc, running.len())?;
     for r in running {
-        ends.push(Reverse(end_of(r)))?;
+        ends.push(Reverse(r.end()))?;
     }
     Ok(ends)
 }

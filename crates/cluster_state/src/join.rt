@@ -1,11 +1,12 @@
 ghost use Rattle.std.specs.Prelude.{◌≡◌, ◌+◌, ◌≤◌, ◌<◌, ◌^◌, ℕ, length, fold, sum_by, vec_len, vec_capacity};
 ghost use Rattle.std.specs.BinaryHeap.{heap_items, heap_len, heap_capacity, IsHeap};
 ghost use Rattle.std.specs.Ordering.{nat_cmp};
-ghost use Rattle.cluster_state.specs.State.{placed, real_end};
+ghost use Rattle.scenarios.specs.Placed.{real_end};
+ghost use Rattle.cluster_state.specs.State.{placed};
 ghost use Rattle.cluster_state.specs.Ends.{entered};
 
-use crate::running::{Running, end_of, enter, run};
-use scenarios::Job;
+use crate::running::{enter, run};
+use scenarios::{Job, Placed};
 use std::alloc::Allocator;
 use std::cmp::Reverse;
 use std::collections::BinaryHeap;
@@ -13,10 +14,10 @@ use std::collections::BinaryHeap;
 // A running job joins the others, where there is room: in the list by number, in the row by
 // (start + estimate, number), and in the heap of ends.
 pub(crate) fn join<A: Allocator>(
-    running: &mut Vec<Running, A>,
-    by_end: &mut Vec<Running, A>,
+    running: &mut Vec<Placed, A>,
+    by_end: &mut Vec<Placed, A>,
     ends: &mut BinaryHeap<Reverse<u64>, A>,
-    r: Running,
+    r: Placed,
 )
     requires room { vec_len running.old < vec_capacity running.old }
     requires row_room { vec_len by_end.old < vec_capacity by_end.old }
@@ -34,7 +35,7 @@ pub(crate) fn join<A: Allocator>(
     ensures row_capacity { vec_capacity by_end.old ≤ vec_capacity by_end.new }
     ensures heap_capacity { heap_capacity ends.old ≤ heap_capacity ends.new }
 {
-    let end = end_of(&r);
+    let end = r.end();
     let Ok(()) = run(running, r) else {
         unreachable!()
     };
@@ -48,8 +49,8 @@ pub(crate) fn join<A: Allocator>(
 
 // These jobs join the running ones, one after another, all at one second.
 pub(crate) fn join_all<A: Allocator>(
-    running: &mut Vec<Running, A>,
-    by_end: &mut Vec<Running, A>,
+    running: &mut Vec<Placed, A>,
+    by_end: &mut Vec<Placed, A>,
     ends: &mut BinaryHeap<Reverse<u64>, A>,
     jobs: &[Job],
     now: u64,
@@ -71,7 +72,7 @@ pub(crate) fn join_all<A: Allocator>(
     ensures heap_capacity { heap_capacity ends.old ≤ heap_capacity ends.new }
 {
     for job in jobs {
-        let r = Running {
+        let r = Placed {
             job: *job,
             start: now,
         };

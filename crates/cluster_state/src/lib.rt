@@ -11,5 +11,4 @@ mod running;
 mod snapshot;
 
 pub use cluster::Cluster;
-pub use running::Running;
 pub use snapshot::{RunningNumber, Snapshot};

@@ -1,37 +1,21 @@
 ghost use Rattle.std.specs.Prelude.{◌≡◌, ◌+◌, ◌-◌, ◌<◌, ◌≤◌, ◌^◌, ◌↔◌, [], OnOk, OnErr, IfOk, IsOk, All, nat_lt, position, filter, vec_len, vec_capacity};
-ghost use Rattle.cluster_state.specs.State.{busy, expected_end, real_end, placed};
+ghost use Rattle.scenarios.specs.Placed.{expected_end, real_end};
+ghost use Rattle.cluster_state.specs.State.{busy, placed};
 ghost use Rattle.cluster_state.specs.Ends.{by_end, entered, is_sooner};
 
-use scenarios::Job;
+use scenarios::Placed;
 use std::alloc::Allocator;
 use swf_text::Memory;
 
-/// A running job.
-#[derive(Clone, Copy, Debug)]
-pub struct Running {
-    /// The job, which holds its processors until it ends.
-    pub job: Job,
-    /// The second at which it started.
-    pub start: u64,
-}
-
-// The second at which it ends.
-pub(crate) fn end_of(r: &Running) -> u64
-    requires { r.now.start < 2 ^ 49 }
-    ensures { result ≡ real_end r.now }
-{
-    r.start + r.job.length()
-}
-
 // Whether it ends after second t.
-fn outlasts(r: &Running, t: u64) -> bool
+fn outlasts(r: &Placed, t: u64) -> bool
     ensures { result ≡ nat_lt t (real_end r.now) }
 {
     t < r.start || t - r.start < r.job.length()
 }
 
 // The processors that these hold.
-pub(crate) fn held(running: &[Running]) -> u64
+pub(crate) fn held(running: &[Placed]) -> u64
     requires { busy running.now < 2 ^ 64 }
     ensures { result ≡ busy running.now }
 {
@@ -39,14 +23,14 @@ pub(crate) fn held(running: &[Running]) -> u64
 }
 
 // The place of the first with a greater number.
-fn place_after(running: &[Running], number: u64) -> Option<usize>
+fn place_after(running: &[Placed], number: u64) -> Option<usize>
     ensures { result ≡ position (λ r. nat_lt number r.job.number) running.now }
 {
     running.iter().position(|r| number < r.job.number())
 }
 
 // Puts a running job in its place by number.
-pub(crate) fn run<A: Allocator>(running: &mut Vec<Running, A>, r: Running) -> Result<(), Memory>
+pub(crate) fn run<A: Allocator>(running: &mut Vec<Placed, A>, r: Placed) -> Result<(), Memory>
     ensures ok { OnOk result (running.new.items ≡ placed r running.old.items) }
     ensures err { OnErr result (running.new.items ≡ running.old.items) }
     ensures len { OnOk result (vec_len running.new ≡ vec_len running.old + 1) }
@@ -60,7 +44,7 @@ pub(crate) fn run<A: Allocator>(running: &mut Vec<Running, A>, r: Running) -> Re
 }
 
 // The second by which it has surely ended, as a number that holds each such sum.
-fn expected_end_of(r: &Running) -> u128
+fn expected_end_of(r: &Placed) -> u128
     ensures { result ≡ expected_end r.now }
 {
     u128::from(r.start) + u128::from(r.job.estimate())
@@ -68,7 +52,7 @@ fn expected_end_of(r: &Running) -> u128
 
 // Whether one is expected to end earlier than the other, or at the same second and has the smaller
 // number.
-fn is_sooner(a: &Running, b: &Running) -> bool
+fn is_sooner(a: &Placed, b: &Placed) -> bool
     ensures { result ≡ is_sooner a.now b.now }
 {
     let end = expected_end_of(a);
@@ -77,14 +61,14 @@ fn is_sooner(a: &Running, b: &Running) -> bool
 }
 
 // The place of the first that a running job is sooner than.
-fn place_by_end(row: &[Running], r: &Running) -> Option<usize>
+fn place_by_end(row: &[Placed], r: &Placed) -> Option<usize>
     ensures { result ≡ position (λ x. is_sooner r.now x) row.now }
 {
     row.iter().position(|x| is_sooner(r, x))
 }
 
 // Puts a running job in its place by (start + estimate, number).
-pub(crate) fn enter<A: Allocator>(row: &mut Vec<Running, A>, r: Running) -> Result<(), Memory>
+pub(crate) fn enter<A: Allocator>(row: &mut Vec<Placed, A>, r: Placed) -> Result<(), Memory>
     ensures ok { OnOk result (row.new.items ≡ entered r row.old.items) }
     ensures err { OnErr result (row.new.items ≡ row.old.items) }
     ensures len { OnOk result (vec_len row.new ≡ vec_len row.old + 1) }
@@ -100,8 +84,8 @@ pub(crate) fn enter<A: Allocator>(row: &mut Vec<Running, A>, r: Running) -> Resu
 // These jobs by (start + estimate, number).
 pub(crate) fn row_by_end<A: Allocator>(
     alloc: A,
-    running: &[Running],
-) -> Result<Vec<Running, A>, Memory>
+    running: &[Placed],
+) -> Result<Vec<Placed, A>, Memory>
     ensures { IfOk result (λ row. row.items ≡ by_end running.now) }
 {
     let mut row = Vec::with_capacity(alloc, running.len())?;
@@ -113,7 +97,7 @@ pub(crate) fn row_by_end<A: Allocator>(
 }
 
 // Drops those that end by second t.
-pub(crate) fn drop_ended<A: Allocator>(running: &mut Vec<Running, A>, t: u64)
+pub(crate) fn drop_ended<A: Allocator>(running: &mut Vec<Placed, A>, t: u64)
     ensures kept { running.new.items ≡ filter (λ r. nat_lt t (real_end r)) running.old.items }
     ensures len { vec_len running.new ≤ vec_len running.old }
     ensures capacity { vec_capacity running.new ≡ vec_capacity running.old }

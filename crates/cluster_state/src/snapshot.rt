@@ -3,9 +3,8 @@ ghost use Rattle.scenarios.specs.Job.{EffectiveJob};
 ghost use Rattle.cluster_state.specs.Snapshot.{number_of};
 
 use crate::lookup::{can_run, have_jobs};
-use crate::running::Running;
 use job_table::JobTable;
-use scenarios::{Job, Scenario};
+use scenarios::{Job, Placed, PlanRef, Scenario};
 use std::alloc::Allocator;
 use std::marker::Model;
 use swf_text::Memory;
@@ -43,7 +42,7 @@ impl<A: Allocator + Copy> Snapshot<A> {
     ghost use Rattle.cluster_state.specs.Snapshot.{Fits, IsSnapshot, standing};
 
     // The numbers of these jobs.
-    pub(crate) fn of(alloc: A, waiting: &[Job], running: &[Running]) -> Result<Snapshot<A>, Memory>
+    pub(crate) fn of(alloc: A, waiting: &[Job], running: &[Placed]) -> Result<Snapshot<A>, Memory>
         requires { IsSnapshot (record { waiting = map (λ (j : EffectiveJob). j.number) waiting.now; running = map number_of running.now }) }
         ensures { IfOk result (λ s. s ≡ record { waiting = map (λ (j : EffectiveJob). j.number) waiting.now; running = map number_of running.now }) }
     {
@@ -88,7 +87,8 @@ impl<A: Allocator + Copy> Snapshot<A> {
     pub fn fits(&self, table: &JobTable<A>, scenario: &Scenario) -> bool
         ensures { IsTrue result ↔ Fits self.now (plan_of table.now scenario.now) }
     {
-        have_jobs(&self.waiting, table, scenario) && can_run(&self.running, table, scenario)
+        let plan = PlanRef::of(table, *scenario);
+        have_jobs(&self.waiting, &plan) && can_run(&self.running, &plan)
     }
 
     /// The same numbers once more, on the allocator that these are kept on; Memory where a growth
@@ -140,7 +140,7 @@ fn numbers_of<A: Allocator>(alloc: A, jobs: &[Job]) -> Result<Vec<u64, A>, Memor
 }
 
 // The numbers and starts of these running jobs.
-fn starts_of<A: Allocator>(alloc: A, running: &[Running]) -> Result<Vec<RunningNumber, A>, Memory>
+fn starts_of<A: Allocator>(alloc: A, running: &[Placed]) -> Result<Vec<RunningNumber, A>, Memory>
     ensures { IfOk result (λ numbers. numbers.items ≡ map number_of running.now) }
 {
     let mut numbers = Vec::with_capacity(alloc, running.len())?;

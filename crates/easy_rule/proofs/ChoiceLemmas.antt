@@ -4,7 +4,7 @@ use Rattle.std.proofs.lemmas.List.{drop_more, drop_at, drop_all, take_all, take_
 use Rattle.std.proofs.lemmas.List.Elements.{All-head, All-tail, All-more, All-drop}
 use Rattle.std.proofs.lemmas.Bool.{cases_Bool, cases_lt, cond-true, cond-false, eq-eqb, le-leb, lt-leb}
 use Rattle.scenarios.specs.Job.{EffectiveJob, IsWithinLimits}
-use Rattle.cluster_state.specs.declared.running.Running.{Running}
+use Rattle.scenarios.specs.declared.placed.Placed.{Placed}
 use Rattle.cluster_state.specs.State.{State, IsSound, free, started, all_started, CanStartAll, without, waiting_job}
 use Rattle.cluster_state.proofs.StateLemmas.{sum_by-placed, sound-started, All-find}
 use Rattle.easy_rule.specs.declared.shadow_time.Shadow.{Shadow}
@@ -35,7 +35,7 @@ fewer-started : (s : State) (now : ℕ) (job : EffectiveJob) → IsSound s → w
 fewer-started s now job h found fits =
     let p : EffectiveJob → Bool = λ j. nat_eq j.number job.number in
     let waits = length-without s.waiting job (found-member p s.waiting job found) in
-    let taken = sum_by-placed (λ (r : Running). r.job.size) (record { job = job; start = now }) s.running in
+    let taken = sum_by-placed (λ (r : Placed). r.job.size) (record { job = job; start = now }) s.running in
     let some = (All-find IsWithinLimits p s.waiting job found h.waiting_limits).takes_some in
     omega (arith, waits, taken, some, fits)
 
@@ -47,7 +47,7 @@ fewer-all (j ∷ js) s now early h can =
     omega (arith, one, others)
 
 free-started : (s : State) (now : ℕ) (job : EffectiveJob) → free (started s job now) ≡ free s - job.size
-free-started s now job = omega (arith, sum_by-placed (λ (r : Running). r.job.size) (record { job = job; start = now }) s.running)
+free-started s now job = omega (arith, sum_by-placed (λ (r : Placed). r.job.size) (record { job = job; start = now }) s.running)
 
 -- ---- the first waiting jobs
 pub record Heads (s : State) (now : ℕ) (js : List EffectiveJob) : Type 0 where
@@ -201,20 +201,9 @@ picked-more now room w js i j l is y =
       ap (left_after now room w) e ∙ cond-true (may_backfill now room w j) (left_after now (room - j.size) (less w now j) (drop (i + 1) js)) (left_after now room w (drop (i + 1) js)) y,
     )
 
-pub picked-next : (now room : ℕ) (w : Shadow) (js : List EffectiveJob) (i : ℕ) (j : EffectiveJob) → i < length js → j ≡ get_or js i j → may_backfill now room w j ≡ false
-    → (picked now room w (drop i js) ≡ picked now room w (drop (i + 1) js)) × (left_after now room w (drop i js) ≡ left_after now room w (drop (i + 1) js))
-picked-next now room w js i j l is n =
-    let e : drop i js ≡ j ∷ drop (i + 1) js = drop_more js i j l ∙ ap (λ x. x ∷ drop (i + 1) js) (sym is) in (
-      ap (picked now room w) e ∙ cond-false (may_backfill now room w j) (j ∷ picked now (room - j.size) (less w now j) (drop (i + 1) js)) (picked now room w (drop (i + 1) js)) n,
-      ap (left_after now room w) e ∙ cond-false (may_backfill now room w j) (left_after now (room - j.size) (less w now j) (drop (i + 1) js)) (left_after now room w (drop (i + 1) js)) n,
-    )
-
 -- at the end of the queue and of the row
 pub heads-none : (room : ℕ) (js : List EffectiveJob) (i : ℕ) → length js ≤ i → fitting room (drop i js) ≡ []
 heads-none room js i past = ap (fitting room) (drop_all i js past)
-
-pub picked-none : (now room : ℕ) (w : Shadow) (js : List EffectiveJob) (i : ℕ) → length js ≤ i → (picked now room w (drop i js) ≡ []) × (left_after now room w (drop i js) ≡ w)
-picked-none now room w js i past = (ap (picked now room w) (drop_all i js past), ap (left_after now room w) (drop_all i js past))
 
 -- and where no processor is free any more
 pub picked-full-from : (now room : ℕ) (w : Shadow) (i : ℕ) (js : List EffectiveJob) → All IsWithinLimits js → room ≡ 0 → (picked now room w (drop i js) ≡ []) × (left_after now room w (drop i js) ≡ w)

@@ -6,7 +6,7 @@ use Rattle.std.proofs.lemmas.Bool.{cond-true, cond-false, cases_Bool, le-leb, fa
 use Rattle.scenarios.specs.Job.{EffectiveJob}
 use Rattle.cluster_state.specs.State.{State, IsSound, free, started}
 use Rattle.cluster_state.specs.Row.{in_order}
-use Rattle.cluster_state.specs.declared.running.Running.{Running}
+use Rattle.scenarios.specs.declared.placed.Placed.{Placed}
 use Rattle.cluster_state.proofs.StateLemmas.{sum_by-without, sound-started}
 use Rattle.easy_rule.specs.declared.shadow_time.Shadow.{Shadow}
 use Rattle.easy_rule.specs.declared.start.Start.{Start}
@@ -52,7 +52,7 @@ pub nobody-waits : (s : State) (now : ℕ) (js : List EffectiveJob) → All (λ 
 nobody-waits s now [] a f e = refl
 nobody-waits s now (head ∷ rest) a f e =
     let fits = All-head (λ (j : EffectiveJob). j.size ≤ s.machine) head rest a in
-    let none = ap (λ rs. sum_by (λ (r : Running). r.job.size) rs) f in
+    let none = ap (λ rs. sum_by (λ (r : Placed). r.job.size) rs) f in
     let room : head.size ≤ free s = omega (arith, fits, none) in
     let k : Some head ≡ None = sym (cond-true (nat_le head.size (free s)) (Some head) (find (may_backfill now (free s) (shadow_at s head.size)) (in_order s.order rest)) (le-leb head.size (free s) room)) ∙ e in
     cc

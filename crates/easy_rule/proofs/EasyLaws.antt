@@ -1,7 +1,7 @@
 -- EASY backfilling is a rule.
 use Rattle.std.proofs.Common.{◌≡◌, ◌+◌, true, length, All, sum_by, refl, arith}
 use Rattle.scenarios.specs.Job.{EffectiveJob}
-use Rattle.cluster_state.specs.declared.running.Running.{Running}
+use Rattle.scenarios.specs.declared.placed.Placed.{Placed}
 use Rattle.cluster_state.specs.State.{IsSound}
 use Rattle.cluster_state.proofs.StateLemmas.{sum_by-placed, sum_by-without, All-placed, All-without, sound-started}
 use Rattle.easy_rule.specs.Rule.{state_after, starts_at}
@@ -28,7 +28,7 @@ easy-keeps = record {
       let P : EffectiveJob → Type 0 = λ j. p j ≡ true in
       decided-keeps (λ z. All P z.waiting) now (λ z job e h. All-without P job.number z.waiting h) (length s.waiting) s a;
   runs = λ p s now a b.
-      let P : Running → Type 0 = λ r. p r ≡ true in
+      let P : Placed → Type 0 = λ r. p r ≡ true in
       let Q : EffectiveJob → Type 0 = λ j. p (record { job = j; start = now }) ≡ true in
       (decided-keeps (λ z. All P z.running × All Q z.waiting) now
       (λ z job e h. (
@@ -42,11 +42,11 @@ easy-keeps = record {
 easy-conserves : Conserves state_after starts_at
 easy-conserves = record {
   work = λ f s now small h.
-      (decided-keeps (λ z. IsSound z × (sum_by f z.waiting + sum_by (λ (r : Running). f r.job) z.running ≡ sum_by f s.waiting + sum_by (λ (r : Running). f r.job) s.running)) now
+      (decided-keeps (λ z. IsSound z × (sum_by f z.waiting + sum_by (λ (r : Placed). f r.job) z.running ≡ sum_by f s.waiting + sum_by (λ (r : Placed). f r.job) s.running)) now
       (λ z job e k.
       let found = next-found z now job k.0 e in (
         sound-started z job now k.0 found (next-fits z now job e) small,
-        omega (arith, k.1, sum_by-placed (λ (r : Running). f r.job) (record { job = job; start = now }) z.running, sum_by-without f job.number z.waiting job found),
+        omega (arith, k.1, sum_by-placed (λ (r : Placed). f r.job) (record { job = job; start = now }) z.running, sum_by-without f job.number z.waiting job found),
       ))
       (length s.waiting) s (h, refl)).1;
   told = λ n s now small h. told n (length s.waiting) s now small h;

@@ -7,7 +7,7 @@ use Rattle.std.proofs.lemmas.Bool.{leb-true, le-leb, cases_Bool, cond-true, cond
 use Rattle.scenarios.specs.Job.{EffectiveJob}
 use Rattle.scenarios.specs.declared.order.Order.{Order}
 use Rattle.scenarios.specs.declared.order.Order.TheVariants.{Arrival, Shortest}
-use Rattle.cluster_state.specs.declared.running.Running.{Running}
+use Rattle.scenarios.specs.declared.placed.Placed.{Placed}
 use Rattle.cluster_state.specs.State.{State, IsSound, free, busy, available, back_by, waiting_job, started, without}
 use Rattle.cluster_state.specs.Row.{in_order}
 use Rattle.cluster_state.proofs.StateLemmas.{sum_by-placed}
@@ -22,8 +22,8 @@ use Rattle.easy_rule.proofs.NextLemmas.{next-facts, next-found, next-row, length
 -- what a start changes of what is available
 pub available-started : (s : State) (job : EffectiveJob) (now t : ℕ) → busy s.running ≤ s.machine → job.size ≤ free s → available (started s job now) t + job.size ≡ available s t + back_by t (record { job = job; start = now })
 available-started s job now t fits small =
-    let r : Running = record { job = job; start = now } in
-    omega (arith, sum_by-placed (back_by t) r s.running, sum_by-placed (λ (x : Running). x.job.size) r s.running)
+    let r : Placed = record { job = job; start = now } in
+    omega (arith, sum_by-placed (back_by t) r s.running, sum_by-placed (λ (x : Placed). x.job.size) r s.running)
 
 -- the two ways to be backfilled
 pub ways : (now room : ℕ) (w : Shadow) (job : EffectiveJob) → may_backfill now room w job ≡ true → (job.size ≤ room) × ((now + job.estimate ≤ w.time) ⊎ (job.size ≤ w.extra))
@@ -39,12 +39,12 @@ ways now room w job h =
 -- a backfilled job leaves the head its time
 pub time-kept : (s : State) (need now : ℕ) (job : EffectiveJob) → busy s.running ≤ s.machine → need ≤ s.machine → may_backfill now (free s) (shadow_at s need) job ≡ true → shadow_time (started s job now) need ≡ shadow_time s need
 time-kept s need now job fits within may =
-    let r : Running = record { job = job; start = now } in
+    let r : Placed = record { job = job; start = now } in
     let s' = started s job now in
     let w = ways now (free s) (shadow_at s need) job may in
     let small : job.size ≤ free s = w.0 in
     let old = shadow_time-IsLeast s need fits within in
-    let new = shadow_time-IsLeast s' need (omega (arith, sum_by-placed (λ (x : Running). x.job.size) r s.running)) within in
+    let new = shadow_time-IsLeast s' need (omega (arith, sum_by-placed (λ (x : Placed). x.job.size) r s.running)) within in
     let t = shadow_time s need in
     let t' = shadow_time s' need in
     let at = available-started s job now t fits small in
@@ -61,7 +61,7 @@ time-kept s need now job fits within may =
 -- and takes from the extra processors where it runs past it
 pub shadow-kept : (s : State) (need now : ℕ) (job : EffectiveJob) → busy s.running ≤ s.machine → need ≤ s.machine → may_backfill now (free s) (shadow_at s need) job ≡ true → shadow_at (started s job now) need ≡ less (shadow_at s need) now job
 shadow-kept s need now job fits within may =
-    let r : Running = record { job = job; start = now } in
+    let r : Placed = record { job = job; start = now } in
     let s' = started s job now in
     let w = ways now (free s) (shadow_at s need) job may in
     let t = shadow_time s need in
@@ -218,8 +218,8 @@ pass-started s now w place at d h p f =
     let s' = started s job now in
     let small = (ways now (free s) w job (f.passed d)).0 in
     let need = p.head.size in
-    let r : Running = record { job = job; start = now } in
-    let freed : free s' ≤ free s = omega (arith, sum_by-placed (λ (x : Running). x.job.size) r s.running) in
+    let r : Placed = record { job = job; start = now } in
+    let freed : free s' ≤ free s = omega (arith, sum_by-placed (λ (x : Placed). x.job.size) r s.running) in
     let within : need ≤ s.machine = subst (λ (js : List EffectiveJob). All (λ j. j.size ≤ s.machine) js) p.queue h.waiting_fit 0 d (omega arith) in
     let gone : row s' ≡ remove (row s) at = row-started s now at d h f.within in
     let found = next-found s now job h (pass-next s now w place at d p f) in

@@ -4,8 +4,9 @@ use Rattle.std.proofs.lemmas.List.Sums.{sum_by-cons}
 use Rattle.std.proofs.lemmas.List.Elements.{All-cons, All-head, All-tail, All-nil, All-more, All-weaker}
 use Rattle.std.proofs.lemmas.List.{take_all}
 use Rattle.std.proofs.lemmas.Bool.{cond_both, leb-true, le-leb, lt-leb, cases_eq, cond-true, cond-false, cases_lt}
-use Rattle.cluster_state.specs.declared.running.Running.{Running}
-use Rattle.cluster_state.specs.State.{State, IsSound, free, busy, expected_end, back_by, available}
+use Rattle.scenarios.specs.declared.placed.Placed.{Placed}
+use Rattle.scenarios.specs.Placed.{expected_end}
+use Rattle.cluster_state.specs.State.{State, IsSound, free, busy, back_by, available}
 use Rattle.easy_rule.specs.Rule.{first_from, shadow_time, IsLeast}
 
 -- the first number that passes does pass, and is the least
@@ -29,31 +30,31 @@ first_from-le p (suc n) t u l h =
     true_false : true ≡ false → ⊥
     true_false e = cc
 
-pub back_by-le : (t : ℕ) (r : Running) → back_by t r ≤ r.job.size
+pub back_by-le : (t : ℕ) (r : Placed) → back_by t r ≤ r.job.size
 back_by-le t r = cond_both (nat_le (expected_end r) t) r.job.size 0 (λ x. x ≤ r.job.size) (λ _. omega arith) (λ _. omega arith)
 
 -- what comes back is at most what is held, and all of it in the end
-pub back-le-busy : (t : ℕ) (rs : List Running) → sum_by (back_by t) rs ≤ busy rs
+pub back-le-busy : (t : ℕ) (rs : List Placed) → sum_by (back_by t) rs ≤ busy rs
 back-le-busy t [] = omega arith
 back-le-busy t (r ∷ rs) =
     let one = cond_both (nat_le (expected_end r) t) r.job.size 0 (λ x. x ≤ r.job.size) (λ _. omega arith) (λ _. omega arith) in
-    omega (arith, one, sum_by-cons (back_by t) r rs, sum_by-cons (λ (x : Running). x.job.size) r rs, back-le-busy t rs)
+    omega (arith, one, sum_by-cons (back_by t) r rs, sum_by-cons (λ (x : Placed). x.job.size) r rs, back-le-busy t rs)
 
-pub back-each : (t : ℕ) (rs : List Running) → All (λ r. expected_end r ≤ t) rs → sum_by (back_by t) rs ≡ busy rs
+pub back-each : (t : ℕ) (rs : List Placed) → All (λ r. expected_end r ≤ t) rs → sum_by (back_by t) rs ≡ busy rs
 back-each t [] a = refl
 back-each t (r ∷ rs) a =
     let first : expected_end r ≤ t = All-head (λ r. expected_end r ≤ t) r rs a in
     let one = cond-true (nat_le (expected_end r) t) r.job.size 0 (le-leb (expected_end r) t first) in
-    omega (arith, one, back-each t rs (All-tail (λ r. expected_end r ≤ t) r rs a), sum_by-cons (back_by t) r rs, sum_by-cons (λ (x : Running). x.job.size) r rs)
+    omega (arith, one, back-each t rs (All-tail (λ r. expected_end r ≤ t) r rs a), sum_by-cons (back_by t) r rs, sum_by-cons (λ (x : Placed). x.job.size) r rs)
 
-pub back-all : (t : ℕ) (rs : List Running) → sum_by expected_end rs ≤ t → sum_by (back_by t) rs ≡ busy rs
+pub back-all : (t : ℕ) (rs : List Placed) → sum_by expected_end rs ≤ t → sum_by (back_by t) rs ≡ busy rs
 back-all t [] l = refl
 back-all t (r ∷ rs) l =
     let e = sum_by-cons expected_end r rs in
     let first : expected_end r ≤ t = omega (arith, e) in
     let one = cond-true (nat_le (expected_end r) t) r.job.size 0 (le-leb (expected_end r) t first) in
     let others = back-all t rs (omega (arith, e)) in
-    omega (arith, one, others, sum_by-cons (back_by t) r rs, sum_by-cons (λ (x : Running). x.job.size) r rs)
+    omega (arith, one, others, sum_by-cons (back_by t) r rs, sum_by-cons (λ (x : Placed). x.job.size) r rs)
 
 -- the least second at which so much is available
 pub shadow_time-IsLeast : (s : State) (need : ℕ) → busy s.running ≤ s.machine → need ≤ s.machine → IsLeast (λ t. need ≤ available s t) (shadow_time s need)
@@ -68,23 +69,23 @@ shadow_time-IsLeast s need fits within =
     }
 
 -- one ends at u, or none does
-split : (P : Running → Type 0) (u : ℕ) (rs : List Running) → All P rs → ((r : Running) × (expected_end r ≡ u) × P r) ⊎ All (λ r. expected_end r ≡ u → ⊥) rs
+split : (P : Placed → Type 0) (u : ℕ) (rs : List Placed) → All P rs → ((r : Placed) × (expected_end r ≡ u) × P r) ⊎ All (λ r. expected_end r ≡ u → ⊥) rs
 split P u [] a = inr (All-nil (λ r. expected_end r ≡ u → ⊥))
 split P u (r ∷ rs) a =
     ⊎_elim
     (λ (e : expected_end r ≡ u). inl (r, e, All-head P r rs a))
     (λ (ne : expected_end r ≡ u → ⊥).
-    ⊎_elim (λ (found : (r : Running) × (expected_end r ≡ u) × P r). inl found) (λ (others : All (λ r. expected_end r ≡ u → ⊥) rs). inr (All-cons (λ r. expected_end r ≡ u → ⊥) r rs ne others)) (split P u rs (All-tail P r rs a)))
+    ⊎_elim (λ (found : (r : Placed) × (expected_end r ≡ u) × P r). inl found) (λ (others : All (λ r. expected_end r ≡ u → ⊥) rs). inr (All-cons (λ r. expected_end r ≡ u → ⊥) r rs ne others)) (split P u rs (All-tail P r rs a)))
     (cases_eq (expected_end r) u)
 
-back-zero : (rs : List Running) → All (λ r. expected_end r ≡ 0 → ⊥) rs → sum_by (back_by 0) rs ≡ 0
+back-zero : (rs : List Placed) → All (λ r. expected_end r ≡ 0 → ⊥) rs → sum_by (back_by 0) rs ≡ 0
 back-zero [] a = refl
 back-zero (r ∷ rs) a =
     let ne : expected_end r ≡ 0 → ⊥ = All-head (λ r. expected_end r ≡ 0 → ⊥) r rs a in
     let one = cond-false (nat_le (expected_end r) 0) r.job.size 0 (lt-leb (expected_end r) 0 (omega (arith, ne))) in
     omega (arith, one, sum_by-cons (back_by 0) r rs, back-zero rs (All-tail (λ r. expected_end r ≡ 0 → ⊥) r rs a))
 
-back-suc : (v : ℕ) (rs : List Running) → All (λ r. expected_end r ≡ suc v → ⊥) rs → sum_by (back_by (suc v)) rs ≡ sum_by (back_by v) rs
+back-suc : (v : ℕ) (rs : List Placed) → All (λ r. expected_end r ≡ suc v → ⊥) rs → sum_by (back_by (suc v)) rs ≡ sum_by (back_by v) rs
 back-suc v [] a = refl
 back-suc v (r ∷ rs) a =
     let ne : expected_end r ≡ suc v → ⊥ = All-head (λ r. expected_end r ≡ suc v → ⊥) r rs a in
@@ -96,17 +97,17 @@ back-suc v (r ∷ rs) a =
     omega (arith, one, sum_by-cons (back_by (suc v)) r rs, sum_by-cons (back_by v) r rs, back-suc v rs (All-tail (λ r. expected_end r ≡ suc v → ⊥) r rs a))
 
 -- what is at most each expected end at which enough is available, is at most each such second
-pub ends-suffice : (rs : List Running) (now need best u : ℕ) → now < need → need ≤ now + sum_by (back_by u) rs
+pub ends-suffice : (rs : List Placed) (now need best u : ℕ) → now < need → need ≤ now + sum_by (back_by u) rs
     → All (λ r. need ≤ now + sum_by (back_by (expected_end r)) rs → best ≤ expected_end r) rs → best ≤ u
 ends-suffice rs now need best zero short enough all =
     ⊎_elim
-    (λ (found : (r : Running) × (expected_end r ≡ 0) × (need ≤ now + sum_by (back_by (expected_end r)) rs → best ≤ expected_end r)).
+    (λ (found : (r : Placed) × (expected_end r ≡ 0) × (need ≤ now + sum_by (back_by (expected_end r)) rs → best ≤ expected_end r)).
     subst (λ t. best ≤ t) found.1 (found.2 (subst (λ t. need ≤ now + sum_by (back_by t) rs) (sym found.1) enough)))
     (λ (none : All (λ r. expected_end r ≡ 0 → ⊥) rs). absurd (omega (arith, back-zero rs none)))
     (split (λ r. need ≤ now + sum_by (back_by (expected_end r)) rs → best ≤ expected_end r) 0 rs all)
 ends-suffice rs now need best (suc v) short enough all =
     ⊎_elim
-    (λ (found : (r : Running) × (expected_end r ≡ suc v) × (need ≤ now + sum_by (back_by (expected_end r)) rs → best ≤ expected_end r)).
+    (λ (found : (r : Placed) × (expected_end r ≡ suc v) × (need ≤ now + sum_by (back_by (expected_end r)) rs → best ≤ expected_end r)).
     subst (λ t. best ≤ t) found.1 (found.2 (subst (λ t. need ≤ now + sum_by (back_by t) rs) (sym found.1) enough)))
     (λ (none : All (λ r. expected_end r ≡ suc v → ⊥) rs).
     let below : best ≤ v = ends-suffice rs now need best v short (omega (arith, back-suc v rs none)) all in omega arith)
@@ -121,12 +122,12 @@ shadow_time-small s need h within =
     (shadow_time-IsLeast s need h.fits within).least 18446744073709551615 (omega (arith, all, h.fits))
 
 -- one more running job is seen, the one that stands at place i
-pub seen-more : (s : State) (need time time' i : ℕ) (r : Running) (rs : List Running) → i < length rs → time' ≤ time → r ≡ get_or rs i r
+pub seen-more : (s : State) (need time time' i : ℕ) (r : Placed) (rs : List Placed) → i < length rs → time' ≤ time → r ≡ get_or rs i r
     → All (λ r. need ≤ available s (expected_end r) → time ≤ expected_end r) (take i rs)
     → (need ≤ available s (expected_end r) → time' ≤ expected_end r)
     → All (λ r. need ≤ available s (expected_end r) → time' ≤ expected_end r) (take (i + 1) rs)
 seen-more s need time time' i r rs l less is all here =
-    let P : Running → Type 0 = λ r. need ≤ available s (expected_end r) → time' ≤ expected_end r in
+    let P : Placed → Type 0 = λ r. need ≤ available s (expected_end r) → time' ≤ expected_end r in
     All-more P rs i r l
     (All-weaker (λ r. need ≤ available s (expected_end r) → time ≤ expected_end r) P (λ r h e. let k = h e in omega arith) (take i rs) all)
     (subst P is here)
@@ -143,22 +144,3 @@ seen-all s need time i h wants within past low all =
 
 pub available-le : (s : State) (t : ℕ) → IsSound s → available s t ≤ s.machine
 available-le s t h = omega (arith, back-le-busy t s.running, h.fits)
-
--- more is available at a later second
-back-later : (t u : ℕ) (rs : List Running) → t ≤ u → sum_by (back_by t) rs ≤ sum_by (back_by u) rs
-back-later t u [] l = omega arith
-back-later t u (r ∷ rs) l =
-    let one : back_by t r ≤ back_by u r =
-    ⊎_elim
-    (λ (h : expected_end r < t + 1). let a = cond-true {A = ℕ} (nat_le (expected_end r) t) r.job.size 0 (le-leb (expected_end r) t (omega arith)) in let b = cond-true {A = ℕ} (nat_le (expected_end r) u) r.job.size 0 (le-leb (expected_end r) u (omega arith)) in omega (arith, a, b))
-    (λ (h : t + 1 ≤ expected_end r). let a = cond-false {A = ℕ} (nat_le (expected_end r) t) r.job.size 0 (lt-leb (expected_end r) t (omega arith)) in omega (arith, a))
-    (cases_lt (expected_end r) (t + 1)) in
-    omega (arith, one, sum_by-cons (back_by t) r rs, sum_by-cons (back_by u) r rs, back-later t u rs l)
-
-pub available-later : (s : State) (t u : ℕ) → t ≤ u → available s t ≤ available s u
-available-later s t u l = omega (arith, back-later t u s.running l)
-
--- nothing has come back at second 0
-pub available-first : (s : State) → IsSound s → available s 0 ≡ free s
-available-first s h =
-    omega (arith, back-zero s.running (λ k d l. let a = h.running_limits k d l in λ e. omega (arith, a.lasts, a.within_estimate, e)))

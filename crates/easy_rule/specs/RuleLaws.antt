@@ -2,7 +2,7 @@
 use Rattle.std.specs.Prelude.{◌≡◌, ℕ, ◌+◌, ◌^◌, ◌≤◌, ◌<◌, Bool, true, nat_eq, List, [], None, All, sum_by, count_by}
 use Rattle.scenarios.specs.Job.{EffectiveJob}
 use Rattle.scenarios.specs.declared.order.Order.{Order}
-use Rattle.cluster_state.specs.declared.running.Running.{Running}
+use Rattle.scenarios.specs.declared.placed.Placed.{Placed}
 use Rattle.cluster_state.specs.State.{State, IsSound, empty}
 use Rattle.easy_rule.specs.declared.start.Start.{Start}
 use Rattle.easy_rule.specs.Rule.{next, state_after, starts_at}
@@ -28,7 +28,7 @@ pub record Keeps (after : State → ℕ → State) (starts : State → ℕ → L
   pub order : (s : State) (now : ℕ) → (after s now).order ≡ s.order
   pub sound : (s : State) (now : ℕ) → now < 2 ^ 49 → IsSound s → IsSound (after s now)
   pub waits : (p : EffectiveJob → Bool) (s : State) (now : ℕ) → All (λ j. p j ≡ true) s.waiting → All (λ j. p j ≡ true) (after s now).waiting
-  pub runs : (p : Running → Bool) (s : State) (now : ℕ) → All (λ r. p r ≡ true) s.running → All (λ j. p (record { job = j; start = now }) ≡ true) s.waiting → All (λ r. p r ≡ true) (after s now).running
+  pub runs : (p : Placed → Bool) (s : State) (now : ℕ) → All (λ r. p r ≡ true) s.running → All (λ j. p (record { job = j; start = now }) ≡ true) s.waiting → All (λ r. p r ≡ true) (after s now).running
   pub starts_now : (s : State) (now : ℕ) → All (λ x. x.at ≡ now) (starts s now)
 
 -- A decision loses no job and makes none: whatever is added up over the jobs stays the same, and each that leaves the

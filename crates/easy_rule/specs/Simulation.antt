@@ -2,7 +2,8 @@
 use Rattle.std.specs.Prelude.{◌≡◌, ◌≢◌, ℕ, zero, suc, ◌+◌, ◌⊎◌, not, nat_eq, List, [], ◌∷◌, ◌++◌, Option, filter, find, sum_by, max, Any}
 use Rattle.std.specs.Option.{option_map}
 use Rattle.scenarios.specs.Job.{EffectiveJob}
-use Rattle.cluster_state.specs.State.{State, empty, real_end}
+use Rattle.scenarios.specs.Placed.{real_end}
+use Rattle.cluster_state.specs.State.{State, empty}
 use Rattle.easy_rule.specs.declared.start.Start.{Start}
 use Rattle.easy_rule.specs.Rule.{state_after, starts_at}
 use Rattle.scenarios.specs.Plan.{Plan}

@@ -22,7 +22,7 @@ fn walk<A: Allocator + Copy>(cluster: &Cluster<A>, need: u64) -> (Shadow, u64)
     let mut time = 0;
     let mut reads = 0;
     for r in cluster.running_by_end() {
-        let end = r.start + r.job.estimate();
+        let end = r.expected_end();
         reads += 1;
         if need <= room && time < end {
             let extra = room - need;

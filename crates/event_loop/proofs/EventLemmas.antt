@@ -4,14 +4,15 @@ use Rattle.std.proofs.lemmas.List.{take_all}
 use Rattle.std.proofs.lemmas.List.Elements.{All-head, All-tail, All-nil, All-cons, All-weaker}
 use Rattle.std.proofs.lemmas.Bool.{cases_lt}
 use Rattle.scenarios.specs.Job.{EffectiveJob}
-use Rattle.scenarios.specs.Plan.{Plan}
-use Rattle.cluster_state.specs.declared.running.Running.{Running}
-use Rattle.cluster_state.specs.State.{State, IsSound, real_end, ended_until}
+use Rattle.scenarios.specs.Plan.{Plan, from_on}
+use Rattle.scenarios.specs.declared.placed.Placed.{Placed}
+use Rattle.scenarios.specs.Placed.{real_end}
+use Rattle.cluster_state.specs.State.{State, IsSound, ended_until}
 use Rattle.easy_rule.specs.declared.shadow_time.Shadow.{Shadow}
 use Rattle.easy_rule.specs.Rule.{next, shadow_of}
 use Rattle.easy_rule.specs.Pass.{front}
 use Rattle.easy_rule.specs.Simulation.{before, ready, submitted, IsEvent, bound, last_submit, joined}
-use Rattle.timeline.specs.SoundPlan.{IsPlan}
+use Rattle.scenarios.specs.SoundPlan.{IsPlan}
 use Rattle.timeline.specs.Laws.{IsQuiet}
 use Rattle.timeline.proofs.Facts.{run-before, sound-arrivals}
 use Rattle.timeline.proofs.Quiet.{quiet-seconds-change-nothing}
@@ -19,10 +20,10 @@ use Rattle.timeline.proofs.Bound.{all-have-ended, all-end-by-the-bound}
 use Rattle.timeline.proofs.Short.{short-plan}
 use Rattle.timeline.proofs.Rest.{submitted-none}
 use Rattle.timeline.proofs.Quiet.{only-ends-unsettle}
-use Rattle.event_loop.specs.Coming.{NonFalling, NextJobs, IsComing, from_on, first_submit}
+use Rattle.event_loop.specs.Coming.{NonFalling, NextJobs, IsComing, first_submit}
 use Rattle.event_loop.specs.Events.{IsNextEvent, earlier, IsEngine, Progress}
-use Rattle.event_loop.proofs.Plans.{non-falling}
-use Rattle.event_loop.proofs.ToCome.{at_second, at-in, at-from, at-none, from-in, from-out, from-All, from-falling, from-later, from-same}
+use Rattle.event_loop.proofs.ToCome.{non-falling, at_second, at-in, at-from, at-none, from-All, from-falling, from-later, from-same}
+use Rattle.scenarios.proofs.Walks.{from-in, from-out}
 use Rattle.event_loop.proofs.Rows.{coming-on}
 
 -- ---- the next submit second
@@ -128,7 +129,7 @@ quiet-front plan a b (suc n) ends submits q v p r event =
     (λ (ends' : Any (λ r. real_end r ≡ v) (before plan v).running).
     let e = subst (λ (s : State). Any (λ r. real_end r ≡ v) s.running) same ends' in
     let k = ends e.0 e.1 e.2 in
-    let at = ap (λ (r : Running). real_end r) e.3 in
+    let at = ap (λ (r : Placed). real_end r) e.3 in
     let h = e.4 in
     omega (arith, k, at, h))
     event)
@@ -163,7 +164,7 @@ after-end : (plan : Plan) (a : ℕ) (s : State) (t : ℕ) → IsPlan plan → s 
 after-end plan a s t p is (k, x, l, at, here) =
     let all : All (λ r. a ≤ real_end r) s.running = subst (λ (z : State). All (λ r. a ≤ real_end r) z.running) (sym is) (lasting-before plan a p) in
     let h = all k x l in
-    let e = ap (λ (r : Running). real_end r) at in
+    let e = ap (λ (r : Placed). real_end r) at in
     omega (arith, h, e, here)
 
 pub next-earlier : (plan : Plan) (a : ℕ) (s : State) (o e : Option ℕ) → IsPlan plan → s ≡ before plan a → IsNextSubmit plan a o
@@ -195,7 +196,7 @@ event-by-bound plan t p (inl ne) =
     (λ (l : t ≤ last_submit plan.jobs). omega arith)
     (cases_lt (last_submit plan.jobs) t)
 event-by-bound plan t p (inr (k, x, l, at, here)) =
-    let e = ap (λ (r : Running). real_end r) at in
+    let e = ap (λ (r : Placed). real_end r) at in
     let a = all-end-by-the-bound plan t p k x l in
     omega (arith, a, e, here)
 
@@ -227,7 +228,7 @@ stands-at plan s ready' t is at later =
     let none : Any (λ r. real_end r ≡ t) (before plan t).running → ⊥ = λ (k, x, l, same, here).
     let all : All (λ r. t < real_end r) (before plan t).running = subst (λ (z : State). All (λ r. t < real_end r) z.running) is later in
     let h = all k x l in
-    let e = ap (λ (r : Running). real_end r) same in
+    let e = ap (λ (r : Placed). real_end r) same in
     omega (arith, h, e, here) in
     let law = only-ends-unsettle plan t none in (
       ap (λ (z : State). next (front z (length s.waiting)) t) at ∙ ap (λ (z : State). next (front (ready plan (before plan t) t) (length z.waiting)) t) is ∙ law.0,

@@ -2,17 +2,18 @@
 use Rattle.std.proofs.Common.{◌≡◌, ℕ, zero, suc, not, nat_eq, List, [], ◌∷◌, length, Some, All, refl, sym, subst, inl, inr, ⊎_elim}
 use Rattle.std.proofs.lemmas.List.Elements.{All-head, All-tail, All-nil, All-cons, All-append, All-filter}
 use Rattle.scenarios.specs.Job.{EffectiveJob}
-use Rattle.scenarios.specs.Plan.{Plan}
-use Rattle.cluster_state.specs.declared.running.Running.{Running}
-use Rattle.cluster_state.specs.State.{State, real_end, started}
-use Rattle.cluster_state.specs.Snapshot.{Numbers, numbers_of, job_numbered, restored, Fits, IsOfPlan}
+use Rattle.scenarios.specs.Plan.{Plan, job_numbered}
+use Rattle.scenarios.specs.declared.placed.Placed.{Placed}
+use Rattle.scenarios.specs.Placed.{real_end}
+use Rattle.cluster_state.specs.State.{State, started}
+use Rattle.cluster_state.specs.Snapshot.{Numbers, numbers_of, restored, Fits, IsOfPlan}
 use Rattle.cluster_state.proofs.StateLemmas.{All-placed, All-without}
 use Rattle.cluster_state.proofs.SnapshotLemmas.{numbers-give-the-state-back}
 use Rattle.easy_rule.specs.Rule.{next}
 use Rattle.easy_rule.specs.Simulation.{before, ready, submitted}
 use Rattle.easy_rule.proofs.NextLemmas.{Member, find-member, next-facts}
 use Rattle.easy_rule.proofs.Decisions.{decided-keeps}
-use Rattle.timeline.specs.SoundPlan.{IsPlan}
+use Rattle.scenarios.specs.SoundPlan.{IsPlan}
 use Rattle.timeline.proofs.Sound.{each-state-is-sound}
 
 member-holds : (P : EffectiveJob → Type 0) (js : List EffectiveJob) (job : EffectiveJob) → Member js job → All P js → P job
@@ -45,7 +46,7 @@ of-plan-ready plan s t p h = record {
   machine = h.machine;
   order = h.order;
   waiting = All-append (Own plan) s.waiting (submitted plan t) h.waiting (All-filter (λ (j : EffectiveJob). nat_eq j.submit t) (Own plan) plan.jobs (own-jobs plan p));
-  running = All-filter (λ (r : Running). not (nat_eq (real_end r) t)) (λ r. job_numbered plan.jobs r.job.number ≡ Some r.job) s.running h.running;
+  running = All-filter (λ (r : Placed). not (nat_eq (real_end r) t)) (λ r. job_numbered plan.jobs r.job.number ≡ Some r.job) s.running h.running;
 }
 
 pub before-of-plan : (plan : Plan) (t : ℕ) → IsPlan plan → IsOfPlan (before plan t) plan

@@ -1,4 +1,3 @@
-pub mod Plans
 pub mod ToCome
 pub mod Rows
 pub mod EventLemmas

@@ -3,8 +3,10 @@ use Rattle.std.proofs.Common.{◌≡◌, ◌≢◌, ℕ, ◌+◌, ◌≤◌, ◌
 use Rattle.std.proofs.lemmas.List.Elements.{All-nil, All-cons, All-head, All-tail, All-weaker, All-append, All-filter, filter-append}
 use Rattle.std.proofs.lemmas.Bool.{cases_lt}
 use Rattle.scenarios.specs.Job.{EffectiveJob}
-use Rattle.event_loop.specs.Coming.{NonFalling, NextJobs, IsComing, from_on, from_any, first_submit, next_of}
-use Rattle.event_loop.proofs.ToCome.{at_second, at-from, at-none, from-out, from-All, from-falling, from-later, from-same}
+use Rattle.scenarios.specs.Plan.{from_on}
+use Rattle.event_loop.specs.Coming.{NonFalling, NextJobs, IsComing, from_any, first_submit, next_of}
+use Rattle.scenarios.proofs.Walks.{from-out}
+use Rattle.event_loop.proofs.ToCome.{at_second, at-from, at-none, from-All, from-falling, from-later, from-same}
 
 abbrev coming_of : List EffectiveJob → Option ℕ → NextJobs
 coming_of row later = record { row = row; later = later }

@@ -4,12 +4,13 @@ use Rattle.std.proofs.lemmas.List.{get_or_default}
 use Rattle.std.proofs.lemmas.List.Sums.{sum_by-cons}
 use Rattle.std.proofs.lemmas.Bool.{cases_lt, cond-true, cond-false, lt-ltb, le-ltb, eq-eqb, eqb-true}
 use Rattle.scenarios.specs.Plan.{Plan}
-use Rattle.cluster_state.specs.declared.running.Running.{Running}
-use Rattle.cluster_state.specs.State.{State, real_end}
+use Rattle.scenarios.specs.declared.placed.Placed.{Placed}
+use Rattle.scenarios.specs.Placed.{real_end}
+use Rattle.cluster_state.specs.State.{State}
 use Rattle.easy_rule.specs.declared.shadow_time.Shadow.{Shadow}
 use Rattle.easy_rule.specs.declared.start.Start.{Start}
 use Rattle.easy_rule.specs.Simulation.{IsEvent, before, starts_before, starts_in, submitted, bound, sim}
-use Rattle.timeline.specs.SoundPlan.{IsPlan}
+use Rattle.scenarios.specs.SoundPlan.{IsPlan}
 use Rattle.timeline.specs.Laws.{IsQuiet}
 use Rattle.event_loop.specs.Coming.{NextJobs}
 use Rattle.event_loop.specs.Events.{IsNextEvent, IsEngine, Progress, has_event, events_before}
@@ -53,13 +54,13 @@ length-some (x ∷ xs) l e = cc
 pub has-event : (plan : Plan) (t : ℕ) → IsEvent plan t → has_event plan t ≡ true
 has-event plan t (inl ne) = lt-ltb 0 (length (submitted plan t) + count_by (λ r. nat_eq (real_end r) t) (before plan t).running) (let l = some-length (submitted plan t) ne in omega (arith, l))
 has-event plan t (inr (k, x, l, at, here)) =
-    let p : Running → Bool = λ r. nat_eq (real_end r) t in
-    let yes' : p (get_or (before plan t).running k x) ≡ true = eq-eqb (real_end (get_or (before plan t).running k x)) t (ap (λ (r : Running). real_end r) at ∙ here) in
+    let p : Placed → Bool = λ r. nat_eq (real_end r) t in
+    let yes' : p (get_or (before plan t).running k x) ≡ true = eq-eqb (real_end (get_or (before plan t).running k x)) t (ap (λ (r : Placed). real_end r) at ∙ here) in
     lt-ltb 0 (length (submitted plan t) + count_by p (before plan t).running) (let c = counted-some p (before plan t).running k x l yes' in omega (arith, c))
 
 pub no-event : (plan : Plan) (t : ℕ) → (IsEvent plan t → ⊥) → has_event plan t ≡ false
 no-event plan t no' =
-    let p : Running → Bool = λ r. nat_eq (real_end r) t in
+    let p : Placed → Bool = λ r. nat_eq (real_end r) t in
     let rs = (before plan t).running in
     ⊎_elim
     (λ (l : 1 ≤ length (submitted plan t)). absurd (no' (inl (length-some (submitted plan t) l))))
@@ -193,14 +194,9 @@ engine-on old now plan s coming known a h b f view e same quiet le =
     }
 
 -- no event second is left
-pub none-left : (old now : Progress) (plan : Plan) (s : State) (coming : NextJobs) (known : Option Shadow) (a h : ℕ) (f : Bool) → seen plan a h f ≡ old → IsEngine plan s coming known a h f → now.plan ≡ old.plan → IsQuiet old.plan now.position 18446744073709551615
-    → IsPlan old.plan × IsNextEvent now.plan now.position None
-none-left old now plan s coming known a h f view e same quiet =
-    let p : IsPlan old.plan = subst IsPlan (ap (λ (p : Progress). p.plan) view) e.is_plan in (
-      p,
-      λ u l v.
-          let v' : IsEvent old.plan u = subst (λ (p : Plan). IsEvent p u) same v in
-          let k = event-by-bound old.plan u p v' in
-          let b = short-plan old.plan p in
-          quiet u l (omega (arith, k, b)) v',
-    )
+pub none-left : (old now : Progress) → IsPlan old.plan → now.plan ≡ old.plan → IsQuiet old.plan now.position 18446744073709551615 → IsNextEvent now.plan now.position None
+none-left old now p same quiet = λ u l v.
+    let v' : IsEvent old.plan u = subst (λ (p : Plan). IsEvent p u) same v in
+    let k = event-by-bound old.plan u p v' in
+    let b = short-plan old.plan p in
+    quiet u l (omega (arith, k, b)) v'

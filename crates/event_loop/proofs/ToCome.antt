@@ -1,30 +1,20 @@
 -- Which jobs are still to come.
-use Rattle.std.proofs.Common.{◌≡◌, ◌≢◌, ℕ, ◌+◌, ◌≤◌, ◌<◌, true, false, cond, nat_eq, nat_le, List, [], ◌∷◌, ◌++◌, append-nil, Option, Some, None, Ok, All, filter, refl, sym, ◌∙◌, ap, arith, subst, ⊎_elim}
-use Rattle.std.specs.List.{cons_option}
-use Rattle.std.specs.Result.{result_ok}
-use Rattle.scenarios.specs.Effective.{effective}
+use Rattle.std.proofs.Common.{◌≡◌, ◌≢◌, ℕ, ◌+◌, ◌≤◌, ◌<◌, true, false, cond, nat_eq, nat_le, List, [], ◌∷◌, ◌++◌, append-nil, Option, Some, All, filter, refl, sym, ◌∙◌, ap, arith, subst, inl, inr, ⊎_elim}
 use Rattle.std.proofs.lemmas.List.Sums.{sum_by-cons, sum_by-append}
 use Rattle.std.proofs.lemmas.List.Elements.{All-nil, All-cons, All-head, All-tail, All-weaker, All-filter}
-use Rattle.std.proofs.lemmas.Bool.{cases_Bool, cases_lt, cond-true, cond-false, le-leb, lt-leb, leb-true, leb-false, eq-eqb, ne_eqb}
-use Rattle.swf_text.specs.Entry.{LogEntry, submit_of}
-use Rattle.job_table.specs.Table.{entries_from}
+use Rattle.std.proofs.lemmas.Bool.{cases_lt, cond-true, cond-false, eq-eqb, ne_eqb}
 use Rattle.scenarios.specs.Job.{EffectiveJob}
-use Rattle.scenarios.specs.Scenario.{Setting}
-use Rattle.scenarios.specs.Plan.{jobs_of}
+use Rattle.scenarios.specs.Plan.{from_on}
 use Rattle.cluster_state.specs.State.{State, IsSound, holders}
 use Rattle.easy_rule.specs.Simulation.{joined}
-use Rattle.cluster_state.proofs.EffectiveLemmas.{kept, takes}
-use Rattle.event_loop.specs.Coming.{NonFalling, from_on, first_submit}
+use Rattle.scenarios.specs.SoundPlan as sound
+use Rattle.scenarios.proofs.Plans.{Lex, Lex-true}
+use Rattle.scenarios.proofs.Walks.{from-in, from-out}
+use Rattle.event_loop.specs.Coming.{NonFalling, first_submit}
 
 -- those of second t
 abbrev pub at_second : ℕ → List EffectiveJob → List EffectiveJob
 at_second t js = filter (λ (j : EffectiveJob). nat_eq j.submit t) js
-
-pub from-in : (t : ℕ) (j : EffectiveJob) (js : List EffectiveJob) → t ≤ j.submit → from_on t (j ∷ js) ≡ j ∷ from_on t js
-from-in t j js l = cond-true (nat_le t j.submit) (j ∷ from_on t js) (from_on t js) (le-leb t j.submit l)
-
-pub from-out : (t : ℕ) (j : EffectiveJob) (js : List EffectiveJob) → j.submit < t → from_on t (j ∷ js) ≡ from_on t js
-from-out t j js l = cond-false (nat_le t j.submit) (j ∷ from_on t js) (from_on t js) (lt-leb t j.submit l)
 
 pub at-in : (t : ℕ) (j : EffectiveJob) (js : List EffectiveJob) → j.submit ≡ t → at_second t (j ∷ js) ≡ j ∷ at_second t js
 at-in t j js e = cond-true (nat_eq j.submit t) (j ∷ at_second t js) (at_second t js) (eq-eqb j.submit t e)
@@ -32,27 +22,17 @@ at-in t j js e = cond-true (nat_eq j.submit t) (j ∷ at_second t js) (at_second
 pub at-out : (t : ℕ) (j : EffectiveJob) (js : List EffectiveJob) → (j.submit ≡ t → ⊥) → at_second t (j ∷ js) ≡ at_second t js
 at-out t j js e = cond-false (nat_eq j.submit t) (j ∷ at_second t js) (at_second t js) (ne_eqb j.submit t e)
 
--- the jobs of the entries from a second on
-pub jobs-from : (s : Setting) (t : ℕ) (es : List LogEntry) → jobs_of (entries_from t es) s ≡ from_on t (jobs_of es s)
-jobs-from s t [] = refl
-jobs-from s t (e ∷ es) =
-    let i = jobs-from s t es in
-    ⊎_elim
-    (λ (y : nat_le t (submit_of e) ≡ true).
-    ap (λ xs. jobs_of xs s) (cond-true (nat_le t (submit_of e)) (e ∷ entries_from t es) (entries_from t es) y)
-    ∙ stays (kept s e) refl y i)
-    (λ (n : nat_le t (submit_of e) ≡ false).
-    ap (λ xs. jobs_of xs s) (cond-false (nat_le t (submit_of e)) (e ∷ entries_from t es) (entries_from t es) n)
-    ∙ goes (kept s e) refl n i)
-    (cases_Bool (nat_le t (submit_of e)))
+pub non-falling : (js : List EffectiveJob) → sound.IsRising js → NonFalling js
+non-falling [] r = tt
+non-falling (j ∷ []) r = (All-nil (λ (k : EffectiveJob). j.submit ≤ k.submit), tt)
+non-falling (j ∷ k ∷ js) r =
+    let i = non-falling (k ∷ js) r.1 in
+    let l : j.submit ≤ k.submit = low (Lex-true j.submit j.number k.submit k.number r.0) in
+    (All-cons (λ (x : EffectiveJob). j.submit ≤ x.submit) k js l (All-weaker (λ (x : EffectiveJob). k.submit ≤ x.submit) (λ (x : EffectiveJob). j.submit ≤ x.submit) (λ x m. omega arith) js i.0), i)
   where
-    stays : (o : Option EffectiveJob) → kept s e ≡ o → nat_le t (submit_of e) ≡ true → jobs_of (entries_from t es) s ≡ from_on t (jobs_of es s) → cons_option o (jobs_of (entries_from t es) s) ≡ from_on t (cons_option o (jobs_of es s))
-    stays None h y i = i
-    stays (Some job) h y i = ap (λ js. job ∷ js) i ∙ sym (from-in t job (jobs_of es s) (leb-true t job.submit (ap (nat_le t) (takes e s job h).submit ∙ y)))
-
-    goes : (o : Option EffectiveJob) → kept s e ≡ o → nat_le t (submit_of e) ≡ false → jobs_of (entries_from t es) s ≡ from_on t (jobs_of es s) → jobs_of (entries_from t es) s ≡ from_on t (cons_option o (jobs_of es s))
-    goes None h n i = i
-    goes (Some job) h n i = i ∙ sym (from-out t job (jobs_of es s) (leb-false t job.submit (ap (nat_le t) (takes e s job h).submit ∙ n)))
+    low : Lex j.submit j.number k.submit k.number → j.submit ≤ k.submit
+    low (inl m) = omega arith
+    low (inr m) = let n = m.0 in omega (arith, n)
 
 pub from-All : (t : ℕ) (js : List EffectiveJob) → All (λ (j : EffectiveJob). t ≤ j.submit) (from_on t js)
 from-All t [] = All-nil (λ (j : EffectiveJob). t ≤ j.submit)
@@ -166,8 +146,3 @@ arriving-done s z t jobs (j ∷ js) h other =
   where
     some-same : (a b : ℕ) → a ≡ b → ◌≡◌ {A = Option ℕ} (Some a) (Some b)
     some-same a b e = ap Some e
-
--- ---- the entries that are left
-
-pub left-some : (s : Setting) (es rest : List LogEntry) (e : LogEntry) (job : EffectiveJob) → es ≡ e ∷ rest → Ok job ≡ effective e s → jobs_of es s ≡ job ∷ jobs_of rest s
-left-some s es rest e job at is = ap (λ xs. jobs_of xs s) at ∙ ap (λ r. cons_option (result_ok r) (jobs_of rest s)) (sym is)

@@ -1,11 +1,12 @@
 -- The event seconds of a plan, and what an engine holds.
 use Rattle.std.specs.Prelude.{◌≡◌, false, ℕ, zero, suc, ◌+◌, ◌≤◌, min, nat_eq, nat_lt, Bool, if◌then◌else◌, length, count_by, Option, Some, None, IfSome}
 use Rattle.scenarios.specs.Plan.{Plan}
-use Rattle.cluster_state.specs.State.{State, real_end}
+use Rattle.scenarios.specs.Placed.{real_end}
+use Rattle.cluster_state.specs.State.{State}
 use Rattle.easy_rule.specs.declared.shadow_time.Shadow.{Shadow}
 use Rattle.easy_rule.specs.Rule.{shadow_of}
 use Rattle.easy_rule.specs.Simulation.{IsEvent, before, submitted}
-use Rattle.timeline.specs.SoundPlan.{IsPlan}
+use Rattle.scenarios.specs.SoundPlan.{IsPlan}
 use Rattle.timeline.specs.Laws.{IsQuiet}
 use Rattle.event_loop.specs.Coming.{NextJobs, IsComing}
 

@@ -1,41 +1,27 @@
 ghost use Rattle.std.specs.Prelude.{◌≡◌, ◌≢◌, ◌+◌, ◌≤◌, ◌<◌, ◌↔◌, [], Some, IfOk, OnOk, IfSome, IfNone, IsTrue, All, filter, nat_eq, slice_get};
-ghost use Rattle.scenarios.specs.Plan.{plan_of};
+ghost use Rattle.scenarios.specs.Plan.{from_on};
+ghost use Rattle.scenarios.specs.PlanView.{plan_in};
 ghost use Rattle.cluster_state.specs.State.{IsSound};
 ghost use Rattle.easy_rule.specs.Simulation.{joined};
-ghost use Rattle.timeline.specs.SoundPlan.{IsPlan};
-ghost use Rattle.event_loop.specs.Coming.{IsComing, NonFalling, first_submit, from_on};
+ghost use Rattle.scenarios.specs.SoundPlan.{IsPlan};
+ghost use Rattle.event_loop.specs.Coming.{IsComing, NonFalling, first_submit};
 
 use cluster_state::Cluster;
-use job_table::JobTable;
-use scenarios::{Job, Scenario, effective};
+use scenarios::{Job, PlanRef};
 use std::alloc::Allocator;
 use std::collections::VecDeque;
 use swf_text::Memory;
 
-/// The largest machine, in processors.
-const MAX_PROCS: u64 = 16_777_216;
-
 /// A row that is filled has at least so many jobs, where so many are to come.
 const FULL_ROW: usize = 64;
 
-// The submit second of the next job that is simulated, from a second on.
-pub(crate) fn next_submit<A: Allocator + Copy>(
-    table: &JobTable<A>,
-    scenario: &Scenario,
-    second: u64,
-) -> Option<u64>
-    ensures plan { IsPlan (plan_of table.now scenario.now) }
-    ensures next { result ≡ first_submit (from_on second (plan_of table.now scenario.now).jobs) }
+// The submit second of the next job, from a second on.
+pub(crate) fn next_submit<A: Allocator + Copy>(plan: &PlanRef<'_, A>, second: u64) -> Option<u64>
+    ensures plan { IsPlan (plan_in plan.now) }
+    ensures next { result ≡ first_submit (from_on second (plan_in plan.now).jobs) }
 {
-    prove!(scenario.procs() <= MAX_PROCS);
-    let mut coming = table.from_second(second);
-    'entries: while let Some(entry) = coming.next() {
-        let Ok(job) = effective(entry, scenario) else {
-            continue;
-        };
-        return Some(job.submit());
-    }
-    None
+    let job = plan.from_second(second).next()?;
+    Some(job.submit())
 }
 
 // Whether a row of so many jobs, of which the last is of second `last`, may end before a job of second
@@ -46,25 +32,20 @@ fn may_end(len: usize, last: u64, next: u64) -> bool
     FULL_ROW <= len && last < next
 }
 
-// Fills a row with the next jobs that are simulated, from a second on: those of whole seconds, until
-// there are enough of them. Answers the submit second of the first job behind them.
+// Fills a row with the next jobs, from a second on: those of whole seconds, until there are enough of
+// them. Answers the submit second of the first job behind them.
 pub(crate) fn fill<A: Allocator + Copy>(
     row: &mut VecDeque<Job, A>,
-    table: &JobTable<A>,
-    scenario: &Scenario,
+    plan: &PlanRef<'_, A>,
     second: u64,
 ) -> Result<Option<u64>, Memory>
-    requires plan { IsPlan (plan_of table.now scenario.now) }
-    requires empty { row.old.items ≡ [] }
-    ensures coming { IfOk result (λ o. IsComing (record { row = row.new.items; later = o }) second (plan_of table.now scenario.now).jobs) }
+    requires { row.old.items ≡ [] }
+    ensures coming { IfOk result (λ o. IsComing (record { row = row.new.items; later = o }) second (plan_in plan.now).jobs) }
     ensures later { IfOk result (λ o. IfSome o (λ t. second < t)) }
 {
     let mut last = second;
-    let mut coming = table.from_second(second);
-    'entries: while let Some(entry) = coming.next() {
-        let Ok(job) = effective(entry, scenario) else {
-            continue;
-        };
+    let mut coming = plan.from_second(second);
+    'jobs: while let Some(job) = coming.next() {
         let submit = job.submit();
         if may_end(row.len(), last, submit) {
             return Ok(Some(submit));

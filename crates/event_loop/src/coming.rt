@@ -1,14 +1,13 @@
 ghost use Rattle.std.specs.Prelude.{◌≡◌, ◌<◌, ◌+◌, ◌↔◌, Some, OnOk, IfSome, IsTrue};
-ghost use Rattle.scenarios.specs.Plan.{plan_of};
+ghost use Rattle.scenarios.specs.PlanView.{plan_in};
 ghost use Rattle.cluster_state.specs.State.{IsSound};
 ghost use Rattle.easy_rule.specs.Simulation.{joined, submitted};
-ghost use Rattle.timeline.specs.SoundPlan.{IsPlan};
+ghost use Rattle.scenarios.specs.SoundPlan.{IsPlan};
 ghost use Rattle.event_loop.specs.Coming.{first_submit};
 
 use crate::arrivals::{arrive_all, fill, next_submit};
 use cluster_state::Cluster;
-use job_table::JobTable;
-use scenarios::{Job, Scenario};
+use scenarios::{Job, PlanRef};
 use std::alloc::Allocator;
 use std::collections::VecDeque;
 use std::marker::Model;
@@ -33,13 +32,13 @@ impl<A: Allocator + Copy> Coming<A> {
     ghost use Rattle.event_loop.specs.Coming.{IsComing, next_of};
 
     // The jobs from a second on, with none of them in the row.
-    pub(crate) fn at(alloc: A, table: &JobTable<A>, scenario: &Scenario, second: u64) -> Coming<A>
-        ensures plan { IsPlan (plan_of table.now scenario.now) }
-        ensures coming { IsComing result second (plan_of table.now scenario.now).jobs }
+    pub(crate) fn at(alloc: A, plan: &PlanRef<'_, A>, second: u64) -> Coming<A>
+        ensures plan { IsPlan (plan_in plan.now) }
+        ensures coming { IsComing result second (plan_in plan.now).jobs }
     {
         Coming {
             row: VecDeque::new(alloc),
-            later: next_submit(table, scenario, second),
+            later: next_submit(plan, second),
         }
     }
 
@@ -54,36 +53,29 @@ impl<A: Allocator + Copy> Coming<A> {
     pub(crate) fn arrive(
         &mut self,
         cluster: &mut Cluster<A>,
-        table: &JobTable<A>,
-        scenario: &Scenario,
+        plan: &PlanRef<'_, A>,
         second: u64,
     ) -> Result<(), Memory>
-        requires plan { IsPlan (plan_of table.now scenario.now) }
-        requires coming { IsComing self.old second (plan_of table.now scenario.now).jobs }
-        requires sound { IsSound (joined cluster.old.state (submitted (plan_of table.now scenario.now) second)) }
-        ensures state { OnOk result (cluster.new.state ≡ joined cluster.old.state (submitted (plan_of table.now scenario.now) second)) }
-        ensures coming { OnOk result (IsComing self.new (second + 1) (plan_of table.now scenario.now).jobs) }
+        requires plan { IsPlan (plan_in plan.now) }
+        requires coming { IsComing self.old second (plan_in plan.now).jobs }
+        requires sound { IsSound (joined cluster.old.state (submitted (plan_in plan.now) second)) }
+        ensures state { OnOk result (cluster.new.state ≡ joined cluster.old.state (submitted (plan_in plan.now) second)) }
+        ensures coming { OnOk result (IsComing self.new (second + 1) (plan_in plan.now).jobs) }
     {
-        self.take_up(table, scenario, second)?;
+        self.take_up(plan, second)?;
         arrive_all(cluster, &mut self.row, second)?;
         Ok(())
     }
 
     // Takes jobs up, so that those of a second stand in the row and those behind it come later. Memory
     // where a growth was refused.
-    fn take_up(
-        &mut self,
-        table: &JobTable<A>,
-        scenario: &Scenario,
-        second: u64,
-    ) -> Result<(), Memory>
-        requires plan { IsPlan (plan_of table.now scenario.now) }
-        requires coming { IsComing self.old second (plan_of table.now scenario.now).jobs }
-        ensures coming { OnOk result (IsComing self.new second (plan_of table.now scenario.now).jobs) }
+    fn take_up(&mut self, plan: &PlanRef<'_, A>, second: u64) -> Result<(), Memory>
+        requires { IsComing self.old second (plan_in plan.now).jobs }
+        ensures coming { OnOk result (IsComing self.new second (plan_in plan.now).jobs) }
         ensures later { OnOk result (IfSome self.new.later (λ t. second < t)) }
     {
         if is_at(self.later, second) {
-            self.later = fill(&mut self.row, table, scenario, second)?;
+            self.later = fill(&mut self.row, plan, second)?;
         }
         Ok(())
     }

@@ -5,10 +5,10 @@ use crate::coming::Coming;
 use crate::fault::EngineFault;
 use crate::known::{decide_knowing, standing_at};
 use crate::stepped::Stepped;
-use cluster_state::{Cluster, Running, Snapshot};
+use cluster_state::{Cluster, Snapshot};
 use easy_rule::{Shadow, Start};
 use job_table::JobTable;
-use scenarios::Scenario;
+use scenarios::{Placed, Plan, Scenario};
 use std::alloc::Allocator;
 use std::marker::Model;
 use std::sync::Arc;
@@ -21,8 +21,7 @@ use swf_text::Memory;
 #[derive(Drop)]
 pub struct Engine<A: Allocator + Copy> {
     alloc: A,
-    table: Arc<JobTable<A>, A>,
-    scenario: Scenario,
+    plan: Plan<A>,
     cluster: Cluster<A>,
     coming: Coming<A>,
     known: Option<Shadow>,
@@ -32,15 +31,14 @@ pub struct Engine<A: Allocator + Copy> {
 }
 
 impl<A: Allocator + Copy> Model for Engine<A> {
-    ghost use Rattle.std.specs.Arc.{arc_value};
-    ghost use Rattle.scenarios.specs.Plan.{plan_of};
+    ghost use Rattle.scenarios.specs.PlanView.{plan_in};
     ghost use Rattle.event_loop.specs.Events.{Progress, IsEngine};
 
     ghost Value = { Progress };
 
-    ghost view = { λ e. record { plan = plan_of (arc_value e.table) e.scenario; position = e.position; handled = e.handled; failed = e.failed } };
+    ghost view = { λ e. record { plan = plan_in e.plan; position = e.position; handled = e.handled; failed = e.failed } };
 
-    ghost invariant = { λ e. IsEngine (plan_of (arc_value e.table) e.scenario) e.cluster.state e.coming e.known e.position e.handled e.failed };
+    ghost invariant = { λ e. IsEngine (plan_in e.plan) e.cluster.state e.coming e.known e.position e.handled e.failed };
 }
 
 impl<A: Allocator + Copy> Engine<A> {
@@ -48,7 +46,7 @@ impl<A: Allocator + Copy> Engine<A> {
     ghost use Rattle.scenarios.specs.Plan.{plan_of};
     ghost use Rattle.cluster_state.specs.Snapshot.{numbers_of};
     ghost use Rattle.easy_rule.specs.Simulation.{before, starts_before, starts_in, sim};
-    ghost use Rattle.timeline.specs.SoundPlan.{IsPlan};
+    ghost use Rattle.scenarios.specs.SoundPlan.{IsPlan};
     ghost use Rattle.timeline.specs.Laws.{IsQuiet};
     ghost use Rattle.event_loop.specs.Events.{Progress, IsNextEvent, begun};
     ghost use Rattle.event_loop.specs.Going.{IsStepFault, IsRunFault, IsRunOn, IsLast};
@@ -57,11 +55,11 @@ impl<A: Allocator + Copy> Engine<A> {
     pub fn new(alloc: A, table: Arc<JobTable<A>, A>, scenario: Scenario) -> Engine<A>
         ensures { result ≡ begun (plan_of (arc_value table) scenario) 0 }
     {
-        let coming = Coming::at(alloc, &table, &scenario, 0);
+        let plan = Plan::new(table, scenario);
+        let coming = Coming::at(alloc, &plan.view(), 0);
         Engine {
             alloc,
-            table,
-            scenario,
+            plan,
             cluster: Cluster::for_scenario(alloc, &scenario),
             coming,
             known: None,
@@ -83,12 +81,12 @@ impl<A: Allocator + Copy> Engine<A> {
         requires { snapshot.now ≡ numbers_of (before (plan_of (arc_value table) scenario) second) }
         ensures { IfOk result (λ e. e ≡ begun (plan_of (arc_value table) scenario) second) }
     {
-        let coming = Coming::at(alloc, &table, &scenario, second);
-        let cluster = Cluster::restore(alloc, snapshot, &table, &scenario)?;
+        let plan = Plan::new(table, scenario);
+        let coming = Coming::at(alloc, &plan.view(), second);
+        let cluster = Cluster::restore(alloc, snapshot, plan.table(), &scenario)?;
         Ok(Engine {
             alloc,
-            table,
-            scenario,
+            plan,
             cluster,
             coming,
             known: None,
@@ -142,7 +140,7 @@ impl<A: Allocator + Copy> Engine<A> {
 
     /// The running jobs with their starts before the position, rising by number; none in an engine
     /// that has failed.
-    pub fn running(&self) -> &[Running]
+    pub fn running(&self) -> &[Placed]
         ensures jobs { self.now.failed ≡ false → result.now ≡ (before self.now.plan self.now.position).running }
         ensures failed { self.now.failed ≡ true → result.now ≡ [] }
         ensures sound { IsPlan self.now.plan }
@@ -200,7 +198,6 @@ impl<A: Allocator + Copy> Engine<A> {
         ensures fault { IfErr result (λ f. IsRunFault self.old self.new f) }
     {
         prove!(self.position() <= u64::MAX);
-        let _ = &self.table;
         let starts = self.work_until(u64::MAX)?;
         Ok(starts)
     }
@@ -208,6 +205,7 @@ impl<A: Allocator + Copy> Engine<A> {
     // Works the event seconds before `end`.
     fn work_until(&mut self, end: u64) -> Result<Vec<Start, A>, EngineFault>
         requires { self.old.position ≤ end }
+        ensures plan { IsPlan self.old.plan }
         ensures quiet { OnOk result (IsQuiet self.old.plan self.new.position end) }
         ensures within { self.new.position ≤ end }
         ensures starts { IfOk result (λ starts. IsRunOn self.old self.new starts.items) }
@@ -257,7 +255,7 @@ impl<A: Allocator + Copy> Engine<A> {
         let known = standing_at(&self.cluster, self.known, second);
         self.cluster.finish_until(second);
         self.coming
-            .arrive(&mut self.cluster, &self.table, &self.scenario, second)?;
+            .arrive(&mut self.cluster, &self.plan.view(), second)?;
         let (starts, known) = decide_knowing(
             self.alloc,
             &mut self.cluster,

@@ -1,5 +1,5 @@
 ghost use Rattle.std.specs.Prelude.{◌≡◌, ◌≤◌, ◌<◌, ◌^◌, ◌↔◌, OnOk, IfOk, IfSome, IsTrue, IsSomeAnd, None, Some, length, All};
-ghost use Rattle.cluster_state.specs.State.{real_end};
+ghost use Rattle.scenarios.specs.Placed.{real_end};
 ghost use Rattle.easy_rule.specs.Rule.{next, shadow_of, state_after, starts_at};
 ghost use Rattle.easy_rule.specs.Pass.{front};
 

@@ -1,10 +1,10 @@
 -- The sums over few jobs fit their types.
-use Rattle.std.proofs.Common.{◌≡◌, ℕ, ℤ, ◌+◌, ◌-◌, ◌*◌, ◌/◌, ◌^◌, ◌<◌, ◌≤◌, Bool, true, false, cond, List, All, filter, length, sum_by, count_by, max, min, ap, arith, ◌∙◌}
-use Rattle.std.proofs.Math.Nat.{mul-le-mul, mul-le-mul_left, div-le_self}
+use Rattle.std.proofs.Common.{ℕ, ℤ, ◌+◌, ◌*◌, ◌^◌, ◌<◌, ◌≤◌, List, All, filter, length, sum_by, max, arith}
+use Rattle.std.proofs.Math.Nat.{mul-le-mul, div-le_self}
 use Rattle.std.proofs.lemmas.List.Sums.{sum_by-le, length-filter, count_by-le-length}
 use Rattle.std.proofs.lemmas.List.Elements.{All-filter}
-use Rattle.metrics.specs.declared.placed.Placed.{Placed}
-use Rattle.metrics.specs.Measures.{wait, slowdown, busy, overlap, busy_in, end_of}
+use Rattle.scenarios.specs.declared.placed.Placed.{Placed}
+use Rattle.metrics.specs.Measures.{wait, slowdown, busy, overlap, busy_in}
 use Rattle.metrics.specs.Placed.{IsPlaced}
 use Rattle.metrics.specs.Totals.{totals, FitsJoined}
 use Rattle.metrics.specs.Users.{sums_of, is_of, CanAdd}

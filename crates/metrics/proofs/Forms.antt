@@ -1,18 +1,16 @@
 -- Sums as the code keeps them, and a part's entries.
-use Rattle.std.proofs.Common.{◌≡◌, ℕ, ℤ, ◌==◌, ◌≤◌, ◌<◌, Bool, true, false, cond, List, [], ◌∷◌, All, filter, length, refl, ap, sym, ◌∙◌, arith, subst, Option, Some, None, unwrap_or, get_or, inl, inr}
+use Rattle.std.proofs.Common.{◌≡◌, ℕ, ◌==◌, Bool, true, false, cond, List, [], ◌∷◌, filter, length, refl, ap, sym, ◌∙◌, arith, subst, Option, Some, None, unwrap_or}
 use Rattle.std.specs.Ordering.{int_cmp, nat_cmp}
 use Rattle.std.specs.BTreeMap.{is_at}
 use Rattle.std.specs.Map.{lookup, keys_of}
 use Rattle.std.specs.List.Sorted.{IsStrictlySortedBy}
 use Rattle.std.proofs.lemmas.Grind.{common_steps}
-use Rattle.std.proofs.lemmas.Bool.{cases_Bool}
-use Rattle.metrics.specs.declared.placed.Placed.{Placed}
+use Rattle.scenarios.specs.declared.placed.Placed.{Placed}
 use Rattle.metrics.specs.declared.users.UserSums.{UserSums}
-use Rattle.metrics.specs.Placed.{IsPlaced}
 use Rattle.metrics.specs.Users.{no_sums, sums, sums_of, sums_entry, is_of}
 use Rattle.metrics.specs.Days.{busy_on, busy_entry}
-use Rattle.metrics.specs.Part.{PartSums, IsPartOf, IsPart, AreJobs}
-use Rattle.metrics.specs.Sums.{user_in, day_in, IsTallyOf, IsTally}
+use Rattle.metrics.specs.Part.{PartSums, IsPartOf, IsPart}
+use Rattle.metrics.specs.Sums.{IsTallyOf, IsTally}
 
 -- sums with no entry that says nothing are those of their entry
 sums_kept : (o : Option UserSums) (s : UserSums) → unwrap_or o no_sums ≡ s → ((unwrap_or o no_sums).count ≡ 0 → o ≡ None) → o ≡ sums_entry s

@@ -1,12 +1,11 @@
 -- The sums over two lists of jobs are those over the one and over the other.
-use Rattle.std.proofs.Common.{◌≡◌, ℕ, ℤ, ◌+◌, ◌≤◌, ◌<◌, Bool, true, false, cond, List, [], ◌∷◌, ◌++◌, All, filter, length, sum_by, count_by, max, min, Option, Some, None, ap, arith, ◌∙◌, refl, sym, length-append}
+use Rattle.std.proofs.Common.{◌≡◌, ℕ, ℤ, ◌+◌, true, false, cond, List, [], ◌∷◌, ◌++◌, filter, max, min, Option, Some, None, ap, arith, ◌∙◌, refl, length-append}
 use Rattle.std.proofs.lemmas.List.Sums.{sum_by-append}
 use Rattle.std.proofs.lemmas.List.Elements.{filter-append}
-use Rattle.metrics.specs.declared.placed.Placed.{Placed}
-use Rattle.metrics.specs.declared.users.UserSums.{UserSums}
-use Rattle.metrics.specs.declared.totals.Totals.{Totals}
-use Rattle.metrics.specs.Measures.{wait, slowdown, busy, busy_in, end_of}
-use Rattle.metrics.specs.Totals.{totals, joined, greatest, least_submit, greatest_end, earlier_of, later_of, no_totals, totals_alone}
+use Rattle.scenarios.specs.declared.placed.Placed.{Placed}
+use Rattle.scenarios.specs.Placed.{real_end}
+use Rattle.metrics.specs.Measures.{wait, slowdown, busy, busy_in}
+use Rattle.metrics.specs.Totals.{totals, joined, greatest, least_submit, greatest_end, earlier_of, later_of, totals_alone}
 use Rattle.metrics.specs.Users.{sums, sums_of, is_of, plus, alone, no_sums}
 use Rattle.metrics.specs.Days.{busy_on}
 
@@ -32,7 +31,7 @@ later-assoc a (Some b) (Some c) = let e : max a (max b c) ≡ max (max a b) c = 
 
 greatest_end-append : (xs ys : List Placed) → greatest_end (xs ++ ys) ≡ later_of (greatest_end xs) (greatest_end ys)
 greatest_end-append [] ys = refl
-greatest_end-append (x ∷ xs) ys = ap (later_of (Some (end_of x))) (greatest_end-append xs ys) ∙ later-assoc (end_of x) (greatest_end xs) (greatest_end ys)
+greatest_end-append (x ∷ xs) ys = ap (later_of (Some (real_end x))) (greatest_end-append xs ys) ∙ later-assoc (real_end x) (greatest_end xs) (greatest_end ys)
 
 pub totals-append : (xs ys : List Placed) → totals (xs ++ ys) ≡ joined (totals xs) (totals ys)
 totals-append xs ys =
@@ -65,7 +64,7 @@ pub totals-one : (p : Placed) → totals (p ∷ []) ≡ totals_alone p
 totals-one p =
     let w : max (wait p) 0 ≡ wait p = omega arith in
     let n : (m : ℕ) → 0 + m ≡ m = λ m. omega arith in
-    λ i. record { count = 1; killed = n (cond p.job.killed 1 0) i; wait = n (wait p) i; length = n p.job.length i; slowdown = n (slowdown p) i; busy = n (busy p) i; greatest_wait = w i; least_submit = Some p.job.submit; greatest_end = Some (end_of p) }
+    λ i. record { count = 1; killed = n (cond p.job.killed 1 0) i; wait = n (wait p) i; length = n p.job.length i; slowdown = n (slowdown p) i; busy = n (busy p) i; greatest_wait = w i; least_submit = Some p.job.submit; greatest_end = Some (real_end p) }
 
 pub sums_of-one : (u : ℤ) (p : Placed) → sums_of u (p ∷ []) ≡ cond (is_of u p) (alone p) no_sums
 sums_of-one u p = elim (is_of u p) as (λ b. sums (cond b (p ∷ []) []) ≡ cond b (alone p) no_sums) [

@@ -1,15 +1,12 @@
 -- A job takes nothing of the days before it starts and after it ends.
-use Rattle.std.proofs.Common.{◌≡◌, ℕ, ◌+◌, ◌-◌, ◌*◌, ◌/◌, ◌<◌, ◌≤◌, Bool, true, false, cond, eqb, min, max, ap, arith, ◌∙◌, inl, inr}
+use Rattle.std.proofs.Common.{◌≡◌, ℕ, ◌+◌, ◌*◌, ◌/◌, ◌<◌, ◌≤◌, false, cond, eqb, ap, arith, ◌∙◌, inl, inr}
 use Rattle.std.proofs.lemmas.Bool.{cases_Bool}
 use Rattle.std.proofs.lemmas.Bool.Decides.{nat_tests, Decides-eqb}
-use Rattle.metrics.specs.declared.placed.Placed.{Placed}
-use Rattle.metrics.specs.Measures.{overlap, busy_in, end_of}
+use Rattle.scenarios.specs.declared.placed.Placed.{Placed}
+use Rattle.metrics.specs.Measures.{overlap, busy_in}
 
 pub idle_before : (q : ℕ) (p : Placed) → q < p.start / 86400 → busy_in q p ≡ 0
 idle_before q p h = let e : overlap q p ≡ 0 = omega arith in ap (λ n. p.job.size * n) e ∙ omega arith
-
-pub idle_after : (q : ℕ) (p : Placed) → end_of p / 86400 < q → busy_in q p ≡ 0
-idle_after q p h = let e : overlap q p ≡ 0 = omega arith in ap (λ n. p.job.size * n) e ∙ omega arith
 
 -- a day more is counted
 pub day_done : (q k : ℕ) (f : ℕ → ℕ) (old cur next : ℕ) → (q < k → cur ≡ old + f q) → (k ≤ q → cur ≡ old) → next ≡ cur + cond (eqb k q) (f k) 0 → q < k + 1 → next ≡ old + f q

@@ -1,18 +1,18 @@
 -- What one job, or another part, adds to a part.
-use Rattle.std.proofs.Common.{◌≡◌, ℕ, ℤ, zero, suc, ◌+◌, ◌<◌, ◌≤◌, ◌^◌, Bool, true, false, cond, List, [], ◌∷◌, ◌++◌, All, length, refl, ap, sym, ◌∙◌, arith, subst, get_or, take, length-append}
+use Rattle.std.proofs.Common.{◌≡◌, ℕ, ℤ, ◌+◌, ◌<◌, ◌≤◌, ◌^◌, Bool, true, false, cond, List, [], ◌∷◌, ◌++◌, All, length, refl, ap, sym, ◌∙◌, arith, subst, get_or, take, length-append}
 use Rattle.std.specs.Ordering.{int_eq}
 use Rattle.std.proofs.lemmas.Bool.Decides.{Decides-int_eq}
-use Rattle.std.proofs.lemmas.List.Elements.{All-cons, All-append, All-take}
+use Rattle.std.proofs.lemmas.List.Elements.{All-cons, All-append}
 use Rattle.std.proofs.lemmas.List.{length-take-le, take_more, take_all}
-use Rattle.metrics.specs.declared.placed.Placed.{Placed}
+use Rattle.scenarios.specs.declared.placed.Placed.{Placed}
 use Rattle.metrics.specs.declared.users.UserSums.{UserSums}
 use Rattle.metrics.specs.declared.totals.Totals.{Totals}
 use Rattle.metrics.specs.Measures.{busy_in, busy}
-use Rattle.metrics.specs.Placed.{CanStart, IsPlaced}
+use Rattle.metrics.specs.Placed.{IsPlaced}
 use Rattle.metrics.specs.Totals.{totals, totals_alone, joined, FitsJoined}
 use Rattle.metrics.specs.Users.{plus, no_sums, alone, sums_of, is_of, CanAdd}
 use Rattle.metrics.specs.Days.{busy_on}
-use Rattle.metrics.specs.Part.{PartSums, AreJobs}
+use Rattle.metrics.specs.Part.{PartSums}
 use Rattle.metrics.specs.Sums.{IsTallyOf, IsTally, user_in, day_in}
 use Rattle.std.proofs.Common.{Some, None, unwrap_or}
 use Rattle.std.specs.Ordering.{int_cmp, nat_cmp}

@@ -2,7 +2,7 @@
 use Rattle.std.specs.Prelude.{◌≡◌, ℕ, List, sum_by, unwrap_or, ◌+◌, ◌==◌, [], ◌∷◌, Option, Some, None, nat_eq, if◌then◌else◌}
 use Rattle.std.specs.Ordering.{nat_cmp}
 use Rattle.std.specs.BTreeMap.{get, BTreeMap}
-use Rattle.metrics.specs.declared.placed.Placed.{Placed}
+use Rattle.scenarios.specs.declared.placed.Placed.{Placed}
 use Rattle.metrics.specs.Measures.{busy_in}
 
 -- the processor-seconds that some jobs take in the day

@@ -1,6 +1,6 @@
 -- The jobs that sums are made over.
-use Rattle.std.specs.Prelude.{ℕ, ◌≤◌, ◌<◌, ◌^◌, List, All, length}
-use Rattle.metrics.specs.declared.placed.Placed.{Placed}
+use Rattle.std.specs.Prelude.{◌≤◌, ◌<◌, ◌^◌, List, All, length}
+use Rattle.scenarios.specs.declared.placed.Placed.{Placed}
 
 -- the start of a job may be this one: it is not before its submission, and within the limit on seconds
 pub record CanStart (p : Placed) : Type 0 where

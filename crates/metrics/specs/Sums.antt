@@ -3,7 +3,7 @@ use Rattle.std.specs.Prelude.{◌≡◌, ℕ, ℤ, List, unwrap_or, None}
 use Rattle.std.specs.Ordering.{int_cmp, nat_cmp}
 use Rattle.std.specs.BTreeMap.{is_at}
 use Rattle.std.specs.Map.{lookup}
-use Rattle.metrics.specs.declared.placed.Placed.{Placed}
+use Rattle.scenarios.specs.declared.placed.Placed.{Placed}
 use Rattle.metrics.specs.declared.users.UserSums.{UserSums}
 use Rattle.metrics.specs.declared.tally.Tally.{Tally}
 use Rattle.metrics.specs.Totals.{totals}

@@ -1,10 +1,10 @@
 -- The tables of some jobs on a machine.
-use Rattle.std.specs.Prelude.{◌≡◌, ℕ, ℤ, ◌-◌, ◌*◌, ◌/◌, ◌==◌, List, Option, Some, None, map, unwrap_or, if◌then◌else◌}
+use Rattle.std.specs.Prelude.{ℕ, ℤ, ◌-◌, ◌*◌, ◌/◌, ◌==◌, List, map, unwrap_or, if◌then◌else◌}
 use Rattle.metrics.specs.declared.users.UserSums.{UserSums}
 use Rattle.metrics.specs.declared.totals.Totals.{Totals}
 use Rattle.metrics.specs.declared.rows.UserRow.{UserRow}
 use Rattle.metrics.specs.declared.rows.DayRow.{DayRow}
-use Rattle.metrics.specs.declared.rows.Skips.{Skips}
+use Rattle.scenarios.specs.declared.skips.Skips.{Skips}
 use Rattle.metrics.specs.declared.rows.Overall.{Overall}
 use Rattle.metrics.specs.Part.{PartSums}
 

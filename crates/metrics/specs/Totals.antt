@@ -1,8 +1,9 @@
 -- Sums over all jobs.
-use Rattle.std.specs.Prelude.{◌≡◌, ℕ, ◌+◌, ◌^◌, ◌<◌, min, max, Bool, cond, List, [], ◌∷◌, length, sum_by, count_by, Option, Some, None}
-use Rattle.metrics.specs.declared.placed.Placed.{Placed}
+use Rattle.std.specs.Prelude.{ℕ, ◌+◌, ◌^◌, ◌<◌, min, max, cond, List, [], ◌∷◌, length, sum_by, count_by, Option, Some, None}
+use Rattle.scenarios.specs.declared.placed.Placed.{Placed}
 use Rattle.metrics.specs.declared.totals.Totals.{Totals}
-use Rattle.metrics.specs.Measures.{wait, slowdown, busy, end_of}
+use Rattle.scenarios.specs.Placed.{real_end}
+use Rattle.metrics.specs.Measures.{wait, slowdown, busy}
 
 -- the greatest of a measure, 0 where there is no job
 abbrev pub greatest : (Placed → ℕ) → List Placed → ℕ
@@ -29,7 +30,7 @@ least_submit (p ∷ ps) = earlier_of (Some p.job.submit) (least_submit ps)
 -- the greatest second of an end, none where there is no job
 abbrev pub greatest_end : List Placed → Option ℕ
 greatest_end [] = None
-greatest_end (p ∷ ps) = later_of (Some (end_of p)) (greatest_end ps)
+greatest_end (p ∷ ps) = later_of (Some (real_end p)) (greatest_end ps)
 
 -- the sums over some jobs
 abbrev pub totals : List Placed → Totals
@@ -50,7 +51,7 @@ no_totals = record { count = 0; killed = 0; wait = 0; length = 0; slowdown = 0; 
 
 -- the sums over one job
 abbrev pub totals_alone : Placed → Totals
-totals_alone p = record { count = 1; killed = cond p.job.killed 1 0; wait = wait p; length = p.job.length; slowdown = slowdown p; busy = busy p; greatest_wait = wait p; least_submit = Some p.job.submit; greatest_end = Some (end_of p) }
+totals_alone p = record { count = 1; killed = cond p.job.killed 1 0; wait = wait p; length = p.job.length; slowdown = slowdown p; busy = busy p; greatest_wait = wait p; least_submit = Some p.job.submit; greatest_end = Some (real_end p) }
 
 -- the sums over the jobs of both
 abbrev pub joined : Totals → Totals → Totals

@@ -2,10 +2,11 @@
 
 ghost use Rattle.std.specs.Prelude.{◌≡◌, ℕ, ◌+◌, ◌-◌, ◌*◌, ◌/◌, ◌^◌, ◌<◌, ◌≤◌, OnOk, nat_eq, if◌then◌else◌};
 ghost use Rattle.metrics.specs.Days.{day_at, DaysFilled};
-ghost use Rattle.metrics.specs.Measures.{busy_in, end_of};
+ghost use Rattle.scenarios.specs.Placed.{real_end};
+ghost use Rattle.metrics.specs.Measures.{busy_in};
 ghost use Rattle.metrics.specs.Placed.{IsPlaced};
 
-use crate::Placed;
+use scenarios::Placed;
 use std::alloc::{AllocError, Allocator};
 use std::collections::BTreeMap;
 

@@ -1,5 +1,5 @@
 ghost use Rattle.std.specs.Prelude.{◌≡◌, List};
-ghost use Rattle.metrics.specs.declared.placed.Placed.{Placed};
+ghost use Rattle.scenarios.specs.declared.placed.Placed.{Placed};
 ghost use Rattle.metrics.specs.Part.{PartSums, IsPartOf};
 
 /// Jobs have one part: any two that are theirs are the same. So the part that `Part::merge` makes

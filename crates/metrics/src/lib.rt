@@ -3,8 +3,8 @@
 
 mod days;
 mod laws;
+mod measures;
 mod part;
-mod placed;
 mod rows;
 mod tables;
 mod tally;
@@ -12,9 +12,10 @@ mod totals;
 mod users;
 
 pub use laws::jobs_have_one_part;
+pub use measures::{busy, can_start, can_sum, slowdown, wait};
 pub use part::Part;
-pub use placed::{Placed, can_sum};
-pub use rows::{DayRow, Overall, Skips, UserRow};
+pub use rows::{DayRow, Overall, UserRow};
+pub use scenarios::{Placed, Skips};
 pub use tables::Tables;
 pub use totals::Totals;
 pub use users::UserSums;

@@ -4,9 +4,9 @@ ghost use Rattle.std.specs.Prelude.{◌≡◌, ◌+◌, ◌≤◌, List, [], ◌
 ghost use Rattle.metrics.specs.Part.{IsPartOf, IsPart};
 ghost use Rattle.metrics.specs.Placed.{CanSum};
 
-use crate::Placed;
 use crate::tally::Tally;
 use crate::totals::Totals;
+use scenarios::Placed;
 use std::alloc::Allocator;
 use std::marker::Model;
 use swf_text::Memory;

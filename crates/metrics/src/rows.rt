@@ -6,16 +6,7 @@ ghost use Rattle.metrics.specs.Tables.{ratio, utilization, span_of, overall_of, 
 use crate::days::DAY;
 use crate::totals::Totals;
 use crate::users::UserSums;
-
-/// How many entries of a log were skipped, by reason: no size, no run time, too large for the
-/// machine, too long.
-#[derive(Clone, Copy, Debug, PartialEq, Eq)]
-pub struct Skips {
-    pub size: u64,
-    pub run: u64,
-    pub large: u64,
-    pub long: u64,
-}
+use scenarios::Skips;
 
 /// The numbers over all jobs: means of wait, length (seconds) and slowdown (thousandths), cut down;
 /// processor-seconds; the seconds from the least submission to the greatest end; and the

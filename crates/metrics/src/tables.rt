@@ -5,8 +5,9 @@ ghost use Rattle.metrics.specs.Tables.{user_row_of, day_row_of, tables_of};
 
 use crate::days::Days;
 use crate::part::Part;
-use crate::rows::{DayRow, Overall, Skips, UserRow, day_row, over_all, user_row};
+use crate::rows::{DayRow, Overall, UserRow, day_row, over_all, user_row};
 use crate::users::Users;
+use scenarios::Skips;
 use std::alloc::{AllocError, Allocator};
 use std::marker::Model;
 use swf_text::Memory;

@@ -7,10 +7,10 @@ ghost use Rattle.std.specs.List.Sorted.{IsStrictlySortedBy};
 ghost use Rattle.metrics.specs.Sums.{sums_in, IsTallyOf, IsTally};
 ghost use Rattle.metrics.specs.Placed.{CanStart, IsPlaced};
 
-use crate::Placed;
 use crate::days::{self, Days};
 use crate::totals::Totals;
 use crate::users::{self, UserSums, Users};
+use scenarios::Placed;
 use std::alloc::{AllocError, Allocator};
 use std::collections::BTreeMap;
 

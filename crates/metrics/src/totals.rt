@@ -4,7 +4,8 @@ ghost use Rattle.std.specs.Prelude.{◌≡◌, ℕ, ◌+◌, ◌^◌, ◌<◌, �
 ghost use Rattle.metrics.specs.Totals.{earlier_of, later_of, no_totals, totals_alone, joined, FitsJoined};
 ghost use Rattle.metrics.specs.Placed.{CanStart, IsPlaced};
 
-use crate::Placed;
+use crate::measures;
+use scenarios::Placed;
 
 /// Sums over all jobs: seconds of waiting and running, slowdowns in thousandths, processor-seconds.
 #[derive(Clone, Copy, Debug, PartialEq, Eq)]
@@ -69,11 +70,11 @@ impl Totals {
         Totals {
             count: 1,
             killed: u64::from(placed.job.killed()),
-            wait: u128::from(placed.wait()),
+            wait: u128::from(measures::wait(placed)),
             length: u128::from(placed.job.length()),
-            slowdown: u128::from(placed.slowdown()),
-            busy: u128::from(placed.busy()),
-            greatest_wait: placed.wait(),
+            slowdown: u128::from(measures::slowdown(placed)),
+            busy: u128::from(measures::busy(placed)),
+            greatest_wait: measures::wait(placed),
             least_submit: Some(placed.job.submit()),
             greatest_end: Some(placed.end()),
         }

@@ -5,7 +5,8 @@ ghost use Rattle.std.specs.Ordering.{int_eq};
 ghost use Rattle.metrics.specs.Users.{plus, CanAdd, UsersFilled, user_at, alone};
 ghost use Rattle.metrics.specs.Placed.{CanStart};
 
-use crate::Placed;
+use crate::measures;
+use scenarios::Placed;
 use std::alloc::{AllocError, Allocator};
 use std::collections::BTreeMap;
 
@@ -27,9 +28,9 @@ impl UserSums {
     {
         UserSums {
             count: 1,
-            wait: u128::from(placed.wait()),
-            slowdown: u128::from(placed.slowdown()),
-            busy: u128::from(placed.busy()),
+            wait: u128::from(measures::wait(placed)),
+            slowdown: u128::from(measures::slowdown(placed)),
+            busy: u128::from(measures::busy(placed)),
         }
     }
 

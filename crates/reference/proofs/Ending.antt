@@ -2,21 +2,22 @@
 use Rattle.std.proofs.Common.{◌≡◌, ℕ, ◌^◌, ◌<◌, ◌≤◌, Bool, cond, not, nat_eq, All, arith, subst, sym, ◌∙◌}
 use Rattle.std.proofs.lemmas.List.Elements.{All-filter}
 use Rattle.scenarios.specs.Job.{IsWithinLimits}
-use Rattle.cluster_state.specs.declared.running.Running.{Running}
-use Rattle.cluster_state.specs.State.{State, IsSound, ended_until, real_end}
+use Rattle.scenarios.specs.declared.placed.Placed.{Placed}
+use Rattle.scenarios.specs.Placed.{real_end}
+use Rattle.cluster_state.specs.State.{State, IsSound, ended_until}
 use Rattle.cluster_state.proofs.StateLemmas.{sum_by-filter-le}
 use Rattle.easy_rule.specs.Simulation.{before, ended}
 use Rattle.scenarios.specs.Plan.{Plan}
-use Rattle.timeline.specs.SoundPlan.{IsPlan}
+use Rattle.scenarios.specs.SoundPlan.{IsPlan}
 use Rattle.timeline.proofs.Facts.{run-before, ended-is}
 
 pub sound-ended : (s : State) (t : ℕ) → IsSound s → IsSound (ended s t)
 sound-ended s t h =
-    let keeps : Running → Bool = λ r. not (nat_eq (real_end r) t) in
+    let keeps : Placed → Bool = λ r. not (nat_eq (real_end r) t) in
     record {
       limited = h.limited;
-      fits = omega (arith, h.fits, sum_by-filter-le (λ (r : Running). r.job.size) keeps s.running);
-      once = λ n. omega (arith, h.once n, sum_by-filter-le (λ (r : Running). cond (nat_eq r.job.number n) 1 0) keeps s.running);
+      fits = omega (arith, h.fits, sum_by-filter-le (λ (r : Placed). r.job.size) keeps s.running);
+      once = λ n. omega (arith, h.once n, sum_by-filter-le (λ (r : Placed). cond (nat_eq r.job.number n) 1 0) keeps s.running);
       waiting_fit = h.waiting_fit;
       waiting_limits = h.waiting_limits;
       running_limits = All-filter keeps (λ r. IsWithinLimits r.job) s.running h.running_limits;

@@ -5,12 +5,9 @@ ghost use Rattle.scenarios.specs.Job.{IsWithinLimits};
 ghost use Rattle.scenarios.specs.Effective.{effective, whole_field, positive, size_of, estimate_of};
 
 use crate::job::PlainJob;
-use scenarios::{Scenario, Skip};
+use scenarios::{MAX_ESTIMATE, Scenario, Skip};
 use std::alloc::Allocator;
 use swf_text::{Entry, Fields};
-
-/// The longest estimate, in seconds.
-const LONGEST: u64 = 100_000_000;
 
 // The nearest whole number to so many millionths, halves up.
 fn rounded(millionths: i64) -> i64
@@ -83,7 +80,7 @@ pub fn effective<A: Allocator + Copy>(
     let run = run as u64;
     let base = positive(whole_field(line, 9)).unwrap_or(run);
     let estimate = estimate_of(base, scenario.factor());
-    if estimate > LONGEST {
+    if estimate > MAX_ESTIMATE {
         return Err(Skip::TooLong);
     }
     Ok(PlainJob {

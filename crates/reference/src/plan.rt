@@ -8,13 +8,10 @@ ghost use Rattle.scenarios.specs.Plan.{jobs_of, plan_of};
 
 use crate::entry_job::effective;
 use crate::job::PlainJob;
-use scenarios::{Order, Scenario};
+use scenarios::{MAX_PROCS, Order, Scenario};
 use std::alloc::Allocator;
 use std::marker::Model;
 use swf_text::{Entry, Memory, SwfText};
-
-/// The largest machine, in processors.
-const MAX_PROCS: u64 = 16_777_216;
 
 /// The jobs of a log under a scenario, in the order of the log: by submit second, and of one second
 /// by job number.
@@ -26,7 +23,7 @@ pub struct LogPlan<A: Allocator + Copy> {
 
 impl<A: Allocator + Copy> Model for LogPlan<A> {
     ghost use Rattle.scenarios.specs.Plan.{Plan};
-    ghost use Rattle.timeline.specs.SoundPlan.{IsPlan};
+    ghost use Rattle.scenarios.specs.SoundPlan.{IsPlan};
 
     ghost Value = { Plan };
 
@@ -66,7 +63,7 @@ fn jobs_of<A: Allocator + Copy>(
 }
 
 impl<A: Allocator + Copy> LogPlan<A> {
-    ghost use Rattle.timeline.specs.SoundPlan.{IsPlan};
+    ghost use Rattle.scenarios.specs.SoundPlan.{IsPlan};
 
     /// The plan of a log under a scenario: the jobs of its entries that are not skipped, by submit
     /// second and job number.

@@ -1,5 +1,5 @@
 ghost use Rattle.std.specs.Prelude.{◌≡◌, ◌^◌, ◌<◌};
-ghost use Rattle.cluster_state.specs.State.{expected_end, real_end};
+ghost use Rattle.scenarios.specs.Placed.{expected_end, real_end};
 
 use crate::job::PlainJob;
 use std::marker::Model;
@@ -13,9 +13,9 @@ pub(crate) struct PlainRunning {
 
 impl Model for PlainRunning {
     ghost use Rattle.std.specs.Prelude.{◌<◌, ◌^◌};
-    ghost use Rattle.cluster_state.specs.declared.running.Running.{Running};
+    ghost use Rattle.scenarios.specs.declared.placed.Placed.{Placed};
 
-    ghost Value = { Running };
+    ghost Value = { Placed };
 
     ghost view = { λ r. record { job = r.job; start = r.start } };
 

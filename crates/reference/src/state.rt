@@ -1,6 +1,7 @@
 ghost use Rattle.std.specs.Prelude.{◌≡◌, ◌↔◌, ◌<◌, ◌≤◌, ◌^◌, [], IsTrue, OnErr, OnOk, Some, nat_eq, nat_lt, not, filter, position, sum_by};
 ghost use Rattle.scenarios.specs.Job.{IsWithinLimits};
-ghost use Rattle.cluster_state.specs.State.{arrived, available, back_by, busy, empty, free, holders, placed, real_end, started, waiting_job, without, IsSound};
+ghost use Rattle.scenarios.specs.Placed.{real_end};
+ghost use Rattle.cluster_state.specs.State.{arrived, available, back_by, busy, empty, free, holders, placed, started, waiting_job, without, IsSound};
 ghost use Rattle.easy_rule.specs.Simulation.{ended};
 
 use crate::job::PlainJob;

@@ -13,8 +13,7 @@ use Rattle.job_table.specs.Edit.{LogEdit, log_after}
 use Rattle.job_table.specs.Table.{IsTable}
 use Rattle.scenarios.specs.Job.{EffectiveJob}
 use Rattle.scenarios.specs.Scenario.{Setting}
-use Rattle.scenarios.specs.Plan.{Plan, plan_of}
-use Rattle.cluster_state.specs.Snapshot.{job_numbered}
+use Rattle.scenarios.specs.Plan.{Plan, plan_of, job_numbered}
 use Rattle.rejoin.specs.Named.{named, submit_in, submits_of}
 use Rattle.rejoin.specs.Tested.{AreThose}
 use Rattle.rejoin.specs.Touched.{IsTouched, IsSubmit, IsTouchedSubmit}

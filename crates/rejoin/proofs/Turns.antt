@@ -4,7 +4,7 @@ use Rattle.std.proofs.lemmas.List.{length-append, drop_all}
 use Rattle.scenarios.specs.Plan.{Plan}
 use Rattle.cluster_state.specs.Snapshot.{numbers_of}
 use Rattle.easy_rule.specs.Simulation.{IsEvent, before, bound}
-use Rattle.timeline.specs.SoundPlan.{IsPlan}
+use Rattle.scenarios.specs.SoundPlan.{IsPlan}
 use Rattle.timeline.proofs.Events.{events-end-by-the-bound}
 use Rattle.timeline.proofs.Short.{short-plan}
 use Rattle.event_loop.specs.Events.{Progress, events_before, begun}

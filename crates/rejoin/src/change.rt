@@ -12,9 +12,10 @@ ghost use Rattle.rejoin.specs.Rejoining.{IsChange, IsClear};
 
 use crate::kept::{is_kept, none_within};
 use crate::touched::{touched_numbers, touched_submits};
-use checkpoints::{Run, RunFault, Segment, is_plan};
+use checkpoints::{Run, RunFault, Segment};
 use event_loop::Engine;
 use job_table::{Edit, JobTable};
+use scenarios::PlanRef;
 use std::alloc::Allocator;
 use std::marker::Model;
 use std::sync::Arc;
@@ -58,11 +59,10 @@ impl<'a, A: Allocator + Copy> Change<'a, A> {
         ensures old { IfOk result (λ c. c.old ≡ run.now.segments) }
         ensures sound { IfOk result IsChange }
     {
-        let scenario = run.scenario();
-        is_plan(run.table(), &scenario);
-        is_plan(table, &scenario);
-        let touched = touched_numbers(alloc, run, edits, table)?;
-        let submits = touched_submits(alloc, run, table, touched.as_slice())?;
+        let old_plan = run.plan().view();
+        let new_plan = PlanRef::of(table, run.scenario());
+        let touched = touched_numbers(alloc, &old_plan, edits, &new_plan)?;
+        let submits = touched_submits(alloc, &old_plan, &new_plan, touched.as_slice())?;
         Ok(Change {
             run,
             segments: run.segments(),

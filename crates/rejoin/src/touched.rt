@@ -1,14 +1,14 @@
 ghost use Rattle.std.specs.Prelude.{◌≡◌, ◌↔◌, ◌++◌, IsTrue, IfOk, OnOk, map};
 ghost use Rattle.job_table.specs.Accepted.{AreAccepted};
 ghost use Rattle.job_table.specs.Edit.{edit_of, log_after};
-ghost use Rattle.scenarios.specs.Plan.{plan_of};
+ghost use Rattle.job_table.specs.Table.{IsTable};
+ghost use Rattle.scenarios.specs.PlanView.{plan_in};
 ghost use Rattle.rejoin.specs.Named.{named, submit_in};
 ghost use Rattle.rejoin.specs.Tested.{AreThose};
 ghost use Rattle.rejoin.specs.Touched.{IsTouched, IsTouchedSubmit};
 
-use checkpoints::{Run, job_in};
-use job_table::{Edit, JobTable};
-use scenarios::Job;
+use job_table::Edit;
+use scenarios::{Job, PlanRef};
 use std::alloc::Allocator;
 use swf_text::Memory;
 
@@ -23,30 +23,33 @@ fn number_of<A: Allocator + Copy>(edit: &Edit<A>) -> u64
     }
 }
 
-// Whether the number has different jobs in the old table and in the new one, or a job in one alone.
-fn is_touched<A: Allocator + Copy>(run: &Run<A>, table: &JobTable<A>, number: u64) -> bool
-    ensures { IsTrue result ↔ IsTouched (plan_of run.now.log run.now.setting) (plan_of table.now run.now.setting) number }
+// Whether the number has different jobs in the old plan and in the new one, or a job in one alone.
+fn is_touched<A: Allocator + Copy>(
+    old_plan: &PlanRef<'_, A>,
+    new_plan: &PlanRef<'_, A>,
+    number: u64,
+) -> bool
+    ensures { IsTrue result ↔ IsTouched (plan_in old_plan.now) (plan_in new_plan.now) number }
 {
-    let scenario = run.scenario();
-    job_in(run.table(), &scenario, number) != job_in(table, &scenario, number)
+    old_plan.job(number) != new_plan.job(number)
 }
 
-// The touched numbers among those of the edits, one look-up in each table for each edit.
+// The touched numbers among those of the edits, one look-up in each plan for each edit.
 pub(crate) fn touched_numbers<A: Allocator + Copy>(
     alloc: A,
-    run: &Run<A>,
+    old_plan: &PlanRef<'_, A>,
     edits: &[Edit<A>],
-    table: &JobTable<A>,
+    new_plan: &PlanRef<'_, A>,
 ) -> Result<Vec<u64, A>, Memory>
-    requires accepted { AreAccepted run.now.log (map edit_of edits.now) }
-    requires table { table.now ≡ log_after run.now.log (map edit_of edits.now) }
-    ensures { IfOk result (λ numbers. AreThose (IsTouched (plan_of run.now.log run.now.setting) (plan_of table.now run.now.setting)) numbers.items) }
+    requires table { IsTable old_plan.now.log }
+    requires accepted { AreAccepted old_plan.now.log (map edit_of edits.now) }
+    requires edited { new_plan.now ≡ record old_plan.now { log = log_after old_plan.now.log (map edit_of edits.now) } }
+    ensures { IfOk result (λ numbers. AreThose (IsTouched (plan_in old_plan.now) (plan_in new_plan.now)) numbers.items) }
 {
-    let _entries = run.table().len();
     let mut numbers = Vec::new(alloc);
     for edit in edits {
         let number = number_of(edit);
-        if is_touched(run, table, number) {
+        if is_touched(old_plan, new_plan, number) {
             numbers.push(number)?;
         }
     }
@@ -66,21 +69,20 @@ fn add_submit<A: Allocator + Copy>(
     Ok(())
 }
 
-// The submit seconds of the touched numbers, in the old table and in the new one.
+// The submit seconds of the touched numbers, in the old plan and in the new one.
 pub(crate) fn touched_submits<A: Allocator + Copy>(
     alloc: A,
-    run: &Run<A>,
-    table: &JobTable<A>,
+    old_plan: &PlanRef<'_, A>,
+    new_plan: &PlanRef<'_, A>,
     numbers: &[u64],
 ) -> Result<Vec<u64, A>, Memory>
-    requires { AreThose (IsTouched (plan_of run.now.log run.now.setting) (plan_of table.now run.now.setting)) numbers.now }
-    ensures { IfOk result (λ submits. AreThose (IsTouchedSubmit (plan_of run.now.log run.now.setting) (plan_of table.now run.now.setting)) submits.items) }
+    requires { AreThose (IsTouched (plan_in old_plan.now) (plan_in new_plan.now)) numbers.now }
+    ensures { IfOk result (λ submits. AreThose (IsTouchedSubmit (plan_in old_plan.now) (plan_in new_plan.now)) submits.items) }
 {
-    let scenario = run.scenario();
     let mut submits = Vec::new(alloc);
     for number in numbers {
-        add_submit(&mut submits, job_in(run.table(), &scenario, *number))?;
-        add_submit(&mut submits, job_in(table, &scenario, *number))?;
+        add_submit(&mut submits, old_plan.job(*number))?;
+        add_submit(&mut submits, new_plan.job(*number))?;
     }
     Ok(submits)
 }

@@ -2,7 +2,7 @@
 use Rattle.std.specs.Prelude.{ℕ, List, ◌++◌, codes}
 use Rattle.std.specs.Fmt.{decimal}
 use Rattle.metrics.specs.declared.rows.Overall.{Overall}
-use Rattle.metrics.specs.declared.rows.Skips.{Skips}
+use Rattle.scenarios.specs.declared.skips.Skips.{Skips}
 use Rattle.report.specs.Pieces.{thousandths, percent}
 use Rattle.report.specs.Heading.{title}
 

@@ -1,1 +1,5 @@
 pub mod Listings
+pub mod EffectiveLemmas
+pub mod Plans
+pub mod Walks
+pub mod Skipping

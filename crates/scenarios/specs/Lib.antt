@@ -2,6 +2,10 @@ pub mod Job
 pub mod Scenario
 pub mod Effective
 pub mod Plan
+pub mod SoundPlan
+pub mod PlanView
+pub mod Skips
+pub mod Placed
 pub mod Name
 pub mod ScenarioList
 pub mod Names

@@ -10,7 +10,7 @@ use std::alloc::Allocator;
 use swf_text::{Entry, Fields};
 
 /// The longest estimate and length, in seconds.
-const MAX_LENGTH: u64 = 100_000_000;
+pub const MAX_ESTIMATE: u64 = 100_000_000;
 
 // A field of a line, to the nearest whole number.
 fn whole_field(line: &Fields, place: usize) -> i64
@@ -92,7 +92,7 @@ pub fn effective<A: Allocator + Copy>(entry: &Entry<A>, scenario: &Scenario) -> 
         return Err(Skip::TooLarge);
     }
     let estimate = estimate_of(base_of(line, run), scenario.factor());
-    if estimate > MAX_LENGTH {
+    if estimate > MAX_ESTIMATE {
         return Err(Skip::TooLong);
     }
     Ok(Job {

@@ -5,10 +5,10 @@ use crate::order::Order;
 use std::marker::Model;
 
 /// The largest machine, in processors.
-const MAX_PROCS: u64 = 16_777_216;
+pub const MAX_PROCS: u64 = 16_777_216;
 
 /// The greatest factor, in thousandths.
-const MAX_FACTOR: u64 = 100_000;
+pub const MAX_FACTOR: u64 = 100_000;
 
 /// What a log is simulated under: a machine, a factor on the estimates, and the order of backfills.
 ///

@@ -4,7 +4,7 @@ ghost use Rattle.scenarios.specs.declared.list_fault.AddFault.TheVariants.{Memor
 
 use crate::list_fault::{AddFault, NoSuchScenario};
 use crate::name::is_name;
-use crate::scenario::Scenario;
+use crate::scenario::{MAX_PROCS, Scenario};
 use crate::scenario_id::ScenarioId;
 use indexmap::IndexMap;
 use std::alloc::Allocator;
@@ -13,7 +13,7 @@ use std::marker::Model;
 use swf_text::Memory;
 
 /// The most scenarios of a list.
-const SCENARIO_LIMIT: usize = 64;
+pub const MAX_SCENARIOS: usize = 64;
 
 /// The last id.
 const LAST_ID: u64 = 4_294_967_295;
@@ -94,7 +94,7 @@ impl<A: Allocator + Copy> ScenarioList<A> {
         if self.id_of(name).is_some() {
             return Some(AddFault::NameTaken);
         }
-        if self.named.len() >= SCENARIO_LIMIT || self.next > LAST_ID {
+        if self.named.len() >= MAX_SCENARIOS || self.next > LAST_ID {
             return Some(AddFault::TooMany);
         }
         None
@@ -107,8 +107,7 @@ impl<A: Allocator + Copy> ScenarioList<A> {
         ensures added { OnOk result (self.new ≡ with_scenario name.now scenario self.old) }
         ensures kept { OnErr result (self.new ≡ self.old) }
     {
-        // Read here since the check has to be told that the scenario is within its limits.
-        let _procs = scenario.procs();
+        prove!(scenario.procs() <= MAX_PROCS);
         let id = ScenarioId::of(self.next as u32);
         let key = String::from_str(self.alloc, name)?;
         self.named.insert(key, (id, scenario))?;

@@ -4,14 +4,15 @@ use Rattle.std.proofs.lemmas.List.Sums.{sum_by-cons, sum_by-append, sum_by-le-su
 use Rattle.std.proofs.lemmas.List.Elements.{All-head, All-tail, All-nil, All-cons, All-weaker}
 use Rattle.std.proofs.lemmas.Bool.{cond-true, cond-false, cases_eq, cases_lt, eq-eqb, ne_eqb, lt-ltb, le-ltb}
 use Rattle.scenarios.specs.Job.{EffectiveJob, IsWithinLimits}
-use Rattle.cluster_state.specs.declared.running.Running.{Running}
-use Rattle.cluster_state.specs.State.{State, IsSound, empty, real_end, started}
+use Rattle.scenarios.specs.declared.placed.Placed.{Placed}
+use Rattle.scenarios.specs.Placed.{real_end}
+use Rattle.cluster_state.specs.State.{State, IsSound, empty, started}
 use Rattle.cluster_state.proofs.StateLemmas.{sum_by-placed, sum_by-without}
 use Rattle.easy_rule.specs.Rule.{next, state_after}
 use Rattle.easy_rule.proofs.NextLemmas.{next-found}
 use Rattle.scenarios.specs.Plan.{Plan}
 use Rattle.easy_rule.specs.Simulation.{last_submit, bound, before, second, submitted, ready}
-use Rattle.timeline.specs.SoundPlan.{IsPlan}
+use Rattle.scenarios.specs.SoundPlan.{IsPlan}
 use Rattle.timeline.specs.Laws.{AllHaveEnded, AllEndByTheBound}
 use Rattle.timeline.proofs.Short.{short-plan}
 use Rattle.timeline.proofs.Facts.{IsRun, run-started, run-ready, run-before}
@@ -19,7 +20,7 @@ use Rattle.timeline.proofs.Rest.{submits-by, empty-is, rests}
 use Rattle.easy_rule.proofs.Decisions.{decided-keeps, decided-done, nobody-waits}
 
 -- the seconds that a running job has left from t on, t among them, though it may end at its start
-abbrev left_from : ℕ → Running → ℕ
+abbrev left_from : ℕ → Placed → ℕ
 left_from t r = suc (real_end r) - t
 
 -- the seconds of a job that comes at t or later
@@ -30,7 +31,7 @@ abbrev load : Plan → State → ℕ → ℕ
 load plan s t = sum_by (λ j. j.length) s.waiting + sum_by (left_from t) s.running + sum_by (to_come t) plan.jobs
 
 -- each running job works
-load-ended : (t : ℕ) (rs : List Running) → All (λ r. t ≤ real_end r) rs → sum_by (left_from (suc t)) (filter (λ r. not (nat_eq (real_end r) t)) rs) + length rs ≤ sum_by (left_from t) rs
+load-ended : (t : ℕ) (rs : List Placed) → All (λ r. t ≤ real_end r) rs → sum_by (left_from (suc t)) (filter (λ r. not (nat_eq (real_end r) t)) rs) + length rs ≤ sum_by (left_from t) rs
 load-ended t [] a = omega arith
 load-ended t (r ∷ rs) a =
     let l : t ≤ real_end r = All-head (λ r. t ≤ real_end r) r rs a in
@@ -75,7 +76,7 @@ load-ready plan s t a =
 
 load-started : (plan : Plan) (s : State) (t : ℕ) (job : EffectiveJob) → IsSound s → next s t ≡ Some job → load plan (started s job t) (suc t) ≡ load plan s (suc t)
 load-started plan s t job h e =
-    let x : Running = record { job = job; start = t } in
+    let x : Placed = record { job = job; start = t } in
     let f = sum_by-without (λ (j : EffectiveJob). j.length) job.number s.waiting job (next-found s t job h e) in
     let k = sum_by-placed (left_from (suc t)) x s.running in
     let w : left_from (suc t) x ≡ job.length = omega arith in
@@ -120,7 +121,7 @@ load-before plan (suc t) small p =
     let m = load-second plan s t (omega arith) p run in
     go s.running refl i m run
   where
-    go : (rs : List Running) → (before plan t).running ≡ rs → load plan (before plan t) t ≤ suc (bound plan) - max t (suc (last_submit plan.jobs))
+    go : (rs : List Placed) → (before plan t).running ≡ rs → load plan (before plan t) t ≤ suc (bound plan) - max t (suc (last_submit plan.jobs))
         → load plan (second plan (before plan t) t) (suc t) + length (before plan t).running ≤ load plan (before plan t) t → IsRun plan (before plan t) t
         → load plan (second plan (before plan t) t) (suc t) ≤ suc (bound plan) - max (suc t) (suc (last_submit plan.jobs))
     go (r ∷ rs) e i m run = let n = ap length e in omega (arith, i, m, n)

@@ -1,7 +1,7 @@
 -- No event second comes after the bound.
 use Rattle.std.proofs.Common.{◌≤◌, ◌<◌, ap, arith, inl, inr, ⊎_elim}
 use Rattle.std.proofs.lemmas.Bool.{cases_lt}
-use Rattle.cluster_state.specs.State.{real_end}
+use Rattle.scenarios.specs.Placed.{real_end}
 use Rattle.easy_rule.specs.Simulation.{bound}
 use Rattle.timeline.specs.Laws.{EventsEndByTheBound}
 use Rattle.timeline.proofs.Rest.{submitted-none}

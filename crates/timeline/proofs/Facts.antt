@@ -5,15 +5,16 @@ use Rattle.std.proofs.lemmas.List.{take_all}
 use Rattle.std.proofs.lemmas.List.Elements.{All-head, All-tail, All-nil, All-cons, All-append, All-filter, All-take, filter_more}
 use Rattle.std.proofs.lemmas.Bool.{cond-true, cond-false, cases_Bool, cases_eq, ne_eqb, eq-eqb, lt-ltb, le-ltb, cases_lt}
 use Rattle.scenarios.specs.Job.{EffectiveJob, IsWithinLimits}
-use Rattle.cluster_state.specs.declared.running.Running.{Running}
-use Rattle.cluster_state.specs.State.{State, IsSound, holders, real_end, started, ended_until}
+use Rattle.scenarios.specs.declared.placed.Placed.{Placed}
+use Rattle.scenarios.specs.Placed.{real_end}
+use Rattle.cluster_state.specs.State.{State, IsSound, holders, started, ended_until}
 use Rattle.cluster_state.proofs.StateLemmas.{sound-started, sum_by-filter-le, sum_by-placed, sum_by-without, All-placed, All-find}
 use Rattle.easy_rule.specs.Rule.{next}
 use Rattle.easy_rule.proofs.NextLemmas.{next-found, next-fits}
 use Rattle.easy_rule.proofs.Decisions.{decided-keeps}
 use Rattle.scenarios.specs.Plan.{Plan}
 use Rattle.easy_rule.specs.Simulation.{starts_before, starts_in, before, second, submitted, ready, ended, joined}
-use Rattle.timeline.specs.SoundPlan.{IsPlan}
+use Rattle.scenarios.specs.SoundPlan.{IsPlan}
 
 -- the plan's jobs of this number that have arrived before t
 abbrev pub known : Plan → ℕ → ℕ → ℕ
@@ -35,7 +36,7 @@ filters-agree p q P (x ∷ xs) h a =
 
 pub ended-is : (s : State) (t : ℕ) → All (λ r. t ≤ real_end r) s.running → ended_until s t ≡ ended s t
 ended-is s t a =
-    ap (λ (rs : List Running). let z : State = record { machine = s.machine; order = s.order; waiting = s.waiting; running = rs } in z)
+    ap (λ (rs : List Placed). let z : State = record { machine = s.machine; order = s.order; waiting = s.waiting; running = rs } in z)
     (filters-agree (λ r. nat_lt t (real_end r)) (λ r. not (nat_eq (real_end r) t)) (λ r. t ≤ real_end r) s.running
     (λ r l. ⊎_elim
     (λ (e : real_end r ≡ t). le-ltb t (real_end r) (omega arith) ∙ ap not (sym (eq-eqb (real_end r) t e)))
@@ -110,12 +111,12 @@ known-le plan t n = sum_by-le-sum_by (λ (j : EffectiveJob). cond (nat_eq j.numb
 pub sound-joined : (plan : Plan) (s : State) (t k : ℕ) → IsPlan plan → IsRun plan s t → IsSound (joined (ended s t) (filter (λ j. nat_eq j.submit t) (take k plan.jobs)))
 sound-joined plan s t k p r =
     let js = filter (λ (j : EffectiveJob). nat_eq j.submit t) (take k plan.jobs) in
-    let keeps : Running → Bool = λ x. not (nat_eq (real_end x) t) in
+    let keeps : Placed → Bool = λ x. not (nat_eq (real_end x) t) in
     let few : (n : ℕ) → holders (joined (ended s t) js) n ≤ known plan (suc t) n = (λ n.
-    omega (arith, sum_by-append (λ (j : EffectiveJob). cond (nat_eq j.number n) 1 0) s.waiting js, sum_by-filter-le (λ (x : Running). cond (nat_eq x.job.number n) 1 0) keeps s.running, r.held n, known-more plan.jobs t n k)) in
+    omega (arith, sum_by-append (λ (j : EffectiveJob). cond (nat_eq j.number n) 1 0) s.waiting js, sum_by-filter-le (λ (x : Placed). cond (nat_eq x.job.number n) 1 0) keeps s.running, r.held n, known-more plan.jobs t n k)) in
     record {
       limited = r.sound.limited;
-      fits = omega (arith, r.sound.fits, sum_by-filter-le (λ (x : Running). x.job.size) keeps s.running);
+      fits = omega (arith, r.sound.fits, sum_by-filter-le (λ (x : Placed). x.job.size) keeps s.running);
       once = λ n. omega (arith, few n, known-le plan (suc t) n, p.once n);
       waiting_fit = All-append (λ (j : EffectiveJob). j.size ≤ s.machine) s.waiting js r.sound.waiting_fit (All-filter (λ (j : EffectiveJob). nat_eq j.submit t) (λ (j : EffectiveJob). j.size ≤ s.machine) (take k plan.jobs) (All-take (λ (j : EffectiveJob). j.size ≤ s.machine) k plan.jobs (subst (λ m. All (λ (j : EffectiveJob). j.size ≤ m) plan.jobs) (sym r.machine) p.sizes)));
       waiting_limits = All-append IsWithinLimits s.waiting js r.sound.waiting_limits (All-filter (λ (j : EffectiveJob). nat_eq j.submit t) IsWithinLimits (take k plan.jobs) (All-take IsWithinLimits k plan.jobs p.limits));
@@ -124,7 +125,7 @@ sound-joined plan s t k p r =
     }
 
 -- those that are left end later
-lasting-more : (t : ℕ) (rs : List Running) → All (λ r. t ≤ real_end r) rs → All (λ r. suc t ≤ real_end r) (filter (λ r. not (nat_eq (real_end r) t)) rs)
+lasting-more : (t : ℕ) (rs : List Placed) → All (λ r. t ≤ real_end r) rs → All (λ r. suc t ≤ real_end r) (filter (λ r. not (nat_eq (real_end r) t)) rs)
 lasting-more t [] a = All-nil (λ r. suc t ≤ real_end r)
 lasting-more t (r ∷ rs) a =
     let l : t ≤ real_end r = All-head (λ r. t ≤ real_end r) r rs a in
@@ -139,7 +140,7 @@ run-ready plan s t p r =
     let k = length plan.jobs in
     let whole : take k plan.jobs ≡ plan.jobs = take_all k plan.jobs (omega arith) in
     let js = submitted plan t in
-    let keeps : Running → Bool = λ x. not (nat_eq (real_end x) t) in
+    let keeps : Placed → Bool = λ x. not (nat_eq (real_end x) t) in
     record {
       sound = subst (λ l. IsSound (joined (ended s t) (filter (λ (j : EffectiveJob). nat_eq j.submit t) l))) whole (sound-joined plan s t k p r);
       machine = r.machine;
@@ -147,20 +148,20 @@ run-ready plan s t p r =
       lasting = lasting-more t s.running r.lasting;
       held = λ n.
           let m = subst (λ l. known plan t n + count_by (λ (j : EffectiveJob). nat_eq j.number n) (filter (λ (j : EffectiveJob). nat_eq j.submit t) l) ≤ known plan (suc t) n) whole (known-more plan.jobs t n k) in
-          omega (arith, sum_by-append (λ (j : EffectiveJob). cond (nat_eq j.number n) 1 0) s.waiting js, sum_by-filter-le (λ (x : Running). cond (nat_eq x.job.number n) 1 0) keeps s.running, r.held n, m);
+          omega (arith, sum_by-append (λ (j : EffectiveJob). cond (nat_eq j.number n) 1 0) s.waiting js, sum_by-filter-le (λ (x : Placed). cond (nat_eq x.job.number n) 1 0) keeps s.running, r.held n, m);
     }
 
 pub run-started : (plan : Plan) (t : ℕ) → t < 2 ^ 49 → (s : State) (job : EffectiveJob) → next s t ≡ Some job → IsRun plan s (suc t) → IsRun plan (started s job t) (suc t)
 run-started plan t small s job e r =
     let found = next-found s t job r.sound e in
-    let x : Running = record { job = job; start = t } in
+    let x : Placed = record { job = job; start = t } in
     let limits : IsWithinLimits job = All-find IsWithinLimits (λ (j : EffectiveJob). nat_eq j.number job.number) s.waiting job found r.sound.waiting_limits in
     record {
       sound = sound-started s job t r.sound found (next-fits s t job e) small;
       machine = r.machine;
       order = r.order;
       lasting = All-placed (λ r. suc t ≤ real_end r) x s.running (omega (arith, limits.lasts)) r.lasting;
-      held = λ n. omega (arith, r.held n, sum_by-placed (λ (y : Running). cond (nat_eq y.job.number n) 1 0) x s.running, sum_by-without (λ (j : EffectiveJob). cond (nat_eq j.number n) 1 0) job.number s.waiting job found);
+      held = λ n. omega (arith, r.held n, sum_by-placed (λ (y : Placed). cond (nat_eq y.job.number n) 1 0) x s.running, sum_by-without (λ (j : EffectiveJob). cond (nat_eq j.number n) 1 0) job.number s.waiting job found);
     }
 
 pub run-second : (plan : Plan) (s : State) (t : ℕ) → t < 2 ^ 49 → IsPlan plan → IsRun plan s t → IsRun plan (second plan s t) (suc t)

@@ -9,7 +9,7 @@ use Rattle.cluster_state.specs.State.{State}
 use Rattle.easy_rule.specs.declared.start.Start.{Start}
 use Rattle.easy_rule.specs.Rule.{starts_at}
 use Rattle.easy_rule.specs.Simulation.{before, starts_before, starts_in, ready, submitted, last_submit, bound, sim, start_of}
-use Rattle.timeline.specs.SoundPlan.{IsPlan}
+use Rattle.scenarios.specs.SoundPlan.{IsPlan}
 use Rattle.timeline.specs.Laws.{EachJobStartsOnce, NoneStartsEarly}
 use Rattle.timeline.proofs.Short.{short-plan}
 use Rattle.timeline.proofs.Facts.{count-filter, run-ready, run-before, starts_before-more}

@@ -4,8 +4,9 @@ use Rattle.std.proofs.lemmas.List.Sums.{sum_by-cons}
 use Rattle.std.proofs.lemmas.Bool.{cond-true, cond-false, cases_Bool, eq-eqb, eqb-true, true≢false}
 use Rattle.scenarios.specs.Job.{EffectiveJob}
 use Rattle.scenarios.specs.Plan.{Plan}
-use Rattle.cluster_state.specs.declared.running.Running.{Running}
-use Rattle.cluster_state.specs.State.{State, free, busy, back_by, available, real_end, started, without}
+use Rattle.scenarios.specs.declared.placed.Placed.{Placed}
+use Rattle.scenarios.specs.Placed.{real_end}
+use Rattle.cluster_state.specs.State.{State, free, busy, back_by, available, started, without}
 use Rattle.cluster_state.specs.Row.{in_order}
 use Rattle.cluster_state.proofs.StateLemmas.{sum_by-without}
 use Rattle.easy_rule.specs.Rule.{next, next_of, may_backfill, shadow_at, shadow_time}
@@ -14,14 +15,14 @@ use Rattle.easy_rule.proofs.RuleLemmas.{shadow_time-IsLeast, back_by-le}
 use Rattle.easy_rule.proofs.NextLemmas.{next-found, found-passes}
 use Rattle.easy_rule.proofs.PassLemmas.{time-kept}
 use Rattle.easy_rule.proofs.Decisions.{decided-keeps}
-use Rattle.timeline.specs.SoundPlan.{IsPlan}
+use Rattle.scenarios.specs.SoundPlan.{IsPlan}
 use Rattle.timeline.proofs.Facts.{IsRun, run-started, run-ready, run-before, before-more}
 
 -- a job that leaves gives back at least what was expected
-more-available : (t : ℕ) (p : Running → Bool) (rs : List Running) → busy (filter p rs) + sum_by (back_by t) rs ≤ busy rs + sum_by (back_by t) (filter p rs)
+more-available : (t : ℕ) (p : Placed → Bool) (rs : List Placed) → busy (filter p rs) + sum_by (back_by t) rs ≤ busy rs + sum_by (back_by t) (filter p rs)
 more-available t p [] = omega arith
 more-available t p (r ∷ rs) =
-    let size : Running → ℕ = λ x. x.job.size in
+    let size : Placed → ℕ = λ x. x.job.size in
     let i = more-available t p rs in
     let a = sum_by-cons size r rs in
     let b = sum_by-cons (back_by t) r rs in

@@ -5,14 +5,15 @@ use Rattle.std.proofs.lemmas.List.Elements.{All-head, All-tail}
 use Rattle.std.proofs.lemmas.Bool.{cond-true, cond-false, cases_Bool, cases_lt, eq-eqb, lt-leb, le-leb}
 use Rattle.scenarios.specs.Job.{EffectiveJob}
 use Rattle.scenarios.specs.Plan.{Plan}
-use Rattle.cluster_state.specs.declared.running.Running.{Running}
-use Rattle.cluster_state.specs.State.{State, free, back_by, expected_end}
+use Rattle.scenarios.specs.declared.placed.Placed.{Placed}
+use Rattle.scenarios.specs.Placed.{expected_end}
+use Rattle.cluster_state.specs.State.{State, free, back_by}
 use Rattle.cluster_state.specs.Row.{in_order}
 use Rattle.easy_rule.specs.declared.start.Start.{Start}
 use Rattle.easy_rule.specs.Rule.{next, next_of, may_backfill, shadow_at, shadow_time}
 use Rattle.easy_rule.specs.Simulation.{before, starts_in, starts_before, bound, sim, start_of}
 use Rattle.easy_rule.proofs.RuleLemmas.{shadow_time-IsLeast, back-each}
-use Rattle.timeline.specs.SoundPlan.{IsPlan}
+use Rattle.scenarios.specs.SoundPlan.{IsPlan}
 use Rattle.timeline.specs.Laws.{IsHead, head_time, ShadowTimesNeverRise, HeadsStartByTheirShadowTimes}
 use Rattle.timeline.proofs.Short.{bound-le}
 use Rattle.timeline.proofs.Facts.{run-before, starts_before-more}
@@ -92,7 +93,7 @@ shadow-times-never-rise plan t u job p l (rest, queue) (rest', queue') =
     k
 
 -- nothing comes back before the first expected end
-nothing-back : (u : ℕ) (rs : List Running) → All (λ r. u < expected_end r) rs → sum_by (back_by u) rs ≡ 0
+nothing-back : (u : ℕ) (rs : List Placed) → All (λ r. u < expected_end r) rs → sum_by (back_by u) rs ≡ 0
 nothing-back u [] a = refl
 nothing-back u (r ∷ rs) a =
     let one = cond-false {A = ℕ} (nat_le (expected_end r) u) r.job.size 0 (lt-leb (expected_end r) u (All-head (λ r. u < expected_end r) r rs a)) in
@@ -161,9 +162,6 @@ found-within n P (x ∷ xs) ys some a =
 All-behind : (P : Start → Type 0) (xs ys : List Start) → All P (xs ++ ys) → All P ys
 All-behind P [] ys a = a
 All-behind P (x ∷ xs) ys a = All-behind P xs ys (All-tail P x (xs ++ ys) a)
-
-All-both : (P Q : Start → Type 0) (xs : List Start) → All P xs → All Q xs → All (λ x. P x × Q x) xs
-All-both P Q xs a b = λ k d l. (a k d l, b k d l)
 
 -- all starts, with those of the first t seconds in front
 in-front : (plan : Plan) (t : ℕ) → IsPlan plan → (ys : List Start) × (sim plan ≡ starts_before plan t ++ ys)

@@ -2,8 +2,9 @@
 use Rattle.std.proofs.Common.{◌≡◌, ◌≢◌, ℕ, zero, suc, ◌+◌, ◌-◌, not, nat_eq, List, [], ◌∷◌, ◌++◌, length, append-nil, add-zero, Any, filter, refl, sym, ◌∙◌, ap, arith, inl, inr}
 use Rattle.std.proofs.lemmas.Bool.{cond-true, ne_eqb}
 use Rattle.scenarios.specs.Plan.{Plan}
-use Rattle.cluster_state.specs.declared.running.Running.{Running}
-use Rattle.cluster_state.specs.State.{State, real_end}
+use Rattle.scenarios.specs.declared.placed.Placed.{Placed}
+use Rattle.scenarios.specs.Placed.{real_end}
+use Rattle.cluster_state.specs.State.{State}
 use Rattle.easy_rule.specs.Pass.{front}
 use Rattle.easy_rule.specs.Rule.{shadow_of, next, state_after, starts_at}
 use Rattle.easy_rule.specs.Simulation.{IsEvent, before, submitted, ready, ended, joined, starts_before}
@@ -20,7 +21,7 @@ each-state-is-settled plan (suc t) =
     next-later (state_after s t) t (suc t) (state_after s t).waiting (omega arith) (decided-done (length s.waiting) s t (omega arith))
 
 -- where none ends, all stay
-ended-none : (t : ℕ) (rs : List Running) → (Any (λ r. real_end r ≡ t) rs → ⊥) → filter (λ r. not (nat_eq (real_end r) t)) rs ≡ rs
+ended-none : (t : ℕ) (rs : List Placed) → (Any (λ r. real_end r ≡ t) rs → ⊥) → filter (λ r. not (nat_eq (real_end r) t)) rs ≡ rs
 ended-none t [] none = refl
 ended-none t (r ∷ rs) none =
     let ne : real_end r ≡ t → ⊥ = λ e. none (0, r, omega arith, refl, e) in
@@ -59,7 +60,7 @@ pub only-ends-unsettle : OnlyEndsUnsettle
 only-ends-unsettle plan t none =
     let s = before plan t in
     let js = submitted plan t in
-    let same : ended s t ≡ s = ap (λ (rs : List Running). let z : State = record { machine = s.machine; order = s.order; waiting = s.waiting; running = rs } in z) (ended-none t s.running none) in
+    let same : ended s t ≡ s = ap (λ (rs : List Placed). let z : State = record { machine = s.machine; order = s.order; waiting = s.waiting; running = rs } in z) (ended-none t s.running none) in
     let is : ready plan s t ≡ joined s js = ap (λ (z : State). joined z js) same in
     let law = arrivals-unsettle-nobody s js t (each-state-is-settled plan t) in
     (ap (λ (z : State). next (front z (length s.waiting)) t) is ∙ law.0, λ w known. ap shadow_of is ∙ law.1 w known)

@@ -5,7 +5,7 @@ use Rattle.std.proofs.lemmas.Bool.{cond-false, ne_eqb}
 use Rattle.scenarios.specs.Job.{EffectiveJob}
 use Rattle.scenarios.specs.Plan.{Plan}
 use Rattle.scenarios.specs.declared.order.Order.{Order}
-use Rattle.cluster_state.specs.declared.running.Running.{Running}
+use Rattle.scenarios.specs.declared.placed.Placed.{Placed}
 use Rattle.cluster_state.specs.State.{State, empty}
 use Rattle.easy_rule.specs.Rule.{decided, decisions, state_after, starts_at}
 use Rattle.easy_rule.specs.Simulation.{before, starts_before, submitted, ready, last_submit}
@@ -55,7 +55,7 @@ rests plan t (suc n) m o l e =
 pub empty-is : (s : State) → s.waiting ≡ [] → s.running ≡ [] → s ≡ empty s.machine s.order
 empty-is s a b = go s.machine s.order s.waiting s.running a b
   where
-    go : (m : ℕ) (o : Order) (js : List EffectiveJob) (rs : List Running) → js ≡ [] → rs ≡ [] → (let z : State = record { machine = m; order = o; waiting = js; running = rs } in z) ≡ empty m o
+    go : (m : ℕ) (o : Order) (js : List EffectiveJob) (rs : List Placed) → js ≡ [] → rs ≡ [] → (let z : State = record { machine = m; order = o; waiting = js; running = rs } in z) ≡ empty m o
     go m o js rs a b = rw (a, b) refl
 
 -- so all starts have been made

@@ -4,7 +4,7 @@ use Rattle.std.proofs.lemmas.List.Elements.{All-nil, All-append, All-weaker}
 use Rattle.scenarios.specs.Plan.{Plan}
 use Rattle.easy_rule.specs.declared.start.Start.{Start}
 use Rattle.easy_rule.specs.Simulation.{before, starts_before, starts_in, ready, bound, sim}
-use Rattle.timeline.specs.SoundPlan.{IsPlan}
+use Rattle.scenarios.specs.SoundPlan.{IsPlan}
 use Rattle.timeline.specs.Laws.{AllStartByTheBound}
 use Rattle.timeline.proofs.Short.{short-plan}
 use Rattle.easy_rule.proofs.Decisions.{starts-now}

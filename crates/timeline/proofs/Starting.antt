@@ -5,8 +5,9 @@ use Rattle.std.proofs.lemmas.List.Elements.{All-nil, All-weaker, All-filter}
 use Rattle.std.proofs.lemmas.Bool.{ne_eqb, eq-eqb, eqb-true, and_from, and_parts}
 use Rattle.scenarios.specs.Job.{EffectiveJob}
 use Rattle.scenarios.specs.Plan.{Plan}
-use Rattle.cluster_state.specs.declared.running.Running.{Running}
-use Rattle.cluster_state.specs.State.{State, real_end, started}
+use Rattle.scenarios.specs.declared.placed.Placed.{Placed}
+use Rattle.scenarios.specs.Placed.{real_end}
+use Rattle.cluster_state.specs.State.{State, started}
 use Rattle.cluster_state.proofs.StateLemmas.{sum_by-placed, All-placed}
 use Rattle.cluster_state.proofs.EndLemmas.{adds-none, adds-one, one-adds}
 use Rattle.easy_rule.specs.declared.start.Start.{Start}
@@ -14,7 +15,7 @@ use Rattle.easy_rule.specs.Rule.{next, decided, decisions}
 use Rattle.easy_rule.specs.Simulation.{before, starts_before, starts_in, ready, bound, sim}
 use Rattle.easy_rule.proofs.NextLemmas.{decided-start, decided-stop, decisions-start, decisions-stop}
 use Rattle.easy_rule.proofs.Decisions.{cases_option, decided-keeps}
-use Rattle.timeline.specs.SoundPlan.{IsPlan}
+use Rattle.scenarios.specs.SoundPlan.{IsPlan}
 use Rattle.timeline.specs.Laws.{StartsAreRunningJobs}
 use Rattle.timeline.proofs.Facts.{before-more, starts_before-more}
 use Rattle.timeline.proofs.Rest.{rests}
@@ -26,7 +27,7 @@ use Rattle.timeline.proofs.Seconds.{starts-below}
 abbrev is_start : ℕ → ℕ → Start → Bool
 is_start n t x = nat_eq x.number n && nat_eq x.at t
 
-abbrev has_started : ℕ → ℕ → Running → Bool
+abbrev has_started : ℕ → ℕ → Placed → Bool
 has_started n t r = nat_eq r.job.number n && nat_eq r.start t
 
 -- how many
@@ -51,30 +52,30 @@ told-runs n (suc k) t s =
     let s' = started s job t in
     let one : suc k - 1 ≡ k = omega arith in
     let x : Start = record { number = job.number; at = t } in
-    let r : Running = record { job = job; start = t } in
+    let r : Placed = record { job = job; start = t } in
     let a = ap (made n t) (decisions-start (suc k) s job t (omega arith) f.1 ∙ ap (λ m. x ∷ decisions m s' t) one) in
     let b = ap (run n t) (decided-start (suc k) s job t (omega arith) f.1 ∙ ap (λ m. decided m s' t) one) in
     let i = told-runs n k t s' in
-    omega (arith, a, b, i, sum_by-cons (λ (x : Start). cond {A = ℕ} (is_start n t x) 1 0) x (decisions k s' t), sum_by-placed (λ (r : Running). cond {A = ℕ} (has_started n t r) 1 0) r s.running))
+    omega (arith, a, b, i, sum_by-cons (λ (x : Start). cond {A = ℕ} (is_start n t x) 1 0) x (decisions k s' t), sum_by-placed (λ (r : Placed). cond {A = ℕ} (has_started n t r) 1 0) r s.running))
     (cases_option (next s t))
 
 -- who runs before a second has started before it
 began : (plan : Plan) (t : ℕ) → All (λ r. r.start < t) (before plan t).running
 unfolding before
-began plan zero = All-nil (λ (r : Running). r.start < 0)
+began plan zero = All-nil (λ (r : Placed). r.start < 0)
 began plan (suc t) =
     let s = ready plan (before plan t) t in
-    let P : Running → Type 0 = λ r. r.start < suc t in
+    let P : Placed → Type 0 = λ r. r.start < suc t in
     decided-keeps (λ (z : State). All P z.running) t
     (λ z job e h. All-placed P (record { job = job; start = t }) z.running (omega arith) h)
     (length s.waiting) s
-    (All-filter (λ (r : Running). not (nat_eq (real_end r) t)) P (before plan t).running (All-weaker (λ (r : Running). r.start < t) P (λ r l. omega arith) (before plan t).running (began plan t)))
+    (All-filter (λ (r : Placed). not (nat_eq (real_end r) t)) P (before plan t).running (All-weaker (λ (r : Placed). r.start < t) P (λ r l. omega arith) (before plan t).running (began plan t)))
 
 second-not : (b : Bool) (a t : ℕ) → (a ≡ t → ⊥) → (b && nat_eq a t) ≡ false
 second-not true a t ne = ne_eqb a t ne
 second-not false a t ne = refl
 
-none-run : (n t : ℕ) (rs : List Running) → All (λ r. r.start < t) rs → count_by (has_started n t) rs ≡ 0
+none-run : (n t : ℕ) (rs : List Placed) → All (λ r. r.start < t) rs → count_by (has_started n t) rs ≡ 0
 none-run n t rs a = adds-none (has_started n t) rs (All-weaker (λ r. r.start < t) (λ r. has_started n t r ≡ false) (λ r l. second-not (nat_eq r.job.number n) r.start t (λ e. omega arith)) rs a)
 
 -- of all starts those of a second are the starts of that second
@@ -100,13 +101,13 @@ as-many-run plan n t p =
     let a = made-then plan n t p in
     let b = ap (run n t) (before-more plan t) in
     let c = told-runs n (length s.waiting) t s in
-    let d = none-run n t s.running (All-filter (λ (r : Running). not (nat_eq (real_end r) t)) (λ (r : Running). r.start < t) (before plan t).running (began plan t)) in
+    let d = none-run n t s.running (All-filter (λ (r : Placed). not (nat_eq (real_end r) t)) (λ (r : Placed). r.start < t) (before plan t).running (began plan t)) in
     omega (arith, a, b, c, d)
 
 pub starts-are-running-jobs : StartsAreRunningJobs
 starts-are-running-jobs plan n t p =
     let IsStart : Start → Type 0 = λ x. (x.number ≡ n) × (x.at ≡ t) in
-    let HasStarted : Running → Type 0 = λ r. (r.job.number ≡ n) × (r.start ≡ t) in
+    let HasStarted : Placed → Type 0 = λ r. (r.job.number ≡ n) × (r.start ≡ t) in
     let same = as-many-run plan n t p in (
       λ h. one-adds HasStarted (has_started n t) (before plan (t + 1)).running
           (λ r e. (let q = and_parts (nat_eq r.job.number n) (nat_eq r.start t) e in (eqb-true r.job.number n q.0, eqb-true r.start t q.1)))

@@ -2,12 +2,13 @@
 use Rattle.std.specs.Prelude.{◌≡◌, ℕ, ◌+◌, ◌≤◌, ◌<◌, ◌↔◌, nat_eq, List, ◌∷◌, length, None, Some, All, Any, IsSomeAnd, count_by}
 use Rattle.scenarios.specs.Job.{EffectiveJob}
 use Rattle.scenarios.specs.Plan.{Plan}
-use Rattle.cluster_state.specs.State.{IsSound, empty, real_end}
+use Rattle.scenarios.specs.Placed.{real_end}
+use Rattle.cluster_state.specs.State.{IsSound, empty}
 use Rattle.easy_rule.specs.declared.shadow_time.Shadow.{Shadow}
 use Rattle.easy_rule.specs.Rule.{next, shadow_of, shadow_time}
 use Rattle.easy_rule.specs.Pass.{front}
 use Rattle.easy_rule.specs.Simulation.{IsEvent, before, ready, bound, sim, start_of, starts_before}
-use Rattle.timeline.specs.SoundPlan.{IsPlan}
+use Rattle.scenarios.specs.SoundPlan.{IsPlan}
 
 -- each job starts exactly once, and nobody else starts
 abbrev pub EachJobStartsOnce : Type 0

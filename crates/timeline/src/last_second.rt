@@ -2,7 +2,7 @@ ghost use Rattle.std.specs.Prelude.{◌≡◌, ℕ, ◌+◌, ◌≤◌, ◌<◌,
 ghost use Rattle.scenarios.specs.Plan.{Plan};
 ghost use Rattle.cluster_state.specs.State.{empty};
 ghost use Rattle.easy_rule.specs.Simulation.{before, bound, last_submit};
-ghost use Rattle.timeline.specs.SoundPlan.{IsPlan};
+ghost use Rattle.scenarios.specs.SoundPlan.{IsPlan};
 
 use scenarios::Job;
 

@@ -1,5 +1,5 @@
 use Rattle.std.proofs.Common.{◌∙◌, ◌++◌, List, ap, sym, refl, append-nil, append_assoc}
-use Rattle.metrics.specs.declared.placed.Placed.{Placed}
+use Rattle.scenarios.specs.declared.placed.Placed.{Placed}
 use Rattle.checkpoints.proofs.Late.{placed-more}
 use Rattle.checkpoints.proofs.Placing.{jobs_running}
 use Rattle.checkpoints.proofs.parts.add_placed.Goals.{in-Some+in_ok-push, in_default}

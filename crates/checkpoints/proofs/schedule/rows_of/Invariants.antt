@@ -1,11 +1,11 @@
 use Rattle.std.proofs.Common.{◌≡◌, ◌++◌, length}
 use Rattle.std.specs.List.{filter_map}
-use Rattle.scenarios.specs.Plan.{jobs_of}
+use Rattle.scenarios.specs.PlanView.{plan_in}
 use Rattle.checkpoints.specs.Schedule.{row_of}
 use Rattle.checkpoints.proofs.schedule.rows_of.Given as goal
 
-abbrev pub invariant-entries : goal.invariant-entries
-invariant-entries g l = l.rows.items ++ filter_map (row_of l.fn.starts.items) (jobs_of l.coming l.scenario) ≡ filter_map (row_of l.fn.starts.items) (jobs_of l.table l.scenario)
+abbrev pub invariant-jobs : goal.invariant-jobs
+invariant-jobs g l = l.rows.items ++ filter_map (row_of l.fn.starts.items) l.coming ≡ filter_map (row_of l.fn.starts.items) (plan_in l.plan).jobs
 
-abbrev pub decreases-entries : goal.decreases-entries
-decreases-entries g l = length l.coming
+abbrev pub decreases-jobs : goal.decreases-jobs
+decreases-jobs g l = length l.coming

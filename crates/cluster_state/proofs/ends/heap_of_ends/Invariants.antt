@@ -1,7 +1,7 @@
 use Rattle.std.proofs.Common.{◌≡◌, ℕ, sum_by, take}
 use Rattle.std.specs.BinaryHeap.{heap_items, IsHeap}
 use Rattle.std.specs.Ordering.{nat_cmp}
-use Rattle.cluster_state.specs.State.{real_end}
+use Rattle.scenarios.specs.Placed.{real_end}
 use Rattle.cluster_state.proofs.ends.heap_of_ends.Given as goal
 
 abbrev pub invariant-loop-r : goal.invariant-loop-r

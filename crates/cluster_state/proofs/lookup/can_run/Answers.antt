@@ -1,12 +1,12 @@
 use Rattle.std.proofs.Common.{◌+◌, arith}
 use Rattle.std.proofs.lemmas.Bool.{false≢true}
-use Rattle.scenarios.specs.Plan.{jobs_of}
+use Rattle.scenarios.specs.PlanView.{plan_in}
 use Rattle.cluster_state.proofs.LookupLemmas.{busy-more, busy-part, have-more}
 use Rattle.cluster_state.proofs.lookup.can_run.Goals as goal
 
 pub returns-then-left-size : goal.returns-then-left-size
 returns-then-left-size g c =
-    let jobs = jobs_of c.args.table.now c.args.scenario.now in
+    let jobs = (plan_in c.args.plan.now).jobs in
     let more = busy-more jobs c.args.running.now c.loop-r.r-index _ c.in-Some.job c.loop-r-test.true c.in-Some.ensures.job in
     let part = busy-part jobs c.args.running.now (c.loop-r.r-index + 1) in
     let held = c.loop-r.invariant.held in
@@ -16,7 +16,7 @@ returns-then-left-size g c =
 
 pub loop-r-preserved : goal.loop-r-preserved
 loop-r-preserved g c =
-    let jobs = jobs_of c.args.table.now c.args.scenario.now in
+    let jobs = (plan_in c.args.plan.now).jobs in
     let more = busy-more jobs c.args.running.now c.loop-r.r-index _ c.in-Some.job c.loop-r-test.true c.in-Some.ensures.job in
     let held = c.loop-r.invariant.held in
     let room = c.if-left-size.false in

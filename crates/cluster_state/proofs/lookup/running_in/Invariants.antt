@@ -1,12 +1,12 @@
 use Rattle.std.proofs.Common.{◌≡◌, All, take}
 use Rattle.std.specs.List.{filter_map}
 use Rattle.scenarios.specs.Job.{IsWithinLimits}
-use Rattle.scenarios.specs.Plan.{jobs_of}
+use Rattle.scenarios.specs.PlanView.{plan_in}
 use Rattle.cluster_state.specs.Snapshot.{running_numbered}
 use Rattle.cluster_state.proofs.lookup.running_in.Given as goal
 
 abbrev pub invariant-loop-r : goal.invariant-loop-r
 invariant-loop-r g l = record {
-  jobs : l.jobs.items ≡ filter_map (running_numbered (jobs_of l.table l.scenario)) (take l.r-index l.running);
+  jobs : l.jobs.items ≡ filter_map (running_numbered ((plan_in l.plan).jobs)) (take l.r-index l.running);
   limits : All (λ r. IsWithinLimits r.job) l.jobs.items;
 }

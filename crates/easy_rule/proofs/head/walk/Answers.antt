@@ -1,61 +1,59 @@
 use Rattle.std.proofs.Common.{◌≡◌, ◌≤◌, ◌<◌, ◌⊎◌, arith, refl, inl, inr, length, get_or}
-use Rattle.cluster_state.specs.declared.running.Running.{Running}
-use Rattle.cluster_state.specs.State.{State, expected_end}
+use Rattle.scenarios.specs.declared.placed.Placed.{Placed}
+use Rattle.scenarios.specs.Placed.{expected_end}
+use Rattle.cluster_state.specs.State.{State}
 use Rattle.cluster_state.specs.Ends.{by_end}
 use Rattle.easy_rule.proofs.WalkLemmas.{walk-more, walk-shadow, walk-least, walk-stops, walk-ends, walk-room, walk-reads, walk-reads-all, early-end}
 use Rattle.easy_rule.proofs.head.walk.Goals.{else-need-room-via-then-need-room+else-time-end, else-need-room-via-else-need-room}
 use Rattle.easy_rule.proofs.head.walk.Goals as goal
 
-pub overflow_add-end : goal.overflow_add-end
-overflow_add-end g c =
+pub expected_end-end-requires : goal.expected_end-end-requires
+expected_end-end-requires g c =
     let s : State = c.args.cluster.now.state in
-    let r : Running = c.r-item.result in
+    let r : Placed = c.r-item.result in
     let i = c.loop-r.r-index in
     let here : i < length (by_end s.running) = rw c.running_by_end-r-items.ensures.order at c.loop-r-test.true in
     let is : r ≡ get_or (by_end s.running) i r = rw c.running_by_end-r-items.ensures.order at c.r-item.is in
-    let w = c.loop-r.invariant.walk in
-    let early = early-end s i r c.running_by_end-r-items.ensures.sound here is in
-    let limits = c.estimate.ensures.limits in
-    omega (arith, early, limits.within_limit, c.estimate.ensures.value)
+    early-end s i r c.running_by_end-r-items.ensures.sound here is
 
 pub returns-then-time-end-clause-shadow : goal.returns-then-time-end-clause-shadow
 returns-then-time-end-clause-shadow g c =
     let s : State = c.args.cluster.now.state in
-    let r : Running = c.r-item.result in
+    let r : Placed = c.r-item.result in
     let i = c.loop-r.r-index in
     let here : i < length (by_end s.running) = rw c.running_by_end-r-items.ensures.order at c.loop-r-test.true in
     let is : r ≡ get_or (by_end s.running) i r = rw c.running_by_end-r-items.ensures.order at c.r-item.is in
     let w = c.loop-r.invariant.walk in
-    let rest = walk-stops s c.args.need c.loop-r.room c.loop-r.time i r w here is (rw c.estimate.ensures.value at c.if-time-end.true) in
+    let rest = walk-stops s c.args.need c.loop-r.room c.loop-r.time i r w here is (rw c.expected_end-end.ensures.value at c.if-time-end.true) in
     walk-shadow s c.args.need c.loop-r.room c.loop-r.time i _ c.free-room.ensures.sound c.requires.within w c.if-need-room.true rest refl
 
 pub returns-then-time-end-clause-least : goal.returns-then-time-end-clause-least
 returns-then-time-end-clause-least g c =
     let s : State = c.args.cluster.now.state in
-    let r : Running = c.r-item.result in
+    let r : Placed = c.r-item.result in
     let i = c.loop-r.r-index in
     let here : i < length (by_end s.running) = rw c.running_by_end-r-items.ensures.order at c.loop-r-test.true in
     let is : r ≡ get_or (by_end s.running) i r = rw c.running_by_end-r-items.ensures.order at c.r-item.is in
     let w = c.loop-r.invariant.walk in
-    let rest = walk-stops s c.args.need c.loop-r.room c.loop-r.time i r w here is (rw c.estimate.ensures.value at c.if-time-end.true) in
+    let rest = walk-stops s c.args.need c.loop-r.room c.loop-r.time i r w here is (rw c.expected_end-end.ensures.value at c.if-time-end.true) in
     walk-least s c.args.need c.loop-r.room c.loop-r.time i c.free-room.ensures.sound c.requires.within w c.if-need-room.true rest
 
 pub returns-then-time-end-clause-reads : goal.returns-then-time-end-clause-reads
 returns-then-time-end-clause-reads g c =
     let s : State = c.args.cluster.now.state in
-    let r : Running = c.r-item.result in
+    let r : Placed = c.r-item.result in
     let i = c.loop-r.r-index in
     let here : i < length (by_end s.running) = rw c.running_by_end-r-items.ensures.order at c.loop-r-test.true in
     let is : r ≡ get_or (by_end s.running) i r = rw c.running_by_end-r-items.ensures.order at c.r-item.is in
     let w = c.loop-r.invariant.walk in
-    let rest = walk-stops s c.args.need c.loop-r.room c.loop-r.time i r w here is (rw c.estimate.ensures.value at c.if-time-end.true) in
+    let rest = walk-stops s c.args.need c.loop-r.room c.loop-r.time i r w here is (rw c.expected_end-end.ensures.value at c.if-time-end.true) in
     let read = walk-reads s c.args.need c.loop-r.room c.loop-r.time i w here rest in
     omega (arith, read, c.loop-r.invariant.reads)
 
 pub overflow_add-room : goal.overflow_add-room
 overflow_add-room g c =
     let s : State = c.args.cluster.now.state in
-    let r : Running = c.r-item.result in
+    let r : Placed = c.r-item.result in
     let i = c.loop-r.r-index in
     let here : i < length (by_end s.running) = rw c.running_by_end-r-items.ensures.order at c.loop-r-test.true in
     let is : r ≡ get_or (by_end s.running) i r = rw c.running_by_end-r-items.ensures.order at c.r-item.is in
@@ -66,18 +64,18 @@ overflow_add-room g c =
 pub loop-r-preserved : goal.loop-r-preserved
 loop-r-preserved g c =
     let s : State = c.args.cluster.now.state in
-    let r : Running = c.r-item.result in
+    let r : Placed = c.r-item.result in
     let i = c.loop-r.r-index in
     let here : i < length (by_end s.running) = rw c.running_by_end-r-items.ensures.order at c.loop-r-test.true in
     let is : r ≡ get_or (by_end s.running) i r = rw c.running_by_end-r-items.ensures.order at c.r-item.is in
     let w = c.loop-r.invariant.walk in
     let why : (c.loop-r.room < c.args.need) ⊎ (expected_end r ≤ c.loop-r.time) =
     elim c.else-need-room.branch [
-      | else-need-room-via-then-need-room+else-time-end v ↦ inr (rw c.estimate.ensures.value at v.if-time-end.false)
+      | else-need-room-via-then-need-room+else-time-end v ↦ inr (rw c.expected_end-end.ensures.value at v.if-time-end.false)
       | else-need-room-via-else-need-room v ↦ inl v.if-need-room.false
     ] in
     record {
-      walk = rw (c.size-room.ensures.value, c.estimate.ensures.value) (walk-more s c.args.need c.loop-r.room c.loop-r.time i r w here is why);
+      walk = rw (c.size-room.ensures.value, c.expected_end-end.ensures.value) (walk-more s c.args.need c.loop-r.room c.loop-r.time i r w here is why);
       reads = omega (arith, c.loop-r.invariant.reads);
     }
 

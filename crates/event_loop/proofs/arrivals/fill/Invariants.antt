@@ -1,10 +1,10 @@
 use Rattle.std.proofs.Common.{length}
-use Rattle.scenarios.specs.Plan.{jobs_of}
+use Rattle.scenarios.specs.PlanView.{plan_in}
 use Rattle.event_loop.proofs.Rows.{Taking}
 use Rattle.event_loop.proofs.arrivals.fill.Given as goal
 
-abbrev pub invariant-entries : goal.invariant-entries
-invariant-entries g l = Taking l.second l.last l.row.items (jobs_of l.coming l.scenario) (jobs_of l.table l.scenario)
+abbrev pub invariant-jobs : goal.invariant-jobs
+invariant-jobs g l = Taking l.second l.last l.row.items l.coming (plan_in l.plan).jobs
 
-abbrev pub decreases-entries : goal.decreases-entries
-decreases-entries g l = length l.coming
+abbrev pub decreases-jobs : goal.decreases-jobs
+decreases-jobs g l = length l.coming

@@ -1,4 +1,4 @@
-use Rattle.std.proofs.Common.{rules, ◌≡◌, ℕ, ◌+◌, ◌<◌, ◌^◌, arith, ap, List, ◌∷◌, cond, eqb, refl, All}
+use Rattle.std.proofs.Common.{rules, ◌≡◌, ℕ, ◌+◌, ◌<◌, arith, ap}
 use Rattle.std.proofs.lemmas.List.Elements.{All-same, All-rest}
 use Rattle.metrics.specs.Days.{day_total, day_at}
 use Rattle.metrics.proofs.Entries.{day_total_is, first_day_fits, days_some, first_holds, day_step}

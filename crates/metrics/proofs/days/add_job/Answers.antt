@@ -1,4 +1,4 @@
-use Rattle.std.proofs.Common.{◌≡◌, ℕ, ◌+◌, ◌<◌, ◌≤◌, arith, refl}
+use Rattle.std.proofs.Common.{ℕ, arith, refl}
 use Rattle.metrics.specs.Days.{day_at}
 use Rattle.metrics.specs.Measures.{busy_in}
 use Rattle.metrics.proofs.Overlaps.{idle_before, day_done, day_ahead}

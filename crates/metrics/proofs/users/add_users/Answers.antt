@@ -1,4 +1,4 @@
-use Rattle.std.proofs.Common.{◌≡◌, ℕ, ℤ, ◌+◌, ◌<◌, ◌^◌, arith, ap, List, ◌∷◌, cond, refl, sym, ◌∙◌, All}
+use Rattle.std.proofs.Common.{◌≡◌, ℤ, ◌<◌, ap, sym, ◌∙◌}
 use Rattle.std.proofs.Common.{rules, w64}
 use mir.Val.{SFits}
 use Rattle.std.proofs.lemmas.Int.{to_z-of_z}

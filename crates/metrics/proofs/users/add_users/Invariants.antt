@@ -1,4 +1,4 @@
-use Rattle.std.proofs.Common.{◌≡◌, ℕ, ℤ, ◌<◌, All}
+use Rattle.std.proofs.Common.{◌≡◌, ℤ, ◌<◌, All}
 use Rattle.metrics.specs.Users.{user_at, user_total, plus, UsersFilled}
 use Rattle.metrics.proofs.users.add_users.Given as goal
 

@@ -1,6 +1,7 @@
 use Rattle.std.proofs.Common.{◌≤◌, arith}
-use Rattle.cluster_state.specs.declared.running.Running.{Running}
-use Rattle.cluster_state.specs.State.{expected_end, available}
+use Rattle.scenarios.specs.declared.placed.Placed.{Placed}
+use Rattle.scenarios.specs.Placed.{expected_end}
+use Rattle.cluster_state.specs.State.{available}
 use Rattle.easy_rule.proofs.RuleLemmas.{shadow_time-IsLeast, shadow_time-small, seen-more, seen-all}
 use Rattle.reference.proofs.rule.shadow_time.Goals as goal
 use Rattle.reference.proofs.rule.shadow_time.Goals.{then-end-time+then-need-available, else-end-time, else-end-time-via-then-end-time+else-need-available, else-end-time-via-else-end-time}
@@ -15,7 +16,7 @@ loop-r-preserved g c =
     let sound = c.running-r-items.ensures.sound in
     let rs = c.running-r-items.result.now in
     let i = c.loop-r.r-index in
-    let r : Running = c.r-item.result in
+    let r : Placed = c.r-item.result in
     let least = shadow_time-IsLeast s need sound.fits c.requires.within in
     elim c.if-end-time.branch [
       | then-end-time+then-need-available w ↦

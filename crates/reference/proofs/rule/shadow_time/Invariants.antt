@@ -1,5 +1,6 @@
 use Rattle.std.proofs.Common.{◌≤◌, take, All}
-use Rattle.cluster_state.specs.State.{expected_end, available}
+use Rattle.scenarios.specs.Placed.{expected_end}
+use Rattle.cluster_state.specs.State.{available}
 use Rattle.easy_rule.specs.Rule.{shadow_time}
 use Rattle.reference.proofs.rule.shadow_time.Given as goal
 

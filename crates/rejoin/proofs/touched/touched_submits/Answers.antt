@@ -1,13 +1,14 @@
 use Rattle.std.proofs.Common.{◌∙◌, ap, List, ℕ, take}
 use Rattle.std.specs.List.{flat_map}
 use Rattle.std.proofs.lemmas.List.{take_all}
-use Rattle.scenarios.specs.Plan.{Plan, plan_of}
+use Rattle.scenarios.specs.Plan.{Plan}
+use Rattle.scenarios.specs.PlanView.{plan_in}
 use Rattle.rejoin.specs.Named.{submits_of}
 use Rattle.rejoin.proofs.Collecting.{submits-all}
 use Rattle.rejoin.proofs.touched.touched_submits.Goals as goal
 
 pub returns : goal.returns
 returns g c =
-    let p : Plan = plan_of c.args.run.now.log c.args.run.now.setting in
-    let q : Plan = plan_of c.args.table.now c.args.run.now.setting in
+    let p : Plan = plan_in c.args.old_plan.now in
+    let q : Plan = plan_in c.args.new_plan.now in
     submits-all p q c.args.numbers.now c.loop-number.submits.items c.requires (c.loop-number.invariant ∙ ap (flat_map (submits_of p q)) (take_all c.loop-number.number-index c.args.numbers.now c.loop-number-test.false))

@@ -1,7 +1,7 @@
 use Rattle.std.proofs.Common.{◌≡◌, ◌≢◌, ℕ, ◌≤◌, nat_eq, List, [], ◌∷◌, Option, Some, length, get_or, find, refl, sym, ◌∙◌, ap, arith, subst}
 use Rattle.std.proofs.lemmas.Bool.{cond-true, cond-false, eq-eqb, ne_eqb}
 use Rattle.scenarios.specs.Job.{EffectiveJob}
-use Rattle.cluster_state.specs.declared.running.Running.{Running}
+use Rattle.scenarios.specs.declared.placed.Placed.{Running}
 use Rattle.cluster_state.specs.State.{State, free, started, without, CanStartAll}
 use Rattle.cluster_state.proofs.StateLemmas.{sum_by-placed}
 use Rattle.run_checks.proofs.clusters.start_first_and_last.Goals as goal

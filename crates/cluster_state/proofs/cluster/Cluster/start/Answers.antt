@@ -1,6 +1,6 @@
 use Rattle.std.proofs.Common.{◌≡◌, ◌≤◌, ◌∙◌, sym, Some, arith, ap, subst, refl}
 use Rattle.std.specs.Option.{option_map_or}
-use Rattle.cluster_state.specs.declared.running.Running.{Running}
+use Rattle.scenarios.specs.declared.placed.Placed.{Placed}
 use Rattle.cluster_state.specs.State.{IsSound, placed, started, without, waiting_job, free}
 use Rattle.cluster_state.specs.Parts.{state_of}
 use Rattle.std.specs.BinaryHeap.{heap_items}
@@ -27,8 +27,8 @@ pub invariant_of-self-2 : goal.invariant_of-self-2
 invariant_of-self-2 g c =
     let f = facts g c in
     let row = c.remove_job-2.ensures ∙ ap (without c.args.number) c.self.invariant.kept_row ∙ row-started c.self.inside.order c.args.number c.self.inside.waiting.items (omega (arith, c.self.invariant.sound.once c.args.number)) in
-    let r : Running = record { job = c.in-Some.job; start = c.args.now } in
-    let held = sum_by-placed (λ (r : Running). r.job.size) r c.self.inside.running.items in
+    let r : Placed = record { job = c.in-Some.job; start = c.args.now } in
+    let held = sum_by-placed (λ (r : Placed). r.job.size) r c.self.inside.running.items in
     let running : c.join.new.running.items ≡ placed r c.self.inside.running.items = c.join.ensures.running ∙ ap (placed r) c.reserve.ensures.items in
     let none = not-running (state_of c.self.inside) c.args.number c.in-Some.job c.self.invariant.sound f.0 f.1 in
     record {
@@ -43,7 +43,7 @@ invariant_of-self-2 g c =
 pub returns-clause-ok : goal.returns-clause-ok
 returns-clause-ok g c =
     let f = facts g c in
-    let r : Running = record { job = c.in-Some.job; start = c.args.now } in
+    let r : Placed = record { job = c.in-Some.job; start = c.args.now } in
     let running : c.join.new.running.items ≡ placed r c.self.inside.running.items = c.join.ensures.running ∙ ap (placed r) c.reserve.ensures.items in
     rw (c.remove_job.ensures, ← f.1, running, ← c.self.view_is)
     (sym (ap (λ o. option_map_or (λ job. started (state_of c.self.inside) job c.args.now) o (state_of c.self.inside)) (subst (λ m. waiting_job (state_of c.self.inside) m ≡ Some c.in-Some.job) (sym f.1) f.0)))

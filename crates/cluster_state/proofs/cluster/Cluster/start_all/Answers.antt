@@ -1,7 +1,7 @@
 use Rattle.std.proofs.Common.{◌≡◌, ℕ, ◌∙◌, ap, sym, subst, cond, nat_eq, sum_by, List, arith}
 use Rattle.std.specs.BinaryHeap.{heap_items}
 use Rattle.scenarios.specs.Job.{EffectiveJob}
-use Rattle.cluster_state.specs.declared.running.Running.{Running}
+use Rattle.scenarios.specs.declared.placed.Placed.{Placed}
 use Rattle.cluster_state.specs.State.{State, IsSound, CanStartAll}
 use Rattle.cluster_state.specs.Parts.{state_of}
 use Rattle.cluster_state.proofs.RowLemmas.{sum_by-row_of}
@@ -40,7 +40,7 @@ invariant_of-self-2 g c =
     let js : List EffectiveJob = c.args.jobs.now in
     let fits : CanStartAll s js c.args.now = rw (← c.self.view_is) at c.requires.fits in
     let together = sizes-fit js s c.args.now fits in
-    let held = sum_by-all_run (λ (r : Running). r.job.size) c.args.now js s.running in
+    let held = sum_by-all_run (λ (r : Placed). r.job.size) c.args.now js s.running in
     let sound = subst IsSound (all_started-is js s c.args.now) (sound-all js s c.args.now c.requires.now c.self.invariant.sound fits) in
     record {
       accounted = rw (running g c) (omega (arith, held, together, c.self.invariant.accounted, c.sizes.ensures));

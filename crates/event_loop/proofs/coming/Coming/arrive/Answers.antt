@@ -1,14 +1,15 @@
 use Rattle.std.proofs.Common.{◌<◌, ◌∙◌, ap, sym, refl, subst, IfSome}
-use Rattle.scenarios.specs.Plan.{Plan, plan_of}
+use Rattle.scenarios.specs.Plan.{Plan}
+use Rattle.scenarios.specs.PlanView.{plan_in}
 use Rattle.easy_rule.specs.Simulation.{joined}
 use Rattle.event_loop.specs.Coming.{NextJobs, IsComing}
-use Rattle.event_loop.proofs.Plans.{non-falling}
+use Rattle.event_loop.proofs.ToCome.{non-falling}
 use Rattle.event_loop.proofs.Rows.{row-falling, row-from, row-has, coming-after}
 use Rattle.event_loop.proofs.coming.Coming.arrive.Goals as goal
 
 pub arrive_all-requires-clause-order : goal.arrive_all-requires-clause-order
 arrive_all-requires-clause-order g c =
-    let plan : Plan = plan_of c.args.table.now c.args.scenario.now in
+    let plan : Plan = plan_in c.args.plan.now in
     let t = c.args.second in
     let kept : NextJobs = record { row = c.self.inside.row.items; later = c.self.inside.later } in
     let h : IsComing kept t plan.jobs = subst (λ (n : NextJobs). IsComing n t plan.jobs) (sym c.self.view_is) c.in_ok-take_up.ensures.coming in
@@ -16,7 +17,7 @@ arrive_all-requires-clause-order g c =
 
 pub arrive_all-requires-clause-from : goal.arrive_all-requires-clause-from
 arrive_all-requires-clause-from g c =
-    let plan : Plan = plan_of c.args.table.now c.args.scenario.now in
+    let plan : Plan = plan_in c.args.plan.now in
     let t = c.args.second in
     let kept : NextJobs = record { row = c.self.inside.row.items; later = c.self.inside.later } in
     let h : IsComing kept t plan.jobs = subst (λ (n : NextJobs). IsComing n t plan.jobs) (sym c.self.view_is) c.in_ok-take_up.ensures.coming in
@@ -24,7 +25,7 @@ arrive_all-requires-clause-from g c =
 
 pub arrive_all-requires-clause-sound : goal.arrive_all-requires-clause-sound
 arrive_all-requires-clause-sound g c =
-    let plan : Plan = plan_of c.args.table.now c.args.scenario.now in
+    let plan : Plan = plan_in c.args.plan.now in
     let t = c.args.second in
     let kept : NextJobs = record { row = c.self.inside.row.items; later = c.self.inside.later } in
     let h : IsComing kept t plan.jobs = subst (λ (n : NextJobs). IsComing n t plan.jobs) (sym c.self.view_is) c.in_ok-take_up.ensures.coming in
@@ -33,7 +34,7 @@ arrive_all-requires-clause-sound g c =
 
 pub returns-clause-state : goal.returns-clause-state
 returns-clause-state g c =
-    let plan : Plan = plan_of c.args.table.now c.args.scenario.now in
+    let plan : Plan = plan_in c.args.plan.now in
     let t = c.args.second in
     let kept : NextJobs = record { row = c.self.inside.row.items; later = c.self.inside.later } in
     let h : IsComing kept t plan.jobs = subst (λ (n : NextJobs). IsComing n t plan.jobs) (sym c.self.view_is) c.in_ok-take_up.ensures.coming in
@@ -42,7 +43,7 @@ returns-clause-state g c =
 
 pub returns-clause-coming : goal.returns-clause-coming
 returns-clause-coming g c =
-    let plan : Plan = plan_of c.args.table.now c.args.scenario.now in
+    let plan : Plan = plan_in c.args.plan.now in
     let t = c.args.second in
     let kept : NextJobs = record { row = c.self.inside.row.items; later = c.self.inside.later } in
     let h : IsComing kept t plan.jobs = subst (λ (n : NextJobs). IsComing n t plan.jobs) (sym c.self.view_is) c.in_ok-take_up.ensures.coming in

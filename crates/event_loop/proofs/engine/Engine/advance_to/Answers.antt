@@ -1,6 +1,6 @@
 use Rattle.std.proofs.Common.{ap}
-use Rattle.std.specs.Arc.{arc_value}
-use Rattle.scenarios.specs.Plan.{Plan, plan_of}
+use Rattle.scenarios.specs.Plan.{Plan}
+use Rattle.scenarios.specs.PlanView.{plan_in}
 use Rattle.event_loop.specs.Events.{Progress}
 use Rattle.event_loop.proofs.RunOn.{run-on-quiet, engine-on}
 use Rattle.event_loop.proofs.engine.Engine.advance_to.Goals as goal
@@ -9,7 +9,7 @@ pub invariant_of-self : goal.invariant_of-self
 invariant_of-self g c =
     let old : Progress = c.args.self.now in
     let now : Progress = c.work_until.new.self in
-    let plan : Plan = plan_of (arc_value c.self.inside.table) c.self.inside.scenario in
+    let plan : Plan = plan_in c.self.inside.plan in
     let h = c.in_ok-starts.ensures.starts in
     engine-on old now plan c.self.inside.cluster.state c.self.inside.coming c.self.inside.known c.self.inside.position c.self.inside.handled c.args.second c.self.inside.failed
     c.self.view_is c.self.invariant h.further.plan c.in_ok-starts.ensures.quiet c.in_ok-starts.ensures.within

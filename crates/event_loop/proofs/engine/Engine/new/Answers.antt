@@ -5,9 +5,9 @@ use Rattle.event_loop.proofs.engine.Engine.new.Goals as goal
 pub invariant_of-result : goal.invariant_of-result
 unfolding before
 invariant_of-result g c = record {
-  is_plan = rw c.deref.ensures at c.at-coming.ensures.plan;
+  is_plan = c.new-plan.ensures.sound;
   counted = omega arith;
-  state_is = λ _. c.for_scenario.ensures;
-  coming_is = λ _. rw c.deref.ensures at c.at-coming.ensures.coming;
+  state_is = rw c.new-plan.ensures.view (λ _. c.for_scenario.ensures);
+  coming_is = λ _. rw c.view.ensures.same at c.at-coming.ensures.coming;
   known_is = λ _. tt;
 }

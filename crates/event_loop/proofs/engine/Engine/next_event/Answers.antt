@@ -1,6 +1,6 @@
 use Rattle.std.proofs.Common.{◌∙◌}
-use Rattle.std.specs.Arc.{arc_value}
-use Rattle.scenarios.specs.Plan.{Plan, plan_of}
+use Rattle.scenarios.specs.Plan.{Plan}
+use Rattle.scenarios.specs.PlanView.{plan_in}
 use Rattle.event_loop.proofs.EventLemmas.{next-submit, next-earlier}
 use Rattle.event_loop.proofs.Rows.{next-is}
 use Rattle.event_loop.proofs.engine.Engine.next_event.Goals as goal
@@ -8,7 +8,7 @@ use Rattle.event_loop.proofs.engine.Engine.next_event.Goals as goal
 pub returns-clause-going : goal.returns-clause-going
 returns-clause-going g c = λ _.
     let e = c.self.invariant in
-    let plan : Plan = plan_of (arc_value c.self.inside.table) c.self.inside.scenario in
+    let plan : Plan = plan_in c.self.inside.plan in
     let a = c.self.inside.position in
     rw (← c.self.view_is, c.earlier.ensures)
     (next-earlier plan a c.self.inside.cluster.state c.next.result c.next_end.result e.is_plan (e.state_is c.if-self.false)

@@ -1,8 +1,8 @@
 use Rattle.std.proofs.Common.{◌≡◌, ◌∙◌, ap, sym, arith, false, List, length}
 use Rattle.std.proofs.lemmas.Bool.{true≢false}
 use Rattle.scenarios.specs.Job.{EffectiveJob}
-use Rattle.std.specs.Arc.{arc_value}
-use Rattle.scenarios.specs.Plan.{Plan, plan_of}
+use Rattle.scenarios.specs.Plan.{Plan}
+use Rattle.scenarios.specs.PlanView.{plan_in}
 use Rattle.cluster_state.specs.State.{State}
 use Rattle.easy_rule.specs.Rule.{state_after, starts_at}
 use Rattle.easy_rule.specs.Simulation.{starts_in}
@@ -13,39 +13,39 @@ use Rattle.event_loop.proofs.engine.Engine.work.Goals as goal
 
 pub arrive-requires-clause-coming : goal.arrive-requires-clause-coming
 arrive-requires-clause-coming g c =
-    let plan : Plan = plan_of (arc_value c.self.inside.table) c.self.inside.scenario in
+    let plan : Plan = plan_in c.self.inside.plan in
     let r = ready-at c.args.self.now plan c.self.inside.cluster.state c.self.inside.coming c.self.inside.known c.self.inside.position c.self.inside.handled c.args.second c.self.inside.failed c.self.view_is c.self.invariant c.requires.going c.requires.next in
-    rw c.deref.ensures r.next
+    rw c.view.ensures.same r.next
 
 pub arrive-requires-clause-sound : goal.arrive-requires-clause-sound
 arrive-requires-clause-sound g c =
-    let plan : Plan = plan_of (arc_value c.self.inside.table) c.self.inside.scenario in
+    let plan : Plan = plan_in c.self.inside.plan in
     let r = ready-at c.args.self.now plan c.self.inside.cluster.state c.self.inside.coming c.self.inside.known c.self.inside.position c.self.inside.handled c.args.second c.self.inside.failed c.self.view_is c.self.invariant c.requires.going c.requires.next in
-    rw c.deref.ensures (sound-ready plan c.self.inside.cluster.state c.finish_until.new.self.state c.args.second c.self.invariant.is_plan r.small r.is c.finish_until.ensures.state)
+    rw c.view.ensures.same (sound-ready plan c.self.inside.cluster.state c.finish_until.new.self.state c.args.second c.self.invariant.is_plan r.small r.is c.finish_until.ensures.state)
 
 pub decide_knowing-requires-clause-now : goal.decide_knowing-requires-clause-now
 decide_knowing-requires-clause-now g c =
-    let plan : Plan = plan_of (arc_value c.self.inside.table) c.self.inside.scenario in
+    let plan : Plan = plan_in c.self.inside.plan in
     let r = ready-at c.args.self.now plan c.self.inside.cluster.state c.self.inside.coming c.self.inside.known c.self.inside.position c.self.inside.handled c.args.second c.self.inside.failed c.self.view_is c.self.invariant c.requires.going c.requires.next in
     let l = r.small in
     omega (arith, l)
 
 pub decide_knowing-requires-clause-settled : goal.decide_knowing-requires-clause-settled
 decide_knowing-requires-clause-settled g c =
-    let plan : Plan = plan_of (arc_value c.self.inside.table) c.self.inside.scenario in
+    let plan : Plan = plan_in c.self.inside.plan in
     let t = c.args.second in
     let r = ready-at c.args.self.now plan c.self.inside.cluster.state c.self.inside.coming c.self.inside.known c.self.inside.position c.self.inside.handled t c.self.inside.failed c.self.view_is c.self.invariant c.requires.going c.requires.next in
     let l = r.small in
-    let ready-is = second-is plan c.self.inside.cluster.state c.finish_until.new.self.state c.arrive.new.cluster.state t (omega (arith, l)) c.self.invariant.is_plan r.is c.finish_until.ensures.state (rw c.deref.ensures at c.in_ok-arrive.ensures.state) in
+    let ready-is = second-is plan c.self.inside.cluster.state c.finish_until.new.self.state c.arrive.new.cluster.state t (omega (arith, l)) c.self.invariant.is_plan r.is c.finish_until.ensures.state (rw c.view.ensures.same at c.in_ok-arrive.ensures.state) in
     known-settled plan c.self.inside.cluster.state c.arrive.new.cluster.state t (length c.waiting-settled.result.now) c.standing_at-known.result r.is ready-is (ap (λ (js : List EffectiveJob). length js) c.waiting-settled.ensures.jobs) c.standing_at-known.ensures.stands
 
 pub decide_knowing-requires-clause-known : goal.decide_knowing-requires-clause-known
 decide_knowing-requires-clause-known g c =
-    let plan : Plan = plan_of (arc_value c.self.inside.table) c.self.inside.scenario in
+    let plan : Plan = plan_in c.self.inside.plan in
     let t = c.args.second in
     let r = ready-at c.args.self.now plan c.self.inside.cluster.state c.self.inside.coming c.self.inside.known c.self.inside.position c.self.inside.handled t c.self.inside.failed c.self.view_is c.self.invariant c.requires.going c.requires.next in
     let l = r.small in
-    let ready-is = second-is plan c.self.inside.cluster.state c.finish_until.new.self.state c.arrive.new.cluster.state t (omega (arith, l)) c.self.invariant.is_plan r.is c.finish_until.ensures.state (rw c.deref.ensures at c.in_ok-arrive.ensures.state) in
+    let ready-is = second-is plan c.self.inside.cluster.state c.finish_until.new.self.state c.arrive.new.cluster.state t (omega (arith, l)) c.self.invariant.is_plan r.is c.finish_until.ensures.state (rw c.view.ensures.same at c.in_ok-arrive.ensures.state) in
     let going : c.self.inside.failed ≡ false = ap (λ (p : Progress). p.failed) c.self.view_is ∙ c.requires.going in
     known-stands plan c.self.inside.cluster.state c.arrive.new.cluster.state t c.self.inside.known c.standing_at-known.result r.is ready-is (c.self.invariant.known_is going) c.standing_at-known.ensures.known c.standing_at-known.ensures.stands
 
@@ -60,14 +60,14 @@ invariant_of-self-in_err-starts g c = record {
 
 pub overflow_add-self : goal.overflow_add-self
 overflow_add-self g c =
-    let plan : Plan = plan_of (arc_value c.self.inside.table) c.self.inside.scenario in
+    let plan : Plan = plan_in c.self.inside.plan in
     let r = ready-at c.args.self.now plan c.self.inside.cluster.state c.self.inside.coming c.self.inside.known c.self.inside.position c.self.inside.handled c.args.second c.self.inside.failed c.self.view_is c.self.invariant c.requires.going c.requires.next in
     let l = r.small in
     omega (arith, l)
 
 pub overflow_add-self-2 : goal.overflow_add-self-2
 overflow_add-self-2 g c =
-    let plan : Plan = plan_of (arc_value c.self.inside.table) c.self.inside.scenario in
+    let plan : Plan = plan_in c.self.inside.plan in
     let r = ready-at c.args.self.now plan c.self.inside.cluster.state c.self.inside.coming c.self.inside.known c.self.inside.position c.self.inside.handled c.args.second c.self.inside.failed c.self.view_is c.self.invariant c.requires.going c.requires.next in
     let l = r.small in
     let f = r.first in
@@ -76,26 +76,26 @@ overflow_add-self-2 g c =
 
 pub invariant_of-self-2 : goal.invariant_of-self-2
 invariant_of-self-2 g c =
-    let plan : Plan = plan_of (arc_value c.self.inside.table) c.self.inside.scenario in
+    let plan : Plan = plan_in c.self.inside.plan in
     let t = c.args.second in
     let r = ready-at c.args.self.now plan c.self.inside.cluster.state c.self.inside.coming c.self.inside.known c.self.inside.position c.self.inside.handled t c.self.inside.failed c.self.view_is c.self.invariant c.requires.going c.requires.next in
     let l = r.small in
     let f = r.first in
     let k = c.self.invariant.counted in
-    let ready-is = second-is plan c.self.inside.cluster.state c.finish_until.new.self.state c.arrive.new.cluster.state t (omega (arith, l)) c.self.invariant.is_plan r.is c.finish_until.ensures.state (rw c.deref.ensures at c.in_ok-arrive.ensures.state) in
+    let ready-is = second-is plan c.self.inside.cluster.state c.finish_until.new.self.state c.arrive.new.cluster.state t (omega (arith, l)) c.self.invariant.is_plan r.is c.finish_until.ensures.state (rw c.view.ensures.same at c.in_ok-arrive.ensures.state) in
     record {
       is_plan = c.self.invariant.is_plan;
       counted = omega (arith, f, k);
       state_is = λ _. c.in_ok-starts.ensures.state ∙ ap (λ (s : State). state_after s t) ready-is ∙ sym (before-more plan t);
-      coming_is = λ _. rw c.deref.ensures at c.in_ok-arrive.ensures.coming;
+      coming_is = λ _. rw c.view.ensures.same at c.in_ok-arrive.ensures.coming;
       known_is = λ _. c.in_ok-starts.ensures.shadow;
     }
 
 pub returns-clause-starts : goal.returns-clause-starts
 returns-clause-starts g c =
-    let plan : Plan = plan_of (arc_value c.self.inside.table) c.self.inside.scenario in
+    let plan : Plan = plan_in c.self.inside.plan in
     let t = c.args.second in
     let r = ready-at c.args.self.now plan c.self.inside.cluster.state c.self.inside.coming c.self.inside.known c.self.inside.position c.self.inside.handled t c.self.inside.failed c.self.view_is c.self.invariant c.requires.going c.requires.next in
     let l = r.small in
-    let ready-is = second-is plan c.self.inside.cluster.state c.finish_until.new.self.state c.arrive.new.cluster.state t (omega (arith, l)) c.self.invariant.is_plan r.is c.finish_until.ensures.state (rw c.deref.ensures at c.in_ok-arrive.ensures.state) in
+    let ready-is = second-is plan c.self.inside.cluster.state c.finish_until.new.self.state c.arrive.new.cluster.state t (omega (arith, l)) c.self.invariant.is_plan r.is c.finish_until.ensures.state (rw c.view.ensures.same at c.in_ok-arrive.ensures.state) in
     c.in_ok-starts.ensures.starts ∙ ap (λ (s : State). starts_at s t) ready-is ∙ ap (λ (p : Progress). starts_in p.plan t) c.self.view_is

@@ -1,6 +1,6 @@
 use Rattle.std.proofs.Common.{ap, sym, arith, refl, true, subst}
-use Rattle.std.specs.Arc.{arc_value}
-use Rattle.scenarios.specs.Plan.{Plan, plan_of}
+use Rattle.scenarios.specs.Plan.{Plan}
+use Rattle.scenarios.specs.PlanView.{plan_in}
 use Rattle.easy_rule.specs.Simulation.{IsEvent}
 use Rattle.event_loop.specs.Events.{Progress}
 use Rattle.event_loop.proofs.EventLemmas.{seen}
@@ -15,7 +15,7 @@ returns-in_default-extend_from_slice-clause-fault g c =
     let next = c.in-Some.ensures.some.0 in
     let step = run-on-step old now c.work.new.self c.events.all.items c.in_ok-starts.starts.items c.in-Some.second run next c.in_ok-starts.ensures.starts c.in_ok-starts.ensures.ok in
     let e = ap (λ (p : Progress). let v : Progress = record p { failed = true } in v) c.self-in-Some.view_is in
-    let new : Progress = seen (plan_of (arc_value c.self-in-Some.inside.table) c.self-in-Some.inside.scenario) c.self-in-Some.inside.position c.self-in-Some.inside.handled true in (
+    let new : Progress = seen (plan_in c.self-in-Some.inside.plan) c.self-in-Some.inside.position c.self-in-Some.inside.handled true in (
       run.was,
       refl,
       further-failed old c.work.new.self new step.further e,

@@ -1,4 +1,4 @@
-use Rattle.std.proofs.Common.{◌≡◌, ◌+◌, ◌≤◌, arith, ap, List, [], subst, sym, length}
+use Rattle.std.proofs.Common.{arith, [], subst, sym}
 use Rattle.metrics.specs.Part.{PartSums, IsPartOf}
 use Rattle.metrics.proofs.Tallies.{is_joined_part, is_empty_part, count_of, sum_of_counts}
 use Rattle.metrics.proofs.Forms.{part_from, tally_from, is_tally_from, is_part_from}

@@ -1,4 +1,4 @@
-use Rattle.std.proofs.Common.{◌≡◌, ◌<◌, ◌≤◌, length, arith, take}
+use Rattle.std.proofs.Common.{◌<◌, ◌≤◌, length, arith, take}
 use Rattle.std.proofs.lemmas.List.{length-take-le}
 use Rattle.metrics.proofs.Tallies.{is_first_part, count_of, one_more, all_of, placed_more}
 use Rattle.metrics.proofs.Forms.{part_from, is_part_from}

@@ -1,4 +1,3 @@
-use Rattle.std.proofs.Common.{◌≡◌}
 use Rattle.metrics.proofs.Tallies.{join_totals_fit, join_users_fit, join_days_fit, joins}
 use Rattle.metrics.proofs.tally.Tally.absorb.Goals as goal
 

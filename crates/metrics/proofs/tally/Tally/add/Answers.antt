@@ -1,4 +1,4 @@
-use Rattle.std.proofs.Common.{◌≡◌, ℕ, ℤ, ◌+◌, arith, ap, ◌∙◌, rules, w64}
+use Rattle.std.proofs.Common.{ap, ◌∙◌, rules, w64}
 use mir.Val.{SFits}
 use Rattle.std.proofs.lemmas.Int.{to_z-of_z}
 use Rattle.metrics.specs.Totals.{joined}

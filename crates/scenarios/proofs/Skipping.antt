@@ -1,29 +1,26 @@
 -- Skipped entries, counted.
-use Rattle.std.proofs.Common.{◌≡◌, ℕ, ◌+◌, ◌^◌, ◌≤◌, ◌<◌, cond, nat_eq, List, [], ◌∷◌, length, None, Err, refl, sym, ◌∙◌, ap, arith, inl, inr}
+use Rattle.std.proofs.Common.{◌≡◌, ℕ, ◌+◌, ◌^◌, ◌≤◌, ◌<◌, cond, nat_eq, List, [], ◌∷◌, length, Option, Some, None, Err, refl, sym, ◌∙◌, ap, arith}
+use Rattle.std.specs.List.{cons_option}
 use Rattle.std.specs.Result.{result_err}
 use Rattle.std.proofs.lemmas.List.Sums.{sum_by-cons, count_by-le-length}
 use Rattle.swf_text.specs.Entry.{LogEntry}
-use Rattle.job_table.specs.Table.{entries_from}
 use Rattle.scenarios.specs.declared.skip.Skip.{Skip}
 use Rattle.scenarios.specs.declared.skip.Skip.TheVariants as skips
 use Rattle.scenarios.specs.Scenario.{Setting}
 use Rattle.scenarios.specs.Effective.{effective}
-use Rattle.easy_rule.proofs.Decisions.{cases_option}
-use Rattle.metrics.specs.declared.rows.Skips.{Skips}
-use Rattle.checkpoints.proofs.Found.{from-zero}
-use Rattle.checkpoints.specs.Sums.{reasons_of, place_of, count_of, skips_of}
+use Rattle.scenarios.specs.declared.skips.Skips.{Skips}
+use Rattle.scenarios.specs.Skips.{reasons_of, place_of, count_of, skips_of}
 
 -- no more entries are skipped than there are
 reasons-fewer : (log : List LogEntry) (s : Setting) → length (reasons_of log s) ≤ length log
 reasons-fewer [] s = omega arith
-reasons-fewer (e ∷ es) s =
-    let i = reasons-fewer es s in
-    elim (cases_option (result_err (effective e s))) [
-      | inl none ↦ rw none (omega (arith, i))
-      | inr (k, some) ↦ rw some (omega (arith, i))
-    ]
+reasons-fewer (e ∷ es) s = go (result_err (effective e s)) (reasons-fewer es s)
+  where
+    go : (o : Option Skip) → length (reasons_of es s) ≤ length es → length (cons_option o (reasons_of es s)) ≤ length (e ∷ es)
+    go None i = omega (arith, i)
+    go (Some k) i = omega (arith, i)
 
-pub count-fewer : (k : Skip) (log : List LogEntry) (s : Setting) → count_of k (reasons_of log s) ≤ length log
+count-fewer : (k : Skip) (log : List LogEntry) (s : Setting) → count_of k (reasons_of log s) ≤ length log
 count-fewer k log s =
     let a = count_by-le-length (λ (r : Skip). nat_eq (place_of r) (place_of k)) (reasons_of log s) in
     let b = reasons-fewer log s in
@@ -37,11 +34,8 @@ pub record Counted (so_far : Skips) (coming log : List LogEntry) (s : Setting) :
   pub long : so_far.long + count_of skips.TooLong (reasons_of coming s) ≡ count_of skips.TooLong (reasons_of log s)
 
 -- one more that is skipped
-pub reasons-more : (coming rest : List LogEntry) (e : LogEntry) (k : Skip) (s : Setting) → coming ≡ e ∷ rest → Err k ≡ effective e s → reasons_of coming s ≡ k ∷ reasons_of rest s
+reasons-more : (coming rest : List LogEntry) (e : LogEntry) (k : Skip) (s : Setting) → coming ≡ e ∷ rest → Err k ≡ effective e s → reasons_of coming s ≡ k ∷ reasons_of rest s
 reasons-more coming rest e k s is err = ap (λ es. reasons_of es s) is ∙ rw (sym err) refl
-
-pub reasons-same : (coming rest : List LogEntry) (e : LogEntry) (s : Setting) → coming ≡ e ∷ rest → result_err (effective e s) ≡ None → reasons_of coming s ≡ reasons_of rest s
-reasons-same coming rest e s is ok = ap (λ es. reasons_of es s) is ∙ rw ok refl
 
 count-more : (k : Skip) (coming rest : List LogEntry) (e : LogEntry) (r : Skip) (s : Setting) → coming ≡ e ∷ rest → Err r ≡ effective e s
     → count_of k (reasons_of coming s) ≡ count_of k (r ∷ []) + count_of k (reasons_of rest s)
@@ -62,11 +56,6 @@ counted-more old new coming rest log e r s h is err a b c d = record {
   long = let m = count-more skips.TooLong coming rest e r s is err in let k = h.long in omega (arith, m, k, d);
 }
 
-pub counted-same : (so_far : Skips) (coming rest log : List LogEntry) (e : LogEntry) (s : Setting) → Counted so_far coming log s → coming ≡ e ∷ rest → result_err (effective e s) ≡ None → Counted so_far rest log s
-counted-same so_far coming rest log e s h is ok =
-    let m = reasons-same coming rest e s is ok in
-    record { size = rw m at h.size; run = rw m at h.run; large = rw m at h.large; long = rw m at h.long }
-
 -- counts that are alike one by one
 skips-made : ℕ → ℕ → ℕ → ℕ → Skips
 skips-made a b c d = record { size = a; run = b; large = c; long = d }
@@ -86,15 +75,8 @@ counted-all so_far coming log s h none =
     let d : so_far.long ≡ count_of skips.TooLong (reasons_of log s) = let z = left skips.TooLong in let k = h.long in omega (arith, z, k) in
     skips-alike so_far (count_of skips.NoSize (reasons_of log s)) (count_of skips.NoRun (reasons_of log s)) (count_of skips.TooLarge (reasons_of log s)) (count_of skips.TooLong (reasons_of log s)) a b c d
 
-pub counted-first : (coming log : List LogEntry) (s : Setting) → coming ≡ entries_from 0 log → Counted (record { size = 0; run = 0; large = 0; long = 0 }) coming log s
-counted-first coming log s e =
-    let same : coming ≡ log = e ∙ from-zero log in
-    record {
-      size = let k = ap (λ es. count_of skips.NoSize (reasons_of es s)) same in omega (arith, k);
-      run = let k = ap (λ es. count_of skips.NoRun (reasons_of es s)) same in omega (arith, k);
-      large = let k = ap (λ es. count_of skips.TooLarge (reasons_of es s)) same in omega (arith, k);
-      long = let k = ap (λ es. count_of skips.TooLong (reasons_of es s)) same in omega (arith, k);
-    }
+pub counted-first : (log : List LogEntry) (s : Setting) → Counted (record { size = 0; run = 0; large = 0; long = 0 }) log log s
+counted-first log s = record { size = omega arith; run = omega arith; large = omega arith; long = omega arith }
 
 -- the counts stay small
 pub counted-small : (so_far : Skips) (coming log : List LogEntry) (s : Setting) → Counted so_far coming log s → length log ≤ 4194304 → (so_far.size < 2 ^ 32) × (so_far.run < 2 ^ 32) × (so_far.large < 2 ^ 32) × (so_far.long < 2 ^ 32)

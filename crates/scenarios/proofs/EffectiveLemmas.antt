@@ -8,13 +8,14 @@ use Rattle.std.proofs.lemmas.List.Sums.{sum_by-cons}
 use Rattle.std.proofs.lemmas.Bool.{cond-true, cond-false, cases_Bool, ltb-false, eq-eqb, eqb-true, or_parts, cases_lt}
 use Rattle.swf_text.specs.Number.{greatest, whole_of}
 use Rattle.swf_text.specs.Entry.{LogEntry, IsEntry, field, number_of_entry, submit_of, whole_number, or_zero, has_number}
+use Rattle.job_table.specs.Edit.{entry_of}
+use Rattle.job_table.specs.Table.{IsTable}
 use Rattle.scenarios.specs.Job.{EffectiveJob, IsWithinLimits}
 use Rattle.scenarios.specs.Scenario.{Setting, IsSetting}
 use Rattle.scenarios.specs.declared.skip.Skip.{Skip}
 use Rattle.scenarios.specs.declared.skip.Skip.TheVariants.{TooLarge, TooLong}
 use Rattle.scenarios.specs.Effective.{effective, of_size, of_size_and_run, unless_too_long, job_of, size_of, run_of, estimate_of, base_of, positive, whole_field}
-use Rattle.scenarios.specs.Plan.{jobs_of}
-use Rattle.cluster_state.specs.Snapshot.{job_numbered}
+use Rattle.scenarios.specs.Plan.{jobs_of, job_numbered}
 
 -- what a job takes from its entry
 pub record Takes (e : LogEntry) (s : Setting) (job : EffectiveJob) : Type 0 where
@@ -187,3 +188,12 @@ once-numbered n (e ∷ es) a =
         (λ (z : (b == a) ≡ false). no' ∙ sym z)
         (cases_Bool (b == a)))
         (cases_Bool (a == b))
+
+-- the job of a number in a table
+pub found-none : (log : List LogEntry) (s : Setting) (n : ℕ) → IsTable log → None ≡ entry_of n log → job_numbered (jobs_of log s) n ≡ None
+found-none log s n t e =
+    look-up s n log (omega (arith, once-numbered n log t.log.sound, t.log.distinct n)) ∙ ap (option_and_then (kept s)) (sym e)
+
+pub found-some : (log : List LogEntry) (s : Setting) (n : ℕ) (x : LogEntry) → IsTable log → Some x ≡ entry_of n log → job_numbered (jobs_of log s) n ≡ result_ok (effective x s)
+found-some log s n x t e =
+    look-up s n log (omega (arith, once-numbered n log t.log.sound, t.log.distinct n)) ∙ ap (option_and_then (kept s)) (sym e)

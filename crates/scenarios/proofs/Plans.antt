@@ -10,10 +10,9 @@ use Rattle.job_table.specs.Table.{IsTable}
 use Rattle.scenarios.specs.Job.{EffectiveJob, IsWithinLimits}
 use Rattle.scenarios.specs.Scenario.{Setting, IsSetting}
 use Rattle.scenarios.specs.Plan.{jobs_of, plan_of}
-use Rattle.cluster_state.proofs.EffectiveLemmas.{kept, takes, within-limits, once-numbered}
-use Rattle.timeline.specs.SoundPlan.{IsPlan, is_before}
-use Rattle.timeline.specs.SoundPlan as sound
-use Rattle.event_loop.specs.Coming.{NonFalling}
+use Rattle.scenarios.proofs.EffectiveLemmas.{kept, takes, within-limits, once-numbered}
+use Rattle.scenarios.specs.SoundPlan.{IsPlan, is_before}
+use Rattle.scenarios.specs.SoundPlan as sound
 
 -- what an entry gives to its job holds of the jobs
 pub all-jobs : (P : LogEntry → Type 0) (Q : EffectiveJob → Type 0) (s : Setting) → ((e : LogEntry) (job : EffectiveJob) → kept s e ≡ Some job → P e → Q job) → (es : List LogEntry) → All P es → All Q (jobs_of es s)
@@ -55,7 +54,7 @@ Lex a b c d = (a < c) ⊎ ((a ≡ c) × (b < d))
 abbrev lex : ℕ → ℕ → ℕ → ℕ → Bool
 lex a b c d = nat_lt a c || (a == c && nat_lt b d)
 
-Lex-true : (a b c d : ℕ) → lex a b c d ≡ true → Lex a b c d
+pub Lex-true : (a b c d : ℕ) → lex a b c d ≡ true → Lex a b c d
 Lex-true a b c d h =
     ⊎_elim
     (λ (y : nat_lt a c ≡ true). inl (ltb-true a c y))
@@ -126,15 +125,3 @@ plan-is log s t h =
       once = λ n. omega (arith, once-jobs s n log, once-numbered n log t.log.sound, t.log.distinct n);
       rising = rising-jobs (jobs_of log s) (jobs-in-order s log (in-order log t.rising));
     }
-
-pub non-falling : (js : List EffectiveJob) → sound.IsRising js → NonFalling js
-non-falling [] r = tt
-non-falling (j ∷ []) r = (All-nil (λ (k : EffectiveJob). j.submit ≤ k.submit), tt)
-non-falling (j ∷ k ∷ js) r =
-    let i = non-falling (k ∷ js) r.1 in
-    let l : j.submit ≤ k.submit = low (Lex-true j.submit j.number k.submit k.number r.0) in
-    (All-cons (λ (x : EffectiveJob). j.submit ≤ x.submit) k js l (All-weaker (λ (x : EffectiveJob). k.submit ≤ x.submit) (λ (x : EffectiveJob). j.submit ≤ x.submit) (λ x m. omega arith) js i.0), i)
-  where
-    low : Lex j.submit j.number k.submit k.number → j.submit ≤ k.submit
-    low (inl m) = omega arith
-    low (inr m) = let n = m.0 in omega (arith, n)
