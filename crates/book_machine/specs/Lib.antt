@@ -1,0 +1,5 @@
+pub mod Call
+pub mod Machine
+pub mod History
+pub mod Laws
+pub mod Noted

@@ -1,0 +1,19 @@
+//! The book machine: who may call what of a shared log, what each call replies, and the laws of
+//! every history of such calls.
+#![tactic(auto)]
+
+mod call;
+mod caller;
+mod name;
+mod note;
+mod noted_edit;
+mod reply;
+mod settle_state;
+
+pub use call::Call;
+pub use caller::Caller;
+pub use name::Name;
+pub use note::Note;
+pub use noted_edit::NotedEdit;
+pub use reply::Reply;
+pub use settle_state::SettleState;

@@ -1,0 +1,38 @@
+ghost use Rattle.std.specs.Prelude.{◌≡◌, IfOk};
+
+use std::alloc::Allocator;
+use std::marker::Model;
+use swf_text::Memory;
+
+/// A scenario's name as a call gave it: any text, also one that no scenario may have.
+#[derive(Drop)]
+pub struct Name<A: Allocator + Copy> {
+    text: String<A>,
+}
+
+impl<A: Allocator + Copy> Model for Name<A> {
+    ghost use Rattle.std.specs.Prelude.{List, ℕ};
+    ghost use Rattle.std.specs.String.{string_bytes};
+
+    ghost Value = { List ℕ };
+
+    ghost view = { λ name. string_bytes name.text };
+}
+
+impl<A: Allocator + Copy> Name<A> {
+    /// The name of this text; Memory where the growth for it is refused.
+    pub fn new(alloc: A, text: &str) -> Result<Name<A>, Memory>
+        ensures { IfOk result (λ name. name ≡ text.now) }
+    {
+        Ok(Name {
+            text: String::from_str(alloc, text)?,
+        })
+    }
+
+    /// Its text.
+    pub fn text(&self) -> &str
+        ensures { result.now ≡ self.now }
+    {
+        self.text.as_str()
+    }
+}
