@@ -2,4 +2,5 @@ pub mod Call
 pub mod Machine
 pub mod History
 pub mod Laws
+pub mod Same
 pub mod Noted

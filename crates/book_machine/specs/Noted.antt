@@ -9,7 +9,7 @@ use Rattle.book_machine.specs.Call.{BookCall, Edit, AddScenario, DropScenario, R
 use Rattle.book_machine.specs.History.{Noted}
 
 abbrev pub noted_edit_of : {A : Type 0} → NotedEdit A → LogEdit
-noted_edit_of (edits.Insert entry) = Insert entry.value
+noted_edit_of (edits.Insert entry) = Insert entry
 noted_edit_of (edits.Remove number) = Remove number
 noted_edit_of (edits.Change number place value) = Change number place value
 

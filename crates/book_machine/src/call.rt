@@ -1,7 +1,15 @@
+ghost use Rattle.std.specs.Prelude.{◌≡◌, ◌↔◌, IfOk, IsTrue};
+ghost use Rattle.std.specs.Cmp.{partial_equiv_from_equiv};
+ghost use Rattle.std.specs.Ordering.{on};
+ghost use Rattle.std.proofs.lemmas.Cmp.{on_equiv};
+ghost use Rattle.book_machine.specs.Noted.{call_of};
+ghost use Rattle.book_machine.specs.Same.{same_call, same_call-equiv};
+
 use crate::name::Name;
 use crate::noted_edit::NotedEdit;
 use scenarios::{Scenario, ScenarioId};
 use std::alloc::Allocator;
+use swf_text::Memory;
 
 /// A call of the book, with its arguments. A run that is handed in is written as whether it fits
 /// its ticket.
@@ -23,4 +31,81 @@ pub enum Call<A: Allocator + Copy> {
     GiveUp { ticket: u64 },
     /// A session that has seen this version looks at a scenario.
     View { id: ScenarioId, seen: u64 },
+}
+
+impl<A: Allocator + Copy> PartialEq for Call<A> {
+    ghost eq = { on call_of same_call };
+
+    ghost laws = { partial_equiv_from_equiv (on_equiv call_of same_call-equiv) };
+
+    fn eq(&self, other: &Call<A>) -> bool {
+        match (self, other) {
+            (Call::Edit(one), Call::Edit(two)) => *one == *two,
+            (
+                Call::AddScenario { name, scenario },
+                Call::AddScenario {
+                    name: called,
+                    scenario: setting,
+                },
+            ) => *name == *called && *scenario == *setting,
+            (Call::DropScenario { name }, Call::DropScenario { name: called }) => *name == *called,
+            (Call::Retry { id }, Call::Retry { id: of }) => id.number() == of.number(),
+            (Call::Claim, Call::Claim) => true,
+            (
+                Call::Finish { ticket, fits },
+                Call::Finish {
+                    ticket: number,
+                    fits: fitting,
+                },
+            ) => ticket == number && fits == fitting,
+            (Call::GiveUp { ticket }, Call::GiveUp { ticket: number }) => ticket == number,
+            (
+                Call::View { id, seen },
+                Call::View {
+                    id: of,
+                    seen: known,
+                },
+            ) => { id.number() == of.number() && seen == known }
+            _ => false,
+        }
+    }
+}
+
+impl<A: Allocator + Copy> Eq for Call<A> {
+    ghost laws = { on_equiv call_of same_call-equiv };
+}
+
+impl<A: Allocator + Copy> Call<A> {
+    /// Whether both are one call with the same arguments.
+    pub fn same(&self, other: &Call<A>) -> bool
+        ensures { IsTrue result ↔ (call_of self.now ≡ call_of other.now) }
+    {
+        *self == *other
+    }
+
+    /// The same call once more, on the allocator that its arguments keep; Memory where a growth is
+    /// refused.
+    pub fn copy(&self) -> Result<Call<A>, Memory>
+        ensures { IfOk result (λ call. call_of call ≡ call_of self.now) }
+    {
+        match self {
+            Call::Edit(edit) => Ok(Call::Edit(edit.copy()?)),
+            Call::AddScenario { name, scenario } => Ok(Call::AddScenario {
+                name: name.copy()?,
+                scenario: *scenario,
+            }),
+            Call::DropScenario { name } => Ok(Call::DropScenario { name: name.copy()? }),
+            Call::Retry { id } => Ok(Call::Retry { id: *id }),
+            Call::Claim => Ok(Call::Claim),
+            Call::Finish { ticket, fits } => Ok(Call::Finish {
+                ticket: *ticket,
+                fits: *fits,
+            }),
+            Call::GiveUp { ticket } => Ok(Call::GiveUp { ticket: *ticket }),
+            Call::View { id, seen } => Ok(Call::View {
+                id: *id,
+                seen: *seen,
+            }),
+        }
+    }
 }

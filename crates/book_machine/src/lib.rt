@@ -7,6 +7,7 @@ mod caller;
 mod name;
 mod note;
 mod noted_edit;
+mod noted_entry;
 mod reply;
 mod settle_state;
 
@@ -15,5 +16,6 @@ pub use caller::Caller;
 pub use name::Name;
 pub use note::Note;
 pub use noted_edit::NotedEdit;
+pub use noted_entry::NotedEntry;
 pub use reply::Reply;
 pub use settle_state::SettleState;

@@ -1,4 +1,7 @@
-ghost use Rattle.std.specs.Prelude.{◌≡◌, IfOk};
+ghost use Rattle.std.specs.Prelude.{◌≡◌, ◌==◌, IfOk};
+ghost use Rattle.std.specs.Cmp.Lexicographic.{pointwise};
+ghost use Rattle.std.specs.Cmp.Rules.{comparing};
+ghost use Rattle.std.proofs.Common.{rules};
 
 use std::alloc::Allocator;
 use std::marker::Model;
@@ -19,6 +22,20 @@ impl<A: Allocator + Copy> Model for Name<A> {
     ghost view = { λ name. string_bytes name.text };
 }
 
+impl<A: Allocator + Copy> PartialEq for Name<A> {
+    ghost eq = { pointwise ◌==◌ };
+
+    ghost laws = { Prim.search (comparing, rules) };
+
+    fn eq(&self, other: &Name<A>) -> bool {
+        self.text.as_bytes() == other.text.as_bytes()
+    }
+}
+
+impl<A: Allocator + Copy> Eq for Name<A> {
+    ghost laws = { Prim.search (comparing, rules) };
+}
+
 impl<A: Allocator + Copy> Name<A> {
     /// The name of this text; Memory where the growth for it is refused.
     pub fn new(alloc: A, text: &str) -> Result<Name<A>, Memory>
@@ -34,5 +51,13 @@ impl<A: Allocator + Copy> Name<A> {
         ensures { result.now ≡ self.now }
     {
         self.text.as_str()
+    }
+
+    /// The same name once more, on the allocator that this one keeps; Memory where the growth for
+    /// it is refused.
+    pub fn copy(&self) -> Result<Name<A>, Memory>
+        ensures { IfOk result (λ name. name ≡ self.now) }
+    {
+        Name::new(*self.text.allocator(), self.text.as_str())
     }
 }
