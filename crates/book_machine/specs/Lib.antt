@@ -2,5 +2,6 @@ pub mod Call
 pub mod Machine
 pub mod History
 pub mod Laws
+pub mod Sound
 pub mod Same
 pub mod Noted

@@ -4,6 +4,7 @@
 
 mod call;
 mod caller;
+pub mod laws;
 mod name;
 mod note;
 mod noted_edit;

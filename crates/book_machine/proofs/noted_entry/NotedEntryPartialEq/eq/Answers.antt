@@ -1,4 +1,4 @@
-use Rattle.std.proofs.Common.{◌≡◌, ap, sym, ◌∙◌}
+use Rattle.std.proofs.Common.{◌≡◌, ap, ◌∙◌}
 use Rattle.swf_text.specs.Entry.{LogEntry}
 use Rattle.book_machine.proofs.Same.{entry-compared}
 use Rattle.book_machine.proofs.noted_entry.NotedEntryPartialEq.eq.Goals as goal
