@@ -1,0 +1,6 @@
+pub mod Lines
+pub mod Told
+pub mod Answers
+pub mod Session
+pub mod Steps
+pub mod Transcript

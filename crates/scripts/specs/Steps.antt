@@ -1,0 +1,168 @@
+-- What each command is answered, and the state after it. In each, want of memory is one more case.
+use Rattle.std.specs.Prelude.{◌≡◌, ℕ, ◌+◌, ◌<◌, List, [], ◌∷◌, ◌++◌, length, map, sum_by, Option, None, Some, ◌⊎◌, codes, true, false, is_some}
+use Rattle.std.specs.List.{flat_map}
+use Rattle.std.specs.Fmt.{decimal}
+use Rattle.swf_text.specs.Entry.{LogEntry}
+use Rattle.swf_text.specs.Text.{LogText}
+use Rattle.swf_text.specs.Writing.{text_bytes}
+use Rattle.job_table.specs.Edit.{LogEdit, Insert, Remove, Change, log_at}
+use Rattle.scenarios.specs.Names.{no_such_scenario_name}
+use Rattle.scenarios.specs.Plan.{plan_of}
+use Rattle.scenarios.specs.ScenarioList.{Listed, named}
+use Rattle.metrics.specs.Tables.{TableRows}
+use Rattle.checkpoints.specs.Sums.{IsTablesOf}
+use Rattle.report.specs.Pieces.{left}
+use Rattle.report.specs.Schedule.{schedule_text}
+use Rattle.report.specs.Table.{table_text}
+use Rattle.report.specs.Users.{users_text}
+use Rattle.report.specs.Days.{days_text}
+use Rattle.report.specs.Side.{shown_line}
+use Rattle.report.specs.Entries.{log_text}
+use Rattle.commands.specs.Opening.{saved}
+use Rattle.commands.specs.declared.command.Command.{Command}
+use Rattle.commands.specs.declared.command.Command.TheVariants as asks
+use Rattle.book_machine.specs.declared.reply.Reply.{Reply}
+use Rattle.book_machine.specs.declared.reply.Reply.TheVariants as reply
+use Rattle.book_machine.specs.declared.settle_state.SettleState.{SettleState}
+use Rattle.book_machine.specs.declared.settle_state.SettleState.TheVariants as settle
+use Rattle.book_machine.specs.Call.{Edit, AddScenario, DropScenario, Retry, Claim, Finish, GiveUp, View}
+use Rattle.book_machine.specs.Machine.{Machine, version, current, due, are_all_out, after, settled, note_limit}
+use Rattle.scripts.specs.Lines.{version_line, settled_line, failed_line, stopped_line, bye_line, refused}
+use Rattle.scripts.specs.Answers.{edit_says, scenario_says, view_says}
+use Rattle.scripts.specs.Session.{Session, IsStep, IsRefused, IsFull, WantsMemory, IsCall}
+
+-- ---- a scenario by its name
+
+-- the scenario with this name is looked up, without a call
+abbrev pub IsNamed : Session → List ℕ → (Listed → Type 0) → List ℕ → Session → Type 0
+IsNamed old name follows text new =
+    ((named name old.machine.listing.scenarios ≡ None) × IsRefused old no_such_scenario_name text new)
+    ⊎ ((s : Listed) × (named name old.machine.listing.scenarios ≡ Some s) × follows s)
+
+-- ---- views
+
+-- the log of a version
+abbrev pub log_of_version : Machine → ℕ → List LogEntry
+log_of_version m v = log_at m.opening m.edits v
+
+-- the tables of a version's log under a scenario
+abbrev pub AreTables : Machine → Listed → ℕ → TableRows → Type 0
+AreTables m s v tables = IsTablesOf (log_of_version m v) s.setting tables
+
+-- the reports on a version: each is that of the second-by-second simulation of the version's log under the scenario
+abbrev pub IsSchedule : Machine → Listed → ℕ → List ℕ → Type 0
+IsSchedule m s v text = text ≡ schedule_text s.name v (plan_of (log_of_version m v) s.setting)
+
+abbrev pub IsTable : Machine → Listed → ℕ → List ℕ → Type 0
+IsTable m s v text = (tables : TableRows) × AreTables m s v tables × (text ≡ table_text s.name v tables.overall)
+
+abbrev pub IsUsers : Machine → Listed → ℕ → List ℕ → Type 0
+IsUsers m s v text = (tables : TableRows) × AreTables m s v tables × (text ≡ users_text s.name v tables.users)
+
+abbrev pub IsDays : Machine → Listed → ℕ → List ℕ → Type 0
+IsDays m s v text = (tables : TableRows) × AreTables m s v tables × (text ≡ days_text s.name v tables.days)
+
+-- what is shown is told by a report, or finds no memory; otherwise why nothing is shown
+abbrev pub IsTold : (ℕ → List ℕ → Type 0) → Reply → List ℕ → Type 0
+IsTold report (reply.Shown v) text = report v text ⊎ (text ≡ refused (codes "Memory"))
+IsTold report other text = text ≡ view_says other
+
+-- a view of a scenario, with what the session has seen
+abbrev pub IsView : Session → (Machine → Listed → ℕ → List ℕ → Type 0) → List ℕ → Session → Listed → Type 0
+IsView old report text new s =
+    IsFull old text new
+    ⊎ (WantsMemory old text new
+    ⊎ ((told : Reply) × IsStep old (View s.id old.seen) told new × IsTold (report old.machine s) told text))
+
+-- ---- scenarios side by side
+
+-- the line of a scenario, by what its view was told
+abbrev pub IsSideLine : Machine → Listed → Reply → List ℕ → Type 0
+IsSideLine m s (reply.Shown v) line = (tables : TableRows) × AreTables m s v tables × (line ≡ shown_line s.name v tables.overall)
+IsSideLine m s reply.NotYet line = line ≡ left 16 s.name ++ codes " not yet\n"
+IsSideLine m s (reply.Behind seen found) line = line ≡ left 16 s.name ++ codes " behind\n"
+IsSideLine m s other line = ⊥
+
+-- one view after another, each with what the session has seen by then
+abbrev pub AreSeen : Session → List Listed → List (List ℕ) → Session → Type 0
+AreSeen old [] lines new = (lines ≡ []) × (new ≡ old)
+AreSeen old (s ∷ scenarios) lines new =
+    (told : Reply) × (next : Session) × (line : List ℕ) × (others : List (List ℕ))
+    × IsStep old (View s.id old.seen) told next × IsSideLine old.machine s told line × AreSeen next scenarios others new × (lines ≡ line ∷ others)
+
+-- how many lines, and the lines
+abbrev pub side_of : List (List ℕ) → List ℕ
+side_of lines = codes "side scenarios " ++ decimal (length lines) ++ codes "\n" ++ flat_map (λ line. line) lines
+
+-- after some of the views a refusal ends the command; the views before it are noted
+abbrev pub IsSide : Session → List ℕ → Session → Type 0
+IsSide old text new =
+    (front back : List Listed) × (lines : List (List ℕ)) × (old.machine.listing.scenarios ≡ front ++ back) × AreSeen old front lines new
+    × (((back ≡ []) × (text ≡ side_of lines))
+    ⊎ (((new.machine.notes ≡ note_limit) × (0 < length back) × (text ≡ refused (codes "JournalFull")))
+    ⊎ (text ≡ refused (codes "Memory"))))
+
+-- ---- settling
+
+-- how a claimed ticket may end: its run is published, or it is given up for want of memory, or nothing was noted any more
+pub data Ended : Type 0 where
+  Published GivenUp Left : Ended
+
+abbrev pub after_task : ℕ → Ended → Machine → Machine
+after_task ticket Published m = after (Finish ticket true) m
+after_task ticket GivenUp m = after (GiveUp ticket) m
+after_task ticket Left m = m
+
+-- Ticket after ticket is claimed and worked, while a scenario is due, not all tickets are out, and there is room for notes.
+abbrev pub AreWorked : Machine → List Ended → Machine → Type 0
+AreWorked old [] new = new ≡ old
+AreWorked old (ended ∷ others) new =
+    (old.notes < note_limit) × (is_some (due old) ≡ true) × (are_all_out old ≡ false)
+    × AreWorked (after_task old.next_ticket ended (after Claim old)) others new
+
+-- what is told of how far the scenarios are
+abbrev pub settle_line : ℕ → SettleState → List ℕ
+settle_line seen settle.Done = settled_line seen
+settle_line seen (settle.Failed count) = failed_line count
+settle_line seen settle.Waiting = stopped_line
+
+-- tickets were worked until none was due, or no more could be claimed, or memory was refused
+abbrev pub IsSettled : Session → List ℕ → Session → Type 0
+IsSettled old text new =
+    (ends : List Ended) × AreWorked old.machine ends new.machine × (new.seen ≡ old.seen)
+    × (text ≡ settle_line old.seen (settled old.seen new.machine))
+
+-- ---- the log
+
+-- nothing changes, and the text is made, unless memory is refused
+abbrev pub IsMade : Session → List ℕ → List ℕ → Session → Type 0
+IsMade old made text new = ((text ≡ made) × (new ≡ old)) ⊎ WantsMemory old text new
+
+-- how many lines a log has: a line for each comment, and those of each job
+abbrev pub line_count : LogText → ℕ
+line_count text = length text.comments + sum_by (λ e. 1 + length e.parts) text.entries
+
+abbrev pub saved_text : LogText → List ℕ
+saved_text text = codes "save " ++ decimal (line_count text) ++ codes "\n" ++ text_bytes text
+
+-- ---- the commands
+
+-- From the old state, with these kept comments, the command may be answered by this text, and leave the new state.
+abbrev pub Answers : {A : Type 0} → List (List ℕ) → Session → Command A → List ℕ → Session → Type 0
+Answers comments old (asks.Insert entry) text new = IsCall old (Edit (Insert entry)) edit_says text new
+Answers comments old (asks.Remove number) text new = IsCall old (Edit (Remove number)) edit_says text new
+Answers comments old (asks.Change number place value) text new = IsCall old (Edit (Change number place value)) edit_says text new
+Answers comments old (asks.Scenario name setting) text new = IsCall old (AddScenario name setting) (scenario_says name) text new
+Answers comments old (asks.Drop name) text new = IsCall old (DropScenario name) (scenario_says name) text new
+Answers comments old (asks.Retry name) text new = IsNamed old name (λ s. IsCall old (Retry s.id) (scenario_says name) text new) text new
+Answers comments old asks.Settle text new = IsSettled old text new
+Answers comments old (asks.Schedule name) text new = IsNamed old name (IsView old IsSchedule text new) text new
+Answers comments old (asks.Table name) text new = IsNamed old name (IsView old IsTable text new) text new
+Answers comments old (asks.Users name) text new = IsNamed old name (IsView old IsUsers text new) text new
+Answers comments old (asks.Days name) text new = IsNamed old name (IsView old IsDays text new) text new
+Answers comments old asks.Side text new = IsSide old text new
+Answers comments old (asks.Log name) text new =
+    IsNamed old name (λ s. IsMade old (log_text s.name (version old.machine) (current old.machine) s.setting) text new) text new
+Answers comments old asks.Save text new = IsMade old (saved_text (saved comments (current old.machine) old.machine.listing)) text new
+Answers comments old asks.Version text new = (text ≡ version_line (version old.machine)) × (new ≡ old)
+Answers comments old asks.Quit text new = (text ≡ bye_line) × (new ≡ old)

@@ -1,0 +1,46 @@
+-- What may be written for a script.
+use Rattle.std.specs.Prelude.{◌≡◌, ℕ, ◌+◌, List, [], ◌∷◌, ◌++◌, Bool, true, false, if◌then◌else◌, Option, Some, None, Result, Ok, Err, fold}
+use Rattle.swf_text.specs.Entry.{LogEntry}
+use Rattle.swf_text.specs.Text.{lines}
+use Rattle.scenarios.specs.ScenarioList.{Listed}
+use Rattle.commands.specs.declared.command.Command.{Command}
+use Rattle.commands.specs.declared.command.Command.TheVariants as asks
+use Rattle.commands.specs.declared.fault.CommandFault.{CommandFault}
+use Rattle.commands.specs.Commands.{command_of_line}
+use Rattle.book_machine.specs.Call.{AddScenario}
+use Rattle.book_machine.specs.Machine.{Machine, opened, after}
+use Rattle.scripts.specs.Lines.{fault_line}
+use Rattle.scripts.specs.Session.{Session}
+use Rattle.scripts.specs.Steps.{Answers}
+
+-- a log with its scenarios, each added by a call of its own; the session has seen nothing
+abbrev pub with_scenarios : Machine → List Listed → Machine
+with_scenarios m [] = m
+with_scenarios m (s ∷ scenarios) = with_scenarios (after (AddScenario s.name s.setting) m) scenarios
+
+abbrev pub begun : List LogEntry → List Listed → Session
+begun log scenarios = record { machine = with_scenarios (opened log) scenarios; seen = 0 }
+
+-- A line of a script: a command that is answered, a line that holds none and gets nothing, or a fault with the line's number.
+abbrev pub IsLine : {A : Type 0} → List (List ℕ) → Session → ℕ → Result (Option (Command A)) CommandFault → List ℕ → Session → Type 0
+IsLine comments old number (Ok None) text new = (text ≡ []) × (new ≡ old)
+IsLine comments old number (Ok (Some command)) text new = Answers comments old command text new
+IsLine comments old number (Err fault) text new = (text ≡ fault_line number fault) × (new ≡ old)
+
+-- the script ends behind this line
+abbrev pub is_quit : {A : Type 0} → Result (Option (Command A)) CommandFault → Bool
+is_quit (Ok (Some asks.Quit)) = true
+is_quit other = false
+
+module _ (A : Type 0) where
+  -- the lines up to the first `quit`
+  abbrev pub looked_at : List (List ℕ) → List (List ℕ)
+  looked_at [] = []
+  looked_at (line ∷ others) = line ∷ (if is_quit (command_of_line {A = A} line) then [] else looked_at others)
+
+  -- what may be written for these lines from a state on, where the first of them has this number
+  abbrev pub IsTranscript : List (List ℕ) → Session → List (List ℕ) → ℕ → List ℕ → Type 0
+  IsTranscript comments old [] number out = out ≡ []
+  IsTranscript comments old (line ∷ others) number out =
+      (text : List ℕ) × (next : Session) × (later : List ℕ)
+      × IsLine comments old number (command_of_line {A = A} line) text next × IsTranscript comments next others (number + 1) later × (out ≡ text ++ later)

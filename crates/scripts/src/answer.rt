@@ -1,0 +1,193 @@
+ghost use Rattle.std.specs.Prelude.{◌≡◌, ◌+◌, ◌++◌, ◌≤◌, length, codes};
+ghost use Rattle.std.specs.Fmt.{decimal};
+ghost use Rattle.scripts.specs.Lines.{scenario_line, behind_line, fault_line};
+ghost use Rattle.scripts.specs.Told.{refusal_name, became_word, answer_line};
+
+use arrayvec::ArrayVec;
+use commands::{CommandFault, Name};
+use itoa::Buffer;
+use job_table::EditFault;
+use scenarios::AddFault;
+
+/// Room for the longest line that answers a command.
+const ROOM: usize = 96;
+
+/// Why a command is refused, by the refusal's name alone.
+#[derive(Clone, Copy, Debug, PartialEq, Eq)]
+pub enum Refusal {
+    /// The journal has no room for another call.
+    JournalFull,
+    /// An edit was refused.
+    Edit(EditFault),
+    /// A scenario was not added.
+    Add(AddFault),
+    /// No scenario has the name.
+    NoSuchScenario,
+    /// Nothing is published for the scenario.
+    NotYet,
+    /// A growth was refused.
+    Memory,
+}
+
+/// What became of a scenario.
+#[derive(Clone, Copy, Debug, PartialEq, Eq)]
+pub enum Became {
+    Added,
+    Dropped,
+    Retried,
+}
+
+/// A line that answers a command. It takes no memory.
+#[derive(Drop)]
+pub enum Answer {
+    /// The log's version.
+    Version(u64),
+    /// What became of the scenario with this name.
+    Scenario { name: Name, became: Became },
+    /// The command was refused.
+    Refused(Refusal),
+    /// A scenario shows an older version than the session has seen.
+    Behind { seen: u64, found: u64 },
+    /// The line with this number is no command.
+    Fault { line: u64, fault: CommandFault },
+    /// Every scenario shows the version that the session has seen, or a newer one.
+    Settled { seen: u64 },
+    /// So many scenarios don't, and are given up.
+    Failed { count: u64 },
+    /// Some don't, and the work was stopped.
+    Stopped,
+    /// The session ends.
+    Bye,
+}
+
+impl Refusal {
+    // The refusal's name.
+    fn name(&self) -> &'static str
+        ensures name { result.now ≡ refusal_name self.now }
+        ensures short { length result.now ≤ 16 }
+    {
+        match self {
+            Refusal::JournalFull => "JournalFull",
+            Refusal::Edit(fault) => fault.name(),
+            Refusal::Add(fault) => fault.name(),
+            Refusal::NoSuchScenario => "NoSuchScenario",
+            Refusal::NotYet => "NotYet",
+            Refusal::Memory => "Memory",
+        }
+    }
+}
+
+impl Became {
+    // The word for it.
+    fn word(&self) -> &'static str
+        ensures word { result.now ≡ became_word self.now }
+        ensures short { length result.now ≤ 16 }
+    {
+        match self {
+            Became::Added => "added",
+            Became::Dropped => "dropped",
+            Became::Retried => "retried",
+        }
+    }
+}
+
+// Adds all of the bytes.
+fn push_all(text: &mut ArrayVec<u8, ROOM>, bytes: &[u8])
+    requires { length text.old.items + length bytes.now ≤ 96 }
+    ensures { text.new.items ≡ text.old.items ++ bytes.now }
+{
+    for byte in bytes {
+        text.push(*byte);
+    }
+}
+
+// Adds a number.
+fn push_number(text: &mut ArrayVec<u8, ROOM>, number: u64)
+    requires { length text.old.items + 20 ≤ 96 }
+    ensures added { text.new.items ≡ text.old.items ++ decimal number }
+    ensures most { length text.new.items ≤ length text.old.items + 20 }
+{
+    let mut buffer = Buffer::new();
+    push_all(text, buffer.format(number).as_bytes());
+}
+
+// The line with these words around a number.
+fn numbered(front: &[u8], number: u64, back: &[u8]) -> ArrayVec<u8, ROOM>
+    requires front { length front.now ≤ 24 }
+    requires back { length back.now ≤ 8 }
+    ensures line { result.items ≡ front.now ++ decimal number ++ back.now }
+    ensures short { length result.items ≤ 52 }
+{
+    let mut text = ArrayVec::new();
+    push_all(&mut text, front);
+    push_number(&mut text, number);
+    push_all(&mut text, back);
+    text
+}
+
+// The line with this word between others.
+fn worded(front: &[u8], word: &str, back: &[u8]) -> ArrayVec<u8, ROOM>
+    requires front { length front.now ≤ 16 }
+    requires word { length word.now ≤ 16 }
+    requires back { length back.now ≤ 16 }
+    ensures { result.items ≡ front.now ++ word.now ++ back.now }
+{
+    let mut text = ArrayVec::new();
+    push_all(&mut text, front);
+    push_all(&mut text, word.as_bytes());
+    push_all(&mut text, back);
+    text
+}
+
+// The line of what became of a scenario.
+fn scenario_text(name: &Name, became: Became) -> ArrayVec<u8, ROOM>
+    ensures { result.items ≡ scenario_line name.now (became_word became) }
+{
+    let mut text = worded(b"scenario ", name.as_str(), b" ");
+    push_all(&mut text, became.word().as_bytes());
+    push_all(&mut text, b"\n");
+    text
+}
+
+// The line of a version that is older than the one seen.
+fn behind_text(seen: u64, found: u64) -> ArrayVec<u8, ROOM>
+    ensures { result.items ≡ behind_line seen found }
+{
+    let mut text = numbered(b"refused Behind seen ", seen, b" found ");
+    push_number(&mut text, found);
+    push_all(&mut text, b"\n");
+    text
+}
+
+// The line of a fault.
+fn fault_text(line: u64, fault: CommandFault) -> ArrayVec<u8, ROOM>
+    ensures { result.items ≡ fault_line line fault }
+{
+    let mut text = numbered(b"fault line ", line, b" ");
+    push_all(&mut text, fault.name().as_bytes());
+    if let CommandFault::BadWord(place) = fault {
+        push_all(&mut text, b" ");
+        push_number(&mut text, u64::from(place));
+    }
+    push_all(&mut text, b"\n");
+    text
+}
+
+impl Answer {
+    /// The line, with its line feed.
+    pub fn line(&self) -> ArrayVec<u8, ROOM>
+        ensures { result.items ≡ answer_line self.now }
+    {
+        match self {
+            Answer::Version(version) => numbered(b"version ", *version, b"\n"),
+            Answer::Scenario { name, became } => scenario_text(name, *became),
+            Answer::Refused(refusal) => worded(b"refused ", refusal.name(), b"\n"),
+            Answer::Behind { seen, found } => behind_text(*seen, *found),
+            Answer::Fault { line, fault } => fault_text(*line, *fault),
+            Answer::Settled { seen } => numbered(b"settled ", *seen, b"\n"),
+            Answer::Failed { count } => numbered(b"failed ", *count, b"\n"),
+            Answer::Stopped => worded(b"stopped", "", b"\n"),
+            Answer::Bye => worded(b"bye", "", b"\n"),
+        }
+    }
+}
