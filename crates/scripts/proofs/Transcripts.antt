@@ -1,6 +1,5 @@
 -- Transcripts, line after line.
-use Rattle.std.proofs.Common.{◌≡◌, ℕ, ◌+◌, ◌<◌, true, false, List, [], ◌∷◌, ◌++◌, length, take, Option, Some, None, Result, Ok, Err, inl, inr, ◌⊎◌, refl, sym, subst, append_assoc, append-nil, arith, if◌then◌else◌}
-use Rattle.std.specs.Prelude.{find}
+use Rattle.std.proofs.Common.{◌≡◌, ℕ, ◌+◌, ◌<◌, true, false, List, [], ◌∷◌, ◌++◌, length, take, Option, Some, None, Result, Ok, Err, inl, inr, refl, sym, subst, append_assoc, append-nil, arith, if◌then◌else◌}
 use Rattle.std.specs.List.{before_first, after_first}
 use Rattle.std.specs.Io.KnownBytes.{Appends}
 use Rattle.std.proofs.KnownBytes.{Appends-trans}
@@ -10,7 +9,6 @@ use Rattle.commands.specs.declared.command.Command.{Command}
 use Rattle.commands.specs.declared.command.Command.TheVariants as asks
 use Rattle.commands.specs.declared.fault.CommandFault.{CommandFault}
 use Rattle.commands.specs.Commands.{command_of_line}
-use Rattle.book_machine.specs.Machine.{Machine}
 use Rattle.scripts.specs.Session.{Session}
 use Rattle.scripts.specs.Steps.{Answers, IsNamed}
 use Rattle.scripts.specs.Transcript.{IsLine, IsTranscript, is_quit, looked_at}

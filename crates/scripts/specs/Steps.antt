@@ -1,11 +1,11 @@
 -- What each command is answered, and the state after it. In each, want of memory is one more case.
-use Rattle.std.specs.Prelude.{◌≡◌, ℕ, ◌+◌, ◌<◌, List, [], ◌∷◌, ◌++◌, length, map, sum_by, Option, None, Some, ◌⊎◌, codes, true, false, is_some}
+use Rattle.std.specs.Prelude.{◌≡◌, ℕ, ◌+◌, ◌<◌, List, [], ◌∷◌, ◌++◌, length, sum_by, None, Some, ◌⊎◌, codes, true, false, is_some}
 use Rattle.std.specs.List.{flat_map}
 use Rattle.std.specs.Fmt.{decimal}
 use Rattle.swf_text.specs.Entry.{LogEntry}
 use Rattle.swf_text.specs.Text.{LogText}
 use Rattle.swf_text.specs.Writing.{text_bytes}
-use Rattle.job_table.specs.Edit.{LogEdit, Insert, Remove, Change, log_at}
+use Rattle.job_table.specs.Edit.{Insert, Remove, Change, log_at}
 use Rattle.scenarios.specs.Names.{no_such_scenario_name}
 use Rattle.scenarios.specs.Plan.{plan_of}
 use Rattle.scenarios.specs.ScenarioList.{Listed, named}
