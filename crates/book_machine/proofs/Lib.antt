@@ -6,3 +6,4 @@ pub mod Given
 pub mod Ids
 pub mod Sound
 pub mod Rising
+pub mod Versions

@@ -1,5 +1,6 @@
 ghost use Rattle.book_machine.specs.Laws.{VersionsNeverGoDown, NoVersionIsAhead, NoIdIsGivenTwice, NoTicketIsGivenTwice};
 ghost use Rattle.book_machine.specs.Sound.{EachStateIsSound};
+ghost use Rattle.book_machine.specs.Versions.{EachVersionWasAccepted, EachVersionKeepsItsLog};
 
 /// Over every history, and every way in which it goes on, a scenario's published version never goes
 /// down while its id stands.
@@ -26,4 +27,11 @@ pub fn no_ticket_is_given_twice()
 /// were made and of scenarios that stand, and no number passes that of the notes.
 pub fn every_state_is_sound()
     ensures { EachStateIsSound }
+{}
+
+/// A version is made by an accepted edit and by nothing else, and its log stays what it was, whatever
+/// is called later.
+pub fn each_version_keeps_its_log()
+    ensures accepted { EachVersionWasAccepted }
+    ensures kept { EachVersionKeepsItsLog }
 {}

@@ -1,0 +1,22 @@
+-- The logs of the versions over a history.
+use Rattle.std.specs.Prelude.{◌≡◌, ℕ, ◌≤◌, List, [], ◌∷◌, ◌++◌, None}
+use Rattle.swf_text.specs.Entry.{LogEntry}
+use Rattle.job_table.specs.Edit.{LogEdit, applied, fault_of, log_at}
+use Rattle.book_machine.specs.Machine.{opened, version}
+use Rattle.book_machine.specs.History.{Noted, IsLegal, after_all}
+
+-- each of these edits was accepted by the log after those before it
+abbrev pub WereAccepted : List LogEntry → List LogEdit → Type 0
+WereAccepted log [] = Unit {0}
+WereAccepted log (edit ∷ edits) = (fault_of edit log ≡ None) × WereAccepted (applied edit log) edits
+
+-- a version is made by an edit that is accepted, and by nothing else
+abbrev pub EachVersionWasAccepted : Type 0
+EachVersionWasAccepted =
+    (log : List LogEntry) (notes : List Noted) → IsLegal (opened log) notes → WereAccepted log (after_all (opened log) notes).edits
+
+-- whatever is called later, a version's log stays what it was
+abbrev pub EachVersionKeepsItsLog : Type 0
+EachVersionKeepsItsLog =
+    (log : List LogEntry) (notes more : List Noted) (v : ℕ) → IsLegal (opened log) (notes ++ more) → v ≤ version (after_all (opened log) notes)
+    → log_at log (after_all (opened log) (notes ++ more)).edits v ≡ log_at log (after_all (opened log) notes).edits v
