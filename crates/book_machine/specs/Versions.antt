@@ -1,7 +1,11 @@
 -- The logs of the versions over a history.
-use Rattle.std.specs.Prelude.{◌≡◌, ℕ, ◌≤◌, List, [], ◌∷◌, ◌++◌, None}
+use Rattle.std.specs.Prelude.{◌≡◌, ℕ, ◌≤◌, List, [], ◌∷◌, ◌++◌, Option, Some, None}
+use Rattle.std.specs.List.{filter_map}
 use Rattle.swf_text.specs.Entry.{LogEntry}
 use Rattle.job_table.specs.Edit.{LogEdit, applied, fault_of, log_at}
+use Rattle.book_machine.specs.Call.{BookCall, Edit}
+use Rattle.book_machine.specs.declared.reply.Reply.{Reply}
+use Rattle.book_machine.specs.declared.reply.Reply.TheVariants as reply
 use Rattle.book_machine.specs.Machine.{opened, version}
 use Rattle.book_machine.specs.History.{Noted, IsLegal, after_all}
 
@@ -14,6 +18,16 @@ WereAccepted log (edit ∷ edits) = (fault_of edit log ≡ None) × WereAccepted
 abbrev pub EachVersionWasAccepted : Type 0
 EachVersionWasAccepted =
     (log : List LogEntry) (notes : List Noted) → IsLegal (opened log) notes → WereAccepted log (after_all (opened log) notes).edits
+
+-- the edit of a call that was told its version
+abbrev pub edit_told : BookCall → Reply → Option LogEdit
+edit_told (Edit edit) (reply.Edited v) = Some edit
+edit_told call told = None
+
+-- the notes alone tell the edits, and so every version's log
+abbrev pub TheEditsAreThoseNoted : Type 0
+TheEditsAreThoseNoted =
+    (log : List LogEntry) (notes : List Noted) → IsLegal (opened log) notes → (after_all (opened log) notes).edits ≡ filter_map (λ n. edit_told n.call n.reply) notes
 
 -- whatever is called later, a version's log stays what it was
 abbrev pub EachVersionKeepsItsLog : Type 0

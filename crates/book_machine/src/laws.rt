@@ -1,6 +1,6 @@
 ghost use Rattle.book_machine.specs.Laws.{VersionsNeverGoDown, NoVersionIsAhead, NoIdIsGivenTwice, NoTicketIsGivenTwice};
 ghost use Rattle.book_machine.specs.Sound.{EachStateIsSound};
-ghost use Rattle.book_machine.specs.Versions.{EachVersionWasAccepted, EachVersionKeepsItsLog};
+ghost use Rattle.book_machine.specs.Versions.{EachVersionWasAccepted, EachVersionKeepsItsLog, TheEditsAreThoseNoted};
 
 /// Over every history, and every way in which it goes on, a scenario's published version never goes
 /// down while its id stands.
@@ -29,9 +29,10 @@ pub fn every_state_is_sound()
     ensures { EachStateIsSound }
 {}
 
-/// A version is made by an accepted edit and by nothing else, and its log stays what it was, whatever
-/// is called later.
+/// A version is made by an accepted edit and by nothing else; the notes alone tell these edits; and a
+/// version's log stays what it was, whatever is called later.
 pub fn each_version_keeps_its_log()
     ensures accepted { EachVersionWasAccepted }
+    ensures noted { TheEditsAreThoseNoted }
     ensures kept { EachVersionKeepsItsLog }
 {}
