@@ -5,7 +5,8 @@ use Rattle.std.specs.Cmp.Lexicographic.{pointwise}
 use Rattle.std.proofs.lemmas.Bool.Decides.{Decides-like}
 use Rattle.swf_text.specs.declared.line.Fields.{Fields}
 use Rattle.swf_text.specs.Entry.{LogEntry, values}
-use Rattle.book_machine.specs.Same.{same_entry, same_edit, same_edit-Decides}
+use Rattle.book_machine.specs.Same.{same_entry, same_edit}
+use Rattle.book_machine.specs.Decided.{same_edit-Decides}
 use Rattle.book_machine.specs.declared.noted_edit.NotedEdit.{NotedEdit}
 use Rattle.book_machine.specs.declared.noted_edit.NotedEdit.TheVariants.{Insert, Remove, Change}
 use Rattle.book_machine.specs.Noted.{noted_edit_of}

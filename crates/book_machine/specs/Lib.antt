@@ -5,4 +5,5 @@ pub mod Laws
 pub mod Sound
 pub mod Versions
 pub mod Same
+pub mod Decided
 pub mod Noted

@@ -3,7 +3,8 @@ ghost use Rattle.std.specs.Cmp.{partial_equiv_from_equiv};
 ghost use Rattle.std.specs.Ordering.{on};
 ghost use Rattle.std.proofs.lemmas.Cmp.{on_equiv};
 ghost use Rattle.book_machine.specs.Noted.{call_of};
-ghost use Rattle.book_machine.specs.Same.{same_call, same_call-equiv};
+ghost use Rattle.book_machine.specs.Same.{same_call};
+ghost use Rattle.book_machine.specs.Decided.{same_call-equiv};
 
 use crate::name::Name;
 use crate::noted_edit::NotedEdit;

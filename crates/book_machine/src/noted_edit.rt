@@ -4,7 +4,8 @@ ghost use Rattle.std.specs.Cmp.{partial_equiv_from_equiv};
 ghost use Rattle.std.specs.Ordering.{on};
 ghost use Rattle.std.proofs.lemmas.Cmp.{on_equiv};
 ghost use Rattle.book_machine.specs.Noted.{noted_edit_of};
-ghost use Rattle.book_machine.specs.Same.{same_edit, same_edit-equiv};
+ghost use Rattle.book_machine.specs.Same.{same_edit};
+ghost use Rattle.book_machine.specs.Decided.{same_edit-equiv};
 
 use crate::noted_entry::NotedEntry;
 use job_table::Edit;

@@ -1,6 +1,7 @@
 ghost use Rattle.std.specs.Prelude.{◌≡◌, IfOk};
 ghost use Rattle.std.specs.Cmp.{partial_equiv_from_equiv};
-ghost use Rattle.book_machine.specs.Same.{same_entry, same_entry-equiv};
+ghost use Rattle.book_machine.specs.Same.{same_entry};
+ghost use Rattle.book_machine.specs.Decided.{same_entry-equiv};
 
 use std::alloc::Allocator;
 use std::marker::Model;

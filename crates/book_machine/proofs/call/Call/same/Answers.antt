@@ -1,6 +1,7 @@
 use Rattle.std.proofs.lemmas.Bool.Decides.{Decides-at}
 use Rattle.book_machine.specs.Noted.{call_of}
-use Rattle.book_machine.specs.Same.{same_call, same_call-Decides}
+use Rattle.book_machine.specs.Same.{same_call}
+use Rattle.book_machine.specs.Decided.{same_call-Decides}
 use Rattle.book_machine.proofs.call.Call.same.Goals as goal
 
 pub returns : goal.returns

@@ -7,7 +7,8 @@ use Rattle.book_machine.specs.contracts.reply.ReplyPartialEq.TheImpl as by_reply
 use Rattle.book_machine.specs.Call.{BookCall}
 use Rattle.book_machine.specs.History.{Noted}
 use Rattle.book_machine.specs.Noted.{noted_of}
-use Rattle.book_machine.specs.Same.{same_call, same_call-Decides}
+use Rattle.book_machine.specs.Same.{same_call}
+use Rattle.book_machine.specs.Decided.{same_call-Decides}
 use Rattle.book_machine.proofs.note.Note.same.Goals as goal
 
 caller-Decides : (a b : Caller) → Decides (by_caller.eq-value.it a b) (a ≡ b)
