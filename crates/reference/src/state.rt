@@ -6,7 +6,7 @@ ghost use Rattle.easy_rule.specs.Simulation.{ended};
 
 use crate::job::PlainJob;
 use crate::running::PlainRunning;
-use scenarios::{Order, Scenario};
+use scenarios::{MAX_PROCS, Order, Scenario};
 use std::alloc::Allocator;
 use std::marker::Model;
 use swf_text::Memory;
@@ -170,8 +170,7 @@ impl<A: Allocator + Copy> PlainState<A> {
         requires fits { job.size ≤ self.old.machine }
         ensures { OnOk result (self.new ≡ arrived self.old job) }
     {
-        // Read here since the check has to be told that the job is within its limits.
-        let _size = job.size();
+        prove!(job.size() <= MAX_PROCS);
         self.waiting.push(job)?;
         Ok(())
     }

@@ -1,4 +1,4 @@
-use Rattle.std.proofs.Common.{rules, ◌≡◌, false, IsTrue, map, get_or, take, sym, ◌∙◌, subst, refl}
+use Rattle.std.proofs.Common.{rules, ◌≡◌, map, get_or, take, sym, ◌∙◌, subst, refl}
 use Rattle.std.proofs.lemmas.Bool.{false≢true}
 use Rattle.job_table.specs.Edit.{edit_of, log_after}
 use Rattle.scenarios.specs.Plan.{Plan}
