@@ -1,7 +1,6 @@
 ghost use Rattle.std.specs.Prelude.{◌≡◌};
 ghost use Rattle.commands.specs.declared.opening_fault.OpenTextFault.TheVariants.{Memory as no_memory};
 
-use std::alloc::{AllocError, AllocFailed};
 use std::error::Error;
 use std::fmt;
 use swf_text::Memory;
@@ -50,22 +49,6 @@ impl From<Memory> for OpenTextFault {
     ghost from_gives = { λ _ fault. fault ≡ no_memory };
 
     fn from(_memory: Memory) -> OpenTextFault {
-        OpenTextFault::Memory
-    }
-}
-
-impl From<AllocError> for OpenTextFault {
-    ghost from_gives = { λ _ fault. fault ≡ no_memory };
-
-    fn from(_error: AllocError) -> OpenTextFault {
-        OpenTextFault::Memory
-    }
-}
-
-impl<T: Drop> From<AllocFailed<T>> for OpenTextFault {
-    ghost from_gives = { λ _ fault. fault ≡ no_memory };
-
-    fn from(_error: AllocFailed<T>) -> OpenTextFault {
         OpenTextFault::Memory
     }
 }

@@ -1,7 +1,6 @@
 ghost use Rattle.std.specs.Prelude.{◌≡◌};
 ghost use Rattle.job_table.specs.declared.fault.EditFault.TheVariants as faults;
 
-use std::alloc::{AllocError, AllocFailed};
 use std::error::Error;
 use std::fmt;
 
@@ -58,22 +57,6 @@ impl From<swf_text::Memory> for EditFault {
     ghost from_gives = { λ _ fault. fault ≡ faults.Memory };
 
     fn from(_memory: swf_text::Memory) -> EditFault {
-        EditFault::Memory
-    }
-}
-
-impl From<AllocError> for EditFault {
-    ghost from_gives = { λ _ fault. fault ≡ faults.Memory };
-
-    fn from(_error: AllocError) -> EditFault {
-        EditFault::Memory
-    }
-}
-
-impl<T: Drop> From<AllocFailed<T>> for EditFault {
-    ghost from_gives = { λ _ fault. fault ≡ faults.Memory };
-
-    fn from(_error: AllocFailed<T>) -> EditFault {
         EditFault::Memory
     }
 }
