@@ -2,7 +2,7 @@ ghost use Rattle.std.specs.Prelude.{◌≡◌};
 ghost use Rattle.easybook.specs.declared.fault.ProgramFault.TheVariants.{Memory as OutOfMemory, Write as WriteFailed};
 
 use commands::OpenTextFault;
-use std::alloc::{AllocError, AllocFailed};
+use std::alloc::AllocFailed;
 use std::error::Error;
 use std::fmt;
 use swf_text::{FaultKind, Memory, SwfFault, WriteFault};
@@ -88,14 +88,6 @@ impl From<Memory> for ProgramFault {
     ghost from_gives = { λ _ fault. fault ≡ OutOfMemory };
 
     fn from(_memory: Memory) -> ProgramFault {
-        ProgramFault::Memory
-    }
-}
-
-impl From<AllocError> for ProgramFault {
-    ghost from_gives = { λ _ fault. fault ≡ OutOfMemory };
-
-    fn from(_error: AllocError) -> ProgramFault {
         ProgramFault::Memory
     }
 }
