@@ -332,9 +332,6 @@ module _ {X : Type 0} (at num : X → ℕ) where
   indexes-without n xs old new i u q = u q ∙ rw (i q, found-without q n xs) (sym (submit_if (n == q) None (found q xs)))
 
   -- as the code has them
-  pub insert_at : (e : X) (xs ys : List X) (s n i : ℕ) → ys ≡ xs → s ≡ (at e) → n ≡ (num e) → i ≡ position_or_len (λ x. not (stands s n x)) ys → insert ys i e ≡ placed e xs
-  insert_at e xs ys s n i a b c d = rw (d, a, b, c) (insert-placed e xs)
-
   pub at_within : (n s : ℕ) (xs : List X) (i : ℕ) → Some s ≡ option_map at (found n xs) → slice_get xs i ≡ found n xs → i < length xs
   at_within n s xs i h k = go (found n xs) refl h
     where
