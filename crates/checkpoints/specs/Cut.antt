@@ -1,5 +1,5 @@
 -- How a simulation is cut into segments, one after another.
-use Rattle.std.specs.Prelude.{◌≡◌, ℕ, ◌+◌, ◌≤◌, List, [], ◌∷◌, ◌++◌, Option}
+use Rattle.std.specs.Prelude.{◌≡◌, ℕ, ◌+◌, ◌≤◌, List, [], ◌∷◌, ◌++◌, Option, None}
 use Rattle.std.specs.List.{filter_map, flat_map}
 use Rattle.std.specs.Option.{option_map}
 use Rattle.scenarios.specs.Job.{EffectiveJob}
@@ -7,7 +7,7 @@ use Rattle.scenarios.specs.Plan.{Plan, job_numbered}
 use Rattle.cluster_state.specs.Snapshot.{numbers_of}
 use Rattle.easy_rule.specs.declared.start.Start.{Start}
 use Rattle.easy_rule.specs.Simulation.{IsEvent, before, starts_before}
-use Rattle.event_loop.specs.Events.{events_before}
+use Rattle.event_loop.specs.Events.{IsNextEvent, events_before}
 use Rattle.scenarios.specs.declared.placed.Placed.{Placed}
 use Rattle.metrics.specs.Part.{IsPartOf}
 use Rattle.checkpoints.specs.Segment.{SegmentView}
@@ -40,7 +40,7 @@ Chain plan a (s ∷ ss) b = (m : ℕ) × Spans plan s a m × Chain plan m ss b
 
 -- no event second comes from a on
 abbrev pub Over : Plan → ℕ → Type 0
-Over plan a = (t : ℕ) → a ≤ t → IsEvent plan t → ⊥
+Over plan a = IsNextEvent plan a None
 
 -- The segments of a plan: the first begins at 0, each next one a second after the last event second of the one before,
 -- and after the last of them no event second comes.

@@ -4,7 +4,8 @@ ghost use Rattle.std.specs.Prelude.{◌≡◌, IsTrue, ◌↔◌};
 ghost use Rattle.metrics.specs.Measures.{wait, slowdown, busy};
 ghost use Rattle.metrics.specs.Placed.{CanStart, CanSum};
 
-use scenarios::{MAX_JOBS, Placed, SECONDS_END};
+use scenarios::{Placed, SECONDS_END};
+use swf_text::ENTRY_LIMIT;
 
 /// Whether the job may start when it does: not before its submission, and before second 2^49.
 pub fn can_start(placed: &Placed) -> bool
@@ -18,7 +19,7 @@ pub fn can_start(placed: &Placed) -> bool
 pub fn can_sum(placed: &[Placed]) -> bool
     ensures { IsTrue result ↔ CanSum placed.now }
 {
-    placed.len() <= MAX_JOBS && placed.iter().all(can_start)
+    placed.len() <= ENTRY_LIMIT && placed.iter().all(can_start)
 }
 
 /// The seconds from its submission to its start.

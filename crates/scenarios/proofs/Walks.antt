@@ -43,11 +43,6 @@ jobs-from s t (e ∷ es) =
 pub left-some : (s : Setting) (es rest : List LogEntry) (e : LogEntry) (job : EffectiveJob) → es ≡ e ∷ rest → Ok job ≡ effective e s → jobs_of es s ≡ job ∷ jobs_of rest s
 left-some s es rest e job at is = ap (λ xs. jobs_of xs s) at ∙ ap (λ r. cons_option (result_ok r) (jobs_of rest s)) (sym is)
 
--- all entries of a table
-pub from-zero : (es : List LogEntry) → entries_from 0 es ≡ es
-from-zero [] = refl
-from-zero (e ∷ es) = cond-true (nat_le 0 (submit_of e)) (e ∷ entries_from 0 es) (entries_from 0 es) (le-leb 0 (submit_of e) (omega arith)) ∙ ap (λ l. e ∷ l) (from-zero es)
-
 -- all jobs
 pub all-from : (js : List EffectiveJob) → from_on 0 js ≡ js
 all-from [] = refl

@@ -25,7 +25,7 @@ pub use name::is_name;
 pub use order::Order;
 pub use placed::{Placed, SECONDS_END};
 pub use plan::Plan;
-pub use plan_ref::{MAX_JOBS, PlanRef};
+pub use plan_ref::PlanRef;
 pub use scenario::{MAX_FACTOR, MAX_PROCS, Scenario};
 pub use scenario_id::ScenarioId;
 pub use scenario_list::{MAX_SCENARIOS, ScenarioList};

@@ -4,12 +4,13 @@ ghost use Rattle.job_table.specs.Table.{IsTable};
 ghost use Rattle.scenarios.specs.PlanView.{plan_in};
 ghost use Rattle.scenarios.specs.SoundPlan.{IsPlan};
 
-use crate::plan_ref::{MAX_JOBS, PlanRef};
+use crate::plan_ref::PlanRef;
 use crate::scenario::{MAX_PROCS, Scenario};
 use job_table::JobTable;
 use std::alloc::Allocator;
 use std::marker::Model;
 use std::sync::Arc;
+use swf_text::ENTRY_LIMIT;
 
 /// A table under a scenario: what is simulated.
 ///
@@ -37,7 +38,7 @@ impl<A: Allocator + Copy> Plan<A> {
         ensures view { result ≡ record { log = arc_value table; setting = scenario } }
         ensures sound { IsPlan (plan_in result) }
     {
-        prove!(table.len() <= MAX_JOBS);
+        prove!(table.len() <= ENTRY_LIMIT);
         prove!(scenario.procs() <= MAX_PROCS);
         Plan { table, scenario }
     }

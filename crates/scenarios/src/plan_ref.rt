@@ -13,9 +13,7 @@ use crate::skips::{Skips, skips_among};
 use job_table::JobTable;
 use std::alloc::Allocator;
 use std::marker::Model;
-
-/// The most jobs of a plan: as many as a log may have entries.
-pub const MAX_JOBS: usize = 4_194_304;
+use swf_text::ENTRY_LIMIT;
 
 /// A plan, lent: a table under a scenario, by which its jobs are read.
 #[derive(Drop)]
@@ -40,7 +38,7 @@ impl<'a, A: Allocator + Copy> PlanRef<'a, A> {
         ensures view { result ≡ record { log = table.now; setting = scenario } }
         ensures sound { IsPlan (plan_in result) }
     {
-        prove!(table.len() <= MAX_JOBS);
+        prove!(table.len() <= ENTRY_LIMIT);
         prove!(scenario.procs() <= MAX_PROCS);
         PlanRef { table, scenario }
     }
