@@ -1,0 +1,9 @@
+pub mod Lists
+pub mod Changing
+pub mod Logs
+pub mod Ids
+pub mod Stepping
+pub mod SessionSteps
+pub mod WorkerSteps
+pub mod Histories
+pub mod Readings

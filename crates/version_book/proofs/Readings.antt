@@ -1,0 +1,172 @@
+-- What the book reads of where it stands, as the machine says it.
+use Rattle.std.proofs.Common.{◌≡◌, ℕ, ◌+◌, ◌≤◌, ◌<◌, ◌==◌, ◌&&◌, List, [], ◌∷◌, ◌++◌, length, map, drop, suc, zero, refl, sym, ◌∙◌, ap, ap₂, subst, Bool, true, false, not, cond, arith}
+use Rattle.std.specs.Prelude.{Option, None, Some, Ok, Err, IfSome, find, count_by, nat_le}
+use Rattle.std.specs.List.{list_any}
+use Rattle.std.specs.Option.{option_map}
+use Rattle.std.proofs.lemmas.List.{length-map}
+use Rattle.std.proofs.lemmas.Bool.{le-leb, lt-leb}
+use Rattle.std.proofs.lemmas.List.Sums.{sum_by-cons}
+use Rattle.swf_text.specs.Entry.{LogEntry}
+use Rattle.job_table.specs.Edit.{LogEdit, log_after, log_at}
+use Rattle.job_table.specs.Accepted.{AreAccepted}
+use Rattle.scenarios.specs.Scenario.{Setting}
+use Rattle.checkpoints.specs.RunView.{RunView}
+use Rattle.book_machine.specs.declared.settle_state.SettleState.{SettleState}
+use Rattle.book_machine.specs.declared.settle_state.SettleState.TheVariants as settle
+use Rattle.book_machine.specs.Machine.{Machine, Progress, is_good, is_waiting, settled, is_below}
+use Rattle.version_book.specs.Book.{PublishedView, ShownView, TicketView, StateView, machine_at, progress_of_shown, published_version, ticket_of_view}
+use Rattle.version_book.specs.Sound.{IsSound, IsOfItsVersion}
+use Rattle.version_book.specs.Tasks.{BaseView, TaskView, IsTask, LeadsTo, base_since, bases_since, due_shown, free_due, task_for, IsNext, IsMade}
+use Rattle.scenarios.specs.Plan.{plan_of}
+use Rattle.checkpoints.specs.Cut.{IsShortCut}
+use Rattle.version_book.specs.Steps.{Does, IsStep}
+use Rattle.version_book.specs.Answers.{claim_answer}
+use Rattle.version_book.specs.declared.worker_refusal.ClaimRefusal.{ClaimRefusal}
+use Rattle.version_book.specs.declared.worker_refusal.ClaimRefusal.TheVariants as claim
+use Rattle.book_machine.specs.Call.{Claim}
+use Rattle.book_machine.specs.declared.reply.Reply.TheVariants as reply
+use Rattle.version_book.specs.Lookups.{is_mark, is_behind, is_awaited, is_due_at, settled_at}
+use Rattle.version_book.proofs.Lists.{list_any-map, count-map}
+use Rattle.version_book.proofs.Logs.{AreAccepted-since, log_after-since}
+use Rattle.version_book.proofs.WorkerSteps.{due-shown, found-run, claim-idle, claim-busy, claim-given}
+
+pub drop-map : {X Y : Type 0} (f : X → Y) (n : ℕ) (xs : List X) → drop n (map f xs) ≡ map f (drop n xs)
+drop-map f zero xs = refl
+drop-map f (suc n) [] = refl
+drop-map f (suc n) (x ∷ xs) = drop-map f n xs
+
+-- ---- how far all scenarios are
+
+twice : (b : Bool) → not (not b) ≡ b
+twice true = refl
+twice false = refl
+
+marked-at : (o : Option ℕ) (v : ℕ) → (elim o [ None ↦ false | Some w ↦ w == v ]) ≡ is_mark o v
+marked-at None v = refl
+marked-at (Some w) v = refl
+
+waiting-at : (seen n : ℕ) (s : StateView) (x : ShownView) → is_waiting seen (machine_at n s) (progress_of_shown x) ≡ is_awaited seen (length s.edits) x
+waiting-at seen n s x = ap₂ (λ (a b : Bool). a && not (b && nat_le seen (length s.edits))) (twice (is_behind seen x)) (marked-at x.mark (length s.edits))
+
+any-same : {X : Type 0} (p q : X → Bool) (xs : List X) → ((x : X) → p x ≡ q x) → list_any p xs ≡ list_any q xs
+any-same p q [] same = refl
+any-same p q (x ∷ xs) same = cc (same x, any-same p q xs same)
+
+abbrev settled_by : Bool → ℕ → SettleState
+settled_by b n = cond b settle.Waiting (cond (n == 0) settle.Done (settle.Failed n))
+
+count-same : {X : Type 0} (p q : X → Bool) (xs : List X) → ((x : X) → p x ≡ q x) → count_by p xs ≡ count_by q xs
+count-same p q [] same = refl
+count-same p q (x ∷ xs) same =
+    let h = count-same p q xs same in
+    let e : cond (p x) 1 0 ≡ cond (q x) 1 0 = ap (λ (b : Bool). let n : ℕ = cond b 1 0 in n) (same x) in
+    omega (arith, sum_by-cons (λ y. cond (p y) 1 0) x xs, sum_by-cons (λ y. cond (q y) 1 0) x xs, h, e)
+
+pub settled-is : (s : StateView) (seen n : ℕ) → settled_at seen (length s.edits) s.shown ≡ settled seen (machine_at n s)
+settled-is s seen n =
+    let any = list_any-map progress_of_shown (is_waiting seen (machine_at n s)) s.shown ∙ any-same (λ (x : ShownView). is_waiting seen (machine_at n s) (progress_of_shown x)) (is_awaited seen (length s.edits)) s.shown (waiting-at seen n s) in
+    let count = count-map progress_of_shown (λ (p : Progress). not (is_good seen p)) s.shown ∙ count-same (λ (x : ShownView). not (is_good seen (progress_of_shown x))) (is_behind seen) s.shown (λ x. twice (is_behind seen x)) in
+    sym (ap₂ settled_by any count)
+
+pub settled-with : {s w : StateView} (seen v : ℕ) (xs : List ShownView) (r : SettleState) → s ≡ w → v ≡ length s.edits → xs ≡ s.shown → r ≡ settled_at seen v xs → (n : ℕ) → r ≡ settled seen (machine_at n w)
+settled-with {s} {w} seen v xs r is v_is xs_is r_is n =
+    subst (λ (u : StateView). r ≡ settled seen (machine_at n u)) is (r_is ∙ (ap₂ (settled_at seen) v_is xs_is ∙ settled-is s seen n))
+
+-- ---- what is due
+
+pub free-none : (s : StateView) → 256 ≤ length s.tickets → None ≡ free_due s
+free-none s le =
+    let count = length-map s.tickets ticket_of_view in
+    let test : nat_le 256 (length (map ticket_of_view s.tickets)) ≡ true = le-leb 256 (length (map ticket_of_view s.tickets)) (omega arith) in
+    sym (ap (λ (b : Bool). cond b None (option_map (λ (x : ShownView). x.id) (due_shown s))) test)
+
+pub free-due : (s : StateView) (o : Option ShownView) → length s.tickets < 256 → find (is_due_at (length s.edits) s.tickets) s.shown ≡ o → option_map (λ (x : ShownView). x.id) o ≡ free_due s
+free-due s o lt is =
+    let count = length-map s.tickets ticket_of_view in
+    let test : nat_le 256 (length (map ticket_of_view s.tickets)) ≡ false = lt-leb 256 (length (map ticket_of_view s.tickets)) (omega arith) in
+    sym (ap (λ (b : Bool). cond b None (option_map (λ (x : ShownView). x.id) (due_shown s))) test ∙ ap (option_map (λ (x : ShownView). x.id)) (due-shown s ∙ is))
+
+pub due-with : (s : StateView) (v : ℕ) (o : Option ShownView) → v ≡ length s.edits → find (is_due_at v s.tickets) s.shown ≡ o → due_shown s ≡ o
+due-with s v o v_is is = due-shown s ∙ (ap (λ (w : ℕ). find (is_due_at w s.tickets) s.shown) (sym v_is) ∙ is)
+
+pub free-with : {s w : StateView} (v : ℕ) (o : Option ShownView) (r : Option ℕ) → s ≡ w → length s.tickets < 256 → v ≡ length s.edits → find (is_due_at v s.tickets) s.shown ≡ o → r ≡ option_map (λ (x : ShownView). x.id) o → r ≡ free_due w
+free-with {s} {w} v o r is lt v_is find_is r_is = subst (λ (u : StateView). r ≡ free_due u) is (r_is ∙ free-due s o lt (ap (λ (n : ℕ). find (is_due_at n s.tickets) s.shown) (sym v_is) ∙ find_is))
+
+-- ---- a task
+
+pub base-is : (p : PublishedView) (es : List LogEdit) (v : ℕ) (run : RunView) (fs : List LogEdit) → v ≡ p.version → run ≡ p.run → fs ≡ drop p.version es → record { version = v; run = run; edits = fs } ≡ base_since es p
+base-is p es v run fs v_is run_is fs_is = cc
+
+base-leads : (s : StateView) (under : Setting) (p : PublishedView) → IsSound s → IsOfItsVersion s.opening s.edits under p → LeadsTo s.current under (base_since s.edits p)
+base-leads s under p h of = record {
+  setting = of.setting;
+  accepted = subst (λ (log : List LogEntry). AreAccepted log (drop p.version s.edits)) (sym of.log) (AreAccepted-since s.opening s.edits p.version h.accepted);
+  log = h.current ∙ (log_after-since s.opening s.edits p.version ∙ ap (λ (log : List LogEntry). log_after log (drop p.version s.edits)) (sym of.log));
+}
+
+bases-lead : (s : StateView) (under : Setting) (o : Option PublishedView) → IsSound s → IfSome o (IsOfItsVersion s.opening s.edits under) → IfSome (bases_since s.edits o) (LeadsTo s.current under)
+bases-lead s under None h of = tt
+bases-lead s under (Some p) h of = base-leads s under p h of
+
+-- a task of these is one
+pub task-sound : {s w : StateView} (ticket id v : ℕ) (log : List LogEntry) (x : ShownView) (setting : Setting) (base : Option BaseView) → s ≡ w → IsSound s → IfSome x.published (IsOfItsVersion w.opening w.edits x.setting) → log ≡ s.current → setting ≡ x.setting → base ≡ bases_since s.edits x.published → IsTask (record { ticket = ticket; id = id; version = v; log = log; setting = setting; spacing = s.spacing; base = base })
+task-sound {s} {w} ticket id v log x setting base seen h of log_is setting_is is =
+    let of' : IfSome x.published (IsOfItsVersion s.opening s.edits x.setting) = subst (λ (u : StateView). IfSome x.published (IsOfItsVersion u.opening u.edits x.setting)) (sym seen) of in
+    record {
+      spacing = h.spacing;
+      base = subst (λ (l : List LogEntry). IfSome base (LeadsTo l setting)) (sym log_is) (subst (λ (u : Setting). IfSome base (LeadsTo s.current u)) (sym setting_is) (subst (λ (o : Option BaseView). IfSome o (LeadsTo s.current x.setting)) (sym is) (bases-lead s x.setting x.published h of')));
+    }
+
+pub task-is : {s w : StateView} (ticket id v : ℕ) (log : List LogEntry) (x : ShownView) (setting : Setting) (spacing : ℕ) (base : Option BaseView) → s ≡ w → ticket ≡ s.next_ticket → id ≡ x.id → v ≡ length s.edits → log ≡ s.current → setting ≡ x.setting → spacing ≡ s.spacing → base ≡ bases_since s.edits x.published → record { ticket = ticket; id = id; version = v; log = log; setting = setting; spacing = spacing; base = base } ≡ task_for w x
+task-is {s} {w} ticket id v log x setting spacing base seen a b d e f h is =
+    let same : record { ticket = ticket; id = id; version = v; log = log; setting = setting; spacing = spacing; base = base } ≡ task_for s x = cc in
+    same ∙ ap (λ (u : StateView). task_for u x) seen
+
+-- ---- the next task
+
+pub next-busy : {s w : StateView} (v : ℕ) (x : ShownView) → s ≡ w → v ≡ length s.edits → find (is_due_at v s.tickets) s.shown ≡ Some x → 256 ≤ length s.tickets → IsNext w (Err claim.TooManyTickets)
+next-busy {s} {w} v x seen v_is is le = subst (λ (u : StateView). IsNext u (Err claim.TooManyTickets)) seen (x, due-with s v (Some x) v_is is, le)
+
+pub next-run : {s w : StateView} (v : ℕ) (x : ShownView) → s ≡ w → IsSound s → find (is_due_at v s.tickets) s.shown ≡ Some x → IfSome x.published (IsOfItsVersion w.opening w.edits x.setting)
+next-run {s} {w} v x seen h is = subst (λ (u : StateView). IfSome x.published (IsOfItsVersion u.opening u.edits x.setting)) seen (found-run s x (is_due_at v s.tickets) h is)
+
+pub next-given : {s w : StateView} (v : ℕ) (x : ShownView) (task : TaskView) → s ≡ w → v ≡ length s.edits → find (is_due_at v s.tickets) s.shown ≡ Some x → length s.tickets < 256 → task ≡ task_for w x → IsNext w (Ok (Some task))
+next-given {s} {w} v x task seen v_is is lt task_is =
+    let given : IsNext s (Ok (Some task)) = (x, due-with s v (Some x) v_is is, lt, task_is ∙ ap (λ (u : StateView). task_for u x) (sym seen)) in
+    subst (λ (u : StateView). IsNext u (Ok (Some task))) seen given
+
+pub claim-none : (s : StateView) → IsSound s → IsNext s (Ok None) → IsStep s s Claim reply.NoneDue
+claim-none s h is = claim-idle s h (sym (due-shown s) ∙ is)
+
+pub claim-refused : (s : StateView) (e : ClaimRefusal) → IsSound s → IsNext s (Err e) → Does s s Claim (claim_answer (Err e))
+claim-refused s claim.JournalFull h is = absurd is
+claim-refused s claim.TooManyTickets h is = claim-busy s is.0 h (sym (due-shown s) ∙ is.1) is.2
+claim-refused s claim.Memory h is = refl
+
+abbrev version_in : Option BaseView → Option ℕ
+version_in o = option_map (λ b. b.version) o
+
+base-version : (es : List LogEdit) (o : Option PublishedView) → version_in (bases_since es o) ≡ option_map (λ (p : PublishedView). p.version) o
+base-version es None = refl
+base-version es (Some p) = refl
+
+abbrev ticket_for : TaskView → TicketView
+ticket_for task = record { number = task.ticket; id = task.id; version = task.version; log = task.log; setting = task.setting }
+
+pub claim-with : {s w : StateView} (task : TaskView) (t : TicketView) (ts : List TicketView) → s ≡ w → IsSound s → IsNext w (Ok (Some task)) → ts ≡ s.tickets ++ t ∷ [] → t ≡ ticket_for task → IsStep s (record s { tickets = ts; next_ticket = s.next_ticket + 1 }) Claim (reply.Claimed task.ticket task.id task.version (version_in task.base))
+claim-with {s} {w} task t ts seen h next ts_is t_is =
+    let n : IsNext s (Ok (Some task)) = subst (λ (u : StateView). IsNext u (Ok (Some task))) (sym seen) next in
+    let x : ShownView = n.0 in
+    let ticket : t ≡ ticket_for (task_for s x) = t_is ∙ ap ticket_for n.3 in
+    let told = ap (λ (k : TaskView). reply.Claimed k.ticket k.id k.version (version_in k.base)) n.3 ∙ ap (reply.Claimed s.next_ticket x.id (length s.edits)) (base-version s.edits x.published) in
+    claim-given s x ts _ h (sym (due-shown s) ∙ n.1) n.2 (ts_is ∙ ap (λ (u : TicketView). s.tickets ++ u ∷ []) ticket) told
+
+pub next-none : {s w : StateView} (v : ℕ) → s ≡ w → v ≡ length s.edits → find (is_due_at v s.tickets) s.shown ≡ None → due_shown w ≡ None
+next-none {s} {w} v seen v_is is = subst (λ (u : StateView). due_shown u ≡ None) seen (due-with s v None v_is is)
+
+-- ---- the run of a task
+
+pub made-anew : {s w : TaskView} (log : List LogEntry) (run : RunView) → s ≡ w → s.base ≡ None → log ≡ s.log → IsShortCut (plan_of log s.setting) s.spacing run.segments → IsMade w w.base run None
+made-anew {s} {w} log run seen none log_is cut =
+    let there : IsShortCut (plan_of s.log s.setting) s.spacing run.segments = subst (λ (l : List LogEntry). IsShortCut (plan_of l s.setting) s.spacing run.segments) log_is cut in
+    subst (λ (t : TaskView). IsMade t t.base run None) seen (subst (λ (o : Option BaseView). IsMade s o run None) (sym none) there)

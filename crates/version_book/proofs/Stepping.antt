@@ -1,0 +1,151 @@
+-- What a change of where a book stands keeps, and calls that change nothing.
+use Rattle.std.proofs.Common.{◌≡◌, ℕ, ◌+◌, ◌≤◌, ◌<◌, ◌==◌, List, [], ◌∷◌, ◌++◌, length, map, refl, sym, ◌∙◌, ap, ap₂, subst, Bool, true, false, not, cond, arith}
+use Rattle.std.specs.Prelude.{Option, None, Some, Ok, Err, MatchOption, ⊤, IfSome, find, filter, is_some}
+use Rattle.std.specs.List.{All}
+use Rattle.std.specs.Option.{option_map}
+use Rattle.std.proofs.lemmas.Bool.{eqb-true}
+use Rattle.std.proofs.lemmas.List.{map-append}
+use Rattle.std.proofs.lemmas.List.Elements.{All-nil, All-cons, All-head, All-tail, All-weaker, All-map}
+use Rattle.scenarios.specs.Scenario.{Setting}
+use Rattle.scenarios.specs.ScenarioList.{Listing}
+use Rattle.book_machine.specs.declared.reply.Reply.{Reply}
+use Rattle.book_machine.specs.Call.{BookCall}
+use Rattle.book_machine.specs.Machine.{Machine, Progress, Ticket, changed, progress_of, published_of, ticket_of, reply_to, changed_by}
+use Rattle.version_book.specs.Book.{PublishedView, ShownView, TicketView, StateView, machine_at, progress_of_shown, ticket_of_view, published_version}
+use Rattle.version_book.specs.Sound.{IsSound, IsOfItsVersion, IsTicketOfItsVersion, IsTicketOfItsScenario, AreListed, Under, under_of_shown, under_of_listed}
+use Rattle.version_book.specs.Steps.{Answer, Does, IsStep}
+use Rattle.version_book.specs.Lookups.{has_id, has_number, with_change, version_shown}
+use Rattle.version_book.proofs.Lists.{map-map, map-same, find-map}
+
+-- a call that changes nothing
+pub still : (s : StateView) (call : BookCall) (r : Reply) → IsSound s → ((n : ℕ) → r ≡ reply_to call (machine_at n s)) → ((n : ℕ) → machine_at n s ≡ changed_by call (machine_at n s)) → IsStep s s call r
+still s call r sound told same = record { reply = told; state = same; spacing = refl; sound = sound }
+
+-- ---- look-ups, as the machine makes them
+
+pub progress-shown : (id : ℕ) (xs : List ShownView) → progress_of id (map progress_of_shown xs) ≡ option_map progress_of_shown (find (has_id id) xs)
+progress-shown id xs = find-map progress_of_shown (λ (p : Progress). p.id == id) xs
+
+abbrev pub published_in : Option Progress → Option ℕ
+published_in o = elim o [ None ↦ None | Some p ↦ p.published ]
+
+published-at : (o : Option ShownView) → published_in (option_map progress_of_shown o) ≡ (elim o [ None ↦ None | Some x ↦ published_version x ])
+published-at None = refl
+published-at (Some x) = refl
+
+pub published-shown : (id : ℕ) (xs : List ShownView) → published_of id (map progress_of_shown xs) ≡ version_shown id xs
+published-shown id xs = ap published_in (progress-shown id xs) ∙ published-at (find (has_id id) xs)
+
+pub ticket-view : (number : ℕ) (ts : List TicketView) → ticket_of number (map ticket_of_view ts) ≡ option_map ticket_of_view (find (has_number number) ts)
+ticket-view number ts = find-map ticket_of_view (λ (t : Ticket). t.number == number) ts
+
+-- ---- a change of one scenario
+
+change-one : (f : ShownView → ShownView) (h : Progress → Progress) (x : ShownView) (b : Bool) → progress_of_shown (f x) ≡ h (progress_of_shown x) → progress_of_shown (cond b (f x) x) ≡ cond b (h (progress_of_shown x)) (progress_of_shown x)
+change-one f h x true is = is
+change-one f h x false is = refl
+
+-- it is the machine's
+pub change-progress : (id : ℕ) (f : ShownView → ShownView) (h : Progress → Progress) → ((x : ShownView) → progress_of_shown (f x) ≡ h (progress_of_shown x)) → (xs : List ShownView) → map progress_of_shown (with_change id f xs) ≡ changed id h (map progress_of_shown xs)
+change-progress id f h is [] = refl
+change-progress id f h is (x ∷ xs) = ap₂ (λ (p : Progress) ps. p ∷ ps) (change-one f h x (has_id id x) (is x)) (change-progress id f h is xs)
+
+change-one-if : (f : ShownView → ShownView) (h : Progress → Progress) (x : ShownView) (b : Bool) → (b ≡ true → progress_of_shown (f x) ≡ h (progress_of_shown x)) → progress_of_shown (cond b (f x) x) ≡ cond b (h (progress_of_shown x)) (progress_of_shown x)
+change-one-if f h x true is = is refl
+change-one-if f h x false is = refl
+
+kept-one : (h : Progress → Progress) (x : ShownView) (b : Bool) → (b ≡ true → progress_of_shown x ≡ h (progress_of_shown x)) → progress_of_shown x ≡ cond b (h (progress_of_shown x)) (progress_of_shown x)
+kept-one h x true is = is refl
+kept-one h x false is = refl
+
+-- the same, where this holds of those with the id
+pub change-if : (id : ℕ) (f : ShownView → ShownView) (h : Progress → Progress) (xs : List ShownView) → All (λ (x : ShownView). has_id id x ≡ true → progress_of_shown (f x) ≡ h (progress_of_shown x)) xs → map progress_of_shown (with_change id f xs) ≡ changed id h (map progress_of_shown xs)
+change-if id f h [] all = refl
+change-if id f h (x ∷ xs) all = ap₂ (λ (p : Progress) ps. p ∷ ps) (change-one-if f h x (has_id id x) (All-head (λ (y : ShownView). has_id id y ≡ true → progress_of_shown (f y) ≡ h (progress_of_shown y)) x xs all)) (change-if id f h xs (All-tail (λ (y : ShownView). has_id id y ≡ true → progress_of_shown (f y) ≡ h (progress_of_shown y)) x xs all))
+
+-- a change that changes nothing of those with the id
+pub kept-if : (id : ℕ) (h : Progress → Progress) (xs : List ShownView) → All (λ (x : ShownView). has_id id x ≡ true → progress_of_shown x ≡ h (progress_of_shown x)) xs → map progress_of_shown xs ≡ changed id h (map progress_of_shown xs)
+kept-if id h [] all = refl
+kept-if id h (x ∷ xs) all = ap₂ (λ (p : Progress) ps. p ∷ ps) (kept-one h x (has_id id x) (All-head (λ (y : ShownView). has_id id y ≡ true → progress_of_shown y ≡ h (progress_of_shown y)) x xs all)) (kept-if id h xs (All-tail (λ (y : ShownView). has_id id y ≡ true → progress_of_shown y ≡ h (progress_of_shown y)) x xs all))
+
+under-one : (f : ShownView → ShownView) (x : ShownView) (b : Bool) → under_of_shown (f x) ≡ under_of_shown x → under_of_shown (cond b (f x) x) ≡ under_of_shown x
+under-one f x true is = is
+under-one f x false is = refl
+
+pub change-under : (id : ℕ) (f : ShownView → ShownView) → ((x : ShownView) → under_of_shown (f x) ≡ under_of_shown x) → (xs : List ShownView) → map under_of_shown (with_change id f xs) ≡ map under_of_shown xs
+change-under id f is [] = refl
+change-under id f is (x ∷ xs) = ap₂ (λ (u : Under) us. u ∷ us) (under-one f x (has_id id x) (is x)) (change-under id f is xs)
+
+-- what holds of each scenario, and of a changed one where it has the id
+all-one : (P : ShownView → Type 0) (f : ShownView → ShownView) (x : ShownView) (b : Bool) → P x → (b ≡ true → P x → P (f x)) → P (cond b (f x) x)
+all-one P f x true h k = k refl h
+all-one P f x false h k = h
+
+pub change-all : (P : ShownView → Type 0) (id : ℕ) (f : ShownView → ShownView) (xs : List ShownView) → All P xs → All (λ (x : ShownView). has_id id x ≡ true → P x → P (f x)) xs → All P (with_change id f xs)
+change-all P id f [] h k = All-nil P
+change-all P id f (x ∷ xs) h k =
+    All-cons P (cond (has_id id x) (f x) x) (with_change id f xs)
+    (all-one P f x (has_id id x) (All-head P x xs h) (All-head (λ (y : ShownView). has_id id y ≡ true → P y → P (f y)) x xs k))
+    (change-all P id f xs (All-tail P x xs h) (All-tail (λ (y : ShownView). has_id id y ≡ true → P y → P (f y)) x xs k))
+
+pub all-always : (P : ShownView → Type 0) → ((x : ShownView) → P x) → (xs : List ShownView) → All P xs
+all-always P h [] = All-nil P
+all-always P h (x ∷ xs) = All-cons P x xs (h x) (all-always P h xs)
+
+-- a ticket stays that of its scenario
+setting-kept : (f : ShownView → ShownView) (x : ShownView) (t : TicketView) → under_of_shown (f x) ≡ under_of_shown x → (x.id ≡ t.id → x.setting ≡ t.setting) → (f x).id ≡ t.id → (f x).setting ≡ t.setting
+setting-kept f x t is h e = ap (λ (u : Under). u.1) is ∙ h (sym (ap (λ (u : Under). u.0) is) ∙ e)
+
+pub ticket-kept : (id : ℕ) (f : ShownView → ShownView) (next : ℕ) (xs : List ShownView) → ((x : ShownView) → under_of_shown (f x) ≡ under_of_shown x) → (t : TicketView) → IsTicketOfItsScenario xs next t → IsTicketOfItsScenario (with_change id f xs) next t
+ticket-kept id f next xs is t h = record {
+  setting = change-all (λ (x : ShownView). x.id ≡ t.id → x.setting ≡ t.setting) id f xs h.setting (all-always (λ (x : ShownView). has_id id x ≡ true → (x.id ≡ t.id → x.setting ≡ t.setting) → ((f x).id ≡ t.id → (f x).setting ≡ t.setting)) (λ x _. setting-kept f x t (is x)) xs);
+  given = h.given;
+}
+
+-- a sound state with a change of the scenarios of one id, and some tickets gone
+pub change-sound : (s : StateView) (id : ℕ) (f : ShownView → ShownView) (ts : List TicketView) → IsSound s → ((x : ShownView) → under_of_shown (f x) ≡ under_of_shown x) → All (λ (x : ShownView). has_id id x ≡ true → IfSome x.published (IsOfItsVersion s.opening s.edits x.setting) → IfSome (f x).published (IsOfItsVersion s.opening s.edits (f x).setting)) s.shown → ((P : TicketView → Type 0) → All P s.tickets → All P ts) → length ts ≤ length s.tickets → IsSound (record s { shown = with_change id f s.shown; tickets = ts })
+change-sound s id f ts h is runs part le = record {
+  spacing = h.spacing;
+  opening = h.opening;
+  accepted = h.accepted;
+  current = h.current;
+  listed = change-under id f is s.shown ∙ h.listed;
+  ids = h.ids;
+  runs = change-all (λ (x : ShownView). IfSome x.published (IsOfItsVersion s.opening s.edits x.setting)) id f s.shown h.runs runs;
+  tickets = part (IsTicketOfItsVersion s.opening s.edits) h.tickets;
+  claimed = All-weaker (IsTicketOfItsScenario s.shown s.listing.next) (IsTicketOfItsScenario (with_change id f s.shown) s.listing.next) (ticket-kept id f s.listing.next s.shown is) ts (part (IsTicketOfItsScenario s.shown s.listing.next) h.claimed);
+  few = omega (arith, h.few);
+}
+
+-- a step, of the state as it was seen
+pub seen-as : {s v new : StateView} {call : BookCall} {r : Reply} → s ≡ v → IsStep s new call r → IsStep v new call r
+seen-as {s} {v} {new} {call} {r} is h = subst (λ (w : StateView). IsStep w new call r) is h
+
+pub still-as : {s v : StateView} {call : BookCall} {r : Reply} → s ≡ v → IsStep s s call r → IsStep v v call r
+still-as {s} {v} {call} {r} is h = subst (λ (w : StateView). IsStep w w call r) is h
+
+-- ---- what options say
+
+pub none-of : {X : Type 0} (o : Option X) → is_some o ≡ false → o ≡ None
+none-of None is = refl
+none-of (Some x) is = cc
+
+pub none-told : {R E : Type 0} (o : Option E) (x : R) → MatchOption o ⊤ (λ (f : E). Ok x ≡ Err f) → o ≡ None
+none-told None x h = refl
+none-told (Some f) x h = cc
+
+pub some-of : {X : Type 0} (o : Option X) → is_some o ≡ true → (x : X) × (o ≡ Some x)
+some-of None is = cc
+some-of (Some x) is = (x, refl)
+
+pub does-as : {s v : StateView} (new : StateView) (call : BookCall) {a b : Answer} → s ≡ v → a ≡ b → Does s new call a → Does v new call b
+does-as {s} {v} new call {a} {b} is same h = subst (λ (w : StateView). Does w new call b) is (subst (λ (q : Answer). Does s new call q) same h)
+
+-- ---- equal fields
+
+pub sound-listing : (s : StateView) (list : Listing) → list ≡ s.listing → IsSound s → IsSound (record s { listing = list })
+sound-listing s list is h = subst (λ (l : Listing). IsSound (record s { listing = l })) (sym is) h
+
+-- one pushed onto a list that is seen through f
+pub map-push : {X Y : Type 0} (f : X → Y) (xs ys zs : List X) (k : X) (e : Y) → zs ≡ ys ++ k ∷ [] → ys ≡ xs → f k ≡ e → map f zs ≡ map f xs ++ e ∷ []
+map-push f xs ys zs k e zs_is ys_is k_is = ap (map f) (zs_is ∙ ap (λ l. l ++ k ∷ []) ys_is) ∙ (map-append f xs (k ∷ []) ∙ ap (λ y. map f xs ++ y ∷ []) k_is)

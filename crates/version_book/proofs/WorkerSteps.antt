@@ -1,0 +1,270 @@
+-- The steps of the workers' calls.
+use Rattle.std.proofs.Common.{◌≡◌, ℕ, ◌+◌, ◌≤◌, ◌<◌, ◌==◌, ◌&&◌, ◌||◌, List, [], ◌∷◌, ◌++◌, length, map, refl, sym, ◌∙◌, ap, ap₂, subst, Bool, true, false, not, cond, arith}
+use Rattle.std.specs.Prelude.{Option, None, Some, IfSome, find, filter, is_some, nat_le, unwrap_or}
+use Rattle.std.specs.List.{All, list_any}
+use Rattle.std.specs.Option.{option_map}
+use Rattle.std.proofs.lemmas.Bool.{eqb-true, eq-eqb, ne_eqb}
+use Rattle.std.proofs.lemmas.Bool.Decides.{nat_tests}
+use Rattle.std.proofs.lemmas.List.{map-append, length-map, length_push}
+use Rattle.std.proofs.lemmas.List.Elements.{All-nil, All-cons, All-head, All-tail, All-push, All-filter, All-weaker}
+use Rattle.swf_text.specs.Entry.{LogEntry}
+use Rattle.scenarios.specs.Scenario.{Setting}
+use Rattle.checkpoints.specs.RunView.{RunView, IsRun}
+use Rattle.book_machine.specs.declared.reply.Reply.{Reply}
+use Rattle.book_machine.specs.declared.reply.Reply.TheVariants as reply
+use Rattle.book_machine.specs.Call.{BookCall, Claim, Finish, GiveUp}
+use Rattle.book_machine.specs.Machine.{Machine, Progress, Ticket, version, is_below, is_due, is_marked, is_claimed, due, are_all_out, changed, closed, publish, marked, published_of, finish_reply_at, ticket_of}
+use Rattle.version_book.specs.Book.{PublishedView, ShownView, TicketView, StateView, machine_at, progress_of_shown, ticket_of_view, published_version}
+use Rattle.version_book.specs.Sound.{IsSound, IsOfItsVersion, IsTicketOfItsVersion, IsTicketOfItsScenario, under_of_shown}
+use Rattle.version_book.specs.Steps.{IsStep}
+use Rattle.version_book.specs.Tasks.{Fits, HasThoseOf, due_shown}
+use Rattle.version_book.specs.Lookups.{has_id, has_number, is_mark, is_out, is_due_at, marking, publishing, version_shown, with_change}
+use Rattle.version_book.proofs.Lists.{find-map, filter-map, list_any-map, find-All, length-filter-le}
+use Rattle.version_book.proofs.Logs.{log_at-now}
+use Rattle.version_book.proofs.Ids.{ids-alike, ids-given, ids-below}
+use Rattle.version_book.proofs.Stepping.{still, published-shown, ticket-view, change-progress, change-if, kept-if, change-sound, all-always}
+
+-- the tickets but that with this number
+abbrev pub left : ℕ → List TicketView → List TicketView
+left n ts = filter (λ (t : TicketView). not (has_number n t)) ts
+
+closed-left : (n : ℕ) (ts : List TicketView) → closed n (map ticket_of_view ts) ≡ map ticket_of_view (left n ts)
+closed-left n ts = filter-map ticket_of_view (λ (t : Ticket). not (t.number == n)) ts
+
+left-part : (n : ℕ) (ts : List TicketView) (P : TicketView → Type 0) → All P ts → All P (left n ts)
+left-part n ts P h = All-filter (λ (t : TicketView). not (has_number n t)) P ts h
+
+tickets-sound : (s : StateView) (n : ℕ) → IsSound s → IsSound (record s { tickets = left n s.tickets })
+tickets-sound s n h = record {
+  spacing = h.spacing;
+  opening = h.opening;
+  accepted = h.accepted;
+  current = h.current;
+  listed = h.listed;
+  ids = h.ids;
+  runs = h.runs;
+  tickets = left-part n s.tickets (IsTicketOfItsVersion s.opening s.edits) h.tickets;
+  claimed = left-part n s.tickets (IsTicketOfItsScenario s.shown s.listing.next) h.claimed;
+  few = omega (arith, h.few, length-filter-le (λ (t : TicketView). not (has_number n t)) s.tickets);
+}
+
+there : (s : StateView) (n : ℕ) (o : Option TicketView) (k : ℕ) → find (has_number n) s.tickets ≡ o → ticket_of n (machine_at k s).tickets ≡ option_map ticket_of_view o
+there s n o k is = ticket-view n s.tickets ∙ ap (option_map ticket_of_view) is
+
+-- ---- a run is handed in
+
+abbrev finish_replied : Machine → Bool → Option Ticket → Reply
+finish_replied m fits o = elim o [ None ↦ reply.UnknownTicket | Some t ↦ cond fits (finish_reply_at t m) reply.Stranger ]
+
+abbrev finish_changed : ℕ → Machine → Bool → Option Ticket → Machine
+finish_changed n m fits o = elim o [
+  | None ↦ m
+  | Some t ↦ cond fits (record m { progress = changed t.id (publish t.version) m.progress; tickets = closed n m.tickets }) m
+]
+
+pub finish-unknown : (s : StateView) (n : ℕ) → IsSound s → find (has_number n) s.tickets ≡ None → IsStep s s (Finish n false) reply.UnknownTicket
+finish-unknown s n h is = still s (Finish n false) reply.UnknownTicket h (λ k. sym (ap (finish_replied (machine_at k s) false) (there s n None k is))) (λ k. sym (ap (finish_changed n (machine_at k s) false) (there s n None k is)))
+
+pub finish-stranger : (s : StateView) (n : ℕ) (t : TicketView) → IsSound s → find (has_number n) s.tickets ≡ Some t → IsStep s s (Finish n false) reply.Stranger
+finish-stranger s n t h is = still s (Finish n false) reply.Stranger h (λ k. sym (ap (finish_replied (machine_at k s) false) (there s n (Some t) k is))) (λ k. sym (ap (finish_changed n (machine_at k s) false) (there s n (Some t) k is)))
+
+abbrev with_both : StateView → ℕ → List Progress → List Ticket → Machine
+with_both s k ps ts = record (machine_at k s) { progress = ps; tickets = ts }
+
+abbrev finish_said : ℕ → Option ℕ → Reply
+finish_said v o = cond (is_below o v) (reply.Finished v) (reply.Stale (unwrap_or o 0))
+
+finish-said : (s : StateView) (n : ℕ) (t : TicketView) (k : ℕ) → find (has_number n) s.tickets ≡ Some t → finish_said t.version (version_shown t.id s.shown) ≡ finish_replied (machine_at k s) true (ticket_of n (machine_at k s).tickets)
+finish-said s n t k is = ap (finish_said t.version) (sym (published-shown t.id s.shown)) ∙ sym (ap (finish_replied (machine_at k s) true) (there s n (Some t) k is))
+
+-- what a publication is for a scenario, by whether an older version is published
+kept-below : (x : ShownView) (v : ℕ) → is_below (published_version x) v ≡ false → progress_of_shown x ≡ publish v (progress_of_shown x)
+kept-below x v is = sym (ap (λ (b : Bool). cond b (record (progress_of_shown x) { published = Some v }) (progress_of_shown x)) is)
+
+put-below : (x : ShownView) (p : PublishedView) → is_below (published_version x) p.version ≡ true → progress_of_shown (publishing p x) ≡ publish p.version (progress_of_shown x)
+put-below x p is = sym (ap (λ (b : Bool). cond b (record (progress_of_shown x) { published = Some p.version }) (progress_of_shown x)) is)
+
+stale-progress : (s : StateView) (id v : ℕ) → IsSound s → is_below (version_shown id s.shown) v ≡ false → map progress_of_shown s.shown ≡ changed id (publish v) (map progress_of_shown s.shown)
+stale-progress s id v h above =
+    kept-if id (publish v) s.shown (All-weaker (λ (x : ShownView). has_id id x ≡ true → is_below (published_version x) v ≡ is_below (version_shown id s.shown) v) (λ (x : ShownView). has_id id x ≡ true → progress_of_shown x ≡ publish v (progress_of_shown x)) (λ x same has. kept-below x v (same has ∙ above)) s.shown (ids-below id v s.shown s.listing h.listed h.ids))
+
+stale-step : (s : StateView) (n : ℕ) (t : TicketView) → IsSound s → find (has_number n) s.tickets ≡ Some t → is_below (version_shown t.id s.shown) t.version ≡ false → IsStep s (record s { tickets = left n s.tickets }) (Finish n true) (reply.Stale (unwrap_or (version_shown t.id s.shown) 0))
+stale-step s n t h is above = record {
+  reply = λ k. sym (ap (λ (b : Bool). cond b (reply.Finished t.version) (reply.Stale (unwrap_or (version_shown t.id s.shown) 0))) above) ∙ finish-said s n t k is;
+  state = λ k. ap₂ (with_both s k) (stale-progress s t.id t.version h above) (sym (closed-left n s.tickets)) ∙ sym (ap (finish_changed n (machine_at k s) true) (there s n (Some t) k is));
+  spacing = refl;
+  sound = tickets-sound s n h;
+}
+
+pub finish-stale : (s : StateView) (n : ℕ) (t : TicketView) (ts : List TicketView) (o : Option ℕ) (found : ℕ) → IsSound s → find (has_number n) s.tickets ≡ Some t → o ≡ version_shown t.id s.shown → is_below o t.version ≡ false → ts ≡ left n s.tickets → found ≡ unwrap_or o 0 → IsStep s (record s { tickets = ts }) (Finish n true) (reply.Stale found)
+finish-stale s n t ts o found h is o_is above ts_is found_is =
+    let above' : is_below (version_shown t.id s.shown) t.version ≡ false = subst (λ (q : Option ℕ). is_below q t.version ≡ false) o_is above in
+    let found' : found ≡ unwrap_or (version_shown t.id s.shown) 0 = found_is ∙ ap (λ (q : Option ℕ). unwrap_or q 0) o_is in
+    subst (λ (us : List TicketView). IsStep s (record s { tickets = us }) (Finish n true) (reply.Stale found)) (sym ts_is) (subst (λ (v : ℕ). IsStep s (record s { tickets = left n s.tickets }) (Finish n true) (reply.Stale v)) (sym found') (stale-step s n t h is above'))
+
+-- a run of a ticket's log and setting is of its version
+abbrev PutRun : StateView → PublishedView → ShownView → Type 0
+PutRun s p x = IfSome x.published (IsOfItsVersion s.opening s.edits x.setting) → IsOfItsVersion s.opening s.edits x.setting p
+
+put-run : (s : StateView) (n : ℕ) (t : TicketView) (run : RunView) → IsSound s → find (has_number n) s.tickets ≡ Some t → IsRun run → run.log ≡ t.log → run.setting ≡ t.setting → All (λ (x : ShownView). has_id t.id x ≡ true → PutRun s (record { version = t.version; run = run }) x) s.shown
+put-run s n t run h is sound log setting =
+    let made : IsTicketOfItsVersion s.opening s.edits t = find-All (IsTicketOfItsVersion s.opening s.edits) (has_number n) s.tickets t h.tickets is in
+    let claimed : IsTicketOfItsScenario s.shown s.listing.next t = find-All (IsTicketOfItsScenario s.shown s.listing.next) (has_number n) s.tickets t h.claimed is in
+    All-weaker (λ (x : ShownView). x.id ≡ t.id → x.setting ≡ t.setting) (λ (x : ShownView). has_id t.id x ≡ true → PutRun s (record { version = t.version; run = run }) x) (λ x same has _. record { made = made.made; log = log ∙ made.log; setting = setting ∙ sym (same (eqb-true x.id t.id has)); run = sound }) s.shown claimed.setting
+
+put-progress : (s : StateView) (id : ℕ) (p : PublishedView) → IsSound s → is_below (version_shown id s.shown) p.version ≡ true → map progress_of_shown (with_change id (publishing p) s.shown) ≡ changed id (publish p.version) (map progress_of_shown s.shown)
+put-progress s id p h below =
+    change-if id (publishing p) (publish p.version) s.shown (All-weaker (λ (x : ShownView). has_id id x ≡ true → is_below (published_version x) p.version ≡ is_below (version_shown id s.shown) p.version) (λ (x : ShownView). has_id id x ≡ true → progress_of_shown (publishing p x) ≡ publish p.version (progress_of_shown x)) (λ x same has. put-below x p (same has ∙ below)) s.shown (ids-below id p.version s.shown s.listing h.listed h.ids))
+
+finish-step : (s : StateView) (n : ℕ) (t : TicketView) (run : RunView) → IsSound s → find (has_number n) s.tickets ≡ Some t → is_below (version_shown t.id s.shown) t.version ≡ true → IsRun run → run.log ≡ t.log → run.setting ≡ t.setting → IsStep s (record s { shown = with_change t.id (publishing (record { version = t.version; run = run })) s.shown; tickets = left n s.tickets }) (Finish n true) (reply.Finished t.version)
+finish-step s n t run h is below sound log setting =
+    let p : PublishedView = record { version = t.version; run = run } in
+    record {
+      reply = λ k. sym (ap (λ (b : Bool). cond b (reply.Finished t.version) (reply.Stale (unwrap_or (version_shown t.id s.shown) 0))) below) ∙ finish-said s n t k is;
+      state = λ k. ap₂ (with_both s k) (put-progress s t.id p h below) (sym (closed-left n s.tickets)) ∙ sym (ap (finish_changed n (machine_at k s) true) (there s n (Some t) k is));
+      spacing = refl;
+      sound = change-sound s t.id (publishing p) (left n s.tickets) h (λ x. refl) (put-run s n t run h is sound log setting) (left-part n s.tickets) (length-filter-le (λ (u : TicketView). not (has_number n u)) s.tickets);
+    }
+
+pub finish-published : (s : StateView) (n : ℕ) (t : TicketView) (run : RunView) (xs : List ShownView) (ts : List TicketView) (o : Option ℕ) → IsSound s → find (has_number n) s.tickets ≡ Some t → o ≡ version_shown t.id s.shown → is_below o t.version ≡ true → IsRun run → run.log ≡ t.log → run.setting ≡ t.setting → xs ≡ with_change t.id (publishing (record { version = t.version; run = run })) s.shown → ts ≡ left n s.tickets → IsStep s (record s { shown = xs; tickets = ts }) (Finish n true) (reply.Finished t.version)
+finish-published s n t run xs ts o h is o_is below sound log setting xs_is ts_is =
+    let below' : is_below (version_shown t.id s.shown) t.version ≡ true = subst (λ (q : Option ℕ). is_below q t.version ≡ true) o_is below in
+    subst (λ (ys : List ShownView). IsStep s (record s { shown = ys; tickets = ts }) (Finish n true) (reply.Finished t.version)) (sym xs_is) (subst (λ (us : List TicketView). IsStep s (record s { shown = with_change t.id (publishing (record { version = t.version; run = run })) s.shown; tickets = us }) (Finish n true) (reply.Finished t.version)) (sym ts_is) (finish-step s n t run h is below' sound log setting))
+
+-- ---- a ticket is given up
+
+abbrev give_up_replied : Option Ticket → Reply
+give_up_replied o = cond (is_some o) reply.GivenUp reply.UnknownTicket
+
+abbrev give_up_changed : ℕ → Machine → Option Ticket → Machine
+give_up_changed n m o = elim o [ None ↦ m | Some t ↦ record m { progress = marked t m; tickets = closed n m.tickets } ]
+
+pub give_up-unknown : (s : StateView) (n : ℕ) → IsSound s → find (has_number n) s.tickets ≡ None → IsStep s s (GiveUp n) reply.UnknownTicket
+give_up-unknown s n h is = still s (GiveUp n) reply.UnknownTicket h (λ k. sym (ap give_up_replied (there s n None k is))) (λ k. sym (ap (give_up_changed n (machine_at k s)) (there s n None k is)))
+
+abbrev mark_now : ℕ → ℕ → List Progress → Bool → List Progress
+mark_now id v ps b = cond b (changed id (λ (p : Progress). record p { mark = Some v }) ps) ps
+
+other-step : (s : StateView) (n : ℕ) (t : TicketView) → IsSound s → find (has_number n) s.tickets ≡ Some t → (t.version ≡ length s.edits → ⊥) → IsStep s (record s { tickets = left n s.tickets }) (GiveUp n) reply.GivenUp
+other-step s n t h is other =
+    let test : (t.version == length s.edits) ≡ false = ne_eqb t.version (length s.edits) other in
+    record {
+      reply = λ k. sym (ap give_up_replied (there s n (Some t) k is));
+      state = λ k. ap₂ (with_both s k) (sym (ap (mark_now t.id t.version (map progress_of_shown s.shown)) test)) (sym (closed-left n s.tickets)) ∙ sym (ap (give_up_changed n (machine_at k s)) (there s n (Some t) k is));
+      spacing = refl;
+      sound = tickets-sound s n h;
+    }
+
+pub give_up-other : (s : StateView) (n : ℕ) (t : TicketView) (ts : List TicketView) → IsSound s → find (has_number n) s.tickets ≡ Some t → (t.version ≡ length s.edits → ⊥) → ts ≡ left n s.tickets → IsStep s (record s { tickets = ts }) (GiveUp n) reply.GivenUp
+give_up-other s n t ts h is other ts_is = subst (λ (us : List TicketView). IsStep s (record s { tickets = us }) (GiveUp n) reply.GivenUp) (sym ts_is) (other-step s n t h is other)
+
+now-step : (s : StateView) (n : ℕ) (t : TicketView) → IsSound s → find (has_number n) s.tickets ≡ Some t → t.version ≡ length s.edits → IsStep s (record s { shown = with_change t.id (marking t.version) s.shown; tickets = left n s.tickets }) (GiveUp n) reply.GivenUp
+now-step s n t h is now =
+    let test : (t.version == length s.edits) ≡ true = eq-eqb t.version (length s.edits) now in
+    record {
+      reply = λ k. sym (ap give_up_replied (there s n (Some t) k is));
+      state = λ k. ap₂ (with_both s k) (change-progress t.id (marking t.version) (λ (p : Progress). record p { mark = Some t.version }) (λ x. refl) s.shown ∙ sym (ap (mark_now t.id t.version (map progress_of_shown s.shown)) test)) (sym (closed-left n s.tickets)) ∙ sym (ap (give_up_changed n (machine_at k s)) (there s n (Some t) k is));
+      spacing = refl;
+      sound = change-sound s t.id (marking t.version) (left n s.tickets) h (λ x. refl) (all-always (λ (x : ShownView). has_id t.id x ≡ true → IfSome x.published (IsOfItsVersion s.opening s.edits x.setting) → IfSome x.published (IsOfItsVersion s.opening s.edits x.setting)) (λ x _ r. r) s.shown) (left-part n s.tickets) (length-filter-le (λ (u : TicketView). not (has_number n u)) s.tickets);
+    }
+
+pub give_up-now : (s : StateView) (n : ℕ) (t : TicketView) (xs : List ShownView) (ts : List TicketView) → IsSound s → find (has_number n) s.tickets ≡ Some t → t.version ≡ length s.edits → xs ≡ with_change t.id (marking t.version) s.shown → ts ≡ left n s.tickets → IsStep s (record s { shown = xs; tickets = ts }) (GiveUp n) reply.GivenUp
+give_up-now s n t xs ts h is now xs_is ts_is =
+    subst (λ (ys : List ShownView). IsStep s (record s { shown = ys; tickets = ts }) (GiveUp n) reply.GivenUp) (sym xs_is) (subst (λ (us : List TicketView). IsStep s (record s { shown = with_change t.id (marking t.version) s.shown; tickets = us }) (GiveUp n) reply.GivenUp) (sym ts_is) (now-step s n t h is now))
+
+-- ---- a claim
+
+marked-at : (o : Option ℕ) (v : ℕ) → (elim o [ None ↦ false | Some w ↦ w == v ]) ≡ is_mark o v
+marked-at None v = refl
+marked-at (Some w) v = refl
+
+due-at : (s : StateView) (k : ℕ) (x : ShownView) → is_due (machine_at k s) (progress_of_shown x) ≡ is_due_at (length s.edits) s.tickets x
+due-at s k x = ap₂ (λ (a b : Bool). is_below (published_version x) (length s.edits) && not a && not b) (marked-at x.mark (length s.edits)) (list_any-map ticket_of_view (λ (t : Ticket). t.id == x.id && t.version == length s.edits) s.tickets)
+
+find-same : {X : Type 0} (p q : X → Bool) (xs : List X) → ((x : X) → p x ≡ q x) → find p xs ≡ find q xs
+find-same p q [] same = refl
+find-same p q (x ∷ xs) same = ap₂ (λ b o. cond b (Some x) o) (same x) (find-same p q xs same)
+
+pub due-shown : (s : StateView) → due_shown s ≡ find (is_due_at (length s.edits) s.tickets) s.shown
+due-shown s = find-same (λ (x : ShownView). is_due (machine_at 0 s) (progress_of_shown x)) (is_due_at (length s.edits) s.tickets) s.shown (due-at s 0)
+
+due-is : (s : StateView) (k : ℕ) (o : Option ShownView) → find (is_due_at (length s.edits) s.tickets) s.shown ≡ o → due (machine_at k s) ≡ option_map progress_of_shown o
+due-is s k o is =
+    find-map progress_of_shown (is_due (machine_at k s)) s.shown
+    ∙ (ap (option_map progress_of_shown) (find-same (λ (x : ShownView). is_due (machine_at k s) (progress_of_shown x)) (is_due_at (length s.edits) s.tickets) s.shown (due-at s k))
+    ∙ ap (option_map progress_of_shown) is)
+
+abbrev claim_replied : Machine → Option Progress → Reply
+claim_replied m o = elim o [ None ↦ reply.NoneDue | Some p ↦ cond (are_all_out m) reply.TooManyTickets (reply.Claimed m.next_ticket p.id (version m) p.published) ]
+
+abbrev claim_changed : Machine → Option Progress → Machine
+claim_changed m o = elim o [
+  | None ↦ m
+  | Some p ↦ cond (are_all_out m) m (record m { tickets = m.tickets ++ record { number = m.next_ticket; id = p.id; version = version m } ∷ []; next_ticket = m.next_ticket + 1 })
+]
+
+pub claim-idle : (s : StateView) → IsSound s → find (is_due_at (length s.edits) s.tickets) s.shown ≡ None → IsStep s s Claim reply.NoneDue
+claim-idle s h is = still s Claim reply.NoneDue h (λ k. sym (ap (claim_replied (machine_at k s)) (due-is s k None is))) (λ k. sym (ap (claim_changed (machine_at k s)) (due-is s k None is)))
+
+all-out : (s : StateView) (k : ℕ) → 256 ≤ length s.tickets → are_all_out (machine_at k s) ≡ true
+all-out s k le = let same = length-map s.tickets ticket_of_view in let le' : 256 ≤ length (map ticket_of_view s.tickets) = omega arith in grind (arith, nat_tests)
+
+not-all-out : (s : StateView) (k : ℕ) → length s.tickets < 256 → are_all_out (machine_at k s) ≡ false
+not-all-out s k lt = let same = length-map s.tickets ticket_of_view in let lt' : length (map ticket_of_view s.tickets) < 256 = omega arith in grind (arith, nat_tests)
+
+pub claim-busy : (s : StateView) (x : ShownView) → IsSound s → find (is_due_at (length s.edits) s.tickets) s.shown ≡ Some x → 256 ≤ length s.tickets → IsStep s s Claim reply.TooManyTickets
+claim-busy s x h is le =
+    still s Claim reply.TooManyTickets h
+    (λ k. sym (ap (claim_replied (machine_at k s)) (due-is s k (Some x) is) ∙ ap (λ (b : Bool). cond b reply.TooManyTickets (reply.Claimed s.next_ticket x.id (length s.edits) (published_version x))) (all-out s k le)))
+    (λ k. sym (ap (claim_changed (machine_at k s)) (due-is s k (Some x) is) ∙ ap (λ (b : Bool). cond b (machine_at k s) (record (machine_at k s) { tickets = (machine_at k s).tickets ++ record { number = s.next_ticket; id = x.id; version = length s.edits } ∷ []; next_ticket = s.next_ticket + 1 })) (all-out s k le)))
+
+abbrev new_ticket : StateView → ShownView → TicketView
+new_ticket s x = record { number = s.next_ticket; id = x.id; version = length s.edits; log = s.current; setting = x.setting }
+
+claim-sound : (s : StateView) (x : ShownView) → IsSound s → find (is_due_at (length s.edits) s.tickets) s.shown ≡ Some x → length s.tickets < 256 → IsSound (record s { tickets = s.tickets ++ new_ticket s x ∷ []; next_ticket = s.next_ticket + 1 })
+claim-sound s x h is lt = record {
+  spacing = h.spacing;
+  opening = h.opening;
+  accepted = h.accepted;
+  current = h.current;
+  listed = h.listed;
+  ids = h.ids;
+  runs = h.runs;
+  tickets = All-push (IsTicketOfItsVersion s.opening s.edits) s.tickets (new_ticket s x) h.tickets (record { made = omega arith; log = h.current ∙ sym (log_at-now s.opening s.edits) });
+  claimed = All-push (IsTicketOfItsScenario s.shown s.listing.next) s.tickets (new_ticket s x) h.claimed (record { setting = ids-alike (is_due_at (length s.edits) s.tickets) s.shown s.listing x h.listed h.ids is; given = find-All (λ (y : ShownView). y.id < s.listing.next) (is_due_at (length s.edits) s.tickets) s.shown x (ids-given s.shown s.listing h.listed h.ids) is });
+  few = omega (arith, length_push s.tickets (new_ticket s x));
+}
+
+claim-step : (s : StateView) (x : ShownView) → IsSound s → find (is_due_at (length s.edits) s.tickets) s.shown ≡ Some x → length s.tickets < 256 → IsStep s (record s { tickets = s.tickets ++ new_ticket s x ∷ []; next_ticket = s.next_ticket + 1 }) Claim (reply.Claimed s.next_ticket x.id (length s.edits) (published_version x))
+claim-step s x h is lt = record {
+  reply = λ k. sym (ap (claim_replied (machine_at k s)) (due-is s k (Some x) is) ∙ ap (λ (b : Bool). cond b reply.TooManyTickets (reply.Claimed s.next_ticket x.id (length s.edits) (published_version x))) (not-all-out s k lt));
+  state = λ k. ap (λ (ts : List Ticket). let m : Machine = record (machine_at k s) { tickets = ts; next_ticket = s.next_ticket + 1 } in m) (map-append ticket_of_view s.tickets (new_ticket s x ∷ [])) ∙ sym (ap (claim_changed (machine_at k s)) (due-is s k (Some x) is) ∙ ap (λ (b : Bool). cond b (machine_at k s) (record (machine_at k s) { tickets = (machine_at k s).tickets ++ record { number = s.next_ticket; id = x.id; version = length s.edits } ∷ []; next_ticket = s.next_ticket + 1 })) (not-all-out s k lt));
+  spacing = refl;
+  sound = claim-sound s x h is lt;
+}
+
+pub claim-given : (s : StateView) (x : ShownView) (ts : List TicketView) (r : Reply) → IsSound s → find (is_due_at (length s.edits) s.tickets) s.shown ≡ Some x → length s.tickets < 256 → ts ≡ s.tickets ++ new_ticket s x ∷ [] → r ≡ reply.Claimed s.next_ticket x.id (length s.edits) (published_version x) → IsStep s (record s { tickets = ts; next_ticket = s.next_ticket + 1 }) Claim r
+claim-given s x ts r h is lt ts_is r_is =
+    subst (λ (us : List TicketView). IsStep s (record s { tickets = us; next_ticket = s.next_ticket + 1 }) Claim r) (sym ts_is) (subst (λ (q : Reply). IsStep s (record s { tickets = s.tickets ++ new_ticket s x ∷ []; next_ticket = s.next_ticket + 1 }) Claim q) (sym r_is) (claim-step s x h is lt))
+
+-- what is published for a scenario that is found is of its version
+pub found-run : (s : StateView) (x : ShownView) (p : ShownView → Bool) → IsSound s → find p s.shown ≡ Some x → IfSome x.published (IsOfItsVersion s.opening s.edits x.setting)
+found-run s x p h is = find-All (λ (y : ShownView). IfSome y.published (IsOfItsVersion s.opening s.edits y.setting)) p s.shown x h.runs is
+
+-- ---- the same, by what the code reads of the ticket
+
+pub finish-with : (s : StateView) (n : ℕ) (t : TicketView) (id v : ℕ) (run : RunView) (xs : List ShownView) (ts : List TicketView) (o : Option ℕ) → IsSound s → find (has_number n) s.tickets ≡ Some t → id ≡ t.id → v ≡ t.version → o ≡ version_shown id s.shown → is_below o v ≡ true → IsRun run → run.log ≡ t.log → run.setting ≡ t.setting → xs ≡ with_change id (publishing (record { version = v; run = run })) s.shown → ts ≡ left n s.tickets → IsStep s (record s { shown = xs; tickets = ts }) (Finish n true) (reply.Finished v)
+finish-with s n t id v run xs ts o h is id_is v_is o_is below sound log setting xs_is ts_is =
+    subst (λ (w : ℕ). IsStep s (record s { shown = xs; tickets = ts }) (Finish n true) (reply.Finished w)) (sym v_is) (finish-published s n t run xs ts o h is (o_is ∙ ap (λ i. version_shown i s.shown) id_is) (subst (λ (w : ℕ). is_below o w ≡ true) v_is below) sound log setting (xs_is ∙ ap₂ (λ i w. with_change i (publishing (record { version = w; run = run })) s.shown) id_is v_is) ts_is)
+
+pub stale-with : (s : StateView) (n : ℕ) (t : TicketView) (id v : ℕ) (ts : List TicketView) (o : Option ℕ) (found : ℕ) → IsSound s → find (has_number n) s.tickets ≡ Some t → id ≡ t.id → v ≡ t.version → o ≡ version_shown id s.shown → is_below o v ≡ false → ts ≡ left n s.tickets → found ≡ unwrap_or o 0 → IsStep s (record s { tickets = ts }) (Finish n true) (reply.Stale found)
+stale-with s n t id v ts o found h is id_is v_is o_is above ts_is found_is = finish-stale s n t ts o found h is (o_is ∙ ap (λ i. version_shown i s.shown) id_is) (subst (λ (w : ℕ). is_below o w ≡ false) v_is above) ts_is found_is
+
+pub now-with : (s : StateView) (n : ℕ) (t : TicketView) (id v : ℕ) (xs : List ShownView) (ts : List TicketView) → IsSound s → find (has_number n) s.tickets ≡ Some t → id ≡ t.id → v ≡ t.version → v ≡ length s.edits → xs ≡ with_change id (marking v) s.shown → ts ≡ left n s.tickets → IsStep s (record s { shown = xs; tickets = ts }) (GiveUp n) reply.GivenUp
+now-with s n t id v xs ts h is id_is v_is now xs_is ts_is = give_up-now s n t xs ts h is (sym v_is ∙ now) (xs_is ∙ ap₂ (λ i w. with_change i (marking w) s.shown) id_is v_is) ts_is
+
+pub other-with : (s : StateView) (n : ℕ) (t : TicketView) (v : ℕ) (ts : List TicketView) → IsSound s → find (has_number n) s.tickets ≡ Some t → v ≡ t.version → (v ≡ length s.edits → ⊥) → ts ≡ left n s.tickets → IsStep s (record s { tickets = ts }) (GiveUp n) reply.GivenUp
+other-with s n t v ts h is v_is other ts_is = give_up-other s n t ts h is (λ e. other (v_is ∙ e)) ts_is
+
+pub fits-of : {s v : StateView} (n : ℕ) (t : TicketView) (run : RunView) → s ≡ v → find (has_number n) s.tickets ≡ Some t → run.log ≡ t.log → run.setting ≡ t.setting → Fits v n run
+fits-of {s} {v} n t run is some log setting = subst (λ (w : StateView). Fits w n run) is (subst (λ (o : Option TicketView). HasThoseOf o run) (sym some) (log, setting))

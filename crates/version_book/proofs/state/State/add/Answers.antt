@@ -1,0 +1,38 @@
+use Rattle.std.proofs.Common.{rules, ◌≡◌, ◌<◌, ◌≤◌, ◌+◌, ◌++◌, ◌∷◌, [], length, map, find, refl, sym, ◌∙◌, ap, subst, arith}
+use Rattle.std.specs.Prelude.{None, Some, Ok, Err, MatchOption, is_some, true, false, filter, not, ◌==◌, vec_capacity}
+use Rattle.std.proofs.lemmas.List.{length_push}
+use Rattle.std.specs.Arc.{arc_value}
+use Rattle.job_table.specs.Accepted.{IsEdit}
+use Rattle.job_table.specs.Edit.{applied, edit_of, fault_of}
+use Rattle.scenarios.specs.ScenarioList.{add_fault, id_of, with_scenario, without_scenario}
+use Rattle.version_book.specs.Book.{ShownView, TicketView, StateView}
+use Rattle.version_book.specs.Sound.{IsSound}
+use Rattle.version_book.specs.Steps.{IsStep}
+use Rattle.book_machine.specs.Call.{Edit, AddScenario, DropScenario, Retry, View}
+use Rattle.book_machine.specs.declared.reply.Reply.TheVariants as reply
+use Rattle.version_book.specs.Lookups.{has_id, unmarking, with_change}
+use Rattle.version_book.proofs.Stepping.{does-as, seen-as, still-as, none-of, none-told, some-of, sound-listing, map-push}
+use Rattle.version_book.specs.Answers.{add_answer, refusal_of}
+use Rattle.version_book.proofs.Ids.{ids-apart}
+use Rattle.version_book.proofs.SessionSteps.{edit-refused, edit-accepted, add-refused, add-accepted, drop-refused, drop-accepted, retry-refused, retry-accepted, view-missing, view-empty, view-behind, view-shown, add-told, match-told}
+use Rattle.version_book.proofs.state.State.add.Goals as goal
+
+pub invariant_of-self : goal.invariant_of-self
+invariant_of-self g c = (sound-listing _ _ c.in_err-id.ensures.kept c.self.invariant.0, c.self.invariant.1, c.self.invariant.2)
+
+pub returns-in_err-id : goal.returns-in_err-id
+returns-in_err-id g c =
+    let told : c.from_residual.result ≡ Err (refusal_of c.in_err-id.field-0.0) = search rules in
+    does-as _ _ c.self.view_is (ap add_answer (sym told)) (add-told _ c.args.name.now c.args.scenario c.in_err-id.field-0.0 c.add.new.self _ c.self.invariant.0 c.in_err-id.ensures.kept refl (match-told _ _ _ _ c.in_err-id.ensures.answer))
+
+pub invariant_of-self-2 : goal.invariant_of-self-2
+invariant_of-self-2 g c =
+    let none : add_fault c.args.name.now c.self.inside.scenarios ≡ None = none-told _ _ c.in_ok-id.ensures.answer in
+    let shown : c.push_reserved.new.self.items ≡ c.self.inside.shown.items ++ record { id = c.in_ok-id.id; setting = c.args.scenario; published = None; mark = None } ∷ [] = search rules in
+    ((add-accepted _ c.args.name.now c.args.scenario _ _ _ c.self.invariant.0 none c.in_ok-id.ensures.id c.in_ok-id.ensures.added shown).sound, omega (arith, c.self.invariant.1, c.push_reserved.ensures.capacity), c.self.invariant.2)
+
+pub returns : goal.returns
+returns g c =
+    let none : add_fault c.args.name.now c.self.inside.scenarios ≡ None = none-told _ _ c.in_ok-id.ensures.answer in
+    let shown : c.push_reserved.new.self.items ≡ c.self.inside.shown.items ++ record { id = c.in_ok-id.id; setting = c.args.scenario; published = None; mark = None } ∷ [] = search rules in
+    seen-as c.self.view_is (add-accepted _ c.args.name.now c.args.scenario _ _ _ c.self.invariant.0 none c.in_ok-id.ensures.id c.in_ok-id.ensures.added shown)

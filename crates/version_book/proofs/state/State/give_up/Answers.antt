@@ -1,0 +1,54 @@
+use Rattle.std.proofs.Common.{rules, ◌≡◌, ◌<◌, ◌≤◌, ◌+◌, ◌++◌, ◌∷◌, [], length, map, find, refl, sym, ◌∙◌, ap, subst, arith}
+use Rattle.std.specs.Prelude.{None, Some, true, false, unwrap_or}
+use Rattle.std.specs.Arc.{arc_value}
+use Rattle.job_table.specs.Edit.{edit_of}
+use Rattle.std.proofs.lemmas.List.{length-map}
+use Rattle.checkpoints.specs.RunView.{IsRun}
+use Rattle.book_machine.specs.Machine.{is_below}
+use Rattle.version_book.specs.Book.{PublishedView, ShownView, TicketView, StateView}
+use Rattle.version_book.specs.Lookups.{has_number, is_due_at, publishing, version_shown, with_change}
+use Rattle.version_book.specs.Steps.{IsStep}
+use Rattle.version_book.proofs.Ids.{ids-apart}
+use Rattle.version_book.proofs.Stepping.{seen-as, still-as, does-as}
+use Rattle.version_book.proofs.WorkerSteps.{left, finish-unknown, finish-stranger, finish-stale, finish-published, give_up-unknown, give_up-other, give_up-now, claim-idle, claim-busy, claim-given, due-shown, found-run, finish-with, stale-with, now-with, other-with, fits-of}
+use Rattle.version_book.proofs.state.State.give_up.Goals as goal
+
+pub returns-in_default : goal.returns-in_default
+returns-in_default g c =
+    let none : find (has_number c.args.number) c.self.inside.tickets.items ≡ None = search rules in
+    still-as c.self.view_is (give_up-unknown _ c.args.number c.self.invariant.0 none)
+
+pub mark-requires : goal.mark-requires
+mark-requires g c = ids-apart _ _ c.self.invariant.0.listed c.self.invariant.0.ids
+
+pub invariant_of-self : goal.invariant_of-self
+invariant_of-self g c =
+    let some : find (has_number c.args.number) c.self.inside.tickets.items ≡ Some c.in-Some.ticket.now = search rules in
+    let count : c.len.result ≡ length c.self.inside.edits.items = search rules in
+    let same = length-map c.self.inside.edits.items (edit_of) in
+    let now : c.version-version.result ≡ length (map edit_of c.self.inside.edits.items) = omega arith in
+    ((now-with _ c.args.number _ _ _ _ _ c.self.invariant.0 some c.id-id.ensures c.version-version.ensures now c.mark.ensures.shown c.close.ensures.tickets).sound, omega (arith, c.self.invariant.1, c.mark.ensures.capacity), omega (arith, c.self.invariant.2, c.close.ensures.capacity))
+
+pub invariant_of-self-else-version-len : goal.invariant_of-self-else-version-len
+invariant_of-self-else-version-len g c =
+    let some : find (has_number c.args.number) c.self.inside.tickets.items ≡ Some c.in-Some.ticket.now = search rules in
+    let count : c.len.result ≡ length c.self.inside.edits.items = search rules in
+    let same = length-map c.self.inside.edits.items (edit_of) in
+    let other : c.version-version.result ≡ length (map edit_of c.self.inside.edits.items) → ⊥ = λ e. c.if-version-len.false (omega arith) in
+    ((other-with _ c.args.number _ _ _ c.self.invariant.0 some c.version-version.ensures other c.close.ensures.tickets).sound, c.self.invariant.1, omega (arith, c.self.invariant.2, c.close.ensures.capacity))
+
+pub returns-then-version-len : goal.returns-then-version-len
+returns-then-version-len g c =
+    let some : find (has_number c.args.number) c.self.inside.tickets.items ≡ Some c.in-Some.ticket.now = search rules in
+    let count : c.len.result ≡ length c.self.inside.edits.items = search rules in
+    let same = length-map c.self.inside.edits.items (edit_of) in
+    let now : c.version-version.result ≡ length (map edit_of c.self.inside.edits.items) = omega arith in
+    seen-as c.self.view_is (now-with _ c.args.number _ _ _ _ _ c.self.invariant.0 some c.id-id.ensures c.version-version.ensures now c.mark.ensures.shown c.close.ensures.tickets)
+
+pub returns-else-version-len : goal.returns-else-version-len
+returns-else-version-len g c =
+    let some : find (has_number c.args.number) c.self.inside.tickets.items ≡ Some c.in-Some.ticket.now = search rules in
+    let count : c.len.result ≡ length c.self.inside.edits.items = search rules in
+    let same = length-map c.self.inside.edits.items (edit_of) in
+    let other : c.version-version.result ≡ length (map edit_of c.self.inside.edits.items) → ⊥ = λ e. c.if-version-len.false (omega arith) in
+    seen-as c.self.view_is (other-with _ c.args.number _ _ _ c.self.invariant.0 some c.version-version.ensures other c.close.ensures.tickets)

@@ -1,0 +1,36 @@
+use Rattle.std.proofs.Common.{rules, ◌≡◌, ◌<◌, ◌≤◌, ◌+◌, ◌++◌, ◌∷◌, [], length, map, find, refl, sym, ap, subst, arith}
+use Rattle.std.specs.Prelude.{None, Some, is_some, true, false, filter, not, ◌==◌, vec_capacity}
+use Rattle.std.specs.Arc.{arc_value}
+use Rattle.job_table.specs.Accepted.{IsEdit}
+use Rattle.job_table.specs.Edit.{applied, edit_of, fault_of}
+use Rattle.scenarios.specs.ScenarioList.{add_fault, id_of, with_scenario, without_scenario}
+use Rattle.version_book.specs.Book.{ShownView, TicketView, StateView}
+use Rattle.version_book.specs.Sound.{IsSound}
+use Rattle.version_book.specs.Steps.{IsStep}
+use Rattle.book_machine.specs.Call.{Edit, AddScenario, DropScenario, Retry, View}
+use Rattle.book_machine.specs.declared.reply.Reply.TheVariants as reply
+use Rattle.version_book.specs.Lookups.{has_id, unmarking, with_change}
+use Rattle.version_book.proofs.Stepping.{seen-as, still-as, none-of, none-told, some-of}
+use Rattle.version_book.proofs.Ids.{ids-apart}
+use Rattle.version_book.proofs.SessionSteps.{edit-refused, edit-accepted, add-refused, add-accepted, drop-refused, drop-accepted, retry-refused, retry-accepted, view-missing, view-empty, view-behind, view-shown, add-told, match-told}
+use Rattle.version_book.proofs.state.State.retry.Goals as goal
+
+pub unmark-requires : goal.unmark-requires
+unmark-requires g c = ids-apart _ _ c.self.invariant.0.listed c.self.invariant.0.ids
+
+pub invariant_of-self : goal.invariant_of-self
+invariant_of-self g c =
+    let some : is_some (find (has_id c.args.id) c.self.inside.shown.items) ≡ true = search rules in
+    let shown : c.unmark.new.shown.items ≡ with_change c.args.id unmarking c.self.inside.shown.items = c.unmark.ensures.shown in
+    ((retry-accepted _ c.args.id _ c.self.invariant.0 some shown).sound, omega (arith, c.self.invariant.1, c.unmark.ensures.capacity), c.self.invariant.2)
+
+pub returns : goal.returns
+returns g c =
+    let some : is_some (find (has_id c.args.id) c.self.inside.shown.items) ≡ true = search rules in
+    let shown : c.unmark.new.shown.items ≡ with_change c.args.id unmarking c.self.inside.shown.items = c.unmark.ensures.shown in
+    seen-as c.self.view_is (retry-accepted _ c.args.id _ c.self.invariant.0 some shown)
+
+pub returns-then-is_none : goal.returns-then-is_none
+returns-then-is_none g c =
+    let none : is_some (find (has_id c.args.id) c.self.inside.shown.items) ≡ false = search rules in
+    still-as c.self.view_is (retry-refused _ c.args.id c.self.invariant.0 (none-of _ none))

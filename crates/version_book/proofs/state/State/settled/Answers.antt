@@ -1,0 +1,16 @@
+use Rattle.std.proofs.Common.{rules, ◌≡◌, ◌<◌, ◌≤◌, ◌+◌, ◌++◌, ◌∷◌, [], length, map, find, drop, refl, sym, ◌∙◌, ap, ap₂, subst, arith}
+use Rattle.std.specs.Prelude.{None, Some, Ok, Err, true, false, nat_le}
+use Rattle.std.specs.Arc.{arc_value}
+use Rattle.std.proofs.lemmas.List.{length-map}
+use Rattle.job_table.specs.Edit.{edit_of}
+use Rattle.version_book.specs.Book.{PublishedView, ShownView, TicketView, StateView}
+use Rattle.version_book.specs.Lookups.{is_due_at}
+use Rattle.version_book.specs.Tasks.{bases_since, due_shown}
+use Rattle.version_book.proofs.Readings.{settled-with, free-none, free-with, due-with, base-is, task-sound, task-is, drop-map}
+use Rattle.version_book.proofs.state.State.settled.Goals as goal
+
+pub returns : goal.returns
+returns g c =
+    let count : c.len.result ≡ length c.self.inside.edits.items = search rules in
+    let v : c.len.result ≡ length (map edit_of c.self.inside.edits.items) = count ∙ sym (length-map c.self.inside.edits.items edit_of) in
+    settled-with c.args.seen _ _ _ c.self.view_is v c.as_slice.ensures.value c.settled.ensures

@@ -1,0 +1,6 @@
+use Rattle.std.proofs.Common.{◌≡◌, map, take}
+use Rattle.job_table.specs.Edit.{edit_of}
+use Rattle.version_book.proofs.worker_steps.copies.Given as goal
+
+abbrev pub invariant-loop-edit : goal.invariant-loop-edit
+invariant-loop-edit g l = l.copies.items ≡ take l.edit-index l.edits

@@ -1,0 +1,7 @@
+pub mod Book
+pub mod Sound
+pub mod Answers
+pub mod Steps
+pub mod Tasks
+pub mod Lookups
+pub mod Names

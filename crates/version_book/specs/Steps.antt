@@ -1,0 +1,66 @@
+-- What a call does with a book: a step of the machine, or nothing.
+use Rattle.std.specs.Prelude.{◌≡◌, ℕ, ◌<◌, List, [], ◌∷◌, ◌++◌, length, Option, None, Some}
+use Rattle.swf_text.specs.Entry.{LogEntry}
+use Rattle.scenarios.specs.ScenarioList.{empty}
+use Rattle.checkpoints.specs.Spacing.{IsSpacing}
+use Rattle.version_book.specs.declared.book_fault.BookFault.{BookFault}
+use Rattle.version_book.specs.declared.book_fault.BookFault.TheVariants as faults
+use Rattle.book_machine.specs.declared.caller.Caller.{Caller}
+use Rattle.book_machine.specs.declared.reply.Reply.{Reply}
+use Rattle.book_machine.specs.Call.{BookCall}
+use Rattle.book_machine.specs.Machine.{reply_to, changed_by, after, note_limit}
+use Rattle.book_machine.specs.History.{Noted}
+use Rattle.version_book.specs.Book.{StateView, BookView, machine_at, machine_of}
+use Rattle.version_book.specs.Sound.{IsSound}
+
+-- what a call answers: the journal is full, a growth was refused, or the reply that is noted
+pub data Answer : Type 0 where
+  full : Answer
+  memory : Answer
+  told : (reply : Reply) → Answer
+
+-- the reply, if the call is noted
+abbrev pub reply_in : Answer → Option Reply
+reply_in full = None
+reply_in memory = None
+reply_in (told reply) = Some reply
+
+abbrev pub note_of : Caller → BookCall → Reply → Noted
+note_of who call reply = record { caller = who; call = call; reply = reply }
+
+-- the note of a call, if it is noted
+abbrev pub notes_of : Caller → BookCall → Option Reply → List Noted
+notes_of who call None = []
+notes_of who call (Some reply) = note_of who call reply ∷ []
+
+-- Where the journal has 1,000,000 notes the call answers so, and otherwise a refused growth, and nothing changes; or it
+-- answers exactly what the machine replies, the book is then the machine's next state, and the journal has this note more.
+abbrev pub Answers : BookView → BookView → Caller → BookCall → Answer → Type 0
+Answers old new who call full = (length old.journal ≡ note_limit) × (new ≡ old)
+Answers old new who call memory = (length old.journal < note_limit) × (new ≡ old)
+Answers old new who call (told reply) =
+    (length old.journal < note_limit) × (reply ≡ reply_to call (machine_of old)) × (machine_of new ≡ after call (machine_of old))
+    × (new.journal ≡ old.journal ++ note_of who call reply ∷ []) × (new.state.spacing ≡ old.state.spacing)
+
+-- ---- the same, apart from the journal
+
+-- a step of the machine, however many notes there are
+pub record IsStep (old new : StateView) (call : BookCall) (answer : Reply) : Type 0 where
+  pub reply : (n : ℕ) → answer ≡ reply_to call (machine_at n old)
+  pub state : (n : ℕ) → machine_at n new ≡ changed_by call (machine_at n old)
+  pub spacing : new.spacing ≡ old.spacing
+  pub sound : IsSound new
+
+abbrev pub Does : StateView → StateView → BookCall → Answer → Type 0
+Does old new call full = ⊥
+Does old new call memory = new ≡ old
+Does old new call (told reply) = IsStep old new call reply
+
+-- a log that was just opened: version 0, without scenarios
+abbrev pub opening_state : List LogEntry → ℕ → StateView
+opening_state log spacing = record { spacing = spacing; opening = log; current = log; edits = []; listing = empty; shown = []; tickets = []; next_ticket = 1 }
+
+-- the spacing is out of its limits, or it is not and a growth was refused
+abbrev pub IsFault : ℕ → BookFault → Type 0
+IsFault spacing faults.BadSpacing = IsSpacing spacing → ⊥
+IsFault spacing faults.Memory = IsSpacing spacing

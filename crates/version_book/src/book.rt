@@ -1,0 +1,124 @@
+ghost use Rattle.std.specs.Prelude.{◌≡◌, ◌&&◌, not, nat_lt, length, IfOk, IfErr, OnOk, Some};
+ghost use Rattle.std.specs.Option.{option_map};
+ghost use Rattle.std.specs.Arc.{arc_value};
+ghost use Rattle.book_machine.specs.Noted.{noted_of};
+ghost use Rattle.checkpoints.specs.Spacing.{IsSpacing};
+
+use crate::book_fault::BookFault;
+use crate::state::State;
+use book_machine::{Note, SettleState};
+use job_table::JobTable;
+use scenarios::{ScenarioId, ScenarioList};
+use std::alloc::Allocator;
+use std::marker::Model;
+use std::sync::Arc;
+
+/// A shared log with all its versions, scenarios with their published runs, tickets for runs that
+/// are to be made, and a journal of every call.
+///
+/// In every book each published run is that of the log of the version that it names, under its
+/// scenario, and the journal is a legal history of the book machine that leads to where the book
+/// stands.
+#[derive(Drop)]
+pub struct Book<A: Allocator + Copy> {
+    pub(crate) alloc: A,
+    pub(crate) state: State<A>,
+    pub(crate) journal: Vec<Note<A>, A>,
+}
+
+impl<A: Allocator + Copy> Model for Book<A> {
+    ghost use Rattle.std.specs.Prelude.{map};
+    ghost use Rattle.book_machine.specs.Noted.{noted_of};
+    ghost use Rattle.version_book.specs.Book.{BookView};
+    ghost use Rattle.version_book.specs.Sound.{IsBook};
+
+    ghost Value = { BookView };
+
+    ghost view = { λ b. record { state = b.state; journal = map noted_of b.journal.items } };
+
+    ghost invariant = { λ b. IsBook (record { state = b.state; journal = map noted_of b.journal.items }) };
+}
+
+impl<A: Allocator + Copy> Book<A> {
+    ghost use Rattle.std.specs.Prelude.{[], map};
+    ghost use Rattle.scenarios.specs.ScenarioList.{id_of};
+    ghost use Rattle.book_machine.specs.Machine.{settled};
+    ghost use Rattle.version_book.specs.Book.{machine_of};
+    ghost use Rattle.version_book.specs.Sound.{IsBook};
+    ghost use Rattle.version_book.specs.Steps.{IsFault, opening_state};
+    ghost use Rattle.version_book.specs.Tasks.{free_due};
+
+    /// A book that opens a log: version 0, no scenario, no note. Runs are to be made in segments of
+    /// at most `spacing` event seconds. BadSpacing where that is not within 1 to 65,536; Memory
+    /// where a growth was refused.
+    pub fn new(alloc: A, table: JobTable<A>, spacing: u32) -> Result<Book<A>, BookFault>
+        ensures book { IfOk result (λ b. b ≡ record { state = opening_state table spacing; journal = [] }) }
+        ensures spacing { OnOk result (IsSpacing spacing) }
+        ensures fault { IfErr result (λ f. IsFault spacing f) }
+    {
+        let state = State::new(alloc, table, spacing)?;
+        Ok(Book {
+            alloc,
+            state,
+            journal: Vec::new(alloc),
+        })
+    }
+
+    /// The current version: how many edits were accepted. In every book each published run is of
+    /// its version, and the journal leads to where it stands.
+    pub fn version(&self) -> u64
+        ensures version { result ≡ length self.now.state.edits }
+        ensures book { IsBook self.now }
+    {
+        self.state.version()
+    }
+
+    /// The log of the current version.
+    pub fn current(&self) -> &Arc<JobTable<A>, A>
+        ensures { arc_value result.now ≡ self.now.state.current }
+    {
+        self.state.current()
+    }
+
+    /// The scenarios, in the order in which they were added.
+    pub fn scenarios(&self) -> &ScenarioList<A>
+        ensures { result.now ≡ self.now.state.listing }
+    {
+        self.state.scenarios()
+    }
+
+    /// The id of the scenario with this name.
+    pub fn id_of(&self, name: &str) -> Option<ScenarioId>
+        ensures { result ≡ id_of name.now self.now.state.listing }
+    {
+        self.state.scenarios().id_of(name)
+    }
+
+    /// The most event seconds that a segment of a new run may hold.
+    pub fn spacing(&self) -> u32
+        ensures { result ≡ self.now.state.spacing }
+    {
+        self.state.spacing()
+    }
+
+    /// The scenario for which a claim would give a task; none too while 256 tickets stand.
+    pub fn due(&self) -> Option<ScenarioId>
+        ensures { result ≡ free_due self.now.state }
+    {
+        self.state.due()
+    }
+
+    /// How far all scenarios are, beside a version that was seen.
+    pub fn settled(&self, seen: u64) -> SettleState
+        ensures { result ≡ settled seen (machine_of self.now) }
+    {
+        self.state.settled(seen)
+    }
+
+    /// The notes of all calls, in their order.
+    pub fn journal(&self) -> &[Note<A>]
+        ensures { map noted_of result.now ≡ self.now.journal }
+    {
+        self.journal.as_slice()
+    }
+}

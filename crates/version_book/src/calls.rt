@@ -1,0 +1,223 @@
+// The calls of a book. Each makes room for its note first; then it takes its step; and then it notes
+// what was told.
+ghost use Rattle.std.specs.Prelude.{◌≡◌, IfOk, Some};
+ghost use Rattle.std.specs.Option.{option_map};
+ghost use Rattle.std.specs.Arc.{arc_value};
+ghost use Rattle.job_table.specs.Edit.{edit_of};
+ghost use Rattle.book_machine.specs.declared.caller.Caller.TheVariants as caller;
+ghost use Rattle.book_machine.specs.Call.{AddScenario, Claim, DropScenario, Edit as Edits, Finish, GiveUp, Retry, View};
+ghost use Rattle.version_book.specs.Answers.{TellsFit, add_answer, claim_answer, drop_answer, edit_answer, finish_answer, fitted, give_up_answer, retry_answer, view_answer};
+ghost use Rattle.version_book.specs.Steps.{Answers};
+ghost use Rattle.version_book.specs.Tasks.{Fits, IsShownFor, due_shown, task_for};
+
+use crate::book::Book;
+use crate::journal::{is_full, make_room, note};
+use crate::published::Published;
+use crate::replies;
+use crate::session_refusal::{AddRefusal, DropRefusal, EditRefusal, RetryRefusal, ViewRefusal};
+use crate::task::Task;
+use crate::worker_refusal::{ClaimRefusal, FinishRefusal, GiveUpRefusal};
+use book_machine::{Call, Caller, Name, NotedEdit};
+use checkpoints::Run;
+use job_table::Edit;
+use scenarios::{Scenario, ScenarioId};
+use std::alloc::Allocator;
+use std::sync::Arc;
+
+impl<A: Allocator + Copy> Book<A> {
+    /// Edits the log, and answers the new version, one more than before.
+    ///
+    /// JournalFull where there are 1,000,000 notes; the fault of the edit; Memory where a growth is
+    /// refused. The log is not copied, but for the chunks of entries that the edit touches; runs
+    /// that are published keep their tables.
+    pub fn edit(&mut self, session: u64, edit: &Edit<A>) -> Result<u64, EditRefusal>
+        ensures { Answers self.old self.new (caller.Session session) (Edits (edit_of edit.now)) (edit_answer result) }
+    {
+        if is_full(&self.journal) {
+            return Err(EditRefusal::JournalFull);
+        }
+        make_room(&mut self.journal)?;
+        let call = Call::Edit(NotedEdit::new(self.alloc, edit)?);
+        let told = self.state.edit(edit);
+        let reply = replies::edit_reply(&told);
+        note(&mut self.journal, Caller::Session(session), call, reply);
+        told
+    }
+
+    /// Adds a scenario behind the others, and answers its id, which no scenario had before.
+    ///
+    /// JournalFull where there are 1,000,000 notes; the fault of the name or of the number of
+    /// scenarios; Memory where a growth is refused.
+    pub fn add_scenario(
+        &mut self,
+        session: u64,
+        name: &str,
+        scenario: Scenario,
+    ) -> Result<ScenarioId, AddRefusal>
+        ensures { Answers self.old self.new (caller.Session session) (AddScenario name.now scenario) (add_answer result) }
+    {
+        if is_full(&self.journal) {
+            return Err(AddRefusal::JournalFull);
+        }
+        make_room(&mut self.journal)?;
+        let call = Call::AddScenario {
+            name: Name::new(self.alloc, name)?,
+            scenario,
+        };
+        let told = self.state.add(name, scenario);
+        let reply = replies::add_reply(&told);
+        note(&mut self.journal, Caller::Session(session), call, reply);
+        told
+    }
+
+    /// Drops the scenario with this name and closes its tickets, and answers its id, which is not
+    /// given again.
+    ///
+    /// JournalFull where there are 1,000,000 notes; NoSuchScenario where none has the name; Memory
+    /// where a growth is refused.
+    pub fn drop_scenario(&mut self, session: u64, name: &str) -> Result<ScenarioId, DropRefusal>
+        ensures { Answers self.old self.new (caller.Session session) (DropScenario name.now) (drop_answer result) }
+    {
+        if is_full(&self.journal) {
+            return Err(DropRefusal::JournalFull);
+        }
+        make_room(&mut self.journal)?;
+        let call = Call::DropScenario {
+            name: Name::new(self.alloc, name)?,
+        };
+        let told = self.state.drop_named(name);
+        let reply = replies::drop_reply(&told);
+        note(&mut self.journal, Caller::Session(session), call, reply);
+        told
+    }
+
+    /// Takes the mark of a scenario that was given up away, so that it is tried again.
+    ///
+    /// JournalFull where there are 1,000,000 notes; NoSuchScenario where none has the id; Memory
+    /// where a growth is refused.
+    pub fn retry(&mut self, session: u64, id: ScenarioId) -> Result<(), RetryRefusal>
+        ensures { Answers self.old self.new (caller.Session session) (Retry id) (retry_answer result) }
+    {
+        if is_full(&self.journal) {
+            return Err(RetryRefusal::JournalFull);
+        }
+        make_room(&mut self.journal)?;
+        let told = self.state.retry(id);
+        let reply = replies::retry_reply(&told);
+        note(
+            &mut self.journal,
+            Caller::Session(session),
+            Call::Retry { id },
+            reply,
+        );
+        told
+    }
+
+    /// What is published for a scenario, with its version: the simulation, second by second, of that
+    /// version's log under the scenario. The version is not below the one seen.
+    ///
+    /// JournalFull where there are 1,000,000 notes; NoSuchScenario where none has the id; NotYet
+    /// where nothing is published; Behind where what is published is older than `seen`; Memory
+    /// where a growth is refused.
+    pub fn view(
+        &mut self,
+        session: u64,
+        id: ScenarioId,
+        seen: u64,
+    ) -> Result<Published<A>, ViewRefusal>
+        ensures answer { Answers self.old self.new (caller.Session session) (View id seen) (view_answer result) }
+        ensures shown { IfOk result (IsShownFor self.old.state id seen) }
+    {
+        if is_full(&self.journal) {
+            return Err(ViewRefusal::JournalFull);
+        }
+        make_room(&mut self.journal)?;
+        let told = self.state.view(id, seen);
+        let reply = replies::view_reply(&told);
+        note(
+            &mut self.journal,
+            Caller::Session(session),
+            Call::View { id, seen },
+            reply,
+        );
+        told
+    }
+
+    /// Takes a ticket for the first scenario that is due, and gives its task; None where none is.
+    ///
+    /// A scenario is due where the current version is neither published for it, nor given up, nor
+    /// claimed by a standing ticket. JournalFull where there are 1,000,000 notes; TooManyTickets
+    /// where 256 stand; Memory where a growth is refused.
+    pub fn claim(&mut self, worker: u64) -> Result<Option<Task<A>>, ClaimRefusal>
+        ensures answer { Answers self.old self.new (caller.Worker worker) Claim (claim_answer result) }
+        ensures task { IfOk result (λ task. task ≡ option_map (task_for self.old.state) (due_shown self.old.state)) }
+    {
+        if is_full(&self.journal) {
+            return Err(ClaimRefusal::JournalFull);
+        }
+        make_room(&mut self.journal)?;
+        let told = self.state.claim();
+        let reply = replies::claim_reply(&told);
+        note(
+            &mut self.journal,
+            Caller::Worker(worker),
+            Call::Claim,
+            reply,
+        );
+        told
+    }
+
+    /// Hands in a run for a ticket, and answers the version at which it is published.
+    ///
+    /// JournalFull where there are 1,000,000 notes; UnknownTicket where no such ticket stands,
+    /// whoever asks; Stranger where the run's log or scenario is not the ticket's, which then
+    /// stands; Stale where a run of this version or a newer one is published, and the ticket is
+    /// closed; Memory where a growth is refused. A run that is refused is dropped.
+    pub fn finish(
+        &mut self,
+        worker: u64,
+        ticket: u64,
+        run: Arc<Run<A>, A>,
+    ) -> Result<u64, FinishRefusal>
+        ensures answer { Answers self.old self.new (caller.Worker worker) (Finish ticket (fitted result)) (finish_answer result) }
+        ensures fits { TellsFit (Fits self.old.state ticket (arc_value run)) result }
+    {
+        if is_full(&self.journal) {
+            return Err(FinishRefusal::JournalFull);
+        }
+        make_room(&mut self.journal)?;
+        let told = self.state.finish(ticket, run);
+        let reply = replies::finish_reply(&told);
+        let fits = replies::fitted(&told);
+        note(
+            &mut self.journal,
+            Caller::Worker(worker),
+            Call::Finish { ticket, fits },
+            reply,
+        );
+        told
+    }
+
+    /// Gives a ticket up. One of the current version marks its scenario, which is then not due
+    /// before a retry or the next accepted edit.
+    ///
+    /// JournalFull where there are 1,000,000 notes; UnknownTicket where no such ticket stands;
+    /// Memory where a growth is refused.
+    pub fn give_up(&mut self, worker: u64, ticket: u64) -> Result<(), GiveUpRefusal>
+        ensures { Answers self.old self.new (caller.Worker worker) (GiveUp ticket) (give_up_answer result) }
+    {
+        if is_full(&self.journal) {
+            return Err(GiveUpRefusal::JournalFull);
+        }
+        make_room(&mut self.journal)?;
+        let told = self.state.give_up(ticket);
+        let reply = replies::give_up_reply(&told);
+        note(
+            &mut self.journal,
+            Caller::Worker(worker),
+            Call::GiveUp { ticket },
+            reply,
+        );
+        told
+    }
+}

@@ -1,0 +1,45 @@
+ghost use Rattle.std.specs.Prelude.{◌≡◌, ◌<◌, ◌++◌, map, length, nat_le, IfOk, OnOk, vec_len, vec_capacity};
+ghost use Rattle.book_machine.specs.Machine.{note_limit};
+ghost use Rattle.book_machine.specs.Noted.{call_of, noted_of};
+ghost use Rattle.version_book.specs.Steps.{notes_of};
+
+use book_machine::{Call, Caller, Note, Reply};
+use std::alloc::Allocator;
+use swf_text::Memory;
+
+// The most notes of a journal.
+const NOTE_LIMIT: usize = 1_000_000;
+
+// Whether there is no note more.
+pub(crate) fn is_full<A: Allocator + Copy>(journal: &Vec<Note<A>, A>) -> bool
+    ensures { result ≡ nat_le note_limit (length journal.now.items) }
+{
+    journal.len() >= NOTE_LIMIT
+}
+
+// Makes room for a note.
+pub(crate) fn make_room<A: Allocator + Copy>(journal: &mut Vec<Note<A>, A>) -> Result<(), Memory>
+    ensures items { journal.new.items ≡ journal.old.items }
+    ensures room { OnOk result (vec_len journal.new < vec_capacity journal.new) }
+{
+    Ok(journal.reserve(1)?)
+}
+
+// Notes a call with its reply, if it has one.
+pub(crate) fn note<A: Allocator + Copy>(
+    journal: &mut Vec<Note<A>, A>,
+    caller: Caller,
+    call: Call<A>,
+    reply: Option<Reply>,
+)
+    requires room { vec_len journal.old < vec_capacity journal.old }
+    ensures { map noted_of journal.new.items ≡ map noted_of journal.old.items ++ notes_of caller (call_of call) reply }
+{
+    if let Some(reply) = reply {
+        journal.push_reserved(Note {
+            caller,
+            call,
+            reply,
+        });
+    }
+}

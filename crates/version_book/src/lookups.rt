@@ -1,0 +1,167 @@
+// Look-ups among the scenarios and tickets of a book, of which there are at most 64 and 256.
+ghost use Rattle.std.specs.Prelude.{◌≡◌, ◌==◌, ◌≤◌, ◌&&◌, length, find, filter, count_by, not, None, Some, option_copied, vec_capacity};
+ghost use Rattle.std.specs.List.{list_any, position};
+ghost use Rattle.version_book.specs.Book.{ShownView, TicketView};
+ghost use Rattle.version_book.specs.Lookups.{AreApart, has_id, has_number, is_awaited, is_behind, is_due_at, is_out, marking, publishing, settled_at, unmarking, version_shown, with_change};
+
+use crate::published::Published;
+use crate::shown::{Shown, is_below};
+use crate::ticket::Ticket;
+use book_machine::SettleState;
+use scenarios::ScenarioId;
+use std::alloc::Allocator;
+
+// The scenario with this id.
+pub(crate) fn shown_of<A: Allocator + Copy>(shown: &[Shown<A>], id: ScenarioId) -> Option<&Shown<A>>
+    ensures { option_copied result ≡ find (has_id id) shown.now }
+{
+    shown.iter().find(move |x| x.has_id(id))
+}
+
+// The standing ticket with this number.
+pub(crate) fn ticket_of<A: Allocator + Copy>(
+    tickets: &[Ticket<A>],
+    number: u64,
+) -> Option<&Ticket<A>>
+    ensures { option_copied result ≡ find (has_number number) tickets.now }
+{
+    tickets.iter().find(move |t| t.has_number(number))
+}
+
+// Whether a ticket of the scenario stands at this version.
+fn is_out<A: Allocator + Copy>(tickets: &[Ticket<A>], id: ScenarioId, version: u64) -> bool
+    ensures { result ≡ is_out id version tickets.now }
+{
+    tickets.iter().any(move |t| t.is_of(id, version))
+}
+
+// Whether a run of the scenario is to be made at this version.
+fn is_due<A: Allocator + Copy>(shown: &Shown<A>, version: u64, tickets: &[Ticket<A>]) -> bool
+    ensures { result ≡ is_due_at version tickets.now shown.now }
+{
+    shown.is_behind(version) && !shown.is_marked(version) && !is_out(tickets, shown.id(), version)
+}
+
+// The first scenario that is due.
+pub(crate) fn first_due<'a, A: Allocator + Copy>(
+    shown: &'a [Shown<A>],
+    version: u64,
+    tickets: &[Ticket<A>],
+) -> Option<&'a Shown<A>>
+    ensures { option_copied result ≡ find (is_due_at version tickets.now) shown.now }
+{
+    shown.iter().find(move |x| is_due(x, version, tickets))
+}
+
+// Whether a run that is new enough is still to come, for any scenario.
+fn is_any_awaited<A: Allocator + Copy>(shown: &[Shown<A>], seen: u64, version: u64) -> bool
+    ensures { result ≡ list_any (is_awaited seen version) shown.now }
+{
+    shown.iter().any(move |x| x.is_awaited(seen, version))
+}
+
+// How many scenarios show no run that is new enough.
+fn count_behind<A: Allocator + Copy>(shown: &[Shown<A>], seen: u64) -> usize
+    ensures { result ≡ count_by (is_behind seen) shown.now }
+{
+    shown.iter().filter(move |x| x.is_behind(seen)).count()
+}
+
+// How far all scenarios are, beside a version that was seen.
+pub(crate) fn settled<A: Allocator + Copy>(
+    shown: &[Shown<A>],
+    seen: u64,
+    version: u64,
+) -> SettleState
+    ensures { result ≡ settled_at seen version shown.now }
+{
+    if is_any_awaited(shown, seen, version) {
+        return SettleState::Waiting;
+    }
+    let behind = count_behind(shown, seen);
+    if behind == 0 {
+        return SettleState::Done;
+    }
+    SettleState::Failed(behind as u64)
+}
+
+// The version that is published for the scenario with this id.
+pub(crate) fn published_version<A: Allocator + Copy>(
+    shown: &[Shown<A>],
+    id: ScenarioId,
+) -> Option<u64>
+    ensures { result ≡ version_shown id shown.now }
+{
+    match shown_of(shown, id) {
+        Some(shown) => shown.published_version(),
+        None => None,
+    }
+}
+
+// The place of the scenario with this id.
+fn place_of<A: Allocator + Copy>(shown: &[Shown<A>], id: ScenarioId) -> Option<usize>
+    ensures { result ≡ position (has_id id) shown.now }
+{
+    shown.iter().position(move |x| x.has_id(id))
+}
+
+// Publishes a run for the scenario with this id. Its condition: no two scenarios have one id.
+pub(crate) fn publish<A: Allocator + Copy>(
+    shown: &mut Vec<Shown<A>, A>,
+    id: ScenarioId,
+    published: Published<A>,
+)
+    requires { AreApart shown.old.items }
+    ensures shown { shown.new.items ≡ with_change id (publishing published) shown.old.items }
+    ensures capacity { vec_capacity shown.new ≡ vec_capacity shown.old }
+{
+    if let Some(place) = place_of(shown, id) {
+        shown[place].publish(published);
+    }
+}
+
+// Marks the scenario with this id as given up at a version, under the same condition.
+pub(crate) fn mark<A: Allocator + Copy>(shown: &mut Vec<Shown<A>, A>, id: ScenarioId, version: u64)
+    requires { AreApart shown.old.items }
+    ensures shown { shown.new.items ≡ with_change id (marking version) shown.old.items }
+    ensures capacity { vec_capacity shown.new ≡ vec_capacity shown.old }
+{
+    if let Some(place) = place_of(shown, id) {
+        shown[place].mark(version);
+    }
+}
+
+// Takes the mark of the scenario with this id away, under the same condition.
+pub(crate) fn unmark<A: Allocator + Copy>(shown: &mut Vec<Shown<A>, A>, id: ScenarioId)
+    requires { AreApart shown.old.items }
+    ensures shown { shown.new.items ≡ with_change id unmarking shown.old.items }
+    ensures capacity { vec_capacity shown.new ≡ vec_capacity shown.old }
+{
+    if let Some(place) = place_of(shown, id) {
+        shown[place].unmark();
+    }
+}
+
+// Closes the ticket with this number.
+pub(crate) fn close<A: Allocator + Copy>(tickets: &mut Vec<Ticket<A>, A>, number: u64)
+    ensures tickets { tickets.new.items ≡ filter (λ t. not (has_number number t)) tickets.old.items }
+    ensures capacity { vec_capacity tickets.new ≡ vec_capacity tickets.old }
+{
+    tickets.retain(move |t| !t.has_number(number));
+}
+
+// Closes the tickets of the scenario with this id.
+pub(crate) fn close_all<A: Allocator + Copy>(tickets: &mut Vec<Ticket<A>, A>, id: ScenarioId)
+    ensures tickets { tickets.new.items ≡ filter (λ t. not (t.id == id)) tickets.old.items }
+    ensures capacity { vec_capacity tickets.new ≡ vec_capacity tickets.old }
+{
+    tickets.retain(move |t| !t.is_for(id));
+}
+
+// Takes the scenario with this id out.
+pub(crate) fn hide<A: Allocator + Copy>(shown: &mut Vec<Shown<A>, A>, id: ScenarioId)
+    ensures shown { shown.new.items ≡ filter (λ x. not (has_id id x)) shown.old.items }
+    ensures capacity { vec_capacity shown.new ≡ vec_capacity shown.old }
+{
+    shown.retain(move |x| !x.has_id(id));
+}

@@ -1,0 +1,120 @@
+// The replies that are noted of what the calls answer: none of a full journal or of want of memory.
+ghost use Rattle.std.specs.Prelude.{◌≡◌};
+ghost use Rattle.version_book.specs.Answers.{edit_answer, add_answer, drop_answer, retry_answer, view_answer, claim_answer, finish_answer, give_up_answer, fitted};
+ghost use Rattle.version_book.specs.Steps.{reply_in};
+
+use crate::published::Published;
+use crate::session_refusal::{AddRefusal, DropRefusal, EditRefusal, RetryRefusal, ViewRefusal};
+use crate::task::Task;
+use crate::worker_refusal::{ClaimRefusal, FinishRefusal, GiveUpRefusal};
+use book_machine::Reply;
+use scenarios::ScenarioId;
+use std::alloc::Allocator;
+
+pub(crate) fn edit_reply(told: &Result<u64, EditRefusal>) -> Option<Reply>
+    ensures { result ≡ reply_in (edit_answer told.now) }
+{
+    match told {
+        Ok(version) => Some(Reply::Edited { version: *version }),
+        Err(EditRefusal::Fault(fault)) => Some(Reply::EditRefused(*fault)),
+        Err(EditRefusal::JournalFull) | Err(EditRefusal::Memory) => None,
+    }
+}
+
+pub(crate) fn add_reply(told: &Result<ScenarioId, AddRefusal>) -> Option<Reply>
+    ensures { result ≡ reply_in (add_answer told.now) }
+{
+    match told {
+        Ok(id) => Some(Reply::Added { id: *id }),
+        Err(AddRefusal::Fault(fault)) => Some(Reply::AddRefused(*fault)),
+        Err(AddRefusal::JournalFull) | Err(AddRefusal::Memory) => None,
+    }
+}
+
+pub(crate) fn drop_reply(told: &Result<ScenarioId, DropRefusal>) -> Option<Reply>
+    ensures { result ≡ reply_in (drop_answer told.now) }
+{
+    match told {
+        Ok(id) => Some(Reply::Dropped { id: *id }),
+        Err(DropRefusal::NoSuchScenario) => Some(Reply::NoSuchScenario),
+        Err(DropRefusal::JournalFull) | Err(DropRefusal::Memory) => None,
+    }
+}
+
+pub(crate) fn retry_reply(told: &Result<(), RetryRefusal>) -> Option<Reply>
+    ensures { result ≡ reply_in (retry_answer told.now) }
+{
+    match told {
+        Ok(()) => Some(Reply::Retried),
+        Err(RetryRefusal::NoSuchScenario) => Some(Reply::NoSuchScenario),
+        Err(RetryRefusal::JournalFull) | Err(RetryRefusal::Memory) => None,
+    }
+}
+
+pub(crate) fn view_reply<A: Allocator + Copy>(
+    told: &Result<Published<A>, ViewRefusal>,
+) -> Option<Reply>
+    ensures { result ≡ reply_in (view_answer told.now) }
+{
+    match told {
+        Ok(published) => Some(Reply::Shown {
+            version: published.version(),
+        }),
+        Err(ViewRefusal::NoSuchScenario) => Some(Reply::NoSuchScenario),
+        Err(ViewRefusal::NotYet) => Some(Reply::NotYet),
+        Err(ViewRefusal::Behind { seen, found }) => Some(Reply::Behind {
+            seen: *seen,
+            found: *found,
+        }),
+        Err(ViewRefusal::JournalFull) | Err(ViewRefusal::Memory) => None,
+    }
+}
+
+pub(crate) fn claim_reply<A: Allocator + Copy>(
+    told: &Result<Option<Task<A>>, ClaimRefusal>,
+) -> Option<Reply>
+    ensures { result ≡ reply_in (claim_answer told.now) }
+{
+    match told {
+        Ok(None) => Some(Reply::NoneDue),
+        Ok(Some(task)) => Some(Reply::Claimed {
+            ticket: task.ticket(),
+            id: task.id(),
+            version: task.version(),
+            base: task.base_version(),
+        }),
+        Err(ClaimRefusal::TooManyTickets) => Some(Reply::TooManyTickets),
+        Err(ClaimRefusal::JournalFull) | Err(ClaimRefusal::Memory) => None,
+    }
+}
+
+pub(crate) fn finish_reply(told: &Result<u64, FinishRefusal>) -> Option<Reply>
+    ensures { result ≡ reply_in (finish_answer told.now) }
+{
+    match told {
+        Ok(version) => Some(Reply::Finished { version: *version }),
+        Err(FinishRefusal::UnknownTicket) => Some(Reply::UnknownTicket),
+        Err(FinishRefusal::Stranger) => Some(Reply::Stranger),
+        Err(FinishRefusal::Stale { published }) => Some(Reply::Stale {
+            published: *published,
+        }),
+        Err(FinishRefusal::JournalFull) | Err(FinishRefusal::Memory) => None,
+    }
+}
+
+// Whether the run fitted its ticket.
+pub(crate) fn fitted(told: &Result<u64, FinishRefusal>) -> bool
+    ensures { result ≡ fitted told.now }
+{
+    matches!(told, Ok(_) | Err(FinishRefusal::Stale { .. }))
+}
+
+pub(crate) fn give_up_reply(told: &Result<(), GiveUpRefusal>) -> Option<Reply>
+    ensures { result ≡ reply_in (give_up_answer told.now) }
+{
+    match told {
+        Ok(()) => Some(Reply::GivenUp),
+        Err(GiveUpRefusal::UnknownTicket) => Some(Reply::UnknownTicket),
+        Err(GiveUpRefusal::JournalFull) | Err(GiveUpRefusal::Memory) => None,
+    }
+}

@@ -1,0 +1,118 @@
+// What the sessions' calls change of where a book stands, and what they are told.
+ghost use Rattle.std.specs.Prelude.{◌≡◌, ◌<◌, ◌++◌, ◌∷◌, [], find, map, None, Some, IfOk, OnOk, vec_len, vec_capacity};
+ghost use Rattle.std.specs.Arc.{arc_value};
+ghost use Rattle.job_table.specs.Accepted.{IsEdit};
+ghost use Rattle.job_table.specs.Edit.{applied, edit_of};
+ghost use Rattle.book_machine.specs.Call.{AddScenario, DropScenario, Edit as Edits, Retry, View};
+ghost use Rattle.version_book.specs.Answers.{add_answer, drop_answer, edit_answer, retry_answer, view_answer};
+ghost use Rattle.version_book.specs.Steps.{Does};
+ghost use Rattle.version_book.specs.Tasks.{IsShownFor};
+
+use crate::lookups::{close_all, hide, shown_of, unmark};
+use crate::published::Published;
+use crate::session_refusal::{AddRefusal, DropRefusal, EditRefusal, RetryRefusal, ViewRefusal};
+use crate::shown::Shown;
+use crate::state::State;
+use job_table::{Edit, JobTable};
+use scenarios::{NoSuchScenario, Scenario, ScenarioId};
+use std::alloc::Allocator;
+use std::sync::Arc;
+use swf_text::Memory;
+
+// The table after an edit that is accepted. It shares all chunks of entries but those that the edit
+// touches.
+fn after_edit<A: Allocator + Copy>(
+    alloc: A,
+    table: &JobTable<A>,
+    edit: &Edit<A>,
+) -> Result<Arc<JobTable<A>, A>, Memory>
+    ensures edit { OnOk result (IsEdit (edit_of edit.now)) }
+    ensures table { IfOk result (λ new. arc_value new ≡ applied (edit_of edit.now) table.now) }
+{
+    let mut new = table.copy()?;
+    match new.apply(edit) {
+        Ok(()) => Ok(Arc::new(alloc, new)?),
+        Err(_) => Err(Memory),
+    }
+}
+
+// Room for an edit more, and the edit once more.
+fn kept_edit<A: Allocator + Copy>(
+    edits: &mut Vec<Edit<A>, A>,
+    edit: &Edit<A>,
+) -> Result<Edit<A>, Memory>
+    ensures items { edits.new.items ≡ edits.old.items }
+    ensures room { OnOk result (vec_len edits.new < vec_capacity edits.new) }
+    ensures copy { IfOk result (λ kept. edit_of kept ≡ edit_of edit.now) }
+{
+    edits.reserve(1)?;
+    edit.copy()
+}
+
+impl<A: Allocator + Copy> State<A> {
+    // Edits the log.
+    pub(crate) fn edit(&mut self, edit: &Edit<A>) -> Result<u64, EditRefusal>
+        ensures { Does self.old self.new (Edits (edit_of edit.now)) (edit_answer result) }
+    {
+        if let Err(fault) = self.current.check(edit) {
+            return Err(EditRefusal::Fault(fault));
+        }
+        let table = after_edit(self.alloc, &self.current, edit)?;
+        let kept = kept_edit(&mut self.edits, edit)?;
+        self.edits.push_reserved(kept);
+        self.current = table;
+        Ok(self.version())
+    }
+
+    // Adds a scenario.
+    pub(crate) fn add(&mut self, name: &str, scenario: Scenario) -> Result<ScenarioId, AddRefusal>
+        ensures { Does self.old self.new (AddScenario name.now scenario) (add_answer result) }
+    {
+        let id = self.scenarios.add(name, scenario)?;
+        self.shown.push_reserved(Shown::new(id, scenario));
+        Ok(id)
+    }
+
+    // Drops a scenario with its tickets.
+    pub(crate) fn drop_named(&mut self, name: &str) -> Result<ScenarioId, DropRefusal>
+        ensures { Does self.old self.new (DropScenario name.now) (drop_answer result) }
+    {
+        match self.scenarios.drop_named(name) {
+            Ok(id) => {
+                hide(&mut self.shown, id);
+                close_all(&mut self.tickets, id);
+                Ok(id)
+            }
+            Err(NoSuchScenario) => Err(DropRefusal::NoSuchScenario),
+        }
+    }
+
+    // Takes a mark away.
+    pub(crate) fn retry(&mut self, id: ScenarioId) -> Result<(), RetryRefusal>
+        ensures { Does self.old self.new (Retry id) (retry_answer result) }
+    {
+        if shown_of(self.shown.as_slice(), id).is_none() {
+            return Err(RetryRefusal::NoSuchScenario);
+        }
+        unmark(&mut self.shown, id);
+        Ok(())
+    }
+
+    // What is published for a scenario, unless it is older than what was seen.
+    pub(crate) fn view(&self, id: ScenarioId, seen: u64) -> Result<Published<A>, ViewRefusal>
+        ensures answer { Does self.now self.now (View id seen) (view_answer result) }
+        ensures shown { IfOk result (IsShownFor self.now id seen) }
+    {
+        let Some(shown) = shown_of(self.shown.as_slice(), id) else {
+            return Err(ViewRefusal::NoSuchScenario);
+        };
+        let Some(published) = shown.published() else {
+            return Err(ViewRefusal::NotYet);
+        };
+        let found = published.version();
+        if found < seen {
+            return Err(ViewRefusal::Behind { seen, found });
+        }
+        Ok(published.copy()?)
+    }
+}

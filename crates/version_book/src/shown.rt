@@ -1,0 +1,140 @@
+ghost use Rattle.std.specs.Prelude.{◌≡◌, ◌==◌, ◌&&◌, not, nat_le, None, Some, option_copied};
+ghost use Rattle.book_machine.specs.Machine.{is_below};
+ghost use Rattle.version_book.specs.Book.{published_version};
+ghost use Rattle.version_book.specs.Lookups.{has_id, is_mark, is_behind, is_awaited};
+
+use crate::published::Published;
+use scenarios::{Scenario, ScenarioId};
+use std::alloc::Allocator;
+use std::marker::Model;
+
+/// A scenario of the book: what is published for it, and the version at which its run was given up.
+#[derive(Drop)]
+pub(crate) struct Shown<A: Allocator + Copy> {
+    id: ScenarioId,
+    scenario: Scenario,
+    published: Option<Published<A>>,
+    mark: Option<u64>,
+}
+
+impl<A: Allocator + Copy> Model for Shown<A> {
+    ghost use Rattle.version_book.specs.Book.{ShownView};
+
+    ghost Value = { ShownView };
+
+    ghost view = { λ s. record { id = s.id; setting = s.scenario; published = s.published; mark = s.mark } };
+}
+
+// Nothing is published, or an older version.
+pub(crate) fn is_below(published: Option<u64>, version: u64) -> bool
+    ensures { result ≡ is_below published version }
+{
+    match published {
+        Some(found) => found < version,
+        None => true,
+    }
+}
+
+// Whether a mark is of this version.
+fn is_mark(mark: Option<u64>, version: u64) -> bool
+    ensures { result ≡ is_mark mark version }
+{
+    match mark {
+        Some(given_up) => given_up == version,
+        None => false,
+    }
+}
+
+impl<A: Allocator + Copy> Shown<A> {
+    // A scenario for which nothing is published.
+    pub(crate) fn new(id: ScenarioId, scenario: Scenario) -> Shown<A>
+        ensures { result ≡ record { id = id; setting = scenario; published = None; mark = None } }
+    {
+        Shown {
+            id,
+            scenario,
+            published: None,
+            mark: None,
+        }
+    }
+
+    // Its id.
+    pub(crate) fn id(&self) -> ScenarioId
+        ensures { result ≡ self.now.id }
+    {
+        self.id
+    }
+
+    // Whether it has this id.
+    pub(crate) fn has_id(&self, id: ScenarioId) -> bool
+        ensures { result ≡ has_id id self.now }
+    {
+        self.id.number() == id.number()
+    }
+
+    // What a log is simulated under.
+    pub(crate) fn scenario(&self) -> Scenario
+        ensures { result ≡ self.now.setting }
+    {
+        self.scenario
+    }
+
+    // What is published.
+    pub(crate) fn published(&self) -> Option<&Published<A>>
+        ensures { option_copied result ≡ self.now.published }
+    {
+        self.published.as_ref()
+    }
+
+    // The version of what is published.
+    pub(crate) fn published_version(&self) -> Option<u64>
+        ensures { result ≡ published_version self.now }
+    {
+        match &self.published {
+            Some(published) => Some(published.version()),
+            None => None,
+        }
+    }
+
+    // Whether it was given up at this version.
+    pub(crate) fn is_marked(&self, version: u64) -> bool
+        ensures { result ≡ is_mark self.now.mark version }
+    {
+        is_mark(self.mark, version)
+    }
+
+    // Whether nothing is published, or a version older than the one seen.
+    pub(crate) fn is_behind(&self, seen: u64) -> bool
+        ensures { result ≡ is_behind seen self.now }
+    {
+        is_below(self.published_version(), seen)
+    }
+
+    // Whether a version that is not older than the one seen is still to come, at the current version.
+    pub(crate) fn is_awaited(&self, seen: u64, version: u64) -> bool
+        ensures { result ≡ is_awaited seen version self.now }
+    {
+        self.is_behind(seen) && !(self.is_marked(version) && seen <= version)
+    }
+
+    // Publishes a run.
+    pub(crate) fn publish(&mut self, published: Published<A>)
+        ensures { self.new ≡ record self.old { published = Some published } }
+    {
+        self.published = Some(published);
+    }
+
+    // Its run was given up at this version.
+    pub(crate) fn mark(&mut self, version: u64)
+        ensures { self.new ≡ record self.old { mark = Some version } }
+    {
+        self.mark = Some(version);
+    }
+
+    // Its run is to be tried again.
+    pub(crate) fn unmark(&mut self)
+        ensures { self.new ≡ record self.old { mark = None } }
+    {
+        self.mark = None;
+    }
+}

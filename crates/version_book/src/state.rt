@@ -1,0 +1,157 @@
+ghost use Rattle.std.specs.Prelude.{◌≡◌, ◌≤◌, length, map, find, IfOk, IfErr, OnOk, option_copied};
+ghost use Rattle.std.specs.Option.{option_map};
+ghost use Rattle.std.specs.Arc.{arc_value};
+ghost use Rattle.job_table.specs.Edit.{edit_of};
+ghost use Rattle.job_table.specs.Table.{IsTable};
+ghost use Rattle.scenarios.specs.ScenarioList.{id_of};
+ghost use Rattle.checkpoints.specs.RunView.{IsRun};
+ghost use Rattle.checkpoints.specs.Spacing.{IsSpacing, IsRefusal};
+ghost use Rattle.version_book.specs.Book.{StateView, machine_at};
+ghost use Rattle.version_book.specs.Sound.{IsSound};
+
+use crate::book_fault::BookFault;
+use crate::lookups::{first_due, settled};
+use crate::shown::Shown;
+use crate::ticket::Ticket;
+use book_machine::SettleState;
+use checkpoints::{MAX_SPACING, Run};
+use job_table::{Edit, JobTable};
+use scenarios::{ScenarioId, ScenarioList};
+use std::alloc::Allocator;
+use std::marker::Model;
+use std::sync::Arc;
+
+/// The most scenarios of a book.
+const SCENARIO_LIMIT: usize = 64;
+
+/// The most tickets that stand at once.
+pub(crate) const TICKET_LIMIT: usize = 256;
+
+/// Where a book stands: all that its calls change but the journal.
+#[derive(Drop)]
+pub(crate) struct State<A: Allocator + Copy> {
+    pub(crate) alloc: A,
+    pub(crate) spacing: u32,
+    pub(crate) opening: Arc<JobTable<A>, A>,
+    pub(crate) current: Arc<JobTable<A>, A>,
+    pub(crate) edits: Vec<Edit<A>, A>,
+    pub(crate) scenarios: ScenarioList<A>,
+    pub(crate) shown: Vec<Shown<A>, A>,
+    pub(crate) tickets: Vec<Ticket<A>, A>,
+    pub(crate) next_ticket: u64,
+}
+
+impl<A: Allocator + Copy> Model for State<A> {
+    ghost use Rattle.std.specs.Prelude.{◌≤◌, map, vec_capacity};
+    ghost use Rattle.std.specs.Arc.{arc_value};
+    ghost use Rattle.job_table.specs.Edit.{edit_of};
+    ghost use Rattle.version_book.specs.Book.{StateView};
+    ghost use Rattle.version_book.specs.Sound.{IsSound};
+
+    ghost Value = { StateView };
+
+    ghost view = { λ s. record { spacing = s.spacing; opening = arc_value s.opening; current = arc_value s.current; edits = map edit_of s.edits.items; listing = s.scenarios; shown = s.shown.items; tickets = s.tickets.items; next_ticket = s.next_ticket } };
+
+    ghost invariant = { λ s. IsSound (record { spacing = s.spacing; opening = arc_value s.opening; current = arc_value s.current; edits = map edit_of s.edits.items; listing = s.scenarios; shown = s.shown.items; tickets = s.tickets.items; next_ticket = s.next_ticket }) × (64 ≤ vec_capacity s.shown) × (256 ≤ vec_capacity s.tickets) };
+}
+
+// Each table is a log in its order.
+fn is_table<A: Allocator + Copy>(table: &JobTable<A>)
+    ensures { IsTable table.now }
+{
+    let _entries = table.len();
+}
+
+// Each run is that of its own log and scenario.
+pub(crate) fn is_run<A: Allocator + Copy>(run: &Run<A>)
+    ensures { IsRun run.now }
+{
+    let _segments = run.segments();
+    let _tables = run.tables();
+}
+
+impl<A: Allocator + Copy> State<A> {
+    ghost use Rattle.version_book.specs.Steps.{IsFault, opening_state};
+
+    // A log that was just opened.
+    pub(crate) fn new(alloc: A, table: JobTable<A>, spacing: u32) -> Result<State<A>, BookFault>
+        ensures state { IfOk result (λ s. s ≡ opening_state table spacing) }
+        ensures sound { IfOk result IsSound }
+        ensures spacing { OnOk result (IsSpacing spacing) }
+        ensures fault { IfErr result (λ f. IsFault spacing f) }
+    {
+        if spacing < 1 || spacing > MAX_SPACING {
+            return Err(BookFault::BadSpacing);
+        }
+        is_table(&table);
+        let opening = Arc::new(alloc, table)?;
+        let current = opening.clone()?;
+        Ok(State {
+            alloc,
+            spacing,
+            opening,
+            current,
+            edits: Vec::new(alloc),
+            scenarios: ScenarioList::new(alloc),
+            shown: Vec::with_capacity(alloc, SCENARIO_LIMIT)?,
+            tickets: Vec::with_capacity(alloc, TICKET_LIMIT)?,
+            next_ticket: 1,
+        })
+    }
+
+    // The current version, and that the state is sound.
+    pub(crate) fn version(&self) -> u64
+        ensures version { result ≡ length self.now.edits }
+        ensures sound { IsSound self.now }
+    {
+        self.edits.len() as u64
+    }
+}
+
+impl<A: Allocator + Copy> State<A> {
+    ghost use Rattle.std.specs.Prelude.{ℕ};
+    ghost use Rattle.book_machine.specs.Machine.{settled};
+    ghost use Rattle.version_book.specs.Tasks.{free_due};
+
+    // The log of the current version.
+    pub(crate) fn current(&self) -> &Arc<JobTable<A>, A>
+        ensures { arc_value result.now ≡ self.now.current }
+    {
+        &self.current
+    }
+
+    // The scenarios.
+    pub(crate) fn scenarios(&self) -> &ScenarioList<A>
+        ensures { result.now ≡ self.now.listing }
+    {
+        &self.scenarios
+    }
+
+    // The most event seconds of a new segment.
+    pub(crate) fn spacing(&self) -> u32
+        ensures { result ≡ self.now.spacing }
+    {
+        self.spacing
+    }
+
+    // The scenario for which there is a ticket.
+    pub(crate) fn due(&self) -> Option<ScenarioId>
+        ensures { result ≡ free_due self.now }
+    {
+        if self.tickets.len() >= TICKET_LIMIT {
+            return None;
+        }
+        let version = self.edits.len() as u64;
+        match first_due(self.shown.as_slice(), version, self.tickets.as_slice()) {
+            Some(shown) => Some(shown.id()),
+            None => None,
+        }
+    }
+
+    // How far all scenarios are, beside a version that was seen.
+    pub(crate) fn settled(&self, seen: u64) -> SettleState
+        ensures { (n : ℕ) → result ≡ settled seen (machine_at n self.now) }
+    {
+        settled(self.shown.as_slice(), seen, self.edits.len() as u64)
+    }
+}

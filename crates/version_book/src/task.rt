@@ -1,0 +1,246 @@
+ghost use Rattle.std.specs.Prelude.{◌≡◌, map, option_copied, IfOk, IfSome, None, Some};
+ghost use Rattle.std.specs.Arc.{arc_value};
+ghost use Rattle.job_table.specs.Edit.{edit_of, log_after};
+ghost use Rattle.scenarios.specs.Plan.{plan_of};
+ghost use Rattle.checkpoints.specs.RunView.{IsRun};
+ghost use Rattle.checkpoints.specs.Cut.{IsShortCut};
+ghost use Rattle.job_table.specs.Accepted.{AreAccepted};
+ghost use Rattle.rejoin.specs.Patch.{IsRejoined};
+ghost use Rattle.version_book.specs.Tasks.{IsMade, IsTask};
+
+use checkpoints::{Run, simulate};
+use job_table::{Edit, JobTable};
+use rejoin::{Work, rerun};
+use scenarios::{Scenario, ScenarioId};
+use std::alloc::Allocator;
+use std::marker::Model;
+use std::sync::Arc;
+use swf_text::Memory;
+
+/// What a task may start from: a published run, and the edits that were accepted since its version.
+#[derive(Drop)]
+pub struct Base<A: Allocator + Copy> {
+    version: u64,
+    run: Arc<Run<A>, A>,
+    edits: Vec<Edit<A>, A>,
+}
+
+impl<A: Allocator + Copy> Model for Base<A> {
+    ghost use Rattle.std.specs.Prelude.{map};
+    ghost use Rattle.std.specs.Arc.{arc_value};
+    ghost use Rattle.job_table.specs.Edit.{edit_of};
+    ghost use Rattle.version_book.specs.Tasks.{BaseView};
+
+    ghost Value = { BaseView };
+
+    ghost view = { λ b. record { version = b.version; run = arc_value b.run; edits = map edit_of b.edits.items } };
+}
+
+impl<A: Allocator + Copy> Base<A> {
+    // A base of these.
+    pub(crate) fn new(version: u64, run: Arc<Run<A>, A>, edits: Vec<Edit<A>, A>) -> Base<A>
+        ensures { result ≡ record { version = version; run = arc_value run; edits = map edit_of edits.items } }
+    {
+        Base {
+            version,
+            run,
+            edits,
+        }
+    }
+
+    /// The version of the published run.
+    pub fn version(&self) -> u64
+        ensures { result ≡ self.now.version }
+    {
+        self.version
+    }
+
+    /// The published run.
+    pub fn run(&self) -> &Arc<Run<A>, A>
+        ensures { arc_value result.now ≡ self.now.run }
+    {
+        &self.run
+    }
+
+    /// The edits that were accepted since, in their order.
+    pub fn edits(&self) -> &[Edit<A>]
+        ensures { map edit_of result.now ≡ self.now.edits }
+    {
+        self.edits.as_slice()
+    }
+}
+
+// A run of this log, made of the base's run.
+fn made_again<A: Allocator + Copy>(
+    alloc: A,
+    base: &Base<A>,
+    table: Arc<JobTable<A>, A>,
+    spacing: u32,
+) -> Result<(Arc<Run<A>, A>, Work), Memory>
+    requires accepted { AreAccepted base.now.run.log base.now.edits }
+    requires table { arc_value table ≡ log_after base.now.run.log base.now.edits }
+    ensures log { IfOk result (λ (run, work). (arc_value run).log ≡ arc_value table) }
+    ensures setting { IfOk result (λ (run, work). (arc_value run).setting ≡ base.now.run.setting) }
+    ensures sound { IfOk result (λ (run, work). IsRun (arc_value run)) }
+    ensures rejoined { IfOk result (λ (run, work). IsRejoined (plan_of base.now.run.log base.now.run.setting) (plan_of (arc_value table) base.now.run.setting) base.now.run.segments spacing (arc_value run).segments work.handled work.reused) }
+{
+    let Ok((run, work)) = rerun(alloc, base.run(), base.edits(), table, spacing) else {
+        return Err(Memory);
+    };
+    Ok((Arc::new(alloc, run)?, work))
+}
+
+// A run of this log, made from nothing.
+fn made_anew<A: Allocator + Copy>(
+    alloc: A,
+    table: Arc<JobTable<A>, A>,
+    scenario: Scenario,
+    spacing: u32,
+) -> Result<Arc<Run<A>, A>, Memory>
+    ensures log { IfOk result (λ run. (arc_value run).log ≡ arc_value table) }
+    ensures setting { IfOk result (λ run. (arc_value run).setting ≡ scenario) }
+    ensures sound { IfOk result (λ run. IsRun (arc_value run)) }
+    ensures cut { IfOk result (λ run. IsShortCut (plan_of (arc_value table) scenario) spacing (arc_value run).segments) }
+{
+    let Ok(run) = simulate(alloc, table, scenario, spacing) else {
+        return Err(Memory);
+    };
+    Ok(Arc::new(alloc, run)?)
+}
+
+/// What a claim gives to a worker: a run of this log under this scenario is wanted.
+#[derive(Drop)]
+pub struct Task<A: Allocator + Copy> {
+    alloc: A,
+    ticket: u64,
+    id: ScenarioId,
+    version: u64,
+    table: Arc<JobTable<A>, A>,
+    scenario: Scenario,
+    spacing: u32,
+    base: Option<Base<A>>,
+}
+
+impl<A: Allocator + Copy> Model for Task<A> {
+    ghost use Rattle.std.specs.Arc.{arc_value};
+    ghost use Rattle.version_book.specs.Tasks.{TaskView, IsTask};
+
+    ghost Value = { TaskView };
+
+    ghost view = { λ t. record { ticket = t.ticket; id = t.id; version = t.version; log = arc_value t.table; setting = t.scenario; spacing = t.spacing; base = t.base } };
+
+    ghost invariant = { λ t. IsTask (record { ticket = t.ticket; id = t.id; version = t.version; log = arc_value t.table; setting = t.scenario; spacing = t.spacing; base = t.base }) };
+}
+
+impl<A: Allocator + Copy> Task<A> {
+    ghost use Rattle.std.specs.Option.{option_map};
+
+    // A task of these. Its condition is what holds of every task.
+    pub(crate) fn new(
+        alloc: A,
+        ticket: u64,
+        id: ScenarioId,
+        version: u64,
+        table: Arc<JobTable<A>, A>,
+        scenario: Scenario,
+        spacing: u32,
+        base: Option<Base<A>>,
+    ) -> Task<A>
+        requires { IsTask (record { ticket = ticket; id = id; version = version; log = arc_value table; setting = scenario; spacing = spacing; base = base }) }
+        ensures { result ≡ record { ticket = ticket; id = id; version = version; log = arc_value table; setting = scenario; spacing = spacing; base = base } }
+    {
+        Task {
+            alloc,
+            ticket,
+            id,
+            version,
+            table,
+            scenario,
+            spacing,
+            base,
+        }
+    }
+
+    /// The ticket, from 1 on; none is given twice.
+    pub fn ticket(&self) -> u64
+        ensures value { result ≡ self.now.ticket }
+        ensures task { IsTask self.now }
+    {
+        self.ticket
+    }
+
+    /// The scenario's id.
+    pub fn id(&self) -> ScenarioId
+        ensures { result ≡ self.now.id }
+    {
+        self.id
+    }
+
+    /// The version of whose log a run is wanted.
+    pub fn version(&self) -> u64
+        ensures { result ≡ self.now.version }
+    {
+        self.version
+    }
+
+    /// The log of the version.
+    pub fn table(&self) -> &Arc<JobTable<A>, A>
+        ensures { arc_value result.now ≡ self.now.log }
+    {
+        &self.table
+    }
+
+    /// What the log is to be simulated under.
+    pub fn scenario(&self) -> Scenario
+        ensures { result ≡ self.now.setting }
+    {
+        self.scenario
+    }
+
+    /// The most event seconds that a new segment may hold.
+    pub fn spacing(&self) -> u32
+        ensures { result ≡ self.now.spacing }
+    {
+        self.spacing
+    }
+
+    /// The published run, with the edits since, where there is one.
+    pub fn base(&self) -> Option<&Base<A>>
+        ensures { option_copied result ≡ self.now.base }
+    {
+        self.base.as_ref()
+    }
+
+    // The version of the published run, where there is one.
+    pub(crate) fn base_version(&self) -> Option<u64>
+        ensures { result ≡ option_map (λ b. b.version) self.now.base }
+    {
+        match &self.base {
+            Some(base) => Some(base.version()),
+            None => None,
+        }
+    }
+
+    /// The run that is wanted, and what it took where it was made of the base: by `rerun` where there
+    /// is a base, and by `simulate` otherwise. It takes nothing from the book, and can be asked
+    /// again. Memory where a growth was refused.
+    pub fn work(&self) -> Result<(Arc<Run<A>, A>, Option<Work>), Memory>
+        ensures log { IfOk result (λ (run, work). (arc_value run).log ≡ self.now.log) }
+        ensures setting { IfOk result (λ (run, work). (arc_value run).setting ≡ self.now.setting) }
+        ensures sound { IfOk result (λ (run, work). IsRun (arc_value run)) }
+        ensures made { IfOk result (λ (run, work). IsMade self.now self.now.base (arc_value run) work) }
+    {
+        match &self.base {
+            Some(base) => {
+                let table = self.table.clone()?;
+                let (run, work) = made_again(self.alloc, base, table, self.spacing)?;
+                Ok((run, Some(work)))
+            }
+            None => {
+                let table = self.table.clone()?;
+                let run = made_anew(self.alloc, table, self.scenario, self.spacing)?;
+                Ok((run, None))
+            }
+        }
+    }
+}

@@ -1,0 +1,168 @@
+// What the workers' calls change of where a book stands, and what they are told.
+ghost use Rattle.std.specs.Prelude.{◌≡◌, ◌≤◌, ◌<◌, drop, length, map, option_copied, IfOk, IfSome, Some, None};
+ghost use Rattle.std.specs.Option.{option_map};
+ghost use Rattle.std.specs.Arc.{arc_value};
+ghost use Rattle.job_table.specs.Edit.{edit_of};
+ghost use Rattle.book_machine.specs.Call.{Claim, Finish, GiveUp};
+ghost use Rattle.version_book.specs.Answers.{TellsFit, claim_answer, finish_answer, fitted, give_up_answer};
+ghost use Rattle.version_book.specs.Sound.{IsOfItsVersion};
+ghost use Rattle.version_book.specs.Steps.{Does};
+ghost use Rattle.version_book.specs.Tasks.{Fits, IsNext, base_since, bases_since, due_shown, task_for};
+
+use crate::lookups::{close, first_due, mark, publish, published_version, ticket_of};
+use crate::published::Published;
+use crate::shown::{Shown, is_below};
+use crate::state::{State, TICKET_LIMIT, is_run};
+use crate::task::{Base, Task};
+use crate::ticket::Ticket;
+use crate::worker_refusal::{ClaimRefusal, FinishRefusal, GiveUpRefusal};
+use checkpoints::Run;
+use job_table::Edit;
+use std::alloc::Allocator;
+use std::sync::Arc;
+use swf_text::Memory;
+
+// The same edits once more.
+fn copies<A: Allocator + Copy>(alloc: A, edits: &[Edit<A>]) -> Result<Vec<Edit<A>, A>, Memory>
+    ensures { IfOk result (λ copies. map edit_of copies.items ≡ map edit_of edits.now) }
+{
+    let mut copies = Vec::with_capacity(alloc, edits.len())?;
+    for edit in edits {
+        copies.push(edit.copy()?)?;
+    }
+    Ok(copies)
+}
+
+// The base that a published run makes, with the edits since its version.
+fn base_since<A: Allocator + Copy>(
+    alloc: A,
+    published: &Published<A>,
+    edits: &[Edit<A>],
+) -> Result<Base<A>, Memory>
+    requires { published.now.version ≤ length edits.now }
+    ensures { IfOk result (λ base. base ≡ base_since (map edit_of edits.now) published.now) }
+{
+    let version = published.version();
+    let (_, later) = edits.split_at(version as usize);
+    let since = copies(alloc, later)?;
+    Ok(Base::new(version, published.run().clone()?, since))
+}
+
+// The same, where a run is published.
+fn base_of<A: Allocator + Copy>(
+    alloc: A,
+    published: Option<&Published<A>>,
+    edits: &[Edit<A>],
+) -> Result<Option<Base<A>>, Memory>
+    requires { IfSome (option_copied published) (λ p. p.version ≤ length edits.now) }
+    ensures { IfOk result (λ base. base ≡ bases_since (map edit_of edits.now) (option_copied published.entry)) }
+{
+    match published {
+        Some(published) => Ok(Some(base_since(alloc, published, edits)?)),
+        None => Ok(None),
+    }
+}
+
+impl<A: Allocator + Copy> State<A> {
+    // The task of a scenario at the current version.
+    fn task_for(&self, shown: &Shown<A>) -> Result<Task<A>, Memory>
+        requires { IfSome shown.now.published (IsOfItsVersion self.now.opening self.now.edits shown.now.setting) }
+        ensures { IfOk result (λ task. task ≡ task_for self.now shown.now) }
+    {
+        let base = base_of(self.alloc, shown.published(), self.edits.as_slice())?;
+        Ok(Task::new(
+            self.alloc,
+            self.next_ticket,
+            shown.id(),
+            self.edits.len() as u64,
+            self.current.clone()?,
+            shown.scenario(),
+            self.spacing,
+            base,
+        ))
+    }
+
+    // The ticket of a task.
+    fn ticket_for(task: &Task<A>) -> Result<Ticket<A>, Memory>
+        ensures { IfOk result (λ t. t ≡ record { number = task.now.ticket; id = task.now.id; version = task.now.version; log = task.now.log; setting = task.now.setting }) }
+    {
+        Ok(Ticket::new(
+            task.ticket(),
+            task.id(),
+            task.version(),
+            task.table().clone()?,
+            task.scenario(),
+        ))
+    }
+
+    // The task of the first scenario that is due, unless 256 tickets stand.
+    fn next_task(&self) -> Result<Option<Task<A>>, ClaimRefusal>
+        ensures { IsNext self.now result }
+    {
+        let version = self.edits.len() as u64;
+        let due = first_due(self.shown.as_slice(), version, self.tickets.as_slice());
+        let Some(shown) = due else {
+            return Ok(None);
+        };
+        if self.tickets.len() >= TICKET_LIMIT {
+            return Err(ClaimRefusal::TooManyTickets);
+        }
+        Ok(Some(self.task_for(shown)?))
+    }
+
+    // Takes a ticket for the first scenario that is due.
+    pub(crate) fn claim(&mut self) -> Result<Option<Task<A>>, ClaimRefusal>
+        requires { self.old.next_ticket < 18446744073709551615 }
+        ensures does { Does self.old self.new Claim (claim_answer result) }
+        ensures task { IfOk result (λ task. task ≡ option_map (task_for self.old) (due_shown self.old)) }
+    {
+        let Some(task) = self.next_task()? else {
+            return Ok(None);
+        };
+        let ticket = State::ticket_for(&task)?;
+        self.tickets.push_reserved(ticket);
+        self.next_ticket += 1;
+        Ok(Some(task))
+    }
+
+    // Hands in a run for a ticket.
+    pub(crate) fn finish(&mut self, number: u64, run: Arc<Run<A>, A>) -> Result<u64, FinishRefusal>
+        ensures does { Does self.old self.new (Finish number (fitted result)) (finish_answer result) }
+        ensures fits { TellsFit (Fits self.old number (arc_value run)) result }
+    {
+        let Some(ticket) = ticket_of(self.tickets.as_slice(), number) else {
+            return Err(FinishRefusal::UnknownTicket);
+        };
+        if !ticket.fits(&run) {
+            return Err(FinishRefusal::Stranger);
+        }
+        let id = ticket.id();
+        let version = ticket.version();
+        let found = published_version(self.shown.as_slice(), id);
+        is_run(&run);
+        close(&mut self.tickets, number);
+        if is_below(found, version) {
+            publish(&mut self.shown, id, Published::new(version, run));
+            return Ok(version);
+        }
+        Err(FinishRefusal::Stale {
+            published: found.unwrap_or(0),
+        })
+    }
+
+    // Gives a ticket up.
+    pub(crate) fn give_up(&mut self, number: u64) -> Result<(), GiveUpRefusal>
+        ensures { Does self.old self.new (GiveUp number) (give_up_answer result) }
+    {
+        let Some(ticket) = ticket_of(self.tickets.as_slice(), number) else {
+            return Err(GiveUpRefusal::UnknownTicket);
+        };
+        let id = ticket.id();
+        let version = ticket.version();
+        close(&mut self.tickets, number);
+        if version == self.edits.len() as u64 {
+            mark(&mut self.shown, id, version);
+        }
+        Ok(())
+    }
+}
