@@ -1,9 +1,8 @@
 -- A change of the one scenario with an id.
-use Rattle.std.proofs.Common.{◌≡◌, ℕ, ◌+◌, ◌<◌, suc, zero, List, [], ◌∷◌, length, map, set, get_or, refl, sym, ◌∙◌, ap, ap₂, Bool, true, false, cond, ◌==◌, ◌⊎◌, inl, inr, arith}
+use Rattle.std.proofs.Common.{◌≡◌, ℕ, ◌+◌, ◌<◌, suc, zero, List, [], ◌∷◌, length, set, get_or, refl, sym, ◌∙◌, ap, ap₂, Bool, true, false, cond, ◌==◌, ◌⊎◌, inl, inr, arith}
 use Rattle.std.specs.Prelude.{Option, None, Some}
-use Rattle.std.specs.List.{AllPairs, position, position_from}
+use Rattle.std.specs.List.{position, position_from}
 use Rattle.std.proofs.lemmas.Bool.{eqb-true, ne_eqb, cases_order}
-use Rattle.std.proofs.lemmas.List.{get_or_default}
 use Rattle.std.proofs.lemmas.List.Quantifiers.{position-Some}
 use Rattle.std.proofs.lemmas.Iterator.Adapters.{position_from-zero}
 use Rattle.version_book.specs.Book.{ShownView}

@@ -4,8 +4,7 @@ use Rattle.std.specs.Prelude.{Option, None, Some, is_some, nat_le}
 use Rattle.std.proofs.lemmas.Bool.{leb-true, leb-false}
 use Rattle.std.proofs.lemmas.List.{append-nil, length_push, length-map}
 use Rattle.swf_text.specs.Entry.{LogEntry}
-use Rattle.job_table.specs.Edit.{LogEdit, fault_of}
-use Rattle.scenarios.specs.Scenario.{Setting}
+use Rattle.job_table.specs.Edit.{fault_of}
 use Rattle.scenarios.specs.ScenarioList.{add_fault, id_of, with_scenario}
 use Rattle.book_machine.specs.declared.caller.Caller.{Caller}
 use Rattle.book_machine.specs.declared.reply.Reply.{Reply}
@@ -13,7 +12,7 @@ use Rattle.book_machine.specs.Call.{BookCall, Edit, AddScenario, DropScenario, R
 use Rattle.book_machine.specs.Machine.{Machine, Progress, Ticket, version, opened, current, fresh, dropped, due, are_all_out, changed, closed, publish, marked, ticket_of, reply_to, changed_by, after, noted, note_limit}
 use Rattle.book_machine.specs.History.{Noted, IsLegal, after_all}
 use Rattle.version_book.specs.Book.{StateView, BookView, machine_at, machine_of}
-use Rattle.version_book.specs.Sound.{IsSound, IsBook}
+use Rattle.version_book.specs.Sound.{IsBook}
 use Rattle.version_book.specs.Steps.{Answer, full, memory, told, Answers, Does, IsStep, note_of, notes_of, reply_in}
 
 -- ---- what no call changes

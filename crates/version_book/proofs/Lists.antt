@@ -1,6 +1,6 @@
 -- Tests, look-ups and counts over a mapped list.
-use Rattle.std.proofs.Common.{◌≡◌, ℕ, ◌+◌, ◌≤◌, ◌||◌, length, List, [], ◌∷◌, ◌++◌, map, refl, sym, ◌∙◌, ap, ap₂, subst, Bool, true, false, cond, arith}
-use Rattle.std.specs.Prelude.{Option, None, Some, find, filter, count_by}
+use Rattle.std.proofs.Common.{◌≡◌, ◌≤◌, ◌||◌, length, List, [], ◌∷◌, map, refl, ap, ap₂, subst, Bool, true, false, cond, arith}
+use Rattle.std.specs.Prelude.{Some, find, filter, count_by}
 use Rattle.std.specs.List.{list_any, All}
 use Rattle.std.specs.Option.{option_map}
 use Rattle.std.proofs.lemmas.List.Sums.{sum_by-cons, length-filter, count_by-le-length}

@@ -1,10 +1,9 @@
 -- Logs after edits, one more, or from a version on.
-use Rattle.std.proofs.Common.{◌≡◌, ℕ, ◌+◌, ◌≤◌, List, [], ◌∷◌, ◌++◌, length, take, drop, refl, sym, ◌∙◌, ap, subst, arith}
-use Rattle.std.specs.Prelude.{None}
-use Rattle.std.proofs.lemmas.List.{take-append-drop, take-append-le, take_all, length-append}
+use Rattle.std.proofs.Common.{◌≡◌, ℕ, ◌≤◌, List, [], ◌∷◌, ◌++◌, length, take, drop, refl, sym, ◌∙◌, ap, subst, arith}
+use Rattle.std.proofs.lemmas.List.{take-append-drop, take-append-le, take_all}
 use Rattle.swf_text.specs.Entry.{LogEntry}
-use Rattle.job_table.specs.Accepted.{AreAccepted, IsEdit}
-use Rattle.job_table.specs.Edit.{LogEdit, applied, fault_of, log_after, log_at}
+use Rattle.job_table.specs.Accepted.{AreAccepted}
+use Rattle.job_table.specs.Edit.{LogEdit, applied, log_after, log_at}
 
 pub log_after-append : (log : List LogEntry) (es fs : List LogEdit) → log_after log (es ++ fs) ≡ log_after (log_after log es) fs
 log_after-append log [] fs = refl

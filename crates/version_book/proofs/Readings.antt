@@ -7,14 +7,14 @@ use Rattle.std.proofs.lemmas.List.{length-map}
 use Rattle.std.proofs.lemmas.Bool.{le-leb, lt-leb}
 use Rattle.std.proofs.lemmas.List.Sums.{sum_by-cons}
 use Rattle.swf_text.specs.Entry.{LogEntry}
-use Rattle.job_table.specs.Edit.{LogEdit, log_after, log_at}
+use Rattle.job_table.specs.Edit.{LogEdit, log_after}
 use Rattle.job_table.specs.Accepted.{AreAccepted}
 use Rattle.scenarios.specs.Scenario.{Setting}
 use Rattle.checkpoints.specs.RunView.{RunView}
 use Rattle.book_machine.specs.declared.settle_state.SettleState.{SettleState}
 use Rattle.book_machine.specs.declared.settle_state.SettleState.TheVariants as settle
-use Rattle.book_machine.specs.Machine.{Machine, Progress, is_good, is_waiting, settled, is_below}
-use Rattle.version_book.specs.Book.{PublishedView, ShownView, TicketView, StateView, machine_at, progress_of_shown, published_version, ticket_of_view}
+use Rattle.book_machine.specs.Machine.{Progress, is_good, is_waiting, settled}
+use Rattle.version_book.specs.Book.{PublishedView, ShownView, TicketView, StateView, machine_at, progress_of_shown, ticket_of_view}
 use Rattle.version_book.specs.Sound.{IsSound, IsOfItsVersion}
 use Rattle.version_book.specs.Tasks.{BaseView, TaskView, IsTask, LeadsTo, base_since, bases_since, due_shown, free_due, task_for, IsNext, IsMade}
 use Rattle.scenarios.specs.Plan.{plan_of}

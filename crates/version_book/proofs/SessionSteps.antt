@@ -1,24 +1,23 @@
 -- The steps of the sessions' calls.
 use Rattle.std.proofs.Common.{◌≡◌, ℕ, ◌+◌, ◌≤◌, ◌<◌, ◌==◌, List, [], ◌∷◌, ◌++◌, length, map, refl, sym, ◌∙◌, ap, ap₂, subst, Bool, true, false, not, cond, arith, length-append}
-use Rattle.std.specs.Prelude.{Option, None, Some, Result, Ok, Err, MatchOption, IfSome, find, filter, is_some, nat_lt}
-use Rattle.std.specs.List.{All}
+use Rattle.std.specs.Prelude.{Option, None, Some, Result, Err, MatchOption, IfSome, find, filter, is_some, nat_lt}
 use Rattle.std.specs.Option.{option_map}
 use Rattle.std.proofs.lemmas.Bool.Decides.{nat_tests}
 use Rattle.std.proofs.lemmas.List.{map-append}
 use Rattle.std.proofs.lemmas.List.Elements.{All-push, All-filter, All-weaker}
 use Rattle.swf_text.specs.Entry.{LogEntry}
 use Rattle.job_table.specs.declared.fault.EditFault.{EditFault}
-use Rattle.job_table.specs.Accepted.{AreAccepted, IsEdit}
-use Rattle.job_table.specs.Edit.{LogEdit, applied, fault_of, log_after, log_at}
+use Rattle.job_table.specs.Accepted.{IsEdit}
+use Rattle.job_table.specs.Edit.{LogEdit, applied, fault_of, log_after}
 use Rattle.scenarios.specs.declared.list_fault.AddFault.{AddFault}
 use Rattle.scenarios.specs.declared.list_fault.AddFault.TheVariants as faults
 use Rattle.scenarios.specs.Scenario.{Setting}
 use Rattle.scenarios.specs.ScenarioList.{Listing, add_fault, id_of, with_scenario, without_scenario}
 use Rattle.book_machine.specs.declared.reply.Reply.{Reply}
 use Rattle.book_machine.specs.declared.reply.Reply.TheVariants as reply
-use Rattle.book_machine.specs.Call.{BookCall, Edit, AddScenario, DropScenario, Retry, View}
+use Rattle.book_machine.specs.Call.{Edit, AddScenario, DropScenario, Retry, View}
 use Rattle.book_machine.specs.Machine.{Machine, Progress, fresh, changed, dropped, progress_of, view_reply_at}
-use Rattle.version_book.specs.Book.{PublishedView, ShownView, TicketView, StateView, machine_at, progress_of_shown, ticket_of_view, published_version}
+use Rattle.version_book.specs.Book.{PublishedView, ShownView, TicketView, StateView, machine_at, progress_of_shown, ticket_of_view}
 use Rattle.version_book.specs.Sound.{IsSound, IsOfItsVersion, IsTicketOfItsVersion, IsTicketOfItsScenario}
 use Rattle.version_book.specs.Answers.{add_answer, refusal_of}
 use Rattle.version_book.specs.Steps.{IsStep, Does}

@@ -1,21 +1,19 @@
 -- What a change of where a book stands keeps, and calls that change nothing.
-use Rattle.std.proofs.Common.{◌≡◌, ℕ, ◌+◌, ◌≤◌, ◌<◌, ◌==◌, List, [], ◌∷◌, ◌++◌, length, map, refl, sym, ◌∙◌, ap, ap₂, subst, Bool, true, false, not, cond, arith}
-use Rattle.std.specs.Prelude.{Option, None, Some, Ok, Err, MatchOption, ⊤, IfSome, find, filter, is_some}
+use Rattle.std.proofs.Common.{◌≡◌, ℕ, ◌≤◌, ◌==◌, List, [], ◌∷◌, ◌++◌, length, map, refl, sym, ◌∙◌, ap, ap₂, subst, Bool, true, false, cond, arith}
+use Rattle.std.specs.Prelude.{Option, None, Some, Ok, Err, MatchOption, ⊤, IfSome, find, is_some}
 use Rattle.std.specs.List.{All}
 use Rattle.std.specs.Option.{option_map}
-use Rattle.std.proofs.lemmas.Bool.{eqb-true}
 use Rattle.std.proofs.lemmas.List.{map-append}
-use Rattle.std.proofs.lemmas.List.Elements.{All-nil, All-cons, All-head, All-tail, All-weaker, All-map}
-use Rattle.scenarios.specs.Scenario.{Setting}
+use Rattle.std.proofs.lemmas.List.Elements.{All-nil, All-cons, All-head, All-tail, All-weaker}
 use Rattle.scenarios.specs.ScenarioList.{Listing}
 use Rattle.book_machine.specs.declared.reply.Reply.{Reply}
 use Rattle.book_machine.specs.Call.{BookCall}
-use Rattle.book_machine.specs.Machine.{Machine, Progress, Ticket, changed, progress_of, published_of, ticket_of, reply_to, changed_by}
-use Rattle.version_book.specs.Book.{PublishedView, ShownView, TicketView, StateView, machine_at, progress_of_shown, ticket_of_view, published_version}
-use Rattle.version_book.specs.Sound.{IsSound, IsOfItsVersion, IsTicketOfItsVersion, IsTicketOfItsScenario, AreListed, Under, under_of_shown, under_of_listed}
+use Rattle.book_machine.specs.Machine.{Progress, Ticket, changed, progress_of, published_of, ticket_of, reply_to, changed_by}
+use Rattle.version_book.specs.Book.{ShownView, TicketView, StateView, machine_at, progress_of_shown, ticket_of_view, published_version}
+use Rattle.version_book.specs.Sound.{IsSound, IsOfItsVersion, IsTicketOfItsVersion, IsTicketOfItsScenario, Under, under_of_shown}
 use Rattle.version_book.specs.Steps.{Answer, Does, IsStep}
 use Rattle.version_book.specs.Lookups.{has_id, has_number, with_change, version_shown}
-use Rattle.version_book.proofs.Lists.{map-map, map-same, find-map}
+use Rattle.version_book.proofs.Lists.{find-map}
 
 -- a call that changes nothing
 pub still : (s : StateView) (call : BookCall) (r : Reply) → IsSound s → ((n : ℕ) → r ≡ reply_to call (machine_at n s)) → ((n : ℕ) → machine_at n s ≡ changed_by call (machine_at n s)) → IsStep s s call r

@@ -1,24 +1,22 @@
 -- The steps of the workers' calls.
-use Rattle.std.proofs.Common.{◌≡◌, ℕ, ◌+◌, ◌≤◌, ◌<◌, ◌==◌, ◌&&◌, ◌||◌, List, [], ◌∷◌, ◌++◌, length, map, refl, sym, ◌∙◌, ap, ap₂, subst, Bool, true, false, not, cond, arith}
-use Rattle.std.specs.Prelude.{Option, None, Some, IfSome, find, filter, is_some, nat_le, unwrap_or}
-use Rattle.std.specs.List.{All, list_any}
+use Rattle.std.proofs.Common.{◌≡◌, ℕ, ◌+◌, ◌≤◌, ◌<◌, ◌==◌, ◌&&◌, List, [], ◌∷◌, ◌++◌, length, map, refl, sym, ◌∙◌, ap, ap₂, subst, Bool, true, false, not, cond, arith}
+use Rattle.std.specs.Prelude.{Option, None, Some, IfSome, find, filter, is_some, unwrap_or}
+use Rattle.std.specs.List.{All}
 use Rattle.std.specs.Option.{option_map}
 use Rattle.std.proofs.lemmas.Bool.{eqb-true, eq-eqb, ne_eqb}
 use Rattle.std.proofs.lemmas.Bool.Decides.{nat_tests}
 use Rattle.std.proofs.lemmas.List.{map-append, length-map, length_push}
-use Rattle.std.proofs.lemmas.List.Elements.{All-nil, All-cons, All-head, All-tail, All-push, All-filter, All-weaker}
-use Rattle.swf_text.specs.Entry.{LogEntry}
-use Rattle.scenarios.specs.Scenario.{Setting}
+use Rattle.std.proofs.lemmas.List.Elements.{All-push, All-filter, All-weaker}
 use Rattle.checkpoints.specs.RunView.{RunView, IsRun}
 use Rattle.book_machine.specs.declared.reply.Reply.{Reply}
 use Rattle.book_machine.specs.declared.reply.Reply.TheVariants as reply
-use Rattle.book_machine.specs.Call.{BookCall, Claim, Finish, GiveUp}
-use Rattle.book_machine.specs.Machine.{Machine, Progress, Ticket, version, is_below, is_due, is_marked, is_claimed, due, are_all_out, changed, closed, publish, marked, published_of, finish_reply_at, ticket_of}
+use Rattle.book_machine.specs.Call.{Claim, Finish, GiveUp}
+use Rattle.book_machine.specs.Machine.{Machine, Progress, Ticket, version, is_below, is_due, due, are_all_out, changed, closed, publish, marked, finish_reply_at, ticket_of}
 use Rattle.version_book.specs.Book.{PublishedView, ShownView, TicketView, StateView, machine_at, progress_of_shown, ticket_of_view, published_version}
-use Rattle.version_book.specs.Sound.{IsSound, IsOfItsVersion, IsTicketOfItsVersion, IsTicketOfItsScenario, under_of_shown}
+use Rattle.version_book.specs.Sound.{IsSound, IsOfItsVersion, IsTicketOfItsVersion, IsTicketOfItsScenario}
 use Rattle.version_book.specs.Steps.{IsStep}
 use Rattle.version_book.specs.Tasks.{Fits, HasThoseOf, due_shown}
-use Rattle.version_book.specs.Lookups.{has_id, has_number, is_mark, is_out, is_due_at, marking, publishing, version_shown, with_change}
+use Rattle.version_book.specs.Lookups.{has_id, has_number, is_mark, is_due_at, marking, publishing, version_shown, with_change}
 use Rattle.version_book.proofs.Lists.{find-map, filter-map, list_any-map, find-All, length-filter-le}
 use Rattle.version_book.proofs.Logs.{log_at-now}
 use Rattle.version_book.proofs.Ids.{ids-alike, ids-given, ids-below}

@@ -1,5 +1,5 @@
 -- What the results of the book's calls say.
-use Rattle.std.specs.Prelude.{◌≡◌, ℕ, Bool, true, false, Option, None, Some, Result, Ok, Err}
+use Rattle.std.specs.Prelude.{ℕ, Bool, true, false, Option, None, Some, Result, Ok, Err}
 use Rattle.std.specs.Option.{option_map}
 use Rattle.scenarios.specs.declared.list_fault.AddFault.{AddFault}
 use Rattle.scenarios.specs.declared.list_fault.AddFault.TheVariants as list

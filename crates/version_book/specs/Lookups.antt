@@ -1,5 +1,5 @@
 -- The machine's tests and look-ups, on what the book keeps.
-use Rattle.std.specs.Prelude.{ℕ, ◌==◌, ◌&&◌, ◌<◌, not, Bool, false, nat_lt, nat_le, if◌then◌else◌, List, map, count_by, find, Option, None, Some}
+use Rattle.std.specs.Prelude.{ℕ, ◌==◌, ◌&&◌, ◌<◌, not, Bool, false, nat_le, if◌then◌else◌, List, map, count_by, find, Option, None, Some}
 use Rattle.std.specs.List.{list_any, AllPairs}
 use Rattle.book_machine.specs.declared.settle_state.SettleState.{SettleState}
 use Rattle.book_machine.specs.declared.settle_state.SettleState.TheVariants as settle

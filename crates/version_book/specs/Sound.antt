@@ -1,5 +1,5 @@
 -- What holds of every book.
-use Rattle.std.specs.Prelude.{◌≡◌, ℕ, ◌+◌, ◌≤◌, ◌<◌, List, map, length, Option, IfSome}
+use Rattle.std.specs.Prelude.{◌≡◌, ℕ, ◌+◌, ◌≤◌, ◌<◌, List, map, length, IfSome}
 use Rattle.std.specs.List.{All}
 use Rattle.swf_text.specs.Entry.{LogEntry}
 use Rattle.job_table.specs.Accepted.{AreAccepted}

@@ -1,7 +1,7 @@
 use Rattle.std.proofs.Common.{rules, ◌≡◌, get_or}
 use Rattle.std.specs.List.{position}
 use Rattle.std.specs.Prelude.{None, Some}
-use Rattle.version_book.specs.Lookups.{has_id, marking, publishing, unmarking}
+use Rattle.version_book.specs.Lookups.{has_id, publishing}
 use Rattle.version_book.proofs.Changing.{change-at, change-none}
 use Rattle.version_book.proofs.lookups.publish.Goals as goal
 

@@ -1,5 +1,4 @@
-use Rattle.std.proofs.Common.{◌≡◌, map, take}
-use Rattle.job_table.specs.Edit.{edit_of}
+use Rattle.std.proofs.Common.{◌≡◌, take}
 use Rattle.version_book.proofs.worker_steps.copies.Given as goal
 
 abbrev pub invariant-loop-edit : goal.invariant-loop-edit

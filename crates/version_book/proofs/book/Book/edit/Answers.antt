@@ -1,14 +1,13 @@
-use Rattle.std.proofs.Common.{rules, ◌≡◌, ◌<◌, length, map, refl, sym, ◌∙◌, ap, subst, arith}
-use Rattle.std.specs.Prelude.{Ok, Err, true, false, nat_le, IfOk}
-use Rattle.std.specs.Arc.{arc_value}
+use Rattle.std.proofs.Common.{rules, ◌≡◌, length, map, refl, ap}
+use Rattle.std.specs.Prelude.{Err, true, false, nat_le}
 use Rattle.job_table.specs.Edit.{edit_of}
 use Rattle.book_machine.specs.declared.caller.Caller.TheVariants as caller
-use Rattle.book_machine.specs.Call.{Edit, AddScenario, DropScenario, Retry, Claim, Finish, GiveUp, View}
+use Rattle.book_machine.specs.Call.{Edit}
 use Rattle.book_machine.specs.Machine.{note_limit}
 use Rattle.book_machine.specs.Noted.{noted_of}
 use Rattle.version_book.specs.declared.session_refusal.EditRefusal.TheVariants as refusals
 use Rattle.version_book.specs.Book.{BookView}
-use Rattle.version_book.specs.Answers.{edit_answer, fitted}
+use Rattle.version_book.specs.Answers.{edit_answer}
 use Rattle.version_book.proofs.Histories.{called, answered, is-full, has-room, journal-is, as-it-was}
 use Rattle.version_book.proofs.book.Book.edit.Goals as goal
 

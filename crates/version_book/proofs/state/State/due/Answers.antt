@@ -1,12 +1,9 @@
-use Rattle.std.proofs.Common.{rules, ◌≡◌, ◌<◌, ◌≤◌, ◌+◌, ◌++◌, ◌∷◌, [], length, map, find, drop, refl, sym, ◌∙◌, ap, ap₂, subst, arith}
-use Rattle.std.specs.Prelude.{None, Some, Ok, Err, true, false, nat_le}
-use Rattle.std.specs.Arc.{arc_value}
+use Rattle.std.proofs.Common.{rules, ◌≡◌, ◌<◌, length, map, find, refl, sym, ◌∙◌, ap}
+use Rattle.std.specs.Prelude.{None, Some}
 use Rattle.std.proofs.lemmas.List.{length-map}
 use Rattle.job_table.specs.Edit.{edit_of}
-use Rattle.version_book.specs.Book.{PublishedView, ShownView, TicketView, StateView}
 use Rattle.version_book.specs.Lookups.{is_due_at}
-use Rattle.version_book.specs.Tasks.{bases_since, due_shown}
-use Rattle.version_book.proofs.Readings.{settled-with, free-none, free-with, due-with, base-is, task-sound, task-is, drop-map}
+use Rattle.version_book.proofs.Readings.{free-with}
 use Rattle.version_book.proofs.state.State.due.Goals as goal
 
 pub returns-in-Some : goal.returns-in-Some

@@ -1,16 +1,11 @@
-use Rattle.std.proofs.Common.{rules, ◌≡◌, ◌<◌, ◌≤◌, ◌+◌, ◌++◌, ◌∷◌, [], length, map, find, refl, sym, ◌∙◌, ap, subst, arith}
-use Rattle.std.specs.Prelude.{None, Some, true, false, unwrap_or}
-use Rattle.std.specs.Arc.{arc_value}
+use Rattle.std.proofs.Common.{rules, ◌≡◌, length, map, find, arith}
+use Rattle.std.specs.Prelude.{None, Some}
 use Rattle.job_table.specs.Edit.{edit_of}
 use Rattle.std.proofs.lemmas.List.{length-map}
-use Rattle.checkpoints.specs.RunView.{IsRun}
-use Rattle.book_machine.specs.Machine.{is_below}
-use Rattle.version_book.specs.Book.{PublishedView, ShownView, TicketView, StateView}
-use Rattle.version_book.specs.Lookups.{has_number, is_due_at, publishing, version_shown, with_change}
-use Rattle.version_book.specs.Steps.{IsStep}
+use Rattle.version_book.specs.Lookups.{has_number}
 use Rattle.version_book.proofs.Ids.{ids-apart}
-use Rattle.version_book.proofs.Stepping.{seen-as, still-as, does-as}
-use Rattle.version_book.proofs.WorkerSteps.{left, finish-unknown, finish-stranger, finish-stale, finish-published, give_up-unknown, give_up-other, give_up-now, claim-idle, claim-busy, claim-given, due-shown, found-run, finish-with, stale-with, now-with, other-with, fits-of}
+use Rattle.version_book.proofs.Stepping.{seen-as, still-as}
+use Rattle.version_book.proofs.WorkerSteps.{give_up-unknown, now-with, other-with}
 use Rattle.version_book.proofs.state.State.give_up.Goals as goal
 
 pub returns-in_default : goal.returns-in_default

@@ -1,18 +1,9 @@
-use Rattle.std.proofs.Common.{rules, ◌≡◌, ◌<◌, ◌≤◌, ◌+◌, ◌++◌, ◌∷◌, [], length, map, find, refl, sym, ap, subst, arith}
-use Rattle.std.specs.Prelude.{None, Some, is_some, true, false, filter, not, ◌==◌, vec_capacity}
-use Rattle.std.specs.Arc.{arc_value}
-use Rattle.job_table.specs.Accepted.{IsEdit}
-use Rattle.job_table.specs.Edit.{applied, edit_of, fault_of}
-use Rattle.scenarios.specs.ScenarioList.{add_fault, id_of, with_scenario, without_scenario}
-use Rattle.version_book.specs.Book.{ShownView, TicketView, StateView}
-use Rattle.version_book.specs.Sound.{IsSound}
-use Rattle.version_book.specs.Steps.{IsStep}
-use Rattle.book_machine.specs.Call.{Edit, AddScenario, DropScenario, Retry, View}
-use Rattle.book_machine.specs.declared.reply.Reply.TheVariants as reply
+use Rattle.std.proofs.Common.{rules, ◌≡◌, find, arith}
+use Rattle.std.specs.Prelude.{is_some, true, false}
 use Rattle.version_book.specs.Lookups.{has_id, unmarking, with_change}
-use Rattle.version_book.proofs.Stepping.{seen-as, still-as, none-of, none-told, some-of}
+use Rattle.version_book.proofs.Stepping.{seen-as, still-as, none-of}
 use Rattle.version_book.proofs.Ids.{ids-apart}
-use Rattle.version_book.proofs.SessionSteps.{edit-refused, edit-accepted, add-refused, add-accepted, drop-refused, drop-accepted, retry-refused, retry-accepted, view-missing, view-empty, view-behind, view-shown, add-told, match-told}
+use Rattle.version_book.proofs.SessionSteps.{retry-refused, retry-accepted}
 use Rattle.version_book.proofs.state.State.retry.Goals as goal
 
 pub unmark-requires : goal.unmark-requires

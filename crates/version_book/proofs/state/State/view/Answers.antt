@@ -1,19 +1,9 @@
-use Rattle.std.proofs.Common.{rules, ◌≡◌, ◌<◌, ◌≤◌, ◌+◌, ◌++◌, ◌∷◌, [], length, map, find, refl, sym, ap, subst, arith}
-use Rattle.std.specs.Prelude.{None, Some, is_some, true, false, filter, not, ◌==◌, vec_capacity}
-use Rattle.std.specs.Arc.{arc_value}
-use Rattle.job_table.specs.Accepted.{IsEdit}
-use Rattle.job_table.specs.Edit.{applied, edit_of, fault_of}
-use Rattle.scenarios.specs.ScenarioList.{add_fault, id_of, with_scenario, without_scenario}
-use Rattle.version_book.specs.Book.{PublishedView, ShownView, TicketView, StateView}
-use Rattle.version_book.specs.Sound.{IsSound}
-use Rattle.version_book.specs.Steps.{IsStep}
-use Rattle.book_machine.specs.Call.{Edit, AddScenario, DropScenario, Retry, View}
-use Rattle.book_machine.specs.declared.reply.Reply.TheVariants as reply
-use Rattle.version_book.specs.Lookups.{has_id, unmarking, with_change}
-use Rattle.version_book.proofs.Stepping.{seen-as, still-as, none-of, none-told, some-of}
-use Rattle.version_book.specs.Answers.{refusal_of}
-use Rattle.version_book.proofs.Ids.{ids-apart}
-use Rattle.version_book.proofs.SessionSteps.{edit-refused, edit-accepted, add-refused, add-accepted, drop-refused, drop-accepted, retry-refused, retry-accepted, view-missing, view-empty, view-behind, view-shown, view-is, add-told, match-told}
+use Rattle.std.proofs.Common.{rules, ◌≡◌, ◌≤◌, find, ap, arith}
+use Rattle.std.specs.Prelude.{None, Some}
+use Rattle.version_book.specs.Book.{PublishedView}
+use Rattle.version_book.specs.Lookups.{has_id}
+use Rattle.version_book.proofs.Stepping.{still-as}
+use Rattle.version_book.proofs.SessionSteps.{view-missing, view-empty, view-behind, view-shown, view-is}
 use Rattle.version_book.proofs.state.State.view.Goals as goal
 
 pub returns-in_default-clause-answer : goal.returns-in_default-clause-answer
