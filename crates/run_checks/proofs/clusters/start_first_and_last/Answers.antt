@@ -1,7 +1,7 @@
 use Rattle.std.proofs.Common.{◌≡◌, ◌≢◌, ℕ, ◌≤◌, nat_eq, List, [], ◌∷◌, Option, Some, length, get_or, find, refl, sym, ◌∙◌, ap, arith, subst}
 use Rattle.std.proofs.lemmas.Bool.{cond-true, cond-false, eq-eqb, ne_eqb}
 use Rattle.scenarios.specs.Job.{EffectiveJob}
-use Rattle.scenarios.specs.declared.placed.Placed.{Running}
+use Rattle.scenarios.specs.declared.placed.Placed.{Placed}
 use Rattle.cluster_state.specs.State.{State, free, started, without, CanStartAll}
 use Rattle.cluster_state.proofs.StateLemmas.{sum_by-placed}
 use Rattle.run_checks.proofs.clusters.start_first_and_last.Goals as goal
@@ -30,7 +30,7 @@ start_all-requires-clause-fits c =
     let last : EffectiveJob = c.index-waiting-2.result in
     let items = ap length c.waiting.ensures.jobs in
     let queue = three s.waiting first middle last (omega (arith, items)) (rw c.waiting-2.ensures.jobs at c.index-waiting-0.is) (rw c.waiting-3.ensures.jobs at c.index-waiting-1.is) (rw c.waiting-4.ensures.jobs at c.index-waiting-2.is) in
-    let taken = sum_by-placed (λ (r : Running). r.job.size) (record { job = first; start = 2 }) s.running in
+    let taken = sum_by-placed (λ (r : Placed). r.job.size) (record { job = first; start = 2 }) s.running in
     let ne : middle.number ≢ last.number = (λ e. omega (arith, e, c.number.ensures.value, c.number-2.ensures.value)) in
     let fits : first.size ≤ free s = omega (arith, c.size.ensures.value, c.free.ensures.free) in
     let later : last.size ≤ free (started s first 2) = omega (arith, taken, c.size-2.ensures.value, c.size-3.ensures.value, c.free-2.ensures.free) in
