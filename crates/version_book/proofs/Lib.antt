@@ -7,3 +7,4 @@ pub mod SessionSteps
 pub mod WorkerSteps
 pub mod Histories
 pub mod Readings
+pub mod Claimed

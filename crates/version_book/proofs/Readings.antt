@@ -16,7 +16,7 @@ use Rattle.book_machine.specs.declared.settle_state.SettleState.TheVariants as s
 use Rattle.book_machine.specs.Machine.{Progress, is_good, is_waiting, settled}
 use Rattle.version_book.specs.Book.{PublishedView, ShownView, TicketView, StateView, machine_at, progress_of_shown, ticket_of_view}
 use Rattle.version_book.specs.Sound.{IsSound, IsOfItsVersion}
-use Rattle.version_book.specs.Tasks.{BaseView, TaskView, IsTask, LeadsTo, base_since, bases_since, due_shown, free_due, task_for, IsNext, IsMade}
+use Rattle.version_book.specs.Tasks.{BaseView, TaskView, IsTask, LeadsTo, base_since, bases_since, due_shown, free_due, task_for, ticket_for, IsNext, IsMade}
 use Rattle.scenarios.specs.Plan.{plan_of}
 use Rattle.checkpoints.specs.Cut.{IsShortCut}
 use Rattle.version_book.specs.Steps.{Does, IsStep}
@@ -149,9 +149,6 @@ version_in o = option_map (λ b. b.version) o
 base-version : (es : List LogEdit) (o : Option PublishedView) → version_in (bases_since es o) ≡ option_map (λ (p : PublishedView). p.version) o
 base-version es None = refl
 base-version es (Some p) = refl
-
-abbrev ticket_for : TaskView → TicketView
-ticket_for task = record { number = task.ticket; id = task.id; version = task.version; log = task.log; setting = task.setting }
 
 pub claim-with : {s w : StateView} (task : TaskView) (t : TicketView) (ts : List TicketView) → s ≡ w → IsSound s → IsNext w (Ok (Some task)) → ts ≡ s.tickets ++ t ∷ [] → t ≡ ticket_for task → IsStep s (record s { tickets = ts; next_ticket = s.next_ticket + 1 }) Claim (reply.Claimed task.ticket task.id task.version (version_in task.base))
 claim-with {s} {w} task t ts seen h next ts_is t_is =

@@ -89,6 +89,14 @@ HasThoseOf (Some t) run = (run.log ≡ t.log) × (run.setting ≡ t.setting)
 abbrev pub Fits : StateView → ℕ → RunView → Type 0
 Fits s number run = HasThoseOf (find (λ (t : TicketView). t.number == number) s.tickets) run
 
+-- the ticket of a task, with the log and the setting that its run is to have
+abbrev pub ticket_for : TaskView → TicketView
+ticket_for t = record { number = t.ticket; id = t.id; version = t.version; log = t.log; setting = t.setting }
+
+-- the ticket of this task stands, so a run of its log and setting fits
+abbrev pub IsOut : StateView → TaskView → Type 0
+IsOut s t = find (λ (it : TicketView). it.number == t.ticket) s.tickets ≡ Some (ticket_for t)
+
 -- the id of the first scenario that is due, unless 256 tickets stand
 abbrev pub free_due : StateView → Option ℕ
 free_due s = if are_all_out (machine_at 0 s) then None else option_map (λ (x : ShownView). x.id) (due_shown s)

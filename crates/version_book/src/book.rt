@@ -42,7 +42,7 @@ impl<A: Allocator + Copy> Model for Book<A> {
 impl<A: Allocator + Copy> Book<A> {
     ghost use Rattle.std.specs.Prelude.{[], map};
     ghost use Rattle.scenarios.specs.ScenarioList.{id_of};
-    ghost use Rattle.book_machine.specs.Machine.{settled};
+    ghost use Rattle.book_machine.specs.Machine.{current, settled};
     ghost use Rattle.version_book.specs.Book.{machine_of};
     ghost use Rattle.version_book.specs.Sound.{IsBook};
     ghost use Rattle.version_book.specs.Steps.{IsFault, opening_state};
@@ -75,7 +75,8 @@ impl<A: Allocator + Copy> Book<A> {
 
     /// The log of the current version.
     pub fn current(&self) -> &Arc<JobTable<A>, A>
-        ensures { arc_value result.now ≡ self.now.state.current }
+        ensures value { arc_value result.now ≡ self.now.state.current }
+        ensures log { self.now.state.current ≡ current (machine_of self.now) }
     {
         self.state.current()
     }

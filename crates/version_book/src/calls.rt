@@ -1,14 +1,15 @@
 // The calls of a book. Each makes room for its note first; then it takes its step; and then it notes
 // what was told.
-ghost use Rattle.std.specs.Prelude.{◌≡◌, IfOk, Some};
+ghost use Rattle.std.specs.Prelude.{◌≡◌, IfOk, IfSome, Some};
 ghost use Rattle.std.specs.Option.{option_map};
 ghost use Rattle.std.specs.Arc.{arc_value};
 ghost use Rattle.job_table.specs.Edit.{edit_of};
 ghost use Rattle.book_machine.specs.declared.caller.Caller.TheVariants as caller;
 ghost use Rattle.book_machine.specs.Call.{AddScenario, Claim, DropScenario, Edit as Edits, Finish, GiveUp, Retry, View};
 ghost use Rattle.version_book.specs.Answers.{TellsFit, add_answer, claim_answer, drop_answer, edit_answer, finish_answer, fitted, give_up_answer, retry_answer, view_answer};
+ghost use Rattle.version_book.specs.Sound.{IsBook};
 ghost use Rattle.version_book.specs.Steps.{Answers};
-ghost use Rattle.version_book.specs.Tasks.{Fits, IsShownFor, due_shown, task_for};
+ghost use Rattle.version_book.specs.Tasks.{Fits, IsOut, IsShownFor, due_shown, task_for};
 
 use crate::book::Book;
 use crate::journal::{is_full, make_room, note};
@@ -127,6 +128,7 @@ impl<A: Allocator + Copy> Book<A> {
     ) -> Result<Published<A>, ViewRefusal>
         ensures answer { Answers self.old self.new (caller.Session session) (View id seen) (view_answer result) }
         ensures shown { IfOk result (IsShownFor self.old.state id seen) }
+        ensures book { IsBook self.old }
     {
         if is_full(&self.journal) {
             return Err(ViewRefusal::JournalFull);
@@ -151,6 +153,7 @@ impl<A: Allocator + Copy> Book<A> {
     pub fn claim(&mut self, worker: u64) -> Result<Option<Task<A>>, ClaimRefusal>
         ensures answer { Answers self.old self.new (caller.Worker worker) Claim (claim_answer result) }
         ensures task { IfOk result (λ task. task ≡ option_map (task_for self.old.state) (due_shown self.old.state)) }
+        ensures out { IfOk result (λ task. IfSome task (IsOut self.new.state)) }
     {
         if is_full(&self.journal) {
             return Err(ClaimRefusal::JournalFull);

@@ -45,6 +45,13 @@ impl<A: Allocator + Copy> Published<A> {
         &self.run
     }
 
+    /// The run, taken out.
+    pub fn into_run(self) -> Arc<Run<A>, A>
+        ensures { arc_value result ≡ self.run }
+    {
+        self.run
+    }
+
     /// One owner more of the same run; Memory where that is refused.
     pub fn copy(&self) -> Result<Published<A>, Memory>
         ensures { IfOk result (λ p. p ≡ self.now) }

@@ -1,5 +1,5 @@
 // What the workers' calls change of where a book stands, and what they are told.
-ghost use Rattle.std.specs.Prelude.{◌≡◌, ◌≤◌, ◌<◌, drop, length, map, option_copied, IfOk, IfSome, Some, None};
+ghost use Rattle.std.specs.Prelude.{◌≡◌, ◌≤◌, ◌<◌, [], ◌∷◌, ◌++◌, drop, length, map, option_copied, IfOk, IfSome, Some, None};
 ghost use Rattle.std.specs.Option.{option_map};
 ghost use Rattle.std.specs.Arc.{arc_value};
 ghost use Rattle.job_table.specs.Edit.{edit_of};
@@ -7,7 +7,7 @@ ghost use Rattle.book_machine.specs.Call.{Claim, Finish, GiveUp};
 ghost use Rattle.version_book.specs.Answers.{TellsFit, claim_answer, finish_answer, fitted, give_up_answer};
 ghost use Rattle.version_book.specs.Sound.{IsOfItsVersion};
 ghost use Rattle.version_book.specs.Steps.{Does};
-ghost use Rattle.version_book.specs.Tasks.{Fits, IsNext, base_since, bases_since, due_shown, task_for};
+ghost use Rattle.version_book.specs.Tasks.{Fits, IsNext, base_since, bases_since, due_shown, task_for, ticket_for};
 
 use crate::lookups::{close, first_due, mark, publish, published_version, ticket_of};
 use crate::published::Published;
@@ -115,6 +115,7 @@ impl<A: Allocator + Copy> State<A> {
         requires { self.old.next_ticket < 18446744073709551615 }
         ensures does { Does self.old self.new Claim (claim_answer result) }
         ensures task { IfOk result (λ task. task ≡ option_map (task_for self.old) (due_shown self.old)) }
+        ensures tickets { IfOk result (λ task. IfSome task (λ t. self.new.tickets ≡ self.old.tickets ++ ticket_for t ∷ [])) }
     {
         let Some(task) = self.next_task()? else {
             return Ok(None);

@@ -8,6 +8,7 @@ use Rattle.version_book.specs.declared.worker_refusal.ClaimRefusal.TheVariants a
 use Rattle.version_book.specs.Book.{BookView}
 use Rattle.version_book.specs.Answers.{claim_answer}
 use Rattle.version_book.proofs.Histories.{called, answered, is-full, has-room, journal-is, as-it-was}
+use Rattle.version_book.proofs.Claimed.{next-unused, out-of}
 use Rattle.version_book.proofs.book.Book.claim.Goals as goal
 
 pub returns-then-is_full-clause-answer : goal.returns-then-is_full-clause-answer
@@ -36,3 +37,6 @@ returns-clause-answer g c =
     let journal = journal-is noted_of c.self.inside.journal.items _ _ (caller.Worker c.args.worker) _ (Claim) _ _ c.note.ensures c.in_ok-make_room.ensures.items refl c.claim_reply-reply.ensures in
     let room = has-room noted_of c.self.inside.journal.items test in
     answered new (caller.Worker c.args.worker) (Claim) _ c.self.view_is c.self.invariant room c.claim-told.ensures.does journal
+
+pub returns-clause-out : goal.returns-clause-out
+returns-clause-out g c = out-of c.self.inside.state c.claim-told.new.self c.claim-told.result (next-unused _ c.self.invariant) c.claim-told.ensures.task c.claim-told.ensures.tickets
