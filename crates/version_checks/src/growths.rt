@@ -1,0 +1,297 @@
+use crate::standing::{Standing, is_made, looks_of, run_for, set_up, shows, two, worked};
+use job_table::Edit;
+use refusing::Refusing;
+use scenarios::{Scenario, ScenarioId};
+use std::alloc::{Allocator, Global};
+use std::process::Abort;
+use swf_text::{Memory, read_swf};
+use version_book::{
+    AddRefusal, Book, BookFault, ClaimRefusal, DropRefusal, EditRefusal, FinishRefusal,
+    GiveUpRefusal, RetryRefusal, Task, ViewRefusal,
+};
+
+/// What came of a call while one growth was refused.
+#[derive(Clone, Copy, PartialEq, Eq)]
+enum Told {
+    /// The growth was refused before.
+    Before,
+    /// It told want of memory, and all is as it was.
+    Memory,
+    /// It answered as it should.
+    Right,
+    /// It answered otherwise.
+    Wrong,
+}
+
+/// The calls whose growths are refused.
+#[derive(Clone, Copy, PartialEq, Eq)]
+enum Called {
+    Insert,
+    Remove,
+    Change,
+    Add,
+    DropNamed,
+    Retry,
+    /// Of a scenario of which nothing is published.
+    Claim,
+    /// Of one that shows an older version.
+    ClaimAgain,
+    Finish,
+    GiveUp,
+    View,
+    Work,
+}
+
+/// All of them.
+const CALLS: &[Called] = &[
+    Called::Insert,
+    Called::Remove,
+    Called::Change,
+    Called::Add,
+    Called::DropNamed,
+    Called::Retry,
+    Called::Claim,
+    Called::ClaimAgain,
+    Called::Finish,
+    Called::GiveUp,
+    Called::View,
+    Called::Work,
+];
+
+// Right where this holds.
+fn right_if(holds: bool) -> Told {
+    if holds { Told::Right } else { Told::Wrong }
+}
+
+// Want of memory where this holds.
+fn memory_if(holds: bool) -> Told {
+    if holds { Told::Memory } else { Told::Wrong }
+}
+
+/// A job that joins the log.
+const THIRD: &[u8] = b"3 8 -1 20 10 -1 -1 10 20 -1 1 7 -1 -1 -1 -1 -1 -1\n";
+
+// The edit by which it does; none where memory is short.
+fn insertion<A: Allocator + Copy>(alloc: A) -> Option<Edit<A>> {
+    let text = read_swf(alloc, THIRD).ok()?;
+    Some(Edit::Insert(text.entries().first()?.copy().ok()?))
+}
+
+// Makes the second edit.
+fn edits<A: Allocator + Copy>(book: &mut Book<A>, edit: Option<&Edit<A>>) -> Told {
+    let Some(edit) = edit else {
+        return Told::Before;
+    };
+    match book.edit(7, edit) {
+        Ok(version) => right_if(version == 2),
+        Err(refusal) => memory_if(refusal == EditRefusal::Memory),
+    }
+}
+
+// Adds a third scenario.
+fn adds<A: Allocator + Copy>(book: &mut Book<A>) -> Told {
+    let Some(scenario) = Scenario::new(16, 1000) else {
+        return Told::Wrong;
+    };
+    match book.add_scenario(7, "more", scenario) {
+        Ok(id) => right_if(id.number() == 3),
+        Err(refusal) => memory_if(refusal == AddRefusal::Memory),
+    }
+}
+
+// Drops the first scenario.
+fn drops<A: Allocator + Copy>(book: &mut Book<A>) -> Told {
+    match book.drop_scenario(7, "base") {
+        Ok(id) => right_if(id.number() == 1),
+        Err(refusal) => memory_if(refusal == DropRefusal::Memory),
+    }
+}
+
+// Lets a scenario be tried again.
+fn retries<A: Allocator + Copy>(book: &mut Book<A>, id: ScenarioId) -> Told {
+    match book.retry(7, id) {
+        Ok(()) => Told::Right,
+        Err(refusal) => memory_if(refusal == RetryRefusal::Memory),
+    }
+}
+
+// Whether a task is of ticket 3, with or without a base that has one edit.
+fn is_third<A: Allocator + Copy>(task: &Task<A>, has_base: bool) -> bool {
+    let edits = match task.base() {
+        Some(base) => Some(base.edits().len()),
+        None => None,
+    };
+    task.ticket() == 3 && edits == if has_base { Some(1) } else { None }
+}
+
+// Claims the third ticket.
+fn claims<A: Allocator + Copy>(book: &mut Book<A>, has_base: bool) -> Told {
+    match book.claim(1) {
+        Ok(Some(task)) => right_if(is_third(&task, has_base)),
+        Ok(None) => Told::Wrong,
+        Err(refusal) => memory_if(refusal == ClaimRefusal::Memory),
+    }
+}
+
+// Hands the task's run in.
+fn finishes<A: Allocator + Copy>(book: &mut Book<A>, task: &Task<A>) -> Told {
+    let Some(run) = worked(task) else {
+        return Told::Before;
+    };
+    match book.finish(1, task.ticket(), run) {
+        Ok(version) => right_if(version == 1),
+        Err(refusal) => memory_if(refusal == FinishRefusal::Memory),
+    }
+}
+
+// Gives the task up.
+fn gives_up<A: Allocator + Copy>(book: &mut Book<A>, ticket: u64) -> Told {
+    match book.give_up(1, ticket) {
+        Ok(()) => Told::Right,
+        Err(refusal) => memory_if(refusal == GiveUpRefusal::Memory),
+    }
+}
+
+// Shows the first scenario.
+fn views<A: Allocator + Copy>(book: &mut Book<A>, id: ScenarioId) -> Told {
+    match book.view(7, id, 0) {
+        Ok(published) => right_if(published.copy().is_ok() && published.version() == 0),
+        Err(refusal) => memory_if(refusal == ViewRefusal::Memory),
+    }
+}
+
+// Makes the task's run.
+fn works<A: Allocator + Copy>(task: &Task<A>) -> Told {
+    match task.work() {
+        Ok((run, work)) => right_if(is_made(&run, work)),
+        Err(Memory) => Told::Memory,
+    }
+}
+
+// Makes the call.
+fn call<A: Allocator + Copy>(alloc: A, at: &mut Standing<A>, called: Called) -> Told {
+    match called {
+        Called::Insert => edits(&mut at.book, insertion(alloc).as_ref()),
+        Called::Remove => edits(&mut at.book, Some(&Edit::Remove(1))),
+        Called::Change => edits(&mut at.book, run_for(b"30").as_ref()),
+        Called::Add => adds(&mut at.book),
+        Called::DropNamed => drops(&mut at.book),
+        Called::Retry => retries(&mut at.book, at.first),
+        Called::Claim => claims(&mut at.book, false),
+        Called::ClaimAgain => claims(&mut at.book, true),
+        Called::Finish => finishes(&mut at.book, &at.task),
+        Called::GiveUp => gives_up(&mut at.book, at.task.ticket()),
+        Called::View => views(&mut at.book, at.first),
+        Called::Work => works(&at.task),
+    }
+}
+
+/// So many notes fill the room that a journal has at first.
+const NOTES: usize = 8;
+
+// Calls until the journal needs room for its next note.
+fn fills<A: Allocator + Copy>(book: &mut Book<A>, id: ScenarioId) -> bool {
+    for _ in 0..NOTES {
+        if book.journal().len() < NOTES && !shows(book, id) {
+            return false;
+        }
+    }
+    true
+}
+
+// Gives the task up where a mark is wanted, and takes the mark away where a second claim is.
+fn is_ready<A: Allocator + Copy>(at: &mut Standing<A>, called: Called) -> bool {
+    let is_marked = called == Called::Retry || called == Called::ClaimAgain;
+    if is_marked && gives_up(&mut at.book, at.task.ticket()) != Told::Right {
+        return false;
+    }
+    if called == Called::ClaimAgain && retries(&mut at.book, at.first) != Told::Right {
+        return false;
+    }
+    fills(&mut at.book, at.first)
+}
+
+// Makes the call; where memory is wanting, the book reads as it did and the task makes its run.
+fn compared<A: Allocator + Copy>(alloc: A, at: &mut Standing<A>, called: Called) -> Told {
+    let before = looks_of(&at.book);
+    let Ok(table) = at.book.current().clone() else {
+        return Told::Before;
+    };
+    let told = call(alloc, at, called);
+    if told != Told::Memory {
+        return told;
+    }
+    let is_same = looks_of(&at.book) == before && at.book.current().same(&table);
+    memory_if(is_same && shows(&mut at.book, at.first) && works(&at.task) == Told::Right)
+}
+
+// Makes the call once the book is ready for it.
+fn readied<A: Allocator + Copy>(alloc: A, at: &mut Standing<A>, called: Called) -> Told {
+    if is_ready(at, called) {
+        compared(alloc, at, called)
+    } else {
+        Told::Before
+    }
+}
+
+// Makes the call on a book at work.
+fn answers<A: Allocator + Copy>(alloc: A, called: Called) -> Told {
+    match set_up(alloc) {
+        Some(mut at) => readied(alloc, &mut at, called),
+        None => Told::Before,
+    }
+}
+
+// Opens the log.
+fn opens<A: Allocator + Copy>(alloc: A) -> Told {
+    let Some(table) = two(alloc) else {
+        return Told::Before;
+    };
+    match Book::new(alloc, table, 1) {
+        Ok(book) => right_if(book.version() == 0 && book.journal().is_empty()),
+        Err(fault) => memory_if(fault == BookFault::Memory),
+    }
+}
+
+// What came of the call, or of opening the log, while the growth of this number was refused, and
+// whether there was such a growth.
+fn told_at(alloc: Global, nth: u64, called: Option<Called>) -> (Told, bool) {
+    let heap = Refusing::new(alloc, nth);
+    let told = match called {
+        Some(called) => answers(&heap, called),
+        None => opens(&heap),
+    };
+    (told, heap.refused())
+}
+
+/// More growths than are made.
+const MANY: u64 = 10_000;
+
+// Refuses each growth in turn: whether the call told want of memory at one, never answered otherwise,
+// and answers as it should once none is refused.
+fn tells_memory(alloc: Global, called: Option<Called>) -> bool {
+    let mut was_told = false;
+    for nth in 1..MANY {
+        let (told, refused) = told_at(alloc, nth, called);
+        if !refused {
+            return was_told && told == Told::Right;
+        }
+        if told == Told::Right || told == Told::Wrong {
+            return false;
+        }
+        was_told = was_told || told == Told::Memory;
+    }
+    false
+}
+
+#[test]
+fn a_call_without_memory_changes_nothing(rt: HostRuntime) {
+    for called in CALLS {
+        assert!(rt; tells_memory(rt.alloc(), Some(*called)));
+    }
+}
+
+#[test]
+fn a_book_without_memory_is_refused(rt: HostRuntime) {
+    assert!(rt; tells_memory(rt.alloc(), None));
+}
