@@ -11,7 +11,7 @@ use Rattle.commands.specs.declared.fault.CommandFault.{CommandFault}
 use Rattle.commands.specs.Commands.{command_of_line}
 use Rattle.scripts.specs.Session.{Session}
 use Rattle.scripts.specs.Steps.{Answers, IsNamed}
-use Rattle.scripts.specs.Transcript.{IsLine, IsTranscript, is_quit, looked_at}
+use Rattle.scripts.specs.Transcript.{IsLine, IsTranscript, IsTranscriptOf, is_quit, looked_at}
 use Rattle.scripts.proofs.Texts.{lines-next}
 use Rattle.scripts.proofs.Writings.{front_more, front_after}
 
@@ -59,21 +59,17 @@ some_transcript A comments old (line ∷ ls) number =
 
 -- ---- line after line
 
--- what may be written for a whole script, from a state on
-abbrev pub IsWhole : (A : Type 0) → List (List ℕ) → Session → List ℕ → List ℕ → Type 0
-IsWhole A comments first script out = IsTranscript A comments first (looked_at A (lines script)) 1 out
-
 -- what is written of the rest, behind what is done, is a transcript of the whole
 abbrev pub Leads : (A : Type 0) → List (List ℕ) → Session → List ℕ → Session → List ℕ → ℕ → List ℕ → Type 0
 Leads A comments first script now rest number done =
-    (later : List ℕ) → IsTranscript A comments now (looked_at A (lines rest)) number later → IsWhole A comments first script (done ++ later)
+    (later : List ℕ) → IsTranscript A comments now (looked_at A (lines rest)) number later → IsTranscriptOf A comments first script (done ++ later)
 
 module _ (A : Type 0) (comments : List (List ℕ)) (first : Session) (script : List ℕ) (now : Session) (rest : List ℕ) (number : ℕ) (done text : List ℕ) (next : Session) (some : 0 < length rest) (leads : Leads A comments first script now rest number done) (answers : IsLine comments now number (command_of_line {A = A} (before_first is_feed rest)) text next) where
   -- the lines that are looked at after this one
   after : List (List ℕ)
   after = if is_quit (command_of_line {A = A} (before_first is_feed rest)) then [] else looked_at A (lines (after_first is_feed rest))
 
-  leads_line : (later : List ℕ) → IsTranscript A comments next after (number + 1) later → IsWhole A comments first script (done ++ (text ++ later))
+  leads_line : (later : List ℕ) → IsTranscript A comments next after (number + 1) later → IsTranscriptOf A comments first script (done ++ (text ++ later))
   unfolding after
   leads_line later h =
       leads (text ++ later)
@@ -86,14 +82,14 @@ module _ (A : Type 0) (comments : List (List ℕ)) (first : Session) (script : L
 
   -- the writer failed in a line
   pub told_part : (old mid new : Option (List ℕ)) → Appends old mid done → (n : ℕ) × Appends mid new (take n text)
-      → (out : List ℕ) × IsWhole A comments first script out × ((n : ℕ) × Appends old new (take n out))
+      → (out : List ℕ) × IsTranscriptOf A comments first script out × ((n : ℕ) × Appends old new (take n out))
   told_part old mid new before part =
       let later = some_transcript A comments next after (number + 1) in
       (done ++ (text ++ later.0), leads_line later.0 later.1, front_after old mid new done (text ++ later.0) before (front_more mid new text later.0 part))
 
   -- the last line that is looked at
   pub told_quit : (old mid new : Option (List ℕ)) → is_quit (command_of_line {A = A} (before_first is_feed rest)) ≡ true → Appends old mid done → Appends mid new text
-      → (out : List ℕ) × IsWhole A comments first script out × Appends old new out
+      → (out : List ℕ) × IsTranscriptOf A comments first script out × Appends old new out
   unfolding after
   told_quit old mid new quits before last =
       (done ++ (text ++ []), leads_line [] (rw quits refl), Appends-trans old mid new done (text ++ []) before (subst (Appends mid new) (sym (append-nil text)) last))
@@ -101,7 +97,7 @@ module _ (A : Type 0) (comments : List (List ℕ)) (first : Session) (script : L
 -- no line is left
 pub told_end : (A : Type 0) (comments : List (List ℕ)) (first : Session) (script : List ℕ) (now : Session) (rest : List ℕ) (number : ℕ) (done : List ℕ) (old new : Option (List ℕ))
     → length rest ≡ 0 → Leads A comments first script now rest number done → Appends old new done
-    → (out : List ℕ) × IsWhole A comments first script out × Appends old new out
+    → (out : List ℕ) × IsTranscriptOf A comments first script out × Appends old new out
 told_end A comments first script now [] number done old new none leads before =
     (done ++ [], leads [] refl, subst (Appends old new) (sym (append-nil done)) before)
 told_end A comments first script now (b ∷ bs) number done old new none leads before = absurd (omega arith)

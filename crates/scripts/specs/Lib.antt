@@ -3,4 +3,8 @@ pub mod Told
 pub mod Answers
 pub mod Session
 pub mod Steps
+pub mod Replies
+pub mod Reports
+pub mod Looks
+pub mod Settling
 pub mod Transcript

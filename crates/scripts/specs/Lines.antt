@@ -39,3 +39,7 @@ stopped_line = codes "stopped\n"
 -- the session ends
 abbrev pub bye_line : List ℕ
 bye_line = codes "bye\n"
+
+-- how many lines of a saved log follow
+abbrev pub saved_line : ℕ → List ℕ
+saved_line count = codes "save " ++ decimal count ++ codes "\n"

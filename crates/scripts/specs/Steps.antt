@@ -1,9 +1,9 @@
 -- What each command is answered, and the state after it. In each, want of memory is one more case.
-use Rattle.std.specs.Prelude.{◌≡◌, ℕ, ◌+◌, ◌<◌, List, [], ◌∷◌, ◌++◌, length, sum_by, None, Some, ◌⊎◌, codes, true, false, is_some}
+use Rattle.std.specs.Prelude.{◌≡◌, ℕ, ◌+◌, ◌<◌, List, [], ◌∷◌, ◌++◌, length, count_by, None, Some, ◌⊎◌, codes, true, false, is_some}
 use Rattle.std.specs.List.{flat_map}
 use Rattle.std.specs.Fmt.{decimal}
 use Rattle.swf_text.specs.Entry.{LogEntry}
-use Rattle.swf_text.specs.Text.{LogText}
+use Rattle.swf_text.specs.Text.{LogText, is_feed}
 use Rattle.swf_text.specs.Writing.{text_bytes}
 use Rattle.job_table.specs.Edit.{Insert, Remove, Change, log_at}
 use Rattle.scenarios.specs.Names.{no_such_scenario_name}
@@ -27,7 +27,7 @@ use Rattle.book_machine.specs.declared.settle_state.SettleState.{SettleState}
 use Rattle.book_machine.specs.declared.settle_state.SettleState.TheVariants as settle
 use Rattle.book_machine.specs.Call.{Edit, AddScenario, DropScenario, Retry, Claim, Finish, GiveUp, View}
 use Rattle.book_machine.specs.Machine.{Machine, version, current, due, are_all_out, after, settled, note_limit}
-use Rattle.scripts.specs.Lines.{version_line, settled_line, failed_line, stopped_line, bye_line, refused}
+use Rattle.scripts.specs.Lines.{version_line, settled_line, failed_line, stopped_line, saved_line, bye_line, refused}
 use Rattle.scripts.specs.Answers.{edit_says, scenario_says, view_says}
 use Rattle.scripts.specs.Session.{Session, IsStep, IsRefused, IsFull, WantsMemory, IsCall}
 
@@ -83,12 +83,15 @@ IsSideLine m s reply.NotYet line = line ≡ left 16 s.name ++ codes " not yet\n"
 IsSideLine m s (reply.Behind seen found) line = line ≡ left 16 s.name ++ codes " behind\n"
 IsSideLine m s other line = ⊥
 
--- one view after another, each with what the session has seen by then
+-- a view of a scenario, with what the session has seen by then
+abbrev pub IsSeen : Session → Listed → List ℕ → Session → Type 0
+IsSeen old s line new = (told : Reply) × IsStep old (View s.id old.seen) told new × IsSideLine old.machine s told line
+
+-- one view after another
 abbrev pub AreSeen : Session → List Listed → List (List ℕ) → Session → Type 0
 AreSeen old [] lines new = (lines ≡ []) × (new ≡ old)
 AreSeen old (s ∷ scenarios) lines new =
-    (told : Reply) × (next : Session) × (line : List ℕ) × (others : List (List ℕ))
-    × IsStep old (View s.id old.seen) told next × IsSideLine old.machine s told line × AreSeen next scenarios others new × (lines ≡ line ∷ others)
+    (next : Session) × (line : List ℕ) × (others : List (List ℕ)) × IsSeen old s line next × AreSeen next scenarios others new × (lines ≡ line ∷ others)
 
 -- how many lines, and the lines
 abbrev pub side_of : List (List ℕ) → List ℕ
@@ -113,12 +116,19 @@ after_task ticket Published m = after (Finish ticket true) m
 after_task ticket GivenUp m = after (GiveUp ticket) m
 after_task ticket Left m = m
 
--- Ticket after ticket is claimed and worked, while a scenario is due, not all tickets are out, and there is room for notes.
+-- nothing is left to claim: no scenario is due, all tickets are out, or there is no room for a note
+abbrev pub IsAtRest : Machine → Type 0
+IsAtRest m = (due m ≡ None) ⊎ ((are_all_out m ≡ true) ⊎ (m.notes ≡ note_limit))
+
+-- a ticket is claimed for the first scenario that is due, and its task ends so
+abbrev pub IsWorked : Machine → Ended → Machine → Type 0
+IsWorked old ended new =
+    (old.notes < note_limit) × (is_some (due old) ≡ true) × (are_all_out old ≡ false) × (new ≡ after_task old.next_ticket ended (after Claim old))
+
+-- ticket after ticket
 abbrev pub AreWorked : Machine → List Ended → Machine → Type 0
 AreWorked old [] new = new ≡ old
-AreWorked old (ended ∷ others) new =
-    (old.notes < note_limit) × (is_some (due old) ≡ true) × (are_all_out old ≡ false)
-    × AreWorked (after_task old.next_ticket ended (after Claim old)) others new
+AreWorked old (ended ∷ others) new = (next : Machine) × IsWorked old ended next × AreWorked next others new
 
 -- what is told of how far the scenarios are
 abbrev pub settle_line : ℕ → SettleState → List ℕ
@@ -138,12 +148,12 @@ IsSettled old text new =
 abbrev pub IsMade : Session → List ℕ → List ℕ → Session → Type 0
 IsMade old made text new = ((text ≡ made) × (new ≡ old)) ⊎ WantsMemory old text new
 
--- how many lines a log has: a line for each comment, and those of each job
-abbrev pub line_count : LogText → ℕ
-line_count text = length text.comments + sum_by (λ e. 1 + length e.parts) text.entries
+-- how many lines follow, each ended by a line feed, and the lines
+abbrev pub with_count : List ℕ → List ℕ
+with_count bytes = saved_line (count_by is_feed bytes) ++ bytes
 
 abbrev pub saved_text : LogText → List ℕ
-saved_text text = codes "save " ++ decimal (line_count text) ++ codes "\n" ++ text_bytes text
+saved_text text = with_count (text_bytes text)
 
 -- ---- the commands
 

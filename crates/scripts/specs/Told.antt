@@ -8,7 +8,7 @@ use Rattle.scripts.specs.declared.answer.Became.{Became}
 use Rattle.scripts.specs.declared.answer.Became.TheVariants as became
 use Rattle.scripts.specs.declared.answer.Answer.{Answer}
 use Rattle.scripts.specs.declared.answer.Answer.TheVariants as says
-use Rattle.scripts.specs.Lines.{version_line, scenario_line, refused, behind_line, fault_line, settled_line, failed_line, stopped_line, bye_line}
+use Rattle.scripts.specs.Lines.{version_line, scenario_line, refused, behind_line, fault_line, settled_line, failed_line, stopped_line, saved_line, bye_line}
 
 abbrev pub refusal_name : Refusal → List ℕ
 refusal_name why.JournalFull = codes "JournalFull"
@@ -32,4 +32,5 @@ answer_line (says.Fault line fault) = fault_line line fault
 answer_line (says.Settled seen) = settled_line seen
 answer_line (says.Failed count) = failed_line count
 answer_line says.Stopped = stopped_line
+answer_line (says.Saved lines) = saved_line lines
 answer_line says.Bye = bye_line

@@ -1,6 +1,8 @@
 -- What may be written for a script.
 use Rattle.std.specs.Prelude.{◌≡◌, ℕ, ◌+◌, List, [], ◌∷◌, ◌++◌, Bool, true, false, if◌then◌else◌, Option, Some, None, Result, Ok, Err}
 use Rattle.swf_text.specs.Entry.{LogEntry}
+use Rattle.swf_text.specs.Text.{lines}
+use Rattle.swf_text.specs.Writing.{Writes}
 use Rattle.scenarios.specs.ScenarioList.{Listed}
 use Rattle.commands.specs.declared.command.Command.{Command}
 use Rattle.commands.specs.declared.command.Command.TheVariants as asks
@@ -43,3 +45,11 @@ module _ (A : Type 0) where
   IsTranscript comments old (line ∷ others) number out =
       (text : List ℕ) × (next : Session) × (later : List ℕ)
       × IsLine comments old number (command_of_line {A = A} line) text next × IsTranscript comments next others (number + 1) later × (out ≡ text ++ later)
+
+  -- what may be written for a whole script, from a state on
+  abbrev pub IsTranscriptOf : List (List ℕ) → Session → List ℕ → List ℕ → Type 0
+  IsTranscriptOf comments first script out = IsTranscript comments first (looked_at (lines script)) 1 out
+
+  -- what was written of a script is a transcript of it, or where the writer failed a beginning of one
+  abbrev pub Tells : {X E : Type 0} → List (List ℕ) → Session → List ℕ → Option (List ℕ) → Option (List ℕ) → Result X E → Type 0
+  Tells comments first script old new result = (out : List ℕ) × IsTranscriptOf comments first script out × Writes result old new out

@@ -56,6 +56,8 @@ pub enum Answer {
     Failed { count: u64 },
     /// Some don't, and the work was stopped.
     Stopped,
+    /// So many lines of a saved log follow.
+    Saved { lines: u64 },
     /// The session ends.
     Bye,
 }
@@ -187,6 +189,7 @@ impl Answer {
             Answer::Settled { seen } => numbered(b"settled ", *seen, b"\n"),
             Answer::Failed { count } => numbered(b"failed ", *count, b"\n"),
             Answer::Stopped => worded(b"stopped", "", b"\n"),
+            Answer::Saved { lines } => numbered(b"save ", *lines, b"\n"),
             Answer::Bye => worded(b"bye", "", b"\n"),
         }
     }

@@ -1,0 +1,173 @@
+-- Views of a session.
+use Rattle.std.proofs.Common.{◌≡◌, ℕ, List, ◌++◌, map, max, refl, sym, ◌∙◌, ap, subst, Bool, true, false, cond, inl, inr, ◌⊎◌}
+use Rattle.std.specs.Prelude.{codes, find, nat_lt, Option, None, Some, Err}
+use Rattle.std.specs.Option.{option_map}
+use Rattle.swf_text.specs.Entry.{LogEntry}
+use Rattle.scenarios.specs.Scenario.{Setting}
+use Rattle.scenarios.specs.Plan.{plan_of}
+use Rattle.scenarios.specs.ScenarioList.{Listed, named}
+use Rattle.checkpoints.specs.Sums.{IsTablesOf}
+use Rattle.report.specs.Pieces.{left}
+use Rattle.report.specs.Entries.{log_text}
+use Rattle.report.specs.Schedule.{schedule_text}
+use Rattle.report.specs.Side.{shown_line}
+use Rattle.book_machine.specs.declared.caller.Caller.{Caller}
+use Rattle.book_machine.specs.declared.reply.Reply.TheVariants as reply
+use Rattle.book_machine.specs.Call.{View}
+use Rattle.book_machine.specs.Machine.{Machine, Progress, current, progress_of, version, view_reply, view_reply_at}
+use Rattle.version_book.specs.declared.session_refusal.ViewRefusal.{ViewRefusal}
+use Rattle.version_book.specs.declared.session_refusal.ViewRefusal.TheVariants as view
+use Rattle.version_book.specs.Answers.{view_answer}
+use Rattle.version_book.specs.Book.{BookView, PublishedView, ShownView, progress_of_shown, machine_of}
+use Rattle.version_book.specs.Lookups.{has_id}
+use Rattle.version_book.specs.Sound.{IsBook}
+use Rattle.version_book.specs.Steps.{told, Answers as Answered}
+use Rattle.version_book.specs.Tasks.{IsShownFor}
+use Rattle.version_book.proofs.Stepping.{progress-shown}
+use Rattle.scripts.specs.declared.view_report.Report.{Report}
+use Rattle.scripts.specs.declared.view_report.Report.TheVariants as report
+use Rattle.scripts.specs.declared.answer.Refusal.TheVariants as why
+use Rattle.scripts.specs.Lines.{refused}
+use Rattle.scripts.specs.Looks.{IsListedAs, IsLooked, IsOf, IsUnseen, NotLooked, unseen_line}
+use Rattle.scripts.specs.Session.{Session, IsStep}
+use Rattle.scripts.specs.Steps.{IsMade, IsNamed, IsView, IsSeen, IsTold, log_of_version}
+use Rattle.scripts.specs.Reports.{IsReport, report_text}
+use Rattle.scripts.proofs.Calls.{with}
+use Rattle.scripts.proofs.Named.{IsShown, shown-at, place-of, id-some, name-found, setting-some}
+
+-- ---- a look
+
+-- the run that is shown is of its version's log, under the listed scenario
+pub looked : (b : BookView) (id seen : ℕ) (p : PublishedView) → IsBook b → IsShownFor b.state id seen p → IsLooked (machine_of b) id p
+looked b id seen p book h s listed =
+    let shown = shown-at b listed.place s book listed.listed in
+    let found : find (has_id s.id) b.state.shown ≡ Some h.scenario = subst (λ (n : ℕ). find (has_id n) b.state.shown ≡ Some h.scenario) (sym listed.id) h.found in
+    let same : h.scenario ≡ shown.0 = cc (found, shown.1) in
+    record {
+      log = h.version.log;
+      setting = h.version.setting ∙ (ap (λ (x : ShownView). x.setting) same ∙ shown.2);
+      run = h.version.run;
+    }
+
+-- the same, of a session that was seen so
+pub looked-as : {u : Session} (b : BookView) (id seen : ℕ) (p : PublishedView) → with b seen ≡ u → IsBook b → IsShownFor b.state id seen p → IsLooked u.machine id p
+looked-as {u} b id seen p is book h = subst (λ (w : Session). IsLooked w.machine id p) is (looked b id seen p book h)
+
+-- a scenario that is listed is no missing one
+not-missing-at : (seen : ℕ) (o : Option ℕ) → reply.NoSuchScenario ≡ view_reply_at seen o → ⊥
+not-missing-at seen None is = cc
+not-missing-at seen (Some found) is = go (nat_lt found seen) is
+  where
+    go : (b : Bool) → reply.NoSuchScenario ≡ cond b (reply.Behind seen found) (reply.Shown found) → ⊥
+    go true e = cc
+    go false e = cc
+
+not-missing : (b : BookView) (id seen : ℕ) (s : Listed) → IsBook b → IsListedAs (machine_of b) id s → reply.NoSuchScenario ≡ view_reply id seen (machine_of b) → ⊥
+not-missing b id seen s book listed is =
+    let shown = shown-at b listed.place s book listed.listed in
+    let at : find (has_id id) b.state.shown ≡ Some shown.0 = subst (λ (n : ℕ). find (has_id n) b.state.shown ≡ Some shown.0) listed.id shown.1 in
+    let found : progress_of id (map progress_of_shown b.state.shown) ≡ Some (progress_of_shown shown.0) = progress-shown id b.state.shown ∙ ap (option_map progress_of_shown) at in
+    not-missing-at seen (progress_of_shown shown.0).published (is ∙ ap (λ (o : Option Progress). elim o [ None ↦ reply.NoSuchScenario | Some p ↦ view_reply_at seen p.published ]) found)
+
+step-of : (old new : BookView) (who : Caller) (id seen v : ℕ) → Answered old new who (View id seen) (told (reply.Shown v)) → IsStep (with old seen) (View id seen) (reply.Shown v) (with new (max seen v))
+step-of old new who id seen v h = record { room = h.0; replied = h.1; machine = h.2; seen = refl }
+
+pub look-shown : {u : Session} (old new : BookView) (who : Caller) (id seen s v : ℕ) → with old seen ≡ u → Answered old new who (View id seen) (told (reply.Shown v)) → s ≡ max seen v → IsStep u (View id u.seen) (reply.Shown v) (with new s)
+look-shown {u} old new who id seen s v is h s_is =
+    let base = step-of old new who id seen v h in
+    subst (λ (w : Session). IsStep w (View id w.seen) (reply.Shown v) (with new s)) is (subst (λ (n : ℕ). IsStep (with old seen) (View id seen) (reply.Shown v) (with new n)) (sym s_is) base)
+
+not-looked : (old new : BookView) (who : Caller) (id seen : ℕ) (refusal : ViewRefusal) → IsBook old → Answered old new who (View id seen) (view_answer (Err refusal)) → NotLooked refusal (with old seen) id (with new seen)
+not-looked old new who id seen view.JournalFull book h = (h.0, ap (λ (b : BookView). with b seen) h.1)
+not-looked old new who id seen view.NoSuchScenario book h = (record { room = h.0; replied = h.1; machine = h.2; seen = refl }, λ s listed. not-missing old id seen s book listed h.1)
+not-looked old new who id seen view.NotYet book h = record { room = h.0; replied = h.1; machine = h.2; seen = refl }
+not-looked old new who id seen (view.Behind x y) book h = record { room = h.0; replied = h.1; machine = h.2; seen = refl }
+not-looked old new who id seen view.Memory book h = ap (λ (b : BookView). with b seen) h.1
+
+pub look-refused : {u : Session} (old new : BookView) (who : Caller) (id seen : ℕ) (refusal : ViewRefusal) → with old seen ≡ u → IsBook old → Answered old new who (View id seen) (view_answer (Err refusal)) → NotLooked refusal u id (with new seen)
+look-refused {u} old new who id seen refusal is book h = subst (λ (w : Session). NotLooked refusal w id (with new seen)) is (not-looked old new who id seen refusal book h)
+
+-- ---- a report
+
+schedule-as : (name : List ℕ) (v : ℕ) {log log' : List LogEntry} {under under' : Setting} → log ≡ log' → under ≡ under' → schedule_text name v (plan_of log under) ≡ schedule_text name v (plan_of log' under')
+schedule-as name v is is' = cc
+
+tables-of : {m : Machine} {s : Listed} {p : PublishedView} → IsOf m s p → IsTablesOf (log_of_version m p.version) s.setting p.run.tables
+tables-of {m} {s} {p} h =
+    subst (λ (log : List LogEntry). IsTablesOf log s.setting p.run.tables) h.log (subst (λ (under : Setting). IsTablesOf p.run.log under p.run.tables) h.setting h.run.tables)
+
+is-report : (kind : Report) (m : Machine) (s : Listed) (p : PublishedView) → IsOf m s p → IsReport kind m s p.version (report_text kind s.name p.version p.run)
+is-report report.Schedule m s p h = schedule-as s.name p.version h.log h.setting
+is-report report.Table m s p h = (p.run.tables, tables-of h, refl)
+is-report report.Users m s p h = (p.run.tables, tables-of h, refl)
+is-report report.Days m s p h = (p.run.tables, tables-of h, refl)
+
+-- the listed scenario that a name finds
+pub listed-as : (m : Machine) (name : List ℕ) (id : ℕ) (s : Listed) → named name m.listing.scenarios ≡ Some s → id ≡ s.id → IsListedAs m id s
+listed-as m name id s is id_is = let p = place-of name s m.listing.scenarios is in record { place = p.0; listed = p.1; id = sym id_is }
+
+pub viewed : (old new : Session) (id : ℕ) (s : Listed) (kind : Report) (p : PublishedView) (text : List ℕ) → IsStep old (View id old.seen) (reply.Shown p.version) new → IsLooked old.machine id p → IsListedAs old.machine id s → text ≡ report_text kind s.name p.version p.run → IsView old (IsReport kind) text new s
+viewed old new id s kind p text step look listed is =
+    let of = look s listed in
+    inr (inr (reply.Shown p.version, subst (λ (n : ℕ). IsStep old (View n old.seen) (reply.Shown p.version) new) (sym listed.id) step, inl (subst (IsReport kind old.machine s p.version) (sym is) (is-report kind old.machine s p of))))
+
+pub viewed-short : (old new : Session) (id : ℕ) (s : Listed) (kind : Report) (p : PublishedView) (text : List ℕ) → IsStep old (View id old.seen) (reply.Shown p.version) new → IsListedAs old.machine id s → text ≡ refused (codes "Memory") → IsView old (IsReport kind) text new s
+viewed-short old new id s kind p text step listed is =
+    inr (inr (reply.Shown p.version, subst (λ (n : ℕ). IsStep old (View n old.seen) (reply.Shown p.version) new) (sym listed.id) step, inr is))
+
+not-viewed-at : (old new : Session) (s : Listed) (kind : Report) (refusal : ViewRefusal) → NotLooked refusal old s.id new → IsView old (IsReport kind) (unseen_line refusal) new s
+not-viewed-at old new s kind view.JournalFull h = inl (h.0, (refl, h.1))
+not-viewed-at old new s kind view.NoSuchScenario h = inr (inr (reply.NoSuchScenario, h.0, refl))
+not-viewed-at old new s kind view.NotYet h = inr (inr (reply.NotYet, h, refl))
+not-viewed-at old new s kind (view.Behind x y) h = inr (inr (reply.Behind x y, h, refl))
+not-viewed-at old new s kind view.Memory h = inr (inl (refl, h))
+
+pub not-viewed : (old new : Session) (id : ℕ) (s : Listed) (kind : Report) (refusal : ViewRefusal) (text : List ℕ) → NotLooked refusal old id new → IsListedAs old.machine id s → text ≡ unseen_line refusal → IsView old (IsReport kind) text new s
+not-viewed old new id s kind refusal text h listed is =
+    subst (λ (t : List ℕ). IsView old (IsReport kind) t new s) (sym is) (not-viewed-at old new s kind refusal (subst (λ (n : ℕ). NotLooked refusal old n new) (sym listed.id) h))
+
+-- ---- side by side
+
+pub side-shown : (old new : Session) (s : Listed) (p : PublishedView) → IsStep old (View s.id old.seen) (reply.Shown p.version) new → IsOf old.machine s p → IsSeen old s (shown_line s.name p.version p.run.tables.overall) new
+side-shown old new s p step of = (reply.Shown p.version, step, (p.run.tables, tables-of of, refl))
+
+pub side-not_yet : (old new : Session) (s : Listed) → IsStep old (View s.id old.seen) reply.NotYet new → IsSeen old s (left 16 s.name ++ codes " not yet\n") new
+side-not_yet old new s step = (reply.NotYet, step, refl)
+
+pub side-behind : (old new : Session) (s : Listed) (x y : ℕ) → IsStep old (View s.id old.seen) (reply.Behind x y) new → IsSeen old s (left 16 s.name ++ codes " behind\n") new
+side-behind old new s x y step = (reply.Behind x y, step, refl)
+
+-- ---- by name
+
+-- a view of the scenario that a name finds
+named-viewed : (old new : Session) (name : List ℕ) (id : ℕ) (kind : Report) (p : PublishedView) (text : List ℕ) (s : Listed) → named name old.machine.listing.scenarios ≡ Some s → id ≡ s.id → IsStep old (View id old.seen) (reply.Shown p.version) new → IsLooked old.machine id p → (text ≡ report_text kind name p.version p.run) ⊎ (text ≡ refused (codes "Memory")) → IsView old (IsReport kind) text new s
+named-viewed old new name id kind p text s is id_is step look (inl says) =
+    let called : s.name ≡ name = name-found name s old.machine.listing.scenarios is in
+    viewed old new id s kind p text step look (listed-as old.machine name id s is id_is) (says ∙ ap (λ (n : List ℕ). report_text kind n p.version p.run) (sym called))
+named-viewed old new name id kind p text s is id_is step look (inr short) = viewed-short old new id s kind p text step (listed-as old.machine name id s is id_is) short
+
+pub view-told : (old new : Session) (name : List ℕ) (id : ℕ) (kind : Report) (p : PublishedView) (text : List ℕ) → Some id ≡ option_map (λ (s : Listed). s.id) (named name old.machine.listing.scenarios) → IsStep old (View id old.seen) (reply.Shown p.version) new → IsLooked old.machine id p → (text ≡ report_text kind name p.version p.run) ⊎ (text ≡ refused (codes "Memory")) → IsNamed old name (IsView old (IsReport kind) text new) text new
+view-told old new name id kind p text found step look says =
+    let it = id-some (named name old.machine.listing.scenarios) id found in
+    inr (it.0, it.1, named-viewed old new name id kind p text it.0 it.1 it.2 step look says)
+
+pub view-refused : (old new : Session) (name : List ℕ) (id : ℕ) (kind : Report) (refusal : ViewRefusal) (text : List ℕ) → Some id ≡ option_map (λ (s : Listed). s.id) (named name old.machine.listing.scenarios) → NotLooked refusal old id new → text ≡ unseen_line refusal → IsNamed old name (IsView old (IsReport kind) text new) text new
+view-refused old new name id kind refusal text found h is =
+    let it = id-some (named name old.machine.listing.scenarios) id found in
+    inr (it.0, it.1, not-viewed old new id it.0 kind refusal text h (listed-as old.machine name id it.0 it.1 it.2) is)
+
+log-as : (v : ℕ) (log : List LogEntry) {a b : List ℕ} {under under' : Setting} → a ≡ b → under ≡ under' → log_text a v log under ≡ log_text b v log under'
+log-as v log is is' = cc
+
+-- ---- beside others
+
+pub beside-shown : (old new : Session) (id : ℕ) (p : PublishedView) → IsStep old (View id old.seen) (reply.Shown p.version) new → IsLooked old.machine id p → (s : Listed) → IsListedAs old.machine id s → IsSeen old s (shown_line s.name p.version p.run.tables.overall) new
+beside-shown old new id p step look s listed =
+    side-shown old new s p (subst (λ (n : ℕ). IsStep old (View n old.seen) (reply.Shown p.version) new) (sym listed.id) step) (look s listed)
+
+-- the log under the scenario that a name finds
+pub log-told : (old : Session) (name : List ℕ) (under : Setting) (text : List ℕ) → Some under ≡ option_map (λ (s : Listed). s.setting) (named name old.machine.listing.scenarios) → text ≡ log_text name (version old.machine) (current old.machine) under → IsNamed old name (λ (s : Listed). IsMade old (log_text s.name (version old.machine) (current old.machine) s.setting) text old) text old
+log-told old name under text found is =
+    let it = setting-some (named name old.machine.listing.scenarios) under found in
+    let called : it.0.name ≡ name = name-found name it.0 old.machine.listing.scenarios it.1 in
+    inr (it.0, it.1, inl (is ∙ log-as (version old.machine) (current old.machine) (sym called) it.2, refl))

@@ -1,0 +1,116 @@
+-- Scenarios by their names, and what a book shows of them.
+use Rattle.std.proofs.Common.{◌≡◌, ℕ, ◌+◌, ◌≤◌, ◌<◌, ◌==◌, List, [], ◌∷◌, map, drop, length, suc, zero, refl, sym, ◌∙◌, ap, subst, Bool, true, false, cond, arith}
+use Rattle.std.specs.Prelude.{Option, None, Some, find, slice_get}
+use Rattle.std.specs.Option.{option_map}
+use Rattle.std.specs.Str.{bytes_eq}
+use Rattle.std.proofs.Math.ListN.{drop_of_length-le}
+use Rattle.std.proofs.lemmas.Bool.{eq-eqb, ne_eqb}
+use Rattle.std.proofs.lemmas.Slice.Eq.{bytes_eq-Decides}
+use Rattle.scenarios.specs.Scenario.{Setting}
+use Rattle.scenarios.specs.ScenarioList.{Listed, Listing, IdsRise, has_name, named, id_of}
+use Rattle.version_book.specs.Book.{ShownView, BookView}
+use Rattle.version_book.specs.Lookups.{has_id}
+use Rattle.version_book.specs.Sound.{Under, AreListed, IsBook, under_of_shown, under_of_listed}
+
+-- ---- by name
+
+pub id-none : (o : Option Listed) → None ≡ option_map (λ (s : Listed). s.id) o → o ≡ None
+id-none None is = refl
+id-none (Some s) is = cc
+
+pub id-some : (o : Option Listed) (id : ℕ) → Some id ≡ option_map (λ (s : Listed). s.id) o → (s : Listed) × (o ≡ Some s) × (id ≡ s.id)
+id-some None id is = cc
+id-some (Some s) id is = (s, refl, cc)
+
+pub setting-some : (o : Option Listed) (under : Setting) → Some under ≡ option_map (λ (s : Listed). s.setting) o → (s : Listed) × (o ≡ Some s) × (under ≡ s.setting)
+setting-some None under is = cc
+setting-some (Some s) under is = (s, refl, cc)
+
+-- who is found has the name
+name-here : (name : List ℕ) (s t : Listed) (ss : List Listed) (b : Bool) → has_name name s ≡ b → (named name ss ≡ Some t → t.name ≡ name) → cond b (Some s) (named name ss) ≡ Some t → t.name ≡ name
+name-here name s t ss true has later is =
+    let same : s ≡ t = cc in
+    subst (λ (u : Listed). u.name ≡ name) same (sym ((bytes_eq-Decides name s.name).0 has))
+name-here name s t ss false has later is = later is
+
+pub name-found : (name : List ℕ) (t : Listed) (ss : List Listed) → named name ss ≡ Some t → t.name ≡ name
+name-found name t [] is = cc
+name-found name t (s ∷ ss) is = name-here name s t ss (has_name name s) refl (name-found name t ss) is
+
+-- ---- what a book shows
+
+-- a scenario is shown under its id, with its setting
+abbrev pub IsShown : List ShownView → Listed → Type 0
+IsShown xs s = (x : ShownView) × (find (has_id s.id) xs ≡ Some x) × (x.setting ≡ s.setting)
+
+show-first : (x : ShownView) (xs : List ShownView) (s : Listed) → under_of_shown x ≡ under_of_listed s → IsShown (x ∷ xs) s
+show-first x xs s u =
+    let id : x.id ≡ s.id = ap (λ (p : Under). p.0) u in
+    let test : (x.id == s.id) ≡ true = eq-eqb x.id s.id id in
+    (x, ap (λ (b : Bool). cond b (Some x) (find (has_id s.id) xs)) test, ap (λ (p : Under). p.1) u)
+
+show-later : (x : ShownView) (xs : List ShownView) (s : Listed) → x.id < s.id → IsShown xs s → IsShown (x ∷ xs) s
+show-later x xs s lt h =
+    let test : (x.id == s.id) ≡ false = ne_eqb x.id s.id (λ e. omega arith) in
+    (h.0, ap (λ (b : Bool). cond b (Some x) (find (has_id s.id) xs)) test ∙ h.1, h.2)
+
+-- a later scenario has a greater id
+id-above : (first : ℕ) (ss : List Listed) (next k : ℕ) (s : Listed) → IdsRise first ss next → slice_get ss k ≡ Some s → first ≤ s.id
+id-above first [] next k s h is = cc
+id-above first (t ∷ ss) next zero s h is = let same : t ≡ s = cc in subst (λ (u : Listed). first ≤ u.id) same h.0
+id-above first (t ∷ ss) next (suc k) s h is = let more = id-above (t.id + 1) ss next k s h.1 is in omega (arith, h.0)
+
+show-at : (first : ℕ) (xs : List ShownView) (ss : List Listed) (next k : ℕ) (s : Listed) → map under_of_shown xs ≡ map under_of_listed ss → IdsRise first ss next → slice_get ss k ≡ Some s → IsShown xs s
+show-at first xs [] next k s same h is = cc
+show-at first [] (t ∷ ss) next k s same h is = cc
+show-at first (x ∷ xs) (t ∷ ss) next zero s same h is =
+    let u : under_of_shown x ≡ under_of_listed t = cc in
+    let e : t ≡ s = cc in
+    show-first x xs s (u ∙ ap under_of_listed e)
+show-at first (x ∷ xs) (t ∷ ss) next (suc k) s same h is =
+    let u : under_of_shown x ≡ under_of_listed t = cc in
+    let us : map under_of_shown xs ≡ map under_of_listed ss = cc in
+    let id : x.id ≡ t.id = ap (λ (p : Under). p.0) u in
+    let above = id-above (t.id + 1) ss next k s h.1 is in
+    show-later x xs s (omega arith) (show-at (t.id + 1) xs ss next k s us h.1 is)
+
+pub shown-at : (b : BookView) (k : ℕ) (s : Listed) → IsBook b → slice_get b.state.listing.scenarios k ≡ Some s → IsShown b.state.shown s
+shown-at b k s h is = show-at 1 b.state.shown b.state.listing.scenarios b.state.listing.next k s h.sound.listed h.sound.ids is
+
+-- the place of who is found
+place-here : (name : List ℕ) (s t : Listed) (ss : List Listed) (b : Bool) → (named name ss ≡ Some t → (k : ℕ) × (slice_get ss k ≡ Some t)) → cond b (Some s) (named name ss) ≡ Some t → (k : ℕ) × (slice_get (s ∷ ss) k ≡ Some t)
+place-here name s t ss true later is = (0, is)
+place-here name s t ss false later is = let more = later is in (suc more.0, more.1)
+
+pub place-of : (name : List ℕ) (t : Listed) (ss : List Listed) → named name ss ≡ Some t → (k : ℕ) × (slice_get ss k ≡ Some t)
+place-of name t [] is = cc
+place-of name t (s ∷ ss) is = place-here name s t ss (has_name name s) (place-of name t ss) is
+
+pub shown-named : (b : BookView) (name : List ℕ) (s : Listed) → IsBook b → named name b.state.listing.scenarios ≡ Some s → IsShown b.state.shown s
+shown-named b name s h is = let p = place-of name s b.state.listing.scenarios is in shown-at b p.0 s h p.1
+
+-- ---- one after another
+
+-- who is not at a place is looked for behind it
+skips : (name : List ℕ) (ss : List Listed) (k : ℕ) (s : Listed) → slice_get ss k ≡ Some s → has_name name s ≡ false → named name (drop k ss) ≡ named name (drop (suc k) ss)
+skips name [] k s is no_name = cc
+skips name (t ∷ ss) zero s is no_name =
+    let same : t ≡ s = cc in
+    ap (λ (b : Bool). cond b (Some t) (named name ss)) (subst (λ (u : Listed). has_name name u ≡ false) (sym same) no_name)
+skips name (t ∷ ss) (suc k) s is no_name = skips name ss k s is no_name
+
+pub not-here : (name : List ℕ) (ss : List Listed) (k : ℕ) (s : Listed) → slice_get ss k ≡ Some s → has_name name s ≡ false → named name (drop k ss) ≡ named name (drop (k + 1) ss)
+not-here name ss k s is no_name =
+    let e : suc k ≡ k + 1 = omega arith in
+    skips name ss k s is no_name ∙ ap (λ (n : ℕ). named name (drop n ss)) e
+
+pub is-here : (name : List ℕ) (ss : List Listed) (k : ℕ) (s : Listed) → slice_get ss k ≡ Some s → has_name name s ≡ true → named name (drop k ss) ≡ Some s
+is-here name [] k s is has = cc
+is-here name (t ∷ ss) zero s is has =
+    let same : t ≡ s = cc in
+    ap (λ (b : Bool). cond b (Some t) (named name ss)) (subst (λ (u : Listed). has_name name u ≡ true) (sym same) has) ∙ is
+is-here name (t ∷ ss) (suc k) s is has = is-here name ss k s is has
+
+-- behind the last there is none
+pub none-left : (name : List ℕ) (ss : List Listed) (k : ℕ) → length ss ≤ k → named name (drop k ss) ≡ None
+none-left name ss k le = ap (λ (us : List Listed). named name us) (drop_of_length-le ss le)

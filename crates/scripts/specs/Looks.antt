@@ -1,0 +1,72 @@
+-- What a look at a scenario's published run gives.
+use Rattle.std.specs.Prelude.{◌≡◌, ℕ, List, ◌++◌, Some, ◌⊎◌, slice_get, codes}
+use Rattle.report.specs.Pieces.{left}
+use Rattle.report.specs.Side.{shown_line}
+use Rattle.scenarios.specs.ScenarioList.{Listed}
+use Rattle.checkpoints.specs.RunView.{IsRun}
+use Rattle.book_machine.specs.declared.reply.Reply.TheVariants as reply
+use Rattle.book_machine.specs.Call.{View}
+use Rattle.book_machine.specs.Machine.{Machine, note_limit}
+use Rattle.version_book.specs.declared.session_refusal.ViewRefusal.{ViewRefusal}
+use Rattle.version_book.specs.declared.session_refusal.ViewRefusal.TheVariants as view
+use Rattle.version_book.specs.Book.{PublishedView}
+use Rattle.version_book.specs.Names.{view_name}
+use Rattle.scripts.specs.declared.views.Beside.{Beside}
+use Rattle.scripts.specs.declared.views.Beside.TheVariants as beside
+use Rattle.scripts.specs.declared.answer.Refusal.{Refusal}
+use Rattle.scripts.specs.declared.answer.Refusal.TheVariants as why
+use Rattle.scripts.specs.Lines.{refused, behind_line}
+use Rattle.scripts.specs.Session.{Session, IsStep}
+use Rattle.scripts.specs.Steps.{IsSeen, log_of_version}
+
+-- the run that is published is of its version's log, under the scenario
+pub record IsOf (m : Machine) (s : Listed) (p : PublishedView) : Type 0 where
+  pub log : p.run.log ≡ log_of_version m p.version
+  pub setting : p.run.setting ≡ s.setting
+  pub run : IsRun p.run
+
+-- a scenario of the list, at some place, with this id
+pub record IsListedAs (m : Machine) (wanted : ℕ) (s : Listed) : Type 0 where
+  pub place : ℕ
+  pub listed : slice_get m.listing.scenarios place ≡ Some s
+  pub id : s.id ≡ wanted
+
+-- a scenario with this id is listed
+abbrev pub IsListedSome : Machine → ℕ → Type 0
+IsListedSome m id = (s : Listed) × IsListedAs m id s
+
+-- the run is that of the listed scenario with this id
+abbrev pub IsLooked : Machine → ℕ → PublishedView → Type 0
+IsLooked m id p = (s : Listed) → IsListedAs m id s → IsOf m s p
+
+-- nothing is shown: no call was noted, or the book replied why; a listed scenario is there
+abbrev pub NotLooked : ViewRefusal → Session → ℕ → Session → Type 0
+NotLooked view.JournalFull old id new = (old.machine.notes ≡ note_limit) × (new ≡ old)
+NotLooked view.NoSuchScenario old id new = IsStep old (View id old.seen) reply.NoSuchScenario new × ((s : Listed) → IsListedAs old.machine id s → ⊥)
+NotLooked view.NotYet old id new = IsStep old (View id old.seen) reply.NotYet new
+NotLooked (view.Behind seen found) old id new = IsStep old (View id old.seen) (reply.Behind seen found) new
+NotLooked view.Memory old id new = new ≡ old
+
+-- the line of a view that shows nothing
+abbrev pub unseen_line : ViewRefusal → List ℕ
+unseen_line (view.Behind seen found) = behind_line seen found
+unseen_line view.JournalFull = refused (view_name view.JournalFull)
+unseen_line view.NoSuchScenario = refused (view_name view.NoSuchScenario)
+unseen_line view.NotYet = refused (view_name view.NotYet)
+unseen_line view.Memory = refused (view_name view.Memory)
+
+-- ---- side by side
+
+-- the line of a scenario of this name, by what is shown of it
+abbrev pub beside_line : List ℕ → {A : Type 0} → Beside A → List ℕ
+beside_line name (beside.Shown p) = shown_line name p.version p.run.tables.overall
+beside_line name beside.NotYet = left 16 name ++ codes " not yet\n"
+beside_line name beside.Behind = left 16 name ++ codes " behind\n"
+
+-- the listed scenario with this id is seen so
+abbrev pub IsSeenSo : {A : Type 0} → Session → ℕ → Beside A → Session → Type 0
+IsSeenSo old id shown new = (s : Listed) → IsListedAs old.machine id s → IsSeen old s (beside_line s.name shown) new
+
+-- no view was noted: the journal is full, or memory was refused
+abbrev pub IsUnseen : Refusal → Session → Session → Type 0
+IsUnseen refusal old new = (new ≡ old) × (((refusal ≡ why.JournalFull) × (old.machine.notes ≡ note_limit)) ⊎ (refusal ≡ why.Memory))

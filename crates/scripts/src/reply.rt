@@ -1,0 +1,59 @@
+ghost use Rattle.std.specs.Prelude.{◌≡◌, count_by};
+ghost use Rattle.swf_text.specs.Text.{is_feed};
+ghost use Rattle.swf_text.specs.Writing.{Writes};
+ghost use Rattle.scripts.specs.Lines.{refused};
+ghost use Rattle.scripts.specs.Replies.{reply_text};
+ghost use Rattle.scripts.specs.Steps.{with_count};
+ghost use Rattle.scripts.specs.Told.{refusal_name};
+
+use crate::answer::{Answer, Refusal};
+use std::alloc::Allocator;
+use std::io::Write;
+use swf_text::{WriteFault, write_bytes};
+
+/// What a line of a script is answered: nothing, a line, which takes no memory, a report, or a log.
+#[derive(Drop)]
+pub(crate) enum Reply<A: Allocator + Copy> {
+    Nothing,
+    Line(Answer),
+    Report(Vec<u8, A>),
+    /// The text of a log; how many lines it has is written before it.
+    Saved(Vec<u8, A>),
+}
+
+// How many line feeds there are.
+fn feeds(bytes: &[u8]) -> u64
+    ensures { result ≡ count_by is_feed bytes.now }
+{
+    bytes.iter().filter(|byte| **byte == b'\n').count() as u64
+}
+
+// A log, with how many lines it has before it.
+fn write_saved<W: Write>(writer: &mut W, text: &[u8]) -> Result<(), WriteFault>
+    ensures { Writes result (W.contents writer.old) (W.contents writer.new) (with_count text.now) }
+{
+    let count = Answer::Saved { lines: feeds(text) };
+    write_bytes(writer, count.line().as_slice())?;
+    write_bytes(writer, text)
+}
+
+impl<A: Allocator + Copy> Reply<A> {
+    // That the command is refused.
+    pub(crate) fn refused(why: Refusal) -> Reply<A>
+        ensures { reply_text result ≡ refused (refusal_name why) }
+    {
+        Reply::Line(Answer::Refused(why))
+    }
+
+    // Writes what is answered.
+    pub(crate) fn write<W: Write>(&self, writer: &mut W) -> Result<(), WriteFault>
+        ensures { Writes result (W.contents writer.old) (W.contents writer.new) (reply_text self.now) }
+    {
+        match self {
+            Reply::Nothing => Ok(()),
+            Reply::Line(answer) => write_bytes(writer, answer.line().as_slice()),
+            Reply::Report(text) => write_bytes(writer, text.as_slice()),
+            Reply::Saved(text) => write_saved(writer, text.as_slice()),
+        }
+    }
+}
