@@ -1,18 +1,16 @@
 -- What follows where a log is opened, or is not.
-use Rattle.std.proofs.Common.{◌≡◌, ℕ, ◌≤◌, Bool, true, eqb, List, [], ◌∷◌, length, Option, Some, None, Result, Ok, Err, refl, sym, ap, subst, ◌∙◌, inl, inr}
+use Rattle.std.proofs.Common.{◌≡◌, ℕ, Bool, true, eqb, List, [], ◌∷◌, length, Option, Some, None, Result, Ok, Err, refl, sym, ap, subst, ◌∙◌, inl, inr}
 use Rattle.std.specs.Prelude.{is_some, slice_get}
 use Rattle.std.proofs.lemmas.Bool.{cases_Bool, eqb-false, true≢false}
 use Rattle.swf_text.specs.Entry.{LogEntry}
-use Rattle.swf_text.specs.Log.{log_of}
-use Rattle.swf_text.specs.Text.{LogText, lines}
-use Rattle.swf_text.specs.Grammar.{IsText}
 use Rattle.scenarios.specs.Plan.{plan_of}
 use Rattle.scenarios.specs.Scenario.{Setting, setting_of}
 use Rattle.scenarios.specs.ScenarioList.{Listed, Listing}
 use Rattle.commands.specs.Opening.{base_on, of_setting, machine_of, opened, told}
 use Rattle.commands.specs.declared.opening_fault.OpenTextFault.{OpenTextFault}
 use Rattle.report.specs.Schedule.{schedule_text, HasALineForEachJob}
-use Rattle.easybook.specs.Plain.{IsScheduleOf, log_limit}
+use Rattle.easybook.specs.Opened.{IsOpened}
+use Rattle.easybook.specs.Plain.{IsScheduleOf}
 
 -- a list has a first scenario, if there is a list
 filled : Result Listing OpenTextFault → Bool
@@ -45,9 +43,9 @@ unfolding filled
 opened-some procs comments list is none = true≢false (sym (opened-filled procs comments) ∙ ap filled is ∙ ap is_some none)
 
 -- the parts of a schedule, put together
-pub schedule-is : (log : List ℕ) (procs : Option ℕ) (text : List ℕ) (read : LogText) (scenarios : Listing) (first : Listed) (table : List LogEntry) → length log ≤ log_limit → IsText (lines log) read → opened procs read.comments ≡ Ok scenarios → slice_get scenarios.scenarios 0 ≡ Some first → table ≡ log_of read.entries → text ≡ schedule_text first.name 0 (plan_of table first.setting) → HasALineForEachJob first.name 0 (plan_of table first.setting) text → IsScheduleOf log procs text
-schedule-is log procs text read scenarios first table within is_text opened_with is_first arranged schedule has_lines =
-    record { within = within; read = read; is_text = is_text; scenarios = scenarios; opened_with = opened_with; first = first; is_first = is_first; schedule = schedule ∙ ap (λ (es : List LogEntry). schedule_text first.name 0 (plan_of es first.setting)) arranged; lines_of_jobs = subst (λ (es : List LogEntry). HasALineForEachJob first.name 0 (plan_of es first.setting) text) arranged has_lines }
+pub schedule-is : (log : List ℕ) (procs : Option ℕ) (text : List ℕ) (comments : List (List ℕ)) (table : List LogEntry) (scenarios : Listing) (first : Listed) → IsOpened log procs comments table scenarios → slice_get scenarios.scenarios 0 ≡ Some first → text ≡ schedule_text first.name 0 (plan_of table first.setting) → HasALineForEachJob first.name 0 (plan_of table first.setting) text → IsScheduleOf log procs text
+schedule-is log procs text comments table scenarios first is is_first schedule has_lines =
+    record { within = is.within; read = is.read; is_text = is.is_text; scenarios = scenarios; opened_with = is.opened_with; first = first; is_first = is_first; schedule = schedule ∙ ap (λ (es : List LogEntry). schedule_text first.name 0 (plan_of es first.setting)) is.arranged; lines_of_jobs = subst (λ (es : List LogEntry). HasALineForEachJob first.name 0 (plan_of es first.setting) text) is.arranged has_lines }
 
 -- the schedule of the plan of this log and scenario, where they are these
 pub of-plan : {text : List ℕ} {log table : List LogEntry} {setting scenario : Setting} → (name : List ℕ) → text ≡ schedule_text name 0 (plan_of log setting) → log ≡ table → setting ≡ scenario → text ≡ schedule_text name 0 (plan_of table scenario)

@@ -9,3 +9,9 @@ IsInputFault known limit TooLong = IfSome known (λ all. limit < length all)
 IsInputFault known limit Read = Unit {0}
 IsInputFault known limit Memory = Unit {0}
 IsInputFault known limit fault = ⊥
+
+-- the reader answered an error, or memory was short
+abbrev pub IsReadFault : ProgramFault → Type 0
+IsReadFault Read = Unit {0}
+IsReadFault Memory = Unit {0}
+IsReadFault fault = ⊥

@@ -1,8 +1,12 @@
+pub mod Alone
+pub mod Book
 pub mod Fault
 pub mod Forms
 pub mod Input
+pub mod Opened
 pub mod Plain
 pub mod Program
+pub mod Split
 pub mod Stop
 pub mod Texts
 pub mod Words

@@ -1,37 +1,71 @@
 -- What the program does: what its words choose, its whole input, and what it writes of them.
-use Rattle.std.specs.Prelude.{◌≡◌, ℕ, ◌<◌, List, length, Option, Some, IfSome, Result, Ok, Err}
+use Rattle.std.specs.Prelude.{◌≡◌, ℕ, ◌<◌, List, length, Option, Some, None, IfSome, Result, Ok, Err, ◌⊎◌}
+use Rattle.std.specs.declared.alloc.Global.{Global}
 use Rattle.std.specs.Io.KnownBytes.{Keeps}
 use Rattle.clap.specs.Walk.{Text}
-use Rattle.easybook.specs.Plain.{Answers, log_limit}
-use Rattle.easybook.specs.Words.{IsWordsFault, chosen}
+use Rattle.easybook.specs.Alone.{RunsAlone}
+use Rattle.easybook.specs.Plain.{Answers}
+use Rattle.easybook.specs.Split.{IsCut}
+use Rattle.easybook.specs.Words.{Choice, IsWordsFault, chosen}
 use Rattle.easybook.specs.declared.fault.ProgramFault.{ProgramFault}
 use Rattle.easybook.specs.declared.fault.ProgramFault.TheVariants as faults
 use Rattle.easybook.specs.declared.stop.Stop.{Stop}
 use Rattle.easybook.specs.declared.stop.Stop.TheVariants.{Words, Fault}
 
--- something is said of a log and a machine: the log is all that the reader has, the machine is what the words choose
-pub record IsSaid (words : List Text) (known : Option (List ℕ)) (says : List ℕ → Option ℕ → Type 0) : Type 0 where
-  pub procs : Option ℕ
-  pub is_chosen : chosen words ≡ Some procs
+-- standard input has at most so many bytes where it holds the log
+abbrev pub input_limit : ℕ
+input_limit = 1200000000
+
+-- something is said of all that a reader has
+abbrev pub OfAll : Option (List ℕ) → (List ℕ → Type 0) → Type 0
+OfAll known says = (all : List ℕ) × IfSome known (λ bytes. all ≡ bytes) × says all
+
+-- ---- the log in a file, the script on standard input
+
+-- The script is worked on the log. Where one of them cannot be read, or memory is short for them, nothing is said of either
+-- and nothing is written.
+abbrev pub EndsOnFile : {X : Type 0} → Type 0 → Option (List ℕ) → Option ℕ → Option (List ℕ) → Option (List ℕ) → Option (List ℕ) → Result X ProgramFault → Type 0
+EndsOnFile A file procs known old new (Err faults.Read) = Keeps old new
+EndsOnFile A file procs known old new (Err faults.Memory) = Keeps old new
+EndsOnFile A file procs known old new result = OfAll file (λ log. RunsAlone A log procs known old new result)
+
+-- ---- both on standard input
+
+-- the log and the script are worked; a log alone is run plainly
+abbrev pub RunsParts : {X : Type 0} → Type 0 → List ℕ → Option (List ℕ) → Option ℕ → Option (List ℕ) → Option (List ℕ) → Result X ProgramFault → Type 0
+RunsParts A log (Some script) procs old new result = RunsAlone A log procs (Some script) old new result
+RunsParts A log None procs old new result = Answers log procs old new result
+
+-- the input is cut into a log and a script, if it holds one, and these are run
+pub record RunsInput {X : Type 0} (A : Type 0) (input : List ℕ) (procs : Option ℕ) (old new : Option (List ℕ)) (result : Result X ProgramFault) : Type 0 where
   pub log : List ℕ
-  pub is_input : IfSome known (λ all. log ≡ all)
-  pub said : says log procs
+  pub script : Option (List ℕ)
+  pub is_cut : IsCut input log script
+  pub runs : RunsParts A log script procs old new result
 
--- the words are taken
-abbrev pub AreTaken : List Text → Type 0
-AreTaken words = (procs : Option ℕ) × (chosen words ≡ Some procs)
+-- Where the input cannot be read, or memory is short for it, nothing is said of it and nothing is written; so too where it
+-- has over 1,200,000,000 bytes.
+abbrev pub EndsOnInput : {X : Type 0} → Type 0 → Option ℕ → Option (List ℕ) → Option (List ℕ) → Option (List ℕ) → Result X ProgramFault → Type 0
+EndsOnInput A procs known old new (Err faults.Read) = Keeps old new
+EndsOnInput A procs known old new (Err faults.Memory) = Keeps old new
+EndsOnInput {X = X} A procs known old new (Err faults.TooLong) =
+    (IfSome known (λ all. input_limit < length all) × Keeps old new) ⊎ OfAll known (λ input. RunsInput {X = X} A input procs old new (Err faults.TooLong))
+EndsOnInput A procs known old new result = OfAll known (λ input. RunsInput A input procs old new result)
 
--- The words are taken, and the fault is that of the plain run. A reader that failed, want of memory, and an input too long
--- come before that run too; then nothing was written.
-abbrev pub EndsBy : List Text → Option (List ℕ) → Option (List ℕ) → Option (List ℕ) → ProgramFault → Type 0
-EndsBy words known old new faults.TooLong = AreTaken words × IfSome known (λ all. log_limit < length all) × Keeps old new
-EndsBy words known old new faults.Read = AreTaken words × Keeps old new
-EndsBy words known old new faults.Memory = AreTaken words × Keeps old new
-EndsBy words known old new fault = IsSaid words known (λ log procs. Answers {X = Unit {0}} log procs old new (Err fault))
+-- ---- the program
 
--- what the program wrote, by how it ends: what the plain run of its whole input writes under the machine that its words
--- choose; where the words are bad, nothing
+-- With a log named, the file's bytes are not known. Without one, all that standard input has is the log, and the script if
+-- it holds one.
+abbrev pub EndsFrom : {X : Type 0} → Option Text → Option ℕ → Option (List ℕ) → Option (List ℕ) → Option (List ℕ) → Result X ProgramFault → Type 0
+EndsFrom (Some file) procs known old new result = EndsOnFile Global None procs known old new result
+EndsFrom None procs known old new result = EndsOnInput Global procs known old new result
+
+-- the words are taken, and what they choose is run
+abbrev pub EndsBy : {X : Type 0} → List Text → Option (List ℕ) → Option (List ℕ) → Option (List ℕ) → Result X ProgramFault → Type 0
+EndsBy words known old new result = (choice : Choice) × (chosen words ≡ Some choice) × EndsFrom choice.log choice.procs known old new result
+
+-- what the program wrote, by how it ends: where the words are bad, nothing
 abbrev pub Ends : {X : Type 0} → List Text → Option (List ℕ) → Option (List ℕ) → Option (List ℕ) → Result X Stop → Type 0
-Ends words known old new (Ok x) = IsSaid words known (λ log procs. Answers log procs old new (Ok x))
+Ends words known old new (Ok x) = EndsBy words known old new (Ok x)
 Ends words known old new (Err (Words fault)) = IsWordsFault words fault × Keeps old new
-Ends words known old new (Err (Fault fault)) = EndsBy words known old new fault
+Ends {X = X} words known old new (Err (Fault fault)) = EndsBy {X = X} words known old new (Err fault)

@@ -1,20 +1,27 @@
-//! The program's calls: its words, its input, and the plain run from a log to its schedule.
+//! The program's calls: its words, its input, the plain run from a log to its schedule, and the
+//! session that works a script on a log.
 #![tactic(auto)]
 
+mod alone;
+mod book;
 mod fault;
 mod input;
 mod laws;
+mod opened;
 mod options;
 mod plain;
 mod program;
+mod split;
 mod stop;
 mod words;
 
+pub use alone::run_alone;
 pub use fault::ProgramFault;
 pub use input::read_input;
 pub use laws::words_law;
 pub use options::Options;
 pub use plain::run_plain;
 pub use program::run_words;
+pub use split::split_input;
 pub use stop::Stop;
 pub use words::{Words, WordsFault, read_words};

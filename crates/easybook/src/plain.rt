@@ -6,19 +6,17 @@ ghost use Rattle.report.specs.Schedule.{schedule_text, HasALineForEachJob};
 ghost use Rattle.easybook.specs.Plain.{IsTextOrFault, Answers};
 
 use crate::fault::ProgramFault;
+use crate::opened::opening_of;
 use crate::options::Options;
 use checkpoints::{Run, RunFault, simulate};
-use commands::{Opening, open_text};
+use commands::Opening;
 use job_table::JobTable;
 use report::schedule_text;
 use scenarios::Scenario;
 use std::alloc::Allocator;
 use std::io::Write;
 use std::sync::Arc;
-use swf_text::{read_swf, write_bytes};
-
-/// The most bytes of a log.
-const LOG_LIMIT: usize = 1_073_741_824;
+use swf_text::write_bytes;
 
 // The run of a table under a scenario, in segments of up to `spacing` event seconds.
 fn run_of<A: Allocator + Copy>(
@@ -65,15 +63,11 @@ fn schedule_of<A: Allocator + Copy>(
 ) -> Result<Vec<u8, A>, ProgramFault>
     ensures { IsTextOrFault (λ text. text.items) log.now options.procs result }
 {
-    if log.len() > LOG_LIMIT {
-        return Err(ProgramFault::TooLong);
-    }
-    let text = read_swf(alloc, log)?;
     let Opening {
         comments: _comments,
         table,
         scenarios,
-    } = open_text(alloc, text, options.procs)?;
+    } = opening_of(alloc, log, options.procs)?;
     let Some(first) = scenarios.at(0) else {
         unreachable!()
     };

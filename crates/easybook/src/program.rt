@@ -1,31 +1,107 @@
-ghost use Rattle.std.specs.Prelude.{map};
-ghost use Rattle.easybook.specs.Program.{Ends};
+ghost use Rattle.std.specs.Prelude.{IfErr, map};
+ghost use Rattle.std.specs.Option.{option_map};
+ghost use Rattle.easybook.specs.Input.{IsReadFault};
+ghost use Rattle.easybook.specs.Program.{Ends, EndsOnFile, EndsOnInput, RunsParts};
 
-use crate::input::read_input;
+use crate::alone::{SCRIPT_LIMIT, run_alone};
+use crate::fault::ProgramFault;
+use crate::input::{read_front, read_input};
+use crate::opened::LOG_LIMIT;
+use crate::options::Options;
 use crate::plain::run_plain;
+use crate::split::split_input;
 use crate::stop::Stop;
 use crate::words::read_words;
-use std::alloc::Global;
-use std::io::{Read, Write};
+use std::alloc::{Allocator, Global};
+use std::fs;
+use std::io::{ErrorKind, Read, Write};
+use std::rt::Files;
 
-/// The most bytes that are read where the input is the log.
+/// The most bytes of standard input where it holds the log.
 const INPUT_LIMIT: u64 = 1_200_000_000;
 
-/// Runs the program: its words, its name first, then all of its input, at most 1,200,000,000
-/// bytes, as a log, whose schedule it writes.
+// Reads a log, at most one byte past its limit, then a script likewise, and works the script on the
+// log. Read where either cannot be read, whatever the other holds.
+fn run_file<L: Read + Drop, R: Read + Drop, W: Write, A: Allocator + Copy>(
+    alloc: A,
+    log: L,
+    script: R,
+    writer: &mut W,
+    options: Options,
+) -> Result<(), ProgramFault>
+    ensures { EndsOnFile A (L.remaining log) options.procs (R.remaining script) (W.contents writer.old) (W.contents writer.new) result }
+{
+    let log = read_front(alloc, log, LOG_LIMIT as u64)?;
+    let script = read_front(alloc, script, SCRIPT_LIMIT)?;
+    run_alone(alloc, script.as_slice(), writer, log.as_slice(), options)
+}
+
+// Runs a log with the script behind it, if there is one.
+fn run_parts<W: Write, A: Allocator + Copy>(
+    alloc: A,
+    log: &[u8],
+    script: Option<&[u8]>,
+    writer: &mut W,
+    options: Options,
+) -> Result<(), ProgramFault>
+    ensures { RunsParts A log.now (option_map (λ s. s.now) script.entry) options.procs (W.contents writer.old) (W.contents writer.new) result }
+{
+    match script {
+        Some(script) => run_alone(alloc, script, writer, log, options),
+        None => run_plain(alloc, writer, log, options),
+    }
+}
+
+// Reads an input, at most 1,200,000,000 bytes, and runs the log that it holds, with the script
+// behind it, if there is one.
+fn run_input<R: Read + Drop, W: Write, A: Allocator + Copy>(
+    alloc: A,
+    reader: R,
+    writer: &mut W,
+    options: Options,
+) -> Result<(), ProgramFault>
+    ensures { EndsOnInput A options.procs (R.remaining reader) (W.contents writer.old) (W.contents writer.new) result }
+{
+    let input = read_input(alloc, reader, INPUT_LIMIT)?;
+    let (log, script) = split_input(input.as_slice());
+    run_parts(alloc, log, script, writer, options)
+}
+
+// Opens a file.
+fn open<F: Files>(files: &F, path: &str) -> Result<F::File, ProgramFault>
+    ensures { IfErr result IsReadFault }
+{
+    match fs::open(files, path) {
+        Ok(file) => Ok(file),
+        Err(error) if error.kind() == ErrorKind::OutOfMemory => Err(ProgramFault::Memory),
+        Err(_) => Err(ProgramFault::Read),
+    }
+}
+
+/// Runs the program: its words, its name first, then its input.
 ///
-/// The faults in their order: those of `read_words`, of `read_input`, and of `run_plain`. Where the
-/// words are bad or the input is not had, nothing is written.
-pub fn run_words<R: Read + Drop, W: Write>(
+/// Where the words name a file, it is the log and the reader's bytes are the script, which
+/// `run_alone` works. Where they don't, the reader's bytes are cut by `split_input`: a script in
+/// them is worked by `run_alone` on the log before it, and a log alone is run by `run_plain`.
+///
+/// The faults in their order: those of `read_words`; Read where the file cannot be opened or read;
+/// without a file TooLong where the reader has over 1,200,000,000 bytes; Read where the reader
+/// answers an error; those of the called function. A log in a file is read to at most one byte past
+/// 1,073,741,824, a script beside it to one past 16,777,216. Memory is told where a growth is
+/// refused. Where the words are bad or the input is not had, nothing is written.
+pub fn run_words<F: Files, R: Read + Drop, W: Write>(
     alloc: Global,
+    files: &F,
     words: &[&str],
     reader: R,
     writer: &mut W,
 ) -> Result<(), Stop>
     ensures { Ends (map (λ w. w.now) words.now) (R.remaining reader) (W.contents writer.old) (W.contents writer.new) result }
 {
-    let options = read_words(alloc, words)?.options;
-    let log = read_input(alloc, reader, INPUT_LIMIT)?;
-    run_plain(alloc, writer, log.as_slice(), options)?;
+    let words = read_words(alloc, words)?;
+    match words.log {
+        Some(path) => run_file(alloc, open(files, path)?, reader, writer, words.options)?,
+        None => run_input(alloc, reader, writer, words.options)?,
+    }
     Ok(())
 }

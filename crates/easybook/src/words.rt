@@ -1,20 +1,20 @@
-ghost use Rattle.std.specs.Prelude.{◌≡◌, ◌≤◌, IfOk, IfErr, IfSome, None, Some, Err, [], codes, map, vec_len};
-ghost use Rattle.clap.specs.Words.{app_of, fault_of, first_value, found_of, kind_of, matches_of, rows_of};
+ghost use Rattle.std.specs.Prelude.{◌≡◌, ◌≤◌, IfOk, IfErr, IfSome, Some, Err, false, [], codes, map, vec_len};
+ghost use Rattle.std.specs.Option.{option_map};
+ghost use Rattle.clap.specs.Words.{app_of, fault_of, first_value, found_of, kind_of, matches_of, rows_of, rule_of, with_rule};
 ghost use Rattle.clap.specs.declared.error.kind.ErrorKind.TheVariants.{OutOfMemory};
-ghost use Rattle.commands.specs.Words.{machine};
-ghost use Rattle.easybook.specs.Words.{IsWordsFault, chosen, command_line, procs_of};
+ghost use Rattle.commands.specs.Words.{number_between};
+ghost use Rattle.easybook.specs.Words.{IsWordsFault, chosen, command_line, option_rule, procs_of, spacing_of};
 ghost use Rattle.easybook.specs.declared.words.WordsFault.TheVariants.{BadWords};
 
 use crate::options::Options;
+use checkpoints::MAX_SPACING;
 use clap::error::ErrorKind;
 use clap::{Arg, ArgAction, ArgMatches, Command};
+use scenarios::MAX_PROCS;
 use std::alloc::{AllocError, Global};
 use std::error::Error;
 use std::fmt;
 use swf_text::whole_part;
-
-/// The largest machine, in processors.
-const MAX_PROCS: u64 = 16_777_216;
 
 /// The spacing where the words give none.
 const SPACING: u32 = 256;
@@ -79,13 +79,30 @@ fn refused(error: clap::Error) -> WordsFault
     }
 }
 
+// An option of this name, with a value behind it or behind `=`.
+fn option<'a>(alloc: Global, name: &'a str) -> Arg<'a>
+    ensures rule { rule_of result ≡ option_rule name.now }
+    ensures local { result.global ≡ false }
+{
+    Arg::new(alloc, name).long(name).action(ArgAction::Set)
+}
+
+// The command with one more argument.
+fn with_argument<'a>(command: Command<'a>, arg: Arg<'a>) -> Result<Command<'a>, AllocError>
+    requires { arg.global ≡ false }
+    ensures { IfOk result (λ c. app_of c ≡ with_rule (app_of command.entry) (rule_of arg.entry)) }
+{
+    command.arg(arg)
+}
+
+// The words that the program takes.
 fn command<'a>(alloc: Global) -> Result<Command<'a>, AllocError>
     ensures { IfOk result (λ command. app_of command ≡ command_line) }
 {
-    let procs = Arg::new(alloc, "procs")
-        .long("procs")
-        .action(ArgAction::Set);
-    Command::new(alloc, "easybook").arg(procs)
+    let log = Arg::new(alloc, "LOG").action(ArgAction::Set);
+    let command = with_argument(Command::new(alloc, "easybook"), log)?;
+    let command = with_argument(command, option(alloc, "procs"))?;
+    with_argument(command, option(alloc, "spacing"))
 }
 
 // What stands behind the words that the program takes.
@@ -100,49 +117,68 @@ fn matched<'a>(alloc: Global, words: &'a [&'a str]) -> Result<ArgMatches<'a>, Wo
     }
 }
 
-// The machine that the words name, if they name one; None where what they name is none.
-fn machine(matches: &ArgMatches<'_>) -> Option<Option<u64>>
-    ensures { result ≡ procs_of (first_value (found_of matches.now) (codes "procs")) }
-{
-    match matches.get_str("procs") {
-        None => Some(None),
-        Some(text) => number(text).map(Some),
-    }
-}
-
-// The number of processors that digits spell.
-fn number(text: &str) -> Option<u64>
-    ensures { result ≡ machine text.now }
+// The number that digits spell, from 1 to a greatest one.
+fn number(text: &str, most: u64) -> Option<u64>
+    requires { most ≤ 1000000000000 }
+    ensures value { result ≡ number_between 1 most text.now }
+    ensures within { IfSome result (λ n. (1 ≤ n) × (n ≤ most)) }
 {
     let number = whole_part(text.as_bytes())?;
-    if number < 1 || number > MAX_PROCS {
+    if number < 1 || number > most {
         return None;
     }
     Some(number)
 }
 
+// The machine that the words name, if they name one; None where what they name is none.
+fn machine(matches: &ArgMatches<'_>) -> Option<Option<u64>>
+    ensures value { result ≡ procs_of (first_value (found_of matches.now) (codes "procs")) }
+    ensures within { IfSome result (λ procs. IfSome procs (λ n. (1 ≤ n) × (n ≤ 16777216))) }
+{
+    match matches.get_str("procs") {
+        None => Some(None),
+        Some(text) => number(text, MAX_PROCS).map(Some),
+    }
+}
+
+// The spacing that the words name, or that which holds where they name none; None where what they
+// name is none.
+fn spacing(matches: &ArgMatches<'_>) -> Option<u32>
+    ensures value { result ≡ spacing_of (first_value (found_of matches.now) (codes "spacing")) }
+    ensures within { IfSome result (λ n. (1 ≤ n) × (n ≤ 65536)) }
+{
+    let Some(text) = matches.get_str("spacing") else {
+        return Some(SPACING);
+    };
+    let spacing = number(text, u64::from(MAX_SPACING))?;
+    Some(spacing as u32)
+}
+
 /// Reads the program's words, its name first.
 ///
-/// `--procs N` gives the machine's processors, digits from 1 to 16,777,216. Any other word is a
-/// bad argument for now, as is a word given twice. Want of memory is never told as bad words.
+/// LOG, a word that is no option and no option's value, is the file that holds the log. `--procs N`
+/// gives the machine's processors, digits from 1 to 16,777,216, and `--spacing N` the most event
+/// seconds to a segment of a run, digits from 1 to 65,536; it is 256 where none is given. Any other
+/// word is a bad argument, as is one given twice. Want of memory is never told as bad words.
 pub fn read_words<'a>(alloc: Global, words: &'a [&'a str]) -> Result<Words<'a>, WordsFault>
-    ensures chosen { IfOk result (λ w. chosen (map (λ w. w.now) words.now) ≡ Some w.options.procs) }
+    ensures chosen { IfOk result (λ w. chosen (map (λ w. w.now) words.now) ≡ Some (record { log = option_map (λ t. t.now) w.log; procs = w.options.procs; spacing = w.options.spacing })) }
     ensures refused { IfErr result (IsWordsFault (map (λ w. w.now) words.now)) }
     ensures machine { IfOk result (λ w. IfSome w.options.procs (λ n. (1 ≤ n) × (n ≤ 16777216))) }
-    ensures spacing { IfOk result (λ w. w.options.spacing ≡ 256) }
     ensures workers { IfOk result (λ w. w.options.workers ≡ 2) }
-    ensures log { IfOk result (λ w. w.log ≡ None) }
     ensures scripts { IfOk result (λ w. vec_len w.scripts ≡ 0) }
 {
     let matches = matched(alloc, words)?;
     let Some(procs) = machine(&matches) else {
         return Err(WordsFault::BadWords);
     };
+    let Some(spacing) = spacing(&matches) else {
+        return Err(WordsFault::BadWords);
+    };
     Ok(Words {
-        log: None,
+        log: matches.get_str("LOG"),
         options: Options {
             procs,
-            spacing: SPACING,
+            spacing,
             workers: WORKERS,
         },
         scripts: Vec::new(alloc),

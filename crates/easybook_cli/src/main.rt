@@ -4,10 +4,10 @@
 
 use easybook::{Stop, run_words};
 use std::process::ExitCode;
-use std::rt::Env;
+use std::rt::{Env, Files};
 use std::{env, io};
 
-fn run<R: Env + Input + Print + AllocGlobal>(rt: &R) -> Result<(), Stop> {
+fn run<R: Env + Files + Input + Print + AllocGlobal>(rt: &R) -> Result<(), Stop> {
     let mut args = Vec::new(rt.alloc());
     for arg in env::args(rt)? {
         args.push(arg)?;
@@ -18,6 +18,7 @@ fn run<R: Env + Input + Print + AllocGlobal>(rt: &R) -> Result<(), Stop> {
     }
     run_words(
         rt.alloc(),
+        rt,
         words.as_slice(),
         rt.reader(),
         &mut io::writer(rt),

@@ -1,4 +1,4 @@
-use Rattle.easybook.proofs.Forms.{joined_word, next_word, no_word}
+use Rattle.easybook.proofs.Forms.{joined_spacing, joined_word, next_spacing, next_word, no_word}
 use Rattle.easybook.proofs.laws.words_law.Goals as goal
 
 pub returns-clause-none : goal.returns-clause-none
@@ -9,3 +9,9 @@ returns-clause-joined c = joined_word
 
 pub returns-clause-apart : goal.returns-clause-apart
 returns-clause-apart c = next_word
+
+pub returns-clause-joined_spacing : goal.returns-clause-joined_spacing
+returns-clause-joined_spacing c = joined_spacing
+
+pub returns-clause-spacing_apart : goal.returns-clause-spacing_apart
+returns-clause-spacing_apart c = next_spacing

@@ -1,0 +1,38 @@
+ghost use Rattle.easybook.specs.Alone.{RunsAlone};
+
+use crate::book::{OpenedBook, opened_book};
+use crate::fault::ProgramFault;
+use crate::input::read_input;
+use crate::options::Options;
+use scripts::run_lines;
+use std::alloc::Allocator;
+use std::io::{Read, Write};
+
+/// The most bytes of a script.
+pub(crate) const SCRIPT_LIMIT: u64 = 16_777_216;
+
+/// Works a script on a log, as one session with one worker, and writes what each command is
+/// answered. The log's scenarios are those of its comments, as `commands::open_text` opens it with
+/// `options.procs`; each is added to the book in its order, as session 0.
+///
+/// The faults in their order: TooLong where the log has over 1,073,741,824 bytes; Log with its
+/// first faulty line; NoMachine where nothing names a scenario or the machine's processors;
+/// BadMachine where it has not 1 to 16,777,216; Read where the script's reader answers an error;
+/// TooLong where the script has over 16,777,216 bytes, of which one more at most is read; Memory
+/// where a growth is refused before the first command, while one refused later is an answer of
+/// the command; Write where the writer answers an error or takes no byte. Each but Write comes
+/// before the first byte is written, and on Write what was written is a beginning of a transcript.
+pub fn run_alone<R: Read + Drop, W: Write, A: Allocator + Copy>(
+    alloc: A,
+    script: R,
+    writer: &mut W,
+    log: &[u8],
+    options: Options,
+) -> Result<(), ProgramFault>
+    ensures { RunsAlone A log.now options.procs (R.remaining script) (W.contents writer.old) (W.contents writer.new) result }
+{
+    let OpenedBook { book, comments } = opened_book(alloc, log, options)?;
+    let script = read_input(alloc, script, SCRIPT_LIMIT)?;
+    run_lines(alloc, book, comments.as_slice(), script.as_slice(), writer)?;
+    Ok(())
+}

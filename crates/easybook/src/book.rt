@@ -1,0 +1,95 @@
+ghost use Rattle.std.specs.Prelude.{◌≡◌, IfErr, IfOk, OnOk, map};
+ghost use Rattle.book_machine.specs.Call.{AddScenario};
+ghost use Rattle.book_machine.specs.Machine.{after, opened};
+ghost use Rattle.checkpoints.specs.Spacing.{IsSpacing};
+ghost use Rattle.version_book.specs.Book.{machine_of};
+ghost use Rattle.scripts.specs.Transcript.{with_scenarios};
+ghost use Rattle.easybook.specs.Book.{IsBookOf};
+ghost use Rattle.easybook.specs.Plain.{IsFaultOf};
+
+use crate::fault::ProgramFault;
+use crate::opened::opening_of;
+use crate::options::Options;
+use commands::Opening;
+use job_table::JobTable;
+use scenarios::{Scenario, ScenarioList};
+use std::alloc::Allocator;
+use swf_text::Memory;
+use version_book::{AddRefusal, Book, BookFault};
+
+/// A book over an opened log, and the log's comments that tell of no scenario.
+#[derive(Drop)]
+pub(crate) struct OpenedBook<A: Allocator + Copy> {
+    pub(crate) book: Book<A>,
+    pub(crate) comments: Vec<Vec<u8, A>, A>,
+}
+
+// A book without scenarios over a log.
+fn new_book<A: Allocator + Copy>(
+    alloc: A,
+    table: JobTable<A>,
+    spacing: u32,
+) -> Result<Book<A>, Memory>
+    requires { IsSpacing spacing }
+    ensures machine { IfOk result (λ b. machine_of b ≡ opened table) }
+    ensures spacing { IfOk result (λ b. b.state.spacing ≡ spacing) }
+{
+    match Book::new(alloc, table, spacing) {
+        Ok(book) => Ok(book),
+        Err(BookFault::Memory) => Err(Memory),
+        Err(BookFault::BadSpacing) => unreachable!(),
+    }
+}
+
+// Adds a scenario as the opening's caller, session 0.
+fn add<A: Allocator + Copy>(
+    book: &mut Book<A>,
+    name: &str,
+    scenario: Scenario,
+) -> Result<(), Memory>
+    ensures added { OnOk result (machine_of book.new ≡ after (AddScenario name.now scenario) (machine_of book.old)) }
+    ensures spacing { OnOk result (book.new.state.spacing ≡ book.old.state.spacing) }
+{
+    match book.add_scenario(0, name, scenario) {
+        Err(AddRefusal::JournalFull) => Err(Memory),
+        Err(AddRefusal::Memory) => Err(Memory),
+        Err(AddRefusal::Fault(_)) => Ok(()),
+        Ok(_) => Ok(()),
+    }
+}
+
+// Adds the scenarios of a list, in their order.
+fn add_all<A: Allocator + Copy>(
+    book: &mut Book<A>,
+    scenarios: &ScenarioList<A>,
+) -> Result<(), Memory>
+    ensures added { OnOk result (machine_of book.new ≡ with_scenarios (machine_of book.old) scenarios.now.scenarios) }
+    ensures spacing { OnOk result (book.new.state.spacing ≡ book.old.state.spacing) }
+{
+    'scenarios: for place in 0..scenarios.len() {
+        let Some(row) = scenarios.at(place) else {
+            unreachable!()
+        };
+        add(book, row.0, row.2)?;
+    }
+    Ok(())
+}
+
+// The book of a log. Memory comes too where a scenario cannot be noted.
+pub(crate) fn opened_book<A: Allocator + Copy>(
+    alloc: A,
+    log: &[u8],
+    options: Options,
+) -> Result<OpenedBook<A>, ProgramFault>
+    ensures book { IfOk result (λ o. IsBookOf log.now options.procs options.spacing (map (λ c. c.items) o.comments.items) o.book) }
+    ensures fault { IfErr result (IsFaultOf log.now options.procs) }
+{
+    let Opening {
+        comments,
+        table,
+        scenarios,
+    } = opening_of(alloc, log, options.procs)?;
+    let mut book = new_book(alloc, table, options.spacing)?;
+    add_all(&mut book, &scenarios)?;
+    Ok(OpenedBook { book, comments })
+}

@@ -1,0 +1,28 @@
+ghost use Rattle.std.specs.Prelude.{IfErr, IfOk, map};
+ghost use Rattle.easybook.specs.Opened.{IsOpened};
+ghost use Rattle.easybook.specs.Plain.{IsFaultOf};
+
+use crate::fault::ProgramFault;
+use commands::{Opening, open_text};
+use std::alloc::Allocator;
+use swf_text::read_swf;
+
+/// The most bytes of a log.
+pub(crate) const LOG_LIMIT: usize = 1_073_741_824;
+
+// Opens a log: its jobs, its scenarios, and its other comments.
+pub(crate) fn opening_of<A: Allocator + Copy>(
+    alloc: A,
+    log: &[u8],
+    procs: Option<u64>,
+) -> Result<Opening<A>, ProgramFault>
+    ensures opened { IfOk result (λ o. IsOpened log.now procs (map (λ c. c.items) o.comments.items) o.table o.scenarios) }
+    ensures fault { IfErr result (IsFaultOf log.now procs) }
+{
+    if log.len() > LOG_LIMIT {
+        return Err(ProgramFault::TooLong);
+    }
+    let text = read_swf(alloc, log)?;
+    let opening = open_text(alloc, text, procs)?;
+    Ok(opening)
+}
