@@ -1,0 +1,24 @@
+use easybook::{Options, run_alone};
+use std::alloc::Global;
+use std::io::Cursor;
+
+/// Ten processors, and a segment for up to 256 event seconds.
+pub(crate) const TEN: Options = Options {
+    procs: Some(10),
+    spacing: 256,
+    workers: 2,
+};
+
+/// Ten processors, and a segment for each event second.
+pub(crate) const TEN_BY_ONE: Options = Options {
+    procs: Some(10),
+    spacing: 1,
+    workers: 2,
+};
+
+// What is written for a script on a log; none where there is a fault.
+pub(crate) fn told(alloc: Global, log: &[u8], script: &[u8], options: Options) -> Option<Vec<u8>> {
+    let mut out = Vec::new(alloc);
+    run_alone(alloc, Cursor::new(script), &mut out, log, options).ok()?;
+    Some(out)
+}
