@@ -64,7 +64,7 @@ fn reading_to_a_small_limit_tells_memory(rt: HostRuntime) -> Result<(), Fail> {
 // Whether the program ends so, and writes this.
 fn ends(rt: &HostRuntime, words: &[&str], log: &[u8], want: Result<(), Stop>, text: &[u8]) -> bool {
     let mut out = Vec::new(rt.alloc());
-    let answer = run_words(rt.alloc(), words, Cursor::new(log), &mut out);
+    let answer = run_words(rt.alloc(), rt, words, Cursor::new(log), &mut out);
     answer == want && out.as_slice() == text
 }
 

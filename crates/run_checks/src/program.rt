@@ -1,5 +1,5 @@
 use crate::logs::FOUR;
-use easybook::{Options, ProgramFault, read_input, run_plain};
+use easybook::{Options, ProgramFault, read_input, run_alone, run_plain, split_input};
 use std::alloc::Global;
 use std::io;
 use std::io::{Cursor, Read, Write};
@@ -158,4 +158,64 @@ fn reads_to_the_limit(rt: HostRuntime) {
     for left in 0..4u32 {
         assert!(rt; fault_of_breaking(rt.alloc(), left, 100) == Some(ProgramFault::Read));
     }
+}
+
+/// What the script `version`, `quit` is answered, and how much of it a writer has after each call
+/// that takes at most seven bytes.
+const ANSWERS: &[u8] = b"version 0\nbye\n";
+
+const TAKEN: [usize; 4] = [0, 7, 10, 14];
+
+// Whether a writer that takes so many calls has what the script is answered, or a beginning of it.
+fn answers_a_beginning(alloc: Global, calls: u32, taken: usize) -> bool {
+    let mut writer = Failing {
+        bytes: Vec::new(alloc),
+        left: calls,
+        takes_none: false,
+    };
+    let script = Cursor::new(b"version\nquit\n".as_slice());
+    let answer = run_alone(alloc, script, &mut writer, FOUR, options(10));
+    let is_whole = taken == ANSWERS.len();
+    answer.is_ok() == is_whole && writer.bytes.as_slice() == &ANSWERS[..taken]
+}
+
+#[test]
+fn answers_a_beginning_where_the_writer_fails(rt: HostRuntime) {
+    for calls in 0..4u32 {
+        assert!(rt;
+            answers_a_beginning(rt.alloc(), calls, TAKEN[calls as usize]),
+            "{calls}"
+        );
+    }
+}
+
+// The fault of a session whose script breaks after so many calls, where nothing is written.
+fn fault_of_broken_script(alloc: Global, left: u32) -> Option<ProgramFault> {
+    let mut out = Vec::new(alloc);
+    let fault = run_alone(alloc, Breaking { left }, &mut out, FOUR, options(10)).err()?;
+    out.is_empty().then_some(fault)
+}
+
+#[test]
+fn tells_a_broken_script(rt: HostRuntime) {
+    assert!(rt; fault_of_broken_script(rt.alloc(), 2) == Some(ProgramFault::Read));
+}
+
+// Whether an input is cut so.
+fn is_cut(input: &[u8], log: &[u8], script: Option<&[u8]>) -> bool {
+    let cut = split_input(input);
+    cut.0 == log && cut.1 == script
+}
+
+// Whether inputs are cut at their first line `%`.
+fn cuts_at_the_mark() -> bool {
+    is_cut(b"a\n%\nb", b"a\n", Some(b"b"))
+        && is_cut(b"a\n%\r\n%\n", b"a\n", Some(b"%\n"))
+        && is_cut(b"%", b"", Some(b""))
+        && is_cut(b"%x\n %\n%\r\r\n", b"%x\n %\n%\r\r\n", None)
+}
+
+#[test]
+fn cuts_inputs(rt: HostRuntime) {
+    assert!(rt; cuts_at_the_mark());
 }
