@@ -1,5 +1,5 @@
 // What the sessions' calls change of where a book stands, and what they are told.
-ghost use Rattle.std.specs.Prelude.{◌≡◌, ◌<◌, ◌++◌, ◌∷◌, [], find, map, None, Some, IfOk, OnOk, vec_len, vec_capacity};
+ghost use Rattle.std.specs.Prelude.{◌≡◌, ◌<◌, ◌++◌, ◌∷◌, [], find, map, None, Some, IfOk, OnOk, OnErr, vec_len, vec_capacity};
 ghost use Rattle.std.specs.Arc.{arc_value};
 ghost use Rattle.job_table.specs.Accepted.{IsEdit};
 ghost use Rattle.job_table.specs.Edit.{applied, edit_of};
@@ -36,6 +36,24 @@ fn after_edit<A: Allocator + Copy>(
     }
 }
 
+// The table gets an edit that is accepted: in place where nobody else holds it, and otherwise on a
+// copy.
+fn put_edit<A: Allocator + Copy>(
+    alloc: A,
+    table: &mut Arc<JobTable<A>, A>,
+    edit: &Edit<A>,
+) -> Result<(), Memory>
+    ensures edit { OnOk result (IsEdit (edit_of edit.now)) }
+    ensures table { OnOk result (arc_value table.new ≡ applied (edit_of edit.now) (arc_value table.old)) }
+    ensures kept { OnErr result (arc_value table.new ≡ arc_value table.old) }
+{
+    if let Some(own) = Arc::get_mut(table) {
+        return own.apply(edit).map_err(|_| Memory);
+    }
+    *table = after_edit(alloc, table, edit)?;
+    Ok(())
+}
+
 // Room for an edit more, and the edit once more.
 fn kept_edit<A: Allocator + Copy>(
     edits: &mut Vec<Edit<A>, A>,
@@ -57,10 +75,9 @@ impl<A: Allocator + Copy> State<A> {
         if let Err(fault) = self.current.check(edit) {
             return Err(EditRefusal::Fault(fault));
         }
-        let table = after_edit(self.alloc, &self.current, edit)?;
         let kept = kept_edit(&mut self.edits, edit)?;
+        put_edit(self.alloc, &mut self.current, edit)?;
         self.edits.push_reserved(kept);
-        self.current = table;
         Ok(self.version())
     }
 

@@ -10,14 +10,14 @@ use Rattle.version_book.proofs.state.State.edit.Goals as goal
 pub invariant_of-self-2 : goal.invariant_of-self-2
 invariant_of-self-2 g c =
     let none : fault_of (edit_of c.args.edit.now) (arc_value c.self.inside.current) ≡ None = search rules in
-    let log : arc_value c.in_ok-table.table ≡ applied (edit_of c.args.edit.now) (arc_value c.self.inside.current) = search rules in
+    let log : arc_value c.put_edit.new.table ≡ applied (edit_of c.args.edit.now) (arc_value c.self.inside.current) = search rules in
     let es = map-push edit_of c.self.inside.edits.items _ _ _ _ c.push_reserved.ensures.items c.kept_edit.ensures.items c.in_ok-kept.ensures.copy in
-    ((edit-accepted _ (edit_of c.args.edit.now) _ _ _ c.self.invariant.0 c.in_ok-table.ensures.edit none es log refl).sound, c.self.invariant.1, c.self.invariant.2)
+    ((edit-accepted _ (edit_of c.args.edit.now) _ _ _ c.self.invariant.0 c.in_ok-put_edit.ensures.edit none es log refl).sound, c.self.invariant.1, c.self.invariant.2)
 
 pub returns : goal.returns
 returns g c =
     let none : fault_of (edit_of c.args.edit.now) (arc_value c.self.inside.current) ≡ None = search rules in
-    let log : arc_value c.in_ok-table.table ≡ applied (edit_of c.args.edit.now) (arc_value c.self.inside.current) = search rules in
+    let log : arc_value c.put_edit.new.table ≡ applied (edit_of c.args.edit.now) (arc_value c.self.inside.current) = search rules in
     let es = map-push edit_of c.self.inside.edits.items _ _ _ _ c.push_reserved.ensures.items c.kept_edit.ensures.items c.in_ok-kept.ensures.copy in
     let v : c.version.result ≡ length (map edit_of c.self.inside.edits.items) + 1 = c.version.ensures.version ∙ (ap length es ∙ length_push (map edit_of c.self.inside.edits.items) (edit_of c.args.edit.now)) in
-    seen-as c.self.view_is (edit-accepted _ (edit_of c.args.edit.now) _ _ _ c.self.invariant.0 c.in_ok-table.ensures.edit none es log v)
+    seen-as c.self.view_is (edit-accepted _ (edit_of c.args.edit.now) _ _ _ c.self.invariant.0 c.in_ok-put_edit.ensures.edit none es log v)
