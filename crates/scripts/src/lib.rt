@@ -1,9 +1,11 @@
-//! Scripts: one analyst's commands on a shared log, one after another, and what each is answered.
+//! Scripts: one analyst's commands on a shared log, one after another, and what each is answered. Also
+//! what several analysts' scripts are answered with: lines, reports, and the refusals' names.
 #![tactic(auto)]
 
 mod analyst;
 mod answer;
 mod line;
+mod refusals;
 mod reply;
 mod run;
 mod saving;
@@ -12,4 +14,9 @@ mod view_report;
 mod views;
 
 pub use answer::{Answer, Became, Refusal};
+pub use line::split_line;
+pub use reply::Reply;
 pub use run::run_lines;
+pub use saving::{bytes_of, scenario_of};
+pub use view_report::Report;
+pub use views::{Beside, unseen};

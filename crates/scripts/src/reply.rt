@@ -13,9 +13,12 @@ use swf_text::{WriteFault, write_bytes};
 
 /// What a line of a script is answered: nothing, a line, which takes no memory, a report, or a log.
 #[derive(Drop)]
-pub(crate) enum Reply<A: Allocator + Copy> {
+pub enum Reply<A: Allocator + Copy> {
+    /// Nothing is written.
     Nothing,
+    /// One line.
     Line(Answer),
+    /// The text of a report.
     Report(Vec<u8, A>),
     /// The text of a log; how many lines it has is written before it.
     Saved(Vec<u8, A>),
@@ -38,15 +41,15 @@ fn write_saved<W: Write>(writer: &mut W, text: &[u8]) -> Result<(), WriteFault>
 }
 
 impl<A: Allocator + Copy> Reply<A> {
-    // That the command is refused.
-    pub(crate) fn refused(why: Refusal) -> Reply<A>
+    /// That the command is refused.
+    pub fn refused(why: Refusal) -> Reply<A>
         ensures { reply_text result ≡ refused (refusal_name why) }
     {
         Reply::Line(Answer::Refused(why))
     }
 
-    // Writes what is answered.
-    pub(crate) fn write<W: Write>(&self, writer: &mut W) -> Result<(), WriteFault>
+    /// Writes what is answered. Device where the writer answers an error or takes no byte.
+    pub fn write<W: Write>(&self, writer: &mut W) -> Result<(), WriteFault>
         ensures { Writes result (W.contents writer.old) (W.contents writer.new) (reply_text self.now) }
     {
         match self {

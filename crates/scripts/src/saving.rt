@@ -18,8 +18,8 @@ use scenarios::{Scenario, ScenarioList};
 use std::alloc::Allocator;
 use swf_text::{Memory, SwfText, write_swf};
 
-// What a log is simulated under in the scenario with this name.
-fn scenario_of<A: Allocator + Copy>(list: &ScenarioList<A>, name: &str) -> Option<Scenario>
+/// What a log is simulated under in the scenario with this name; None where none has it.
+pub fn scenario_of<A: Allocator + Copy>(list: &ScenarioList<A>, name: &str) -> Option<Scenario>
     ensures { result ≡ option_map (λ s. s.setting) (named name.now list.now.scenarios) }
 {
     for place in 0..list.len() {
@@ -33,8 +33,8 @@ fn scenario_of<A: Allocator + Copy>(list: &ScenarioList<A>, name: &str) -> Optio
     None
 }
 
-// The bytes of a log.
-fn bytes_of<A: Allocator + Copy>(alloc: A, text: &SwfText<A>) -> Result<Vec<u8, A>, Memory>
+/// The bytes of a log as it is written. Memory where a growth is refused.
+pub fn bytes_of<A: Allocator + Copy>(alloc: A, text: &SwfText<A>) -> Result<Vec<u8, A>, Memory>
     ensures { IfOk result (λ bytes. bytes.items ≡ text_bytes text.now) }
 {
     let mut bytes = Vec::new(alloc);

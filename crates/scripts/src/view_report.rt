@@ -8,16 +8,21 @@ use swf_text::Memory;
 
 /// What a report tells of a run.
 #[derive(Clone, Copy, Debug, PartialEq, Eq)]
-pub(crate) enum Report {
+pub enum Report {
+    /// The start and the end of each job.
     Schedule,
+    /// Counts, waits, slowdowns and utilization.
     Table,
+    /// The jobs of each user.
     Users,
+    /// The busy processors of each day.
     Days,
 }
 
 impl Report {
-    // The report on a run of a scenario of this name, at this version.
-    pub(crate) fn text<A: Allocator + Copy>(
+    /// The report on a run of a scenario of this name, at this version. Memory where a growth is
+    /// refused.
+    pub fn text<A: Allocator + Copy>(
         self,
         alloc: A,
         name: &str,

@@ -23,15 +23,18 @@ use version_book::{Published, ViewRefusal};
 
 /// What is shown of a scenario beside others.
 #[derive(Drop)]
-pub(crate) enum Beside<A: Allocator + Copy> {
+pub enum Beside<A: Allocator + Copy> {
+    /// This is published.
     Shown(Published<A>),
+    /// Nothing is published.
     NotYet,
+    /// What is published is older than what the session has seen.
     Behind,
 }
 
 impl<A: Allocator + Copy> Beside<A> {
-    // Its line, under the scenario's name.
-    fn line(self, name: &str) -> SideLine<'_, A>
+    /// Its line, under the scenario's name.
+    pub fn line(self, name: &str) -> SideLine<'_, A>
         ensures { side_line result ≡ beside_line name.now self }
     {
         match self {
@@ -46,8 +49,8 @@ impl<A: Allocator + Copy> Beside<A> {
     }
 }
 
-// Why nothing is shown.
-fn unseen(refusal: ViewRefusal) -> Answer
+/// The line of a view that shows nothing.
+pub fn unseen(refusal: ViewRefusal) -> Answer
     ensures { answer_line result ≡ unseen_line refusal }
 {
     match refusal {
