@@ -19,7 +19,7 @@ module _ {X : Type 0} where
       ∙ ap (λ (x : List X). x ++ flat back) (flat_map-append (λ (c : List X). c) front pieces ∙ ap (λ (x : List X). flat front ++ x) f)
 
   -- ---- sizes
-  sized-append : (a b : List (List X)) → AreSized a → AreSized b → AreSized (a ++ b)
+  pub sized-append : (a b : List (List X)) → AreSized a → AreSized b → AreSized (a ++ b)
   sized-append [] b s t = t
   sized-append (c ∷ a) b s t = (s.0, sized-append a b s.1 t)
 
@@ -39,6 +39,11 @@ module _ {X : Type 0} where
   sized-at k [] s = omega arith
   sized-at zero (c ∷ cs) s = s.0.high
   sized-at (suc k) (c ∷ cs) s = sized-at k cs s.1
+
+  pub some_at : (k : ℕ) (cs : List (List X)) → AreSized cs → k < length cs → 1 ≤ length (get_or cs k [])
+  some_at k [] s lt = absurd (omega (arith, lt))
+  some_at zero (c ∷ cs) s lt = s.0.low
+  some_at (suc k) (c ∷ cs) s lt = some_at k cs s.1 (omega (arith, lt))
 
   pub sized_parts : (new cs pieces : List (List X)) (k n : ℕ) → new ≡ take k cs ++ pieces ++ drop n cs → AreSized cs → AreSized pieces → AreSized new
   sized_parts new cs pieces k n e s t =

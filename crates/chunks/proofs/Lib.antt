@@ -1,4 +1,5 @@
 pub mod Rows
 pub mod Changes
 pub mod Places
+pub mod Grouped
 pub mod Lists

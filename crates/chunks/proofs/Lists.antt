@@ -5,7 +5,8 @@ use Rattle.std.proofs.Math.Seq.{drop-append-add}
 use Rattle.std.proofs.lemmas.List.{drop-append-le, take_all}
 use Rattle.std.specs.declared.sync.Arc.{Arc}
 use Rattle.std.specs.declared.vec.Vec.{Vec}
-use Rattle.chunks.specs.Chunks.{flat, contents, start, stands, place_in, touched, joining, moved, AreSized, AreWhole, AreFull}
+use Rattle.chunks.specs.Chunks.{flat, start, stands, place_in, touched, joining, moved, AreSized, AreWhole, AreFull}
+use Rattle.chunks.specs.Groups.{chunks_in}
 use Rattle.chunks.proofs.Changes.{flat_at}
 
 add_parts : (a b c : ℕ) → a + b + c ≡ a + (b + c)
@@ -59,29 +60,29 @@ module _ {X : Type 0} where
       ∙ sym (ap (drop (start k cs + at)) (flat_at k cs) ∙ drop-append-add (flat (take k cs)) (get_or cs k [] ++ flat (drop (suc k) cs)) at)
 
   -- ---- what a search wants and gives
-  module _ {A : Type 0} (first second : X → ℕ) (a b p q : ℕ) (rows inside : List (Arc (Vec X A) A)) (cs : List (List X)) (same : rows ≡ inside) (view : contents inside ≡ cs) (one : a ≡ p) (two : b ≡ q) where
-    seen : contents rows ≡ cs
-    seen = ap contents same ∙ view
+  module _ {A : Type 0} (first second : X → ℕ) (a b p q : ℕ) (rows inside : List (Arc (Vec (Arc (Vec X A) A) A) A)) (cs : List (List X)) (same : rows ≡ inside) (view : chunks_in inside ≡ cs) (one : a ≡ p) (two : b ≡ q) where
+    seen : chunks_in rows ≡ cs
+    seen = ap chunks_in same ∙ view
 
-    pub parted_for : IsPartitionedBy (stands first second p q) (flat cs) → IsPartitionedBy (stands first second a b) (flat (contents rows))
+    pub parted_for : IsPartitionedBy (stands first second p q) (flat cs) → IsPartitionedBy (stands first second a b) (flat (chunks_in rows))
     parted_for h =
         subst (λ (ds : List (List X)). IsPartitionedBy (stands first second a b) (flat ds)) (sym seen)
         (subst (λ (n : ℕ). IsPartitionedBy (stands first second n b) (flat cs)) (sym one) (subst (λ (n : ℕ). IsPartitionedBy (stands first second p n) (flat cs)) (sym two) h))
 
-    place_for : (n : ℕ) → n ≡ place_in first second a b (flat (contents rows)) → n ≡ place_in first second p q (flat cs)
+    place_for : (n : ℕ) → n ≡ place_in first second a b (flat (chunks_in rows)) → n ≡ place_in first second p q (flat cs)
     place_for n e =
-        e ∙ ap (λ (k : ℕ). place_in first second k b (flat (contents rows))) one ∙ ap (λ (k : ℕ). place_in first second p k (flat (contents rows))) two ∙ ap (λ (ds : List (List X)). place_in first second p q (flat ds)) seen
+        e ∙ ap (λ (k : ℕ). place_in first second k b (flat (chunks_in rows))) one ∙ ap (λ (k : ℕ). place_in first second p k (flat (chunks_in rows))) two ∙ ap (λ (ds : List (List X)). place_in first second p q (flat ds)) seen
 
-    pub inside_for : (n : ℕ) → n ≡ place_in first second a b (flat (contents rows)) → place_in first second p q (flat cs) < length (flat cs) → n < length (flat (contents rows))
+    pub inside_for : (n : ℕ) → n ≡ place_in first second a b (flat (chunks_in rows)) → place_in first second p q (flat cs) < length (flat cs) → n < length (flat (chunks_in rows))
     inside_for n e h =
-        let long : length (flat (contents rows)) ≡ length (flat cs) = ap (λ (ds : List (List X)). length (flat ds)) seen in
+        let long : length (flat (chunks_in rows)) ≡ length (flat cs) = ap (λ (ds : List (List X)). length (flat ds)) seen in
         omega (arith, place_for n e, long, h)
 
-    pub count_for : (old new len n : ℕ) → n ≡ place_in first second a b (flat (contents rows)) → len ≡ touched n (contents rows) → new ≡ old + len → new ≡ old + touched (place_in first second p q (flat cs)) cs
+    pub count_for : (old new len n : ℕ) → n ≡ place_in first second a b (flat (chunks_in rows)) → len ≡ touched n (chunks_in rows) → new ≡ old + len → new ≡ old + touched (place_in first second p q (flat cs)) cs
     count_for old new len n e t h =
-        h ∙ ap (λ (k : ℕ). old + k) (t ∙ ap (λ (k : ℕ). touched k (contents rows)) (place_for n e) ∙ ap (touched (place_in first second p q (flat cs))) seen)
+        h ∙ ap (λ (k : ℕ). old + k) (t ∙ ap (λ (k : ℕ). touched k (chunks_in rows)) (place_for n e) ∙ ap (touched (place_in first second p q (flat cs))) seen)
 
-    pub joining_for : (old new len n : ℕ) → n ≡ place_in first second a b (flat (contents rows)) → len ≡ touched n (contents rows) → new ≡ old + len + moved (len + 1) → new ≡ old + joining (place_in first second p q (flat cs)) cs
+    pub joining_for : (old new len n : ℕ) → n ≡ place_in first second a b (flat (chunks_in rows)) → len ≡ touched n (chunks_in rows) → new ≡ old + len + moved (len + 1) → new ≡ old + joining (place_in first second p q (flat cs)) cs
     joining_for old new len n e t h =
-        let same : len ≡ touched (place_in first second p q (flat cs)) cs = t ∙ ap (λ (k : ℕ). touched k (contents rows)) (place_for n e) ∙ ap (touched (place_in first second p q (flat cs))) seen in
+        let same : len ≡ touched (place_in first second p q (flat cs)) cs = t ∙ ap (λ (k : ℕ). touched k (chunks_in rows)) (place_for n e) ∙ ap (touched (place_in first second p q (flat cs))) seen in
         h ∙ ap (λ (k : ℕ). old + k + moved (k + 1)) same ∙ add_parts old (touched (place_in first second p q (flat cs)) cs) (moved (touched (place_in first second p q (flat cs)) cs + 1))

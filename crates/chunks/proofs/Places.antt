@@ -28,12 +28,12 @@ module _ {X : Type 0} (test : X → Bool) where
   last_at c e low = ap (passes test) (slice_get-get_or c (length c - 1) e (omega arith))
 
   -- ---- parts of a list that a test parts
-  parted-rest : (c xs : List X) → IsPartitionedBy test (c ++ xs) → IsPartitionedBy test xs
+  pub parted-rest : (c xs : List X) → IsPartitionedBy test (c ++ xs) → IsPartitionedBy test xs
   parted-rest c xs p i j d le lt t =
       let there : test (get_or (c ++ xs) (length c + j) d) ≡ true = ap test (get_or-append-add c xs j d) ∙ t in
       sym (ap test (get_or-append-add c xs i d)) ∙ p (length c + i) (length c + j) d (omega arith) (omega (arith, length-append c xs)) there
 
-  parted-front : (c xs : List X) → IsPartitionedBy test (c ++ xs) → IsPartitionedBy test c
+  pub parted-front : (c xs : List X) → IsPartitionedBy test (c ++ xs) → IsPartitionedBy test c
   parted-front c xs p i j d le lt t =
       let there : test (get_or (c ++ xs) j d) ≡ true = ap test (get_or_append_left c xs d j lt) ∙ t in
       sym (ap test (get_or_append_left c xs d i (omega arith))) ∙ p i j d le (omega (arith, length-append c xs)) there
@@ -171,7 +171,7 @@ module _ {X : Type 0} (test : X → Bool) where
 
 module _ {X : Type 0} where
   -- the chunks up to one have its elements and those before
-  start_more : (k : ℕ) (cs : List (List X)) → k < length cs → start (suc k) cs ≡ start k cs + length (get_or cs k [])
+  pub start_more : (k : ℕ) (cs : List (List X)) → k < length cs → start (suc k) cs ≡ start k cs + length (get_or cs k [])
   start_more k [] h = absurd (omega arith)
   start_more zero (c ∷ []) h = omega (arith, length-append c [])
   start_more zero (c ∷ d ∷ cs) h = omega (arith, length-append c [])
@@ -189,7 +189,7 @@ module _ {X : Type 0} where
       omega (arith, past, more, same)
 
   -- ---- the chunk that a place touches
-  first_of : (k at : ℕ) (c : List X) (cs : List (List X)) → start (suc k) (c ∷ cs) + at ≡ length c + (start k cs + at)
+  pub first_of : (k at : ℕ) (c : List X) (cs : List (List X)) → start (suc k) (c ∷ cs) + at ≡ length c + (start k cs + at)
   first_of k at c cs = omega (arith, length-append c (flat (take k cs)))
 
   pub touched_at : (k at : ℕ) (cs : List (List X)) → at < length (get_or cs k []) → length (get_or cs k []) ≡ touched (start k cs + at) cs

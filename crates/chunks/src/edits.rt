@@ -1,122 +1,104 @@
 ghost use Rattle.std.specs.Prelude.{◌≡◌, ◌≤◌, ◌<◌, ◌+◌, ◌++◌, IfOk, OnOk, length, slice_set, take, drop, vec_len};
 ghost use Rattle.std.specs.List.{insert, remove};
-ghost use Rattle.chunks.specs.Chunks.{AreSized, chunk_of, contents, flat, moved, start};
+ghost use Rattle.chunks.specs.Chunks.{flat, moved};
+ghost use Rattle.chunks.specs.Groups.{AreGrouped, IsSpot, chunk_at, chunk_number, chunks_in, place_at};
 
 use crate::copied::Copied;
-use crate::pieces::{Chunk, copy_of, joined, pieces_of};
+use crate::groups::{Group, Place, elements_at};
+use crate::pieces::copy_of;
+use crate::row::{elements, with_chunk};
 use std::alloc::Allocator;
 use swf_text::Memory;
 
-// The elements of a chunk; none past the last one.
-pub(crate) fn elements<T: Drop, A: Allocator + Copy>(row: &[Chunk<T, A>], chunk: usize) -> &[T]
-    requires { AreSized (contents row.now) }
-    ensures value { result.now ≡ chunk_of (contents row.now) chunk }
-    ensures len { length result.now ≡ length (chunk_of (contents row.now) chunk) }
-    ensures most { length result.now ≤ 256 }
-{
-    if chunk < row.len() {
-        row[chunk].as_slice()
-    } else {
-        &[]
-    }
-}
-
-// The chunks after one.
-pub(crate) fn after<T: Drop, A: Allocator + Copy>(
-    row: &[Chunk<T, A>],
-    chunk: usize,
-) -> &[Chunk<T, A>]
-    ensures { contents result.now ≡ drop (chunk + 1) (contents row.now) }
-{
-    if chunk < row.len() {
-        &row[chunk + 1..]
-    } else {
-        &[]
-    }
-}
-
-// The row with these elements in place of a chunk's, and the rest shared.
-fn with_chunk<T: Drop, A: Allocator + Copy>(
+// The groups with these elements in place of a chunk's; all other groups, and the other chunks of
+// its group, are shared. Chunks that move to another group are not counted.
+fn with_elements<T: Drop, A: Allocator + Copy>(
     alloc: A,
-    row: &[Chunk<T, A>],
-    chunk: usize,
+    groups: &[Group<T, A>],
+    place: Place,
     items: Vec<T, A>,
     count: &mut u32,
-) -> Result<Vec<Chunk<T, A>, A>, Memory>
-    requires within { chunk ≤ length row.now }
+) -> Result<Vec<Group<T, A>, A>, Memory>
+    requires spot { IsSpot place.group place.chunk groups.now }
     requires most { vec_len items ≤ 257 }
     requires room { count.old ≤ 1024 }
-    requires sized { AreSized (contents row.now) }
-    ensures flat { IfOk result (λ new. flat (contents new.items) ≡ flat (take chunk (contents row.now)) ++ items.items ++ flat (drop (chunk + 1) (contents row.now))) }
-    ensures sized { IfOk result (λ new. AreSized (contents new.items)) }
+    requires sized { AreGrouped groups.now }
+    ensures flat { let chunk = chunk_number place.group place.chunk groups.now in IfOk result (λ new. flat (chunks_in new.items) ≡ flat (take chunk (chunks_in groups.now)) ++ items.items ++ flat (drop (chunk + 1) (chunks_in groups.now))) }
+    ensures sized { IfOk result (λ new. AreGrouped new.items) }
     ensures count { OnOk result (count.new ≡ count.old + moved (vec_len items)) }
 {
-    let pieces = pieces_of(alloc, items, count)?;
-    Ok(joined(alloc, &row[..chunk], pieces.as_slice(), after(row, chunk))?)
+    let chunks = with_chunk(
+        alloc,
+        elements(groups, place.group),
+        place.chunk,
+        items,
+        count,
+    )?;
+    let mut moved_chunks = 0;
+    Ok(with_chunk(alloc, groups, place.group, chunks, &mut moved_chunks)?)
 }
 
-// The row with one element more, at a place of a chunk, or in a new chunk at the end.
+// The groups with one element more, at a place of a chunk, or in a new chunk at the end.
 pub(crate) fn inserted<T: Copied, A: Allocator + Copy>(
     alloc: A,
-    row: &[Chunk<T, A>],
-    chunk: usize,
-    at: usize,
+    groups: &[Group<T, A>],
+    place: Place,
     item: T,
     count: &mut u32,
-) -> Result<Vec<Chunk<T, A>, A>, Memory>
-    requires chunk { chunk ≤ length row.now }
-    requires place { at ≤ length (chunk_of (contents row.now) chunk) }
+) -> Result<Vec<Group<T, A>, A>, Memory>
+    requires spot { IsSpot place.group place.chunk groups.now }
+    requires place { place.at ≤ length (chunk_at place.group place.chunk groups.now) }
     requires room { count.old ≤ 768 }
-    requires sized { AreSized (contents row.now) }
-    ensures flat { IfOk result (λ new. flat (contents new.items) ≡ insert (flat (contents row.now)) (start chunk (contents row.now) + at) item) }
-    ensures sized { IfOk result (λ new. AreSized (contents new.items)) }
-    ensures count { let old = length (chunk_of (contents row.now) chunk) in OnOk result (count.new ≡ count.old + old + moved (old + 1)) }
+    requires sized { AreGrouped groups.now }
+    ensures flat { IfOk result (λ new. flat (chunks_in new.items) ≡ insert (flat (chunks_in groups.now)) (place_at place.group place.chunk place.at groups.now) item) }
+    ensures sized { IfOk result (λ new. AreGrouped new.items) }
+    ensures count { let old = length (chunk_at place.group place.chunk groups.now) in OnOk result (count.new ≡ count.old + old + moved (old + 1)) }
     ensures most { OnOk result (count.new ≤ count.old + 385) }
 {
-    let mut items = copy_of(alloc, elements(row, chunk), count)?;
-    items.insert(at, item)?;
-    Ok(with_chunk(alloc, row, chunk, items, count)?)
+    let mut items = copy_of(alloc, elements_at(groups, place), count)?;
+    items.insert(place.at, item)?;
+    Ok(with_elements(alloc, groups, place, items, count)?)
 }
 
-// The row without the element at a place of a chunk.
+// The groups without the element at a place of a chunk.
 pub(crate) fn removed<T: Copied, A: Allocator + Copy>(
     alloc: A,
-    row: &[Chunk<T, A>],
-    chunk: usize,
-    at: usize,
+    groups: &[Group<T, A>],
+    place: Place,
     count: &mut u32,
-) -> Result<Vec<Chunk<T, A>, A>, Memory>
-    requires place { at < length (chunk_of (contents row.now) chunk) }
+) -> Result<Vec<Group<T, A>, A>, Memory>
+    requires spot { IsSpot place.group place.chunk groups.now }
+    requires place { place.at < length (chunk_at place.group place.chunk groups.now) }
     requires room { count.old ≤ 768 }
-    requires sized { AreSized (contents row.now) }
-    ensures flat { IfOk result (λ new. flat (contents new.items) ≡ remove (flat (contents row.now)) (start chunk (contents row.now) + at)) }
-    ensures sized { IfOk result (λ new. AreSized (contents new.items)) }
-    ensures count { OnOk result (count.new ≡ count.old + length (chunk_of (contents row.now) chunk)) }
+    requires sized { AreGrouped groups.now }
+    ensures flat { IfOk result (λ new. flat (chunks_in new.items) ≡ remove (flat (chunks_in groups.now)) (place_at place.group place.chunk place.at groups.now)) }
+    ensures sized { IfOk result (λ new. AreGrouped new.items) }
+    ensures count { OnOk result (count.new ≡ count.old + length (chunk_at place.group place.chunk groups.now)) }
     ensures most { OnOk result (count.new ≤ count.old + 256) }
 {
-    let mut items = copy_of(alloc, elements(row, chunk), count)?;
-    let _item = items.remove(at);
-    Ok(with_chunk(alloc, row, chunk, items, count)?)
+    let mut items = copy_of(alloc, elements_at(groups, place), count)?;
+    let _item = items.remove(place.at);
+    Ok(with_elements(alloc, groups, place, items, count)?)
 }
 
-// The row with another element at a place of a chunk.
+// The groups with another element at a place of a chunk.
 pub(crate) fn with_another<T: Copied, A: Allocator + Copy>(
     alloc: A,
-    row: &[Chunk<T, A>],
-    chunk: usize,
-    at: usize,
+    groups: &[Group<T, A>],
+    place: Place,
     item: T,
     count: &mut u32,
-) -> Result<Vec<Chunk<T, A>, A>, Memory>
-    requires place { at < length (chunk_of (contents row.now) chunk) }
+) -> Result<Vec<Group<T, A>, A>, Memory>
+    requires spot { IsSpot place.group place.chunk groups.now }
+    requires place { place.at < length (chunk_at place.group place.chunk groups.now) }
     requires room { count.old ≤ 768 }
-    requires sized { AreSized (contents row.now) }
-    ensures flat { IfOk result (λ new. flat (contents new.items) ≡ slice_set (flat (contents row.now)) (start chunk (contents row.now) + at) item) }
-    ensures sized { IfOk result (λ new. AreSized (contents new.items)) }
-    ensures count { OnOk result (count.new ≡ count.old + length (chunk_of (contents row.now) chunk)) }
+    requires sized { AreGrouped groups.now }
+    ensures flat { IfOk result (λ new. flat (chunks_in new.items) ≡ slice_set (flat (chunks_in groups.now)) (place_at place.group place.chunk place.at groups.now) item) }
+    ensures sized { IfOk result (λ new. AreGrouped new.items) }
+    ensures count { OnOk result (count.new ≡ count.old + length (chunk_at place.group place.chunk groups.now)) }
     ensures most { OnOk result (count.new ≤ count.old + 256) }
 {
-    let mut items = copy_of(alloc, elements(row, chunk), count)?;
-    items[at] = item;
-    Ok(with_chunk(alloc, row, chunk, items, count)?)
+    let mut items = copy_of(alloc, elements_at(groups, place), count)?;
+    items[place.at] = item;
+    Ok(with_elements(alloc, groups, place, items, count)?)
 }

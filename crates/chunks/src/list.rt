@@ -1,33 +1,37 @@
 ghost use Rattle.std.specs.Prelude.{◌≡◌, ◌≤◌, ◌<◌, ◌+◌, ◌++◌, IfOk, OnOk, length, option_copied, slice_get, slice_set, drop, vec_len};
 ghost use Rattle.std.specs.List.{insert, remove};
 ghost use Rattle.std.specs.List.Sorted.{IsPartitionedBy};
-ghost use Rattle.chunks.specs.Chunks.{AreFull, AreSized, contents, flat, joining, place_in, stands, touched};
+ghost use Rattle.chunks.specs.Chunks.{AreFull, flat, joining, place_in, stands, touched};
 
 use crate::copied::Keyed;
 use crate::edits::{inserted, removed, with_another};
-use crate::pieces::{Chunk, chunks_of, share};
+use crate::groups::Group;
+use crate::pieces::{chunks_of, share};
 use crate::rest::{Rest, rest_of};
+use crate::row_rest::row_rest_of;
 use crate::search::{open_place, place_of};
 use std::alloc::Allocator;
 use std::marker::Model;
 use swf_text::Memory;
 
-/// A list in chunks of 1 to 256 elements. A copy, and a list made from this one by an edit, share
-/// all chunks but those that the edit makes anew. Contracts see its chunks, each with its elements.
+/// A list in chunks of 1 to 256 elements, which stand in groups of 1 to 256 chunks. A copy shares
+/// all groups. A list made from this one by an edit shares all groups but the one that the edit
+/// touches, and all chunks of that one but the touched one. Contracts see the chunks, each with
+/// its elements; how they are grouped is not told.
 #[derive(Drop)]
 pub struct Chunks<T: Keyed, A: Allocator + Copy> {
-    row: Vec<Chunk<T, A>, A>,
+    groups: Vec<Group<T, A>, A>,
 }
 
 impl<T: Keyed, A: Allocator + Copy> Model for Chunks<T, A> {
     ghost use Rattle.std.specs.Prelude.{List};
-    ghost use Rattle.chunks.specs.Chunks.{AreSized, contents};
+    ghost use Rattle.chunks.specs.Groups.{AreGrouped, chunks_in};
 
     ghost Value = { List (List T) };
 
-    ghost view = { λ c. contents c.row.items };
+    ghost view = { λ c. chunks_in c.groups.items };
 
-    ghost invariant = { λ c. AreSized (contents c.row.items) };
+    ghost invariant = { λ c. AreGrouped c.groups.items };
 }
 
 impl<T: Keyed, A: Allocator + Copy> Chunks<T, A> {
@@ -37,17 +41,18 @@ impl<T: Keyed, A: Allocator + Copy> Chunks<T, A> {
         ensures list { IfOk result (λ list. flat list ≡ items.items) }
         ensures full { IfOk result (λ list. AreFull list) }
     {
-        let row = chunks_of(alloc, items)?;
-        Ok(Chunks { row })
+        let chunks = chunks_of(alloc, items)?;
+        let groups = chunks_of(alloc, chunks)?;
+        Ok(Chunks { groups })
     }
 
-    /// The same list once more, which shares each chunk. Memory where a growth was refused.
+    /// The same list once more, which shares each group. Memory where a growth was refused.
     pub fn copy(&self) -> Result<Chunks<T, A>, Memory>
         ensures { IfOk result (λ list. list ≡ self.now) }
     {
-        let mut row = Vec::with_capacity(*self.row.allocator(), self.row.len())?;
-        share(&mut row, self.row.as_slice())?;
-        Ok(Chunks { row })
+        let mut groups = Vec::with_capacity(*self.groups.allocator(), self.groups.len())?;
+        share(&mut groups, self.groups.as_slice())?;
+        Ok(Chunks { groups })
     }
 
     /// The first element that doesn't stand before one with these two numbers.
@@ -63,20 +68,20 @@ impl<T: Keyed, A: Allocator + Copy> Chunks<T, A> {
         requires { IsPartitionedBy (stands T.first T.second first second) (flat self.now) }
         ensures { result ≡ drop (place_in T.first T.second first second (flat self.now)) (flat self.now) }
     {
-        let rows = self.row.as_slice();
-        Rest::new(rows, place_of(rows, first, second))
+        let groups = self.groups.as_slice();
+        Rest::new(groups, place_of(groups, first, second))
     }
 
     /// All elements, in order.
     pub fn iter(&self) -> Rest<'_, T, A>
         ensures { result ≡ flat self.now }
     {
-        rest_of(&[], self.row.as_slice())
+        rest_of(&[], row_rest_of(&[], self.groups.as_slice()))
     }
 
     /// Where the list takes its memory.
     pub fn allocator(&self) -> A {
-        *self.row.allocator()
+        *self.groups.allocator()
     }
 
     /// The list with an element more, before the first that doesn't stand before it. Counts each
@@ -91,11 +96,11 @@ impl<T: Keyed, A: Allocator + Copy> Chunks<T, A> {
         ensures least { 1 ≤ length (flat self.now) → OnOk result (count.old < count.new) }
         ensures most { OnOk result (count.new ≤ count.old + 385) }
     {
-        let rows = self.row.as_slice();
-        let place = open_place(rows, place_of(rows, item.first(), item.second()));
-        let alloc = *self.row.allocator();
-        let row = inserted(alloc, rows, place.chunk, place.at, item, count)?;
-        Ok(Chunks { row })
+        let old = self.groups.as_slice();
+        let place = open_place(old, place_of(old, item.first(), item.second()));
+        let alloc = *self.groups.allocator();
+        let groups = inserted(alloc, old, place, item, count)?;
+        Ok(Chunks { groups })
     }
 
     /// The list without the first element that doesn't stand before one with these two numbers.
@@ -110,11 +115,11 @@ impl<T: Keyed, A: Allocator + Copy> Chunks<T, A> {
         ensures least { OnOk result (count.old < count.new) }
         ensures most { OnOk result (count.new ≤ count.old + 256) }
     {
-        let rows = self.row.as_slice();
-        let place = place_of(rows, first, second);
-        let alloc = *self.row.allocator();
-        let row = removed(alloc, rows, place.chunk, place.at, count)?;
-        Ok(Chunks { row })
+        let old = self.groups.as_slice();
+        let place = place_of(old, first, second);
+        let alloc = *self.groups.allocator();
+        let groups = removed(alloc, old, place, count)?;
+        Ok(Chunks { groups })
     }
 
     /// The list with another element in place of the first that doesn't stand before it. Counts
@@ -129,10 +134,10 @@ impl<T: Keyed, A: Allocator + Copy> Chunks<T, A> {
         ensures least { OnOk result (count.old < count.new) }
         ensures most { OnOk result (count.new ≤ count.old + 256) }
     {
-        let rows = self.row.as_slice();
-        let place = place_of(rows, item.first(), item.second());
-        let alloc = *self.row.allocator();
-        let row = with_another(alloc, rows, place.chunk, place.at, item, count)?;
-        Ok(Chunks { row })
+        let old = self.groups.as_slice();
+        let place = place_of(old, item.first(), item.second());
+        let alloc = *self.groups.allocator();
+        let groups = with_another(alloc, old, place, item, count)?;
+        Ok(Chunks { groups })
     }
 }

@@ -46,6 +46,7 @@ pub(crate) fn pieces_of<T: Drop, A: Allocator + Copy>(
     requires room { count.old ≤ 1024 }
     ensures flat { IfOk result (λ pieces. flat (contents pieces.items) ≡ items.items) }
     ensures sized { IfOk result (λ pieces. AreSized (contents pieces.items)) }
+    ensures most { IfOk result (λ pieces. vec_len pieces ≤ 2) }
     ensures count { OnOk result (count.new ≡ count.old + moved (vec_len items)) }
 {
     let mut pieces = Vec::with_capacity(alloc, 2)?;

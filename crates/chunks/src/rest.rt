@@ -1,10 +1,11 @@
-ghost use Rattle.std.specs.Prelude.{◌≡◌, ◌≤◌, ◌+◌, ◌++◌, length, option_copied, slice_get, drop};
+ghost use Rattle.std.specs.Prelude.{◌≡◌, ◌≤◌, ◌++◌, length, option_copied, slice_get, drop};
 ghost use Rattle.std.specs.Iterator.{YieldsFirstRef, item_count};
-ghost use Rattle.chunks.specs.Chunks.{AreSized, chunk_of, contents, flat, start};
+ghost use Rattle.chunks.specs.Chunks.{AreSized, chunk_of, contents, flat};
+ghost use Rattle.chunks.specs.Groups.{AreGrouped, IsSpot, chunk_at, chunks_in, place_at};
 
-use crate::edits::{after, elements};
+use crate::groups::{Group, Place};
 use crate::pieces::Chunk;
-use crate::search::Place;
+use crate::row_rest::RowRest;
 use std::alloc::Allocator;
 use std::marker::Model;
 
@@ -13,7 +14,7 @@ use std::marker::Model;
 pub struct Rest<'a, T: Drop, A: Allocator + Copy> {
     // The elements to come of one chunk; where there are none, no chunk is to come.
     items: &'a [T],
-    later: &'a [Chunk<T, A>],
+    later: RowRest<'a, Chunk<T, A>, A>,
 }
 
 impl<'a, T: Drop, A: Allocator + Copy> Model for Rest<'a, T, A> {
@@ -22,37 +23,51 @@ impl<'a, T: Drop, A: Allocator + Copy> Model for Rest<'a, T, A> {
 
     ghost Value = { List T };
 
-    ghost view = { λ r. r.items.now ++ flat (contents r.later.now) };
+    ghost view = { λ r. r.items.now ++ flat (contents r.later) };
 
-    ghost invariant = { λ r. AreSized (contents r.later.now) × IsFront r.items.now (contents r.later.now) };
+    ghost invariant = { λ r. AreSized (contents r.later) × IsFront r.items.now (contents r.later) };
+}
+
+// The elements of the next chunk; none where no chunk is to come.
+fn next_elements<'a, T: Drop, A: Allocator + Copy>(
+    later: &mut RowRest<'a, Chunk<T, A>, A>,
+) -> &'a [T]
+    requires { AreSized (contents later.old) }
+    ensures value { result.now ≡ chunk_of (contents later.old) 0 }
+    ensures later { contents later.new ≡ drop 1 (contents later.old) }
+{
+    match later.next() {
+        Some(chunk) => chunk.as_slice(),
+        None => &[],
+    }
 }
 
 // These elements and then those of these chunks.
 pub(crate) fn rest_of<'a, T: Drop, A: Allocator + Copy>(
     items: &'a [T],
-    later: &'a [Chunk<T, A>],
+    mut later: RowRest<'a, Chunk<T, A>, A>,
 ) -> Rest<'a, T, A>
-    requires { AreSized (contents later.now) }
-    ensures { result ≡ items.now ++ flat (contents later.now) }
+    requires { AreSized (contents later) }
+    ensures { result ≡ items.now ++ flat (contents later.entry) }
 {
     if !items.is_empty() {
         return Rest { items, later };
     }
-    Rest {
-        items: elements(later, 0),
-        later: after(later, 0),
-    }
+    let items = next_elements(&mut later);
+    Rest { items, later }
 }
 
 impl<'a, T: Drop, A: Allocator + Copy> Rest<'a, T, A> {
-    // The elements from a place of a row on.
-    pub(crate) fn new(row: &'a [Chunk<T, A>], place: Place) -> Rest<'a, T, A>
-        requires sized { AreSized (contents row.now) }
-        requires within { place.at ≤ length (chunk_of (contents row.now) place.chunk) }
-        ensures { result ≡ drop (start place.chunk (contents row.now) + place.at) (flat (contents row.now)) }
+    // The elements from a place on.
+    pub(crate) fn new(groups: &'a [Group<T, A>], place: Place) -> Rest<'a, T, A>
+        requires sized { AreGrouped groups.now }
+        requires spot { IsSpot place.group place.chunk groups.now }
+        requires within { place.at ≤ length (chunk_at place.group place.chunk groups.now) }
+        ensures { result ≡ drop (place_at place.group place.chunk place.at groups.now) (flat (chunks_in groups.now)) }
     {
-        let items = elements(row, place.chunk);
-        rest_of(&items[place.at..], after(row, place.chunk))
+        let mut later = RowRest::new(groups, place.group, place.chunk);
+        let items = next_elements(&mut later);
+        rest_of(&items[place.at..], later)
     }
 
     /// The next element, which stays to come; None at the end.
@@ -72,7 +87,10 @@ impl<'a, T: Drop, A: Allocator + Copy> Iterator for Rest<'a, T, A> {
 
     fn next(&mut self) -> Option<&'a T> {
         let (first, items) = self.items.split_first()?;
-        *self = rest_of(items, self.later);
+        self.items = items;
+        if items.is_empty() {
+            self.items = next_elements(&mut self.later);
+        }
         Some(first)
     }
 }

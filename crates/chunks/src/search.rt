@@ -1,19 +1,14 @@
 ghost use Rattle.std.specs.Prelude.{◌≡◌, ◌≤◌, ◌<◌, ◌+◌, length, not};
 ghost use Rattle.std.specs.List.{position_or_len};
 ghost use Rattle.std.specs.List.Sorted.{IsPartitionedBy};
-ghost use Rattle.chunks.specs.Chunks.{AreSized, chunk_of, contents, ends_by, flat, place_in, stands, start, touched};
+ghost use Rattle.chunks.specs.Chunks.{AreSized, contents, ends_by, flat, place_in, stands, touched};
+ghost use Rattle.chunks.specs.Groups.{AreGrouped, IsSpot, chunk_at, chunk_number, chunks_in, ends, place_at};
 
 use crate::copied::Keyed;
-use crate::edits::elements;
+use crate::groups::{Group, Place};
 use crate::pieces::Chunk;
+use crate::row::elements;
 use std::alloc::Allocator;
-
-/// A place in a row: a chunk, and a place in it.
-#[derive(Clone, Copy)]
-pub(crate) struct Place {
-    pub(crate) chunk: usize,
-    pub(crate) at: usize,
-}
 
 // Whether an element stands before one with these two numbers.
 fn is_before<T: Keyed>(item: &T, first: u64, second: u64) -> bool
@@ -29,6 +24,20 @@ fn ends_before<T: Keyed>(items: &[T], first: u64, second: u64) -> bool
 {
     match items.last() {
         Some(last) => is_before(last, first, second),
+        None => false,
+    }
+}
+
+// Whether the last element of the last of these chunks stands before one with these two numbers.
+fn last_ends_before<T: Keyed, A: Allocator + Copy>(
+    chunks: &[Chunk<T, A>],
+    first: u64,
+    second: u64,
+) -> bool
+    ensures { result ≡ ends_by (ends (stands T.first T.second first second)) chunks.now }
+{
+    match chunks.last() {
+        Some(chunk) => ends_before(chunk.as_slice(), first, second),
         None => false,
     }
 }
@@ -51,6 +60,24 @@ fn chunk_before<T: Keyed, A: Allocator + Copy>(
     )
 }
 
+// How many groups end before an element with these two numbers.
+fn group_before<T: Keyed, A: Allocator + Copy>(
+    groups: &[Group<T, A>],
+    first: u64,
+    second: u64,
+) -> usize
+    requires sized { AreGrouped groups.now }
+    requires parted { IsPartitionedBy (stands T.first T.second first second) (flat (chunks_in groups.now)) }
+    ensures within { result ≤ length groups.now }
+    ensures place { result ≡ position_or_len (λ chunks. not (ends_by (ends (stands T.first T.second first second)) chunks)) (contents groups.now) }
+{
+    groups.partition_point(
+        |group: &Group<T, A>| -> bool
+            ensures { result ≡ ends_by (ends (stands T.first T.second first second)) group.now.value.items }
+        { last_ends_before(group.as_slice(), first, second) },
+    )
+}
+
 // How many of these elements stand before one with these two numbers.
 fn before<T: Keyed>(items: &[T], first: u64, second: u64) -> usize
     requires { IsPartitionedBy (stands T.first T.second first second) items.now }
@@ -64,42 +91,60 @@ fn before<T: Keyed>(items: &[T], first: u64, second: u64) -> usize
     )
 }
 
-// The place of the first element that doesn't stand before one with these two numbers; past the
-// last chunk where there is none.
+// The place of the first element that doesn't stand before one with these two numbers; behind the
+// last group where there is none.
 pub(crate) fn place_of<T: Keyed, A: Allocator + Copy>(
-    row: &[Chunk<T, A>],
+    groups: &[Group<T, A>],
     first: u64,
     second: u64,
 ) -> Place
-    requires sized { AreSized (contents row.now) }
-    requires parted { IsPartitionedBy (stands T.first T.second first second) (flat (contents row.now)) }
-    ensures chunk { result.chunk ≤ length row.now }
-    ensures within { result.at ≤ length (chunk_of (contents row.now) result.chunk) }
-    ensures place { start result.chunk (contents row.now) + result.at ≡ place_in T.first T.second first second (flat (contents row.now)) }
-    ensures inside { start result.chunk (contents row.now) + result.at < length (flat (contents row.now)) → result.at < length (chunk_of (contents row.now) result.chunk) }
-    ensures there { result.chunk < length row.now → result.at < length (chunk_of (contents row.now) result.chunk) }
+    requires sized { AreGrouped groups.now }
+    requires parted { IsPartitionedBy (stands T.first T.second first second) (flat (chunks_in groups.now)) }
+    ensures spot { IsSpot result.group result.chunk groups.now }
+    ensures within { result.at ≤ length (chunk_at result.group result.chunk groups.now) }
+    ensures place { place_at result.group result.chunk result.at groups.now ≡ place_in T.first T.second first second (flat (chunks_in groups.now)) }
+    ensures inside { place_at result.group result.chunk result.at groups.now < length (flat (chunks_in groups.now)) → result.at < length (chunk_at result.group result.chunk groups.now) }
+    ensures there { result.group < length groups.now → result.at < length (chunk_at result.group result.chunk groups.now) }
 {
-    let chunk = chunk_before(row, first, second);
-    let at = before(elements(row, chunk), first, second);
-    Place { chunk, at }
+    let group = group_before(groups, first, second);
+    let chunks = elements(groups, group);
+    let chunk = chunk_before(chunks, first, second);
+    let at = before(elements(chunks, chunk), first, second);
+    Place { group, chunk, at }
 }
 
-// The same place in the list, in a chunk that there is: past the last chunk it is at the end of
-// that one, and it stays where there is none.
-pub(crate) fn open_place<T: Drop, A: Allocator + Copy>(row: &[Chunk<T, A>], place: Place) -> Place
-    requires chunk { place.chunk ≤ length row.now }
-    requires within { place.at ≤ length (chunk_of (contents row.now) place.chunk) }
-    requires there { place.chunk < length row.now → place.at < length (chunk_of (contents row.now) place.chunk) }
-    requires sized { AreSized (contents row.now) }
-    ensures chunk { result.chunk ≤ length row.now }
-    ensures within { result.at ≤ length (chunk_of (contents row.now) result.chunk) }
-    ensures touched { length (chunk_of (contents row.now) result.chunk) ≡ touched (start place.chunk (contents row.now) + place.at) (contents row.now) }
-    ensures place { start result.chunk (contents row.now) + result.at ≡ start place.chunk (contents row.now) + place.at }
+// The end of the last chunk.
+fn last_place<T: Drop, A: Allocator + Copy>(groups: &[Group<T, A>]) -> Place
+    requires some { 1 ≤ length groups.now }
+    requires sized { AreGrouped groups.now }
+    ensures spot { IsSpot result.group result.chunk groups.now }
+    ensures last { chunk_number result.group result.chunk groups.now + 1 ≡ length (chunks_in groups.now) }
+    ensures at { result.at ≡ length (chunk_at result.group result.chunk groups.now) }
 {
-    if place.chunk < row.len() || row.is_empty() {
+    let group = groups.len() - 1;
+    let chunks = elements(groups, group);
+    let chunk = chunks.len() - 1;
+    let at = elements(chunks, chunk).len();
+    Place { group, chunk, at }
+}
+
+// The same place in the list, in a chunk that there is: behind the last group it is at the end of
+// the last chunk, and it stays where there is none.
+pub(crate) fn open_place<T: Drop, A: Allocator + Copy>(
+    groups: &[Group<T, A>],
+    place: Place,
+) -> Place
+    requires spot { IsSpot place.group place.chunk groups.now }
+    requires within { place.at ≤ length (chunk_at place.group place.chunk groups.now) }
+    requires there { place.group < length groups.now → place.at < length (chunk_at place.group place.chunk groups.now) }
+    requires sized { AreGrouped groups.now }
+    ensures spot { IsSpot result.group result.chunk groups.now }
+    ensures within { result.at ≤ length (chunk_at result.group result.chunk groups.now) }
+    ensures touched { length (chunk_at result.group result.chunk groups.now) ≡ touched (place_at place.group place.chunk place.at groups.now) (chunks_in groups.now) }
+    ensures place { place_at result.group result.chunk result.at groups.now ≡ place_at place.group place.chunk place.at groups.now }
+{
+    if place.group < groups.len() || groups.is_empty() {
         return place;
     }
-    let chunk = row.len() - 1;
-    let at = elements(row, chunk).len();
-    Place { chunk, at }
+    last_place(groups)
 }

@@ -1,26 +1,25 @@
-use Rattle.std.proofs.Common.{◌≡◌, ◌≤◌, ◌+◌, ◌-◌, arith, length, ◌∙◌}
+use Rattle.std.proofs.Common.{◌≡◌, arith, length, sym, ◌∙◌}
 use Rattle.std.proofs.lemmas.Bool.Decides.{nat_tests}
-use Rattle.std.proofs.lemmas.List.{length-map}
-use Rattle.chunks.specs.Chunks.{contents, start}
-use Rattle.chunks.proofs.Rows.{items_of}
+use Rattle.chunks.specs.Groups.{chunk_number, chunks_in, place_at}
 use Rattle.chunks.proofs.Places.{touched_at, touched_last, touched_none}
-use Rattle.chunks.proofs.search.open_place.Goals.{then-place-row-via-then-place-row, then-place-row-via-else-place-row+then-is_empty}
+use Rattle.chunks.proofs.Grouped.{behind_is, none_in}
+use Rattle.chunks.proofs.search.open_place.Goals.{then-place-groups-via-then-place-groups, then-place-groups-via-else-place-groups+then-is_empty}
 use Rattle.chunks.proofs.search.open_place.Goals as goal
 
-pub returns-then-place-row-clause-touched : goal.returns-then-place-row-clause-touched
-returns-then-place-row-clause-touched g c =
+pub returns-then-place-groups-clause-touched : goal.returns-then-place-groups-clause-touched
+returns-then-place-groups-clause-touched g c =
     let place = c.args.place in
-    let row = c.args.row.now in
-    let rows = contents row in
-    elim c.then-place-row.branch [
-      | then-place-row-via-then-place-row w ↦ touched_at place.chunk place.at rows (c.requires.there w.if-place-row.true)
-      | then-place-row-via-else-place-row+then-is_empty w ↦ touched_none place.chunk (start place.chunk rows + place.at) rows (length-map row items_of ∙ grind (arith, nat_tests, w.if-is_empty.ensures))
+    let groups = c.args.groups.now in
+    let chunk = chunk_number place.group place.chunk groups in
+    elim c.then-place-groups.branch [
+      | then-place-groups-via-then-place-groups w ↦ touched_at chunk place.at (chunks_in groups) (c.requires.there w.if-place-groups.true)
+      | then-place-groups-via-else-place-groups+then-is_empty w ↦ touched_none chunk (place_at place.group place.chunk place.at groups) (chunks_in groups) (none_in groups (grind (arith, nat_tests, w.if-is_empty.ensures)))
     ]
 
 pub returns-clause-touched : goal.returns-clause-touched
 returns-clause-touched g c =
     let place = c.args.place in
-    let row = c.args.row.now in
-    let whole : length (contents row) ≡ length row = length-map row items_of in
-    let some : 1 ≤ length row = grind (arith, nat_tests, c.if-is_empty.ensures, c.if-is_empty.false) in
-    touched_last place.chunk place.at (length row - 1) (contents row) (omega (arith, whole, c.requires.chunk, c.if-place-row.false)) (omega (arith, some, c.requires.chunk, c.if-place-row.false)) c.requires.within
+    let last = c.last_place.result in
+    let groups = c.args.groups.now in
+    let whole : chunk_number place.group place.chunk groups ≡ length (chunks_in groups) = behind_is groups place.group place.chunk (omega (arith, c.if-place-groups.false)) c.requires.spot.chunk in
+    touched_last (chunk_number place.group place.chunk groups) place.at (chunk_number last.group last.chunk groups) (chunks_in groups) whole (c.last_place.ensures.last ∙ sym whole) c.requires.within

@@ -2,7 +2,7 @@ use Rattle.std.proofs.Common.{◌+◌, ◌-◌, length, length-drop, drop, ap, �
 use Rattle.std.proofs.lemmas.List.{take_all}
 use Rattle.chunks.specs.Chunks.{contents}
 use Rattle.chunks.proofs.Rows.{after_is}
-use Rattle.chunks.proofs.edits.after.Goals as goal
+use Rattle.chunks.proofs.row.after.Goals as goal
 
 pub returns-then-chunk-row : goal.returns-then-chunk-row
 returns-then-chunk-row g c =

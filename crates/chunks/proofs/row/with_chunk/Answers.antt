@@ -2,7 +2,7 @@ use Rattle.std.proofs.Common.{◌+◌, take, drop}
 use Rattle.chunks.specs.Chunks.{contents}
 use Rattle.chunks.proofs.Rows.{around_is}
 use Rattle.chunks.proofs.Changes.{flat_parts, sized_parts}
-use Rattle.chunks.proofs.edits.with_chunk.Goals as goal
+use Rattle.chunks.proofs.row.with_chunk.Goals as goal
 
 pub returns-clause-flat : goal.returns-clause-flat
 returns-clause-flat g c =

@@ -2,7 +2,7 @@ use Rattle.std.proofs.Common.{◌≡◌, get_or, [], ap, ◌∙◌}
 use Rattle.chunks.specs.Chunks.{contents}
 use Rattle.chunks.proofs.Rows.{chunk_at, items_in}
 use Rattle.chunks.proofs.Changes.{sized-at}
-use Rattle.chunks.proofs.edits.elements.Goals as goal
+use Rattle.chunks.proofs.row.elements.Goals as goal
 
 pub returns-then-chunk-row-clause-most : goal.returns-then-chunk-row-clause-most
 returns-then-chunk-row-clause-most g c =

@@ -1,0 +1,32 @@
+ghost use Rattle.std.specs.Prelude.{◌≡◌, ◌≤◌, length};
+ghost use Rattle.chunks.specs.Groups.{AreGrouped, IsSpot, chunk_at};
+
+use crate::pieces::Chunk;
+use crate::row::elements;
+use std::alloc::Allocator;
+
+/// Chunks that several lists may share: a chunk whose elements are chunks.
+pub(crate) type Group<T, A> = Chunk<Chunk<T, A>, A>;
+
+/// A place in a row of groups: a group, a chunk of it, and a place in that.
+#[derive(Clone, Copy)]
+pub(crate) struct Place {
+    pub(crate) group: usize,
+    pub(crate) chunk: usize,
+    pub(crate) at: usize,
+}
+
+// The elements of a group's chunk; none behind the last one.
+pub(crate) fn elements_at<T: Drop, A: Allocator + Copy>(
+    groups: &[Group<T, A>],
+    place: Place,
+) -> &[T]
+    requires spot { IsSpot place.group place.chunk groups.now }
+    requires sized { AreGrouped groups.now }
+    ensures value { result.now ≡ chunk_at place.group place.chunk groups.now }
+    ensures len { length result.now ≡ length (chunk_at place.group place.chunk groups.now) }
+    ensures most { length result.now ≤ 256 }
+{
+    let chunks = elements(groups, place.group);
+    elements(chunks, place.chunk)
+}

@@ -1,0 +1,70 @@
+ghost use Rattle.std.specs.Prelude.{◌≡◌, ◌≤◌, ◌+◌, ◌++◌, length, drop};
+ghost use Rattle.std.specs.Iterator.{YieldsFirstRef, item_count};
+ghost use Rattle.chunks.specs.Chunks.{AreSized, chunk_of, contents, flat, start};
+
+use crate::pieces::Chunk;
+use crate::row::{after, elements};
+use std::alloc::Allocator;
+use std::marker::Model;
+
+// The elements of a row of chunks from a place on, in order.
+#[derive(Drop)]
+pub(crate) struct RowRest<'a, T: Drop, A: Allocator + Copy> {
+    // The elements to come of one chunk; where there are none, no chunk is to come.
+    items: &'a [T],
+    later: &'a [Chunk<T, A>],
+}
+
+impl<'a, T: Drop, A: Allocator + Copy> Model for RowRest<'a, T, A> {
+    ghost use Rattle.std.specs.Prelude.{List, ◌++◌};
+    ghost use Rattle.chunks.specs.Chunks.{AreSized, IsFront, contents, flat};
+
+    ghost Value = { List T };
+
+    ghost view = { λ r. r.items.now ++ flat (contents r.later.now) };
+
+    ghost invariant = { λ r. AreSized (contents r.later.now) × IsFront r.items.now (contents r.later.now) };
+}
+
+// These elements and then those of these chunks.
+pub(crate) fn row_rest_of<'a, T: Drop, A: Allocator + Copy>(
+    items: &'a [T],
+    later: &'a [Chunk<T, A>],
+) -> RowRest<'a, T, A>
+    requires { AreSized (contents later.now) }
+    ensures { result ≡ items.now ++ flat (contents later.now) }
+{
+    if !items.is_empty() {
+        return RowRest { items, later };
+    }
+    RowRest {
+        items: elements(later, 0),
+        later: after(later, 0),
+    }
+}
+
+impl<'a, T: Drop, A: Allocator + Copy> RowRest<'a, T, A> {
+    // The elements from a place of a chunk on.
+    pub(crate) fn new(row: &'a [Chunk<T, A>], chunk: usize, at: usize) -> RowRest<'a, T, A>
+        requires sized { AreSized (contents row.now) }
+        requires within { at ≤ length (chunk_of (contents row.now) chunk) }
+        ensures { result ≡ drop (start chunk (contents row.now) + at) (flat (contents row.now)) }
+    {
+        let items = elements(row, chunk);
+        row_rest_of(&items[at..], after(row, chunk))
+    }
+}
+
+impl<'a, T: Drop, A: Allocator + Copy> Iterator for RowRest<'a, T, A> {
+    type Item = &'a T;
+
+    ghost next_gives = { YieldsFirstRef (λ r. r) };
+
+    ghost remaining = { item_count (λ r. r) };
+
+    fn next(&mut self) -> Option<&'a T> {
+        let (first, items) = self.items.split_first()?;
+        *self = row_rest_of(items, self.later);
+        Some(first)
+    }
+}
