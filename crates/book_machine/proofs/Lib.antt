@@ -1,9 +1,10 @@
-pub mod Same
-pub mod Lists
-pub mod Later
-pub mod Steps
-pub mod Given
-pub mod Ids
-pub mod Sound
-pub mod Rising
-pub mod Versions
+mod Same
+mod Lists
+mod Later
+mod Steps
+mod Given
+mod Ids
+mod Sound
+mod Rising
+mod Versions
+pub mod Lemmas

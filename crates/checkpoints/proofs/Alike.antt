@@ -9,7 +9,7 @@ use Rattle.easy_rule.specs.Simulation.{sim}
 use Rattle.scenarios.specs.SoundPlan.{IsPlan}
 use Rattle.metrics.specs.Part.{PartSums}
 use Rattle.metrics.specs.Tables.{TableRows, tables_of}
-use Rattle.metrics.proofs.Unique.{one_part}
+use Rattle.metrics.proofs.Lemmas.{one_part}
 use Rattle.checkpoints.specs.Cut.{all_starts}
 use Rattle.scenarios.specs.Skips.{skips_of}
 use Rattle.checkpoints.specs.Sums.{all_placed, IsTablesOf}

@@ -5,9 +5,9 @@ use Rattle.std.proofs.lemmas.List.Concat.{flat_map-cons}
 use Rattle.scenarios.specs.Plan.{Plan}
 use Rattle.easy_rule.specs.Simulation.{starts_before, sim, bound}
 use Rattle.scenarios.specs.SoundPlan.{IsPlan}
-use Rattle.timeline.proofs.Events.{events-end-by-the-bound}
+use Rattle.timeline.proofs.Lemmas.{events-end-by-the-bound}
 use Rattle.event_loop.specs.Events.{events_before}
-use Rattle.event_loop.proofs.RunOn.{told-all}
+use Rattle.event_loop.proofs.Lemmas.{told-all}
 use Rattle.metrics.specs.Part.{IsPartOf}
 use Rattle.checkpoints.specs.Segment.{SegmentView}
 use Rattle.checkpoints.specs.Cut.{placed_of, Spans, Chain, ShortChain, IsCut, IsShortCut, all_starts}

@@ -12,15 +12,12 @@ use Rattle.std.proofs.lemmas.List.Folds.{find-append}
 use Rattle.std.proofs.lemmas.List.Elements.{All-nil, All-cons, All-append, All-head, All-tail, filter_map-append}
 use Rattle.scenarios.specs.Job.{EffectiveJob}
 use Rattle.scenarios.specs.Plan.{Plan, job_numbered}
-use Rattle.cluster_state.proofs.StateLemmas.{All-find, test-find}
+use Rattle.cluster_state.proofs.Lemmas.{All-find, test-find}
 use Rattle.easy_rule.specs.declared.start.Start.{Start}
 use Rattle.easy_rule.specs.Simulation.{sim, start_of, starts_before, last_submit, bound}
-use Rattle.easy_rule.proofs.Decisions.{cases_option}
-use Rattle.easy_rule.proofs.PassLemmas.{find-none, none-passes}
+use Rattle.easy_rule.proofs.Lemmas.{cases_option, find-none, none-passes}
 use Rattle.scenarios.specs.SoundPlan.{IsPlan}
-use Rattle.timeline.proofs.Rest.{submits-by}
-use Rattle.timeline.proofs.Seconds.{starts-below, all-start-early}
-use Rattle.timeline.proofs.Once.{each-job-starts-once, none-starts-early, later}
+use Rattle.timeline.proofs.Lemmas.{submits-by, starts-below, all-start-early, each-job-starts-once, none-starts-early, later}
 use Rattle.scenarios.specs.declared.placed.Placed.{Placed}
 use Rattle.metrics.specs.Placed.{CanStart, CanSum}
 use Rattle.checkpoints.specs.Cut.{placed_at, placed_of}

@@ -1,11 +1,12 @@
-pub mod Chains
-pub mod Late
-pub mod Totals
-pub mod Lookups
-pub mod Searches
-pub mod Found
-pub mod Placing
-pub mod Rows
-pub mod Worked
-pub mod Coming
-pub mod Alike
+mod Chains
+mod Late
+mod Totals
+mod Lookups
+mod Searches
+mod Found
+mod Placing
+mod Rows
+mod Worked
+mod Coming
+mod Alike
+pub mod Lemmas

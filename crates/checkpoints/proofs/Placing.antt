@@ -11,15 +11,14 @@ use Rattle.scenarios.specs.Plan.{Plan, job_numbered}
 use Rattle.scenarios.specs.declared.placed.Placed.{Placed}
 use Rattle.scenarios.specs.Placed.{real_end}
 use Rattle.cluster_state.specs.State.{State, placed, started}
-use Rattle.cluster_state.proofs.StateLemmas.{sum_by-placed, All-placed}
+use Rattle.cluster_state.proofs.Lemmas.{sum_by-placed, All-placed}
 use Rattle.easy_rule.specs.declared.start.Start.{Start}
 use Rattle.easy_rule.specs.Rule.{next, decided, decisions}
 use Rattle.easy_rule.specs.Simulation.{before, ready, starts_in}
-use Rattle.easy_rule.proofs.NextLemmas.{decided-start, decided-stop, decisions-start, decisions-stop}
-use Rattle.easy_rule.proofs.Decisions.{cases_option, decided-keeps}
+use Rattle.easy_rule.proofs.Lemmas.{decided-start, decided-stop, decisions-start, decisions-stop, cases_option, decided-keeps}
 use Rattle.scenarios.specs.SoundPlan.{IsPlan}
-use Rattle.timeline.proofs.Facts.{before-more}
-use Rattle.event_loop.proofs.Kept.{before-of-plan}
+use Rattle.timeline.proofs.Lemmas.{before-more}
+use Rattle.event_loop.proofs.Lemmas.{before-of-plan}
 use Rattle.checkpoints.specs.Cut.{placed_at, placed_of}
 use Rattle.checkpoints.proofs.Searches.{has}
 

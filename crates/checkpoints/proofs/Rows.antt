@@ -7,7 +7,7 @@ use Rattle.std.proofs.lemmas.List.Elements.{All-head, All-tail}
 use Rattle.scenarios.specs.Job.{EffectiveJob}
 use Rattle.easy_rule.specs.declared.start.Start.{Start}
 use Rattle.easy_rule.specs.Simulation.{sim, start_of}
-use Rattle.timeline.proofs.Once.{none-starts-early}
+use Rattle.timeline.proofs.Lemmas.{none-starts-early}
 use Rattle.checkpoints.specs.declared.row.Row.{Row}
 use Rattle.checkpoints.specs.Schedule.{row_at, row_of, EachJobHasARow}
 

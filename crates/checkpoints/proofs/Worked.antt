@@ -9,10 +9,10 @@ use Rattle.cluster_state.specs.Snapshot.{Numbers, numbers_of}
 use Rattle.easy_rule.specs.declared.start.Start.{Start}
 use Rattle.easy_rule.specs.Simulation.{IsEvent, before, starts_in, bound}
 use Rattle.scenarios.specs.SoundPlan.{IsPlan}
-use Rattle.timeline.proofs.Events.{events-end-by-the-bound}
+use Rattle.timeline.proofs.Lemmas.{events-end-by-the-bound}
 use Rattle.event_loop.specs.Events.{Progress, IsNextEvent, begun, events_before}
 use Rattle.event_loop.specs.Going.{IsRunOn}
-use Rattle.event_loop.proofs.RunOn.{run-on-step}
+use Rattle.event_loop.proofs.Lemmas.{run-on-step}
 use Rattle.metrics.specs.Part.{PartSums, IsPartOf}
 use Rattle.metrics.specs.Placed.{CanSum}
 use Rattle.checkpoints.specs.Segment.{SegmentView}

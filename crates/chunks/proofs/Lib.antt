@@ -1,5 +1,5 @@
-pub mod Rows
-pub mod Changes
-pub mod Places
-pub mod Grouped
-pub mod Lists
+mod Rows
+mod Changes
+mod Places
+mod Grouped
+mod Lists

@@ -129,19 +129,19 @@ length-by_end [] = refl
 length-by_end (r ∷ rs) = let k = length-entered r (by_end rs) in let i = length-by_end rs in omega (arith, k, i)
 
 -- none ends sooner than one before it
-abbrev pub Rises : List Placed → Type 0
-Rises [] = Unit {0}
-Rises (x ∷ xs) = All (NotLater x) xs × Rises xs
+abbrev pub NoneEndsSooner : List Placed → Type 0
+NoneEndsSooner [] = Unit {0}
+NoneEndsSooner (x ∷ xs) = All (NotLater x) xs × NoneEndsSooner xs
 
-rises-entered : (r : Placed) (xs : List Placed) → Rises xs → Rises (entered r xs)
+rises-entered : (r : Placed) (xs : List Placed) → NoneEndsSooner xs → NoneEndsSooner (entered r xs)
 rises-entered r [] h = (All-nil (NotLater r), tt)
 rises-entered r (x ∷ xs) h =
     ⊎_elim
-    (λ (s : Sooner r x). subst Rises (sym (enters-before r x xs s)) (All-cons (NotLater r) x xs (weaker r x s) (All-weaker (NotLater x) (NotLater r) (λ y n. no-later-than r x y (weaker r x s) n) xs h.0), h))
-    (λ (n : NotLater x r). subst Rises (sym (enters-behind r x xs n)) (All-entered (NotLater x) r xs n h.0, rises-entered r xs h.1))
+    (λ (s : Sooner r x). subst NoneEndsSooner (sym (enters-before r x xs s)) (All-cons (NotLater r) x xs (weaker r x s) (All-weaker (NotLater x) (NotLater r) (λ y n. no-later-than r x y (weaker r x s) n) xs h.0), h))
+    (λ (n : NotLater x r). subst NoneEndsSooner (sym (enters-behind r x xs n)) (All-entered (NotLater x) r xs n h.0, rises-entered r xs h.1))
     (sooner-or r x)
 
-pub rises-by_end : (rs : List Placed) → Rises (by_end rs)
+pub rises-by_end : (rs : List Placed) → NoneEndsSooner (by_end rs)
 rises-by_end [] = tt
 rises-by_end (r ∷ rs) = rises-entered r (by_end rs) (rises-by_end rs)
 
@@ -192,7 +192,7 @@ enters-first : (r : Placed) (xs : List Placed) → All (Sooner r) xs → entered
 enters-first r [] a = refl
 enters-first r (x ∷ xs) a = enters-before r x xs (All-head (Sooner r) x xs a)
 
-filter-entered : (p : Placed → Bool) (r : Placed) (xs : List Placed) → Rises xs → filter p (entered r xs) ≡ cond (p r) (entered r (filter p xs)) (filter p xs)
+filter-entered : (p : Placed → Bool) (r : Placed) (xs : List Placed) → NoneEndsSooner xs → filter p (entered r xs) ≡ cond (p r) (entered r (filter p xs)) (filter p xs)
 filter-entered p r [] h = refl
 filter-entered p r (x ∷ xs) h =
     ⊎_elim

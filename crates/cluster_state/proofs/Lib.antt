@@ -1,6 +1,7 @@
-pub mod StateLemmas
-pub mod RowLemmas
-pub mod SnapshotLemmas
-pub mod LookupLemmas
-pub mod EndLemmas
-pub mod StartAllLemmas
+mod StateLemmas
+mod RowLemmas
+mod SnapshotLemmas
+mod LookupLemmas
+mod EndLemmas
+mod StartAllLemmas
+pub mod Lemmas

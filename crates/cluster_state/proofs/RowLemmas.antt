@@ -19,9 +19,9 @@ pub put-behind : (j x : EffectiveJob) (xs : List EffectiveJob) → x.estimate < 
 put-behind j x xs l = cond-false (nat_le j.estimate x.estimate) (j ∷ x ∷ xs) (x ∷ put j xs) (lt-leb j.estimate x.estimate l)
 
 -- estimates that rise
-abbrev pub Rises : List EffectiveJob → Type 0
-Rises [] = Unit {0}
-Rises (x ∷ xs) = All (λ y. x.estimate ≤ y.estimate) xs × Rises xs
+abbrev pub RisesByEstimate : List EffectiveJob → Type 0
+RisesByEstimate [] = Unit {0}
+RisesByEstimate (x ∷ xs) = All (λ y. x.estimate ≤ y.estimate) xs × RisesByEstimate xs
 
 pub All-put : (P : EffectiveJob → Type 0) (j : EffectiveJob) (xs : List EffectiveJob) → P j → All P xs → All P (put j xs)
 All-put P j [] h a = All-cons P j [] h a
@@ -43,18 +43,18 @@ put-All P j (x ∷ xs) a =
     (p.0, All-cons P x xs (All-head P x (put j xs) b) p.1))
     (cases_lt j.estimate (x.estimate + 1))
 
-pub rises-put : (j : EffectiveJob) (xs : List EffectiveJob) → Rises xs → Rises (put j xs)
+pub rises-put : (j : EffectiveJob) (xs : List EffectiveJob) → RisesByEstimate xs → RisesByEstimate (put j xs)
 rises-put j [] r = (All-nil (λ y. j.estimate ≤ y.estimate), tt)
 rises-put j (x ∷ xs) r =
     ⊎_elim
     (λ (l : j.estimate < x.estimate + 1).
-    subst Rises (sym (put-before j x xs (omega arith)))
+    subst RisesByEstimate (sym (put-before j x xs (omega arith)))
     (All-cons (λ y. j.estimate ≤ y.estimate) x xs (omega arith) (All-weaker (λ y. x.estimate ≤ y.estimate) (λ y. j.estimate ≤ y.estimate) (λ y h. omega arith) xs r.0), r))
     (λ (l : x.estimate + 1 ≤ j.estimate).
-    subst Rises (sym (put-behind j x xs (omega arith))) (All-put (λ y. x.estimate ≤ y.estimate) j xs (omega arith) r.0, rises-put j xs r.1))
+    subst RisesByEstimate (sym (put-behind j x xs (omega arith))) (All-put (λ y. x.estimate ≤ y.estimate) j xs (omega arith) r.0, rises-put j xs r.1))
     (cases_lt j.estimate (x.estimate + 1))
 
-pub rises-by_estimate : (js : List EffectiveJob) → Rises (by_estimate js)
+pub rises-by_estimate : (js : List EffectiveJob) → RisesByEstimate (by_estimate js)
 rises-by_estimate [] = tt
 rises-by_estimate (j ∷ js) = rises-put j (by_estimate js) (rises-by_estimate js)
 
@@ -94,7 +94,7 @@ put-first : (j : EffectiveJob) (xs : List EffectiveJob) → All (λ y. j.estimat
 put-first j [] a = refl
 put-first j (x ∷ xs) a = put-before j x xs (All-head (λ y. j.estimate ≤ y.estimate) x xs a)
 
-without-put-other : (n : ℕ) (j : EffectiveJob) (xs : List EffectiveJob) → nat_eq j.number n ≡ false → Rises xs → without n (put j xs) ≡ put j (without n xs)
+without-put-other : (n : ℕ) (j : EffectiveJob) (xs : List EffectiveJob) → nat_eq j.number n ≡ false → RisesByEstimate xs → without n (put j xs) ≡ put j (without n xs)
 without-put-other n j [] e r = cond-false (nat_eq j.number n) [] (j ∷ []) e
 without-put-other n j (x ∷ xs) e r =
     ⊎_elim

@@ -4,6 +4,7 @@ ghost use Rattle.std.specs.Ordering.{nat_cmp};
 ghost use Rattle.scenarios.specs.Placed.{real_end};
 ghost use Rattle.cluster_state.specs.State.{placed};
 ghost use Rattle.cluster_state.specs.Ends.{entered};
+ghost use Rattle.cluster_state.specs.Room.{Grew, HeapGrew};
 
 use crate::running::{enter, run};
 use scenarios::{Job, Placed};
@@ -28,12 +29,9 @@ pub(crate) fn join<A: Allocator>(
     ensures by_end { by_end.new.items ≡ entered r by_end.old.items }
     ensures heap { IsHeap (λ x y. nat_cmp y.0 x.0) (heap_items ends.new) }
     ensures ends { (f : ℕ → ℕ) → sum_by (λ e. f e.0) (heap_items ends.new) ≡ f (real_end r) + sum_by (λ e. f e.0) (heap_items ends.old) }
-    ensures len { vec_len running.new ≡ vec_len running.old + 1 }
-    ensures row_len { vec_len by_end.new ≡ vec_len by_end.old + 1 }
-    ensures heap_len { heap_len ends.new ≡ heap_len ends.old + 1 }
-    ensures capacity { vec_capacity running.old ≤ vec_capacity running.new }
-    ensures row_capacity { vec_capacity by_end.old ≤ vec_capacity by_end.new }
-    ensures heap_capacity { heap_capacity ends.old ≤ heap_capacity ends.new }
+    ensures list { Grew 1 running.old running.new }
+    ensures row { Grew 1 by_end.old by_end.new }
+    ensures heap_room { HeapGrew 1 ends.old ends.new }
 {
     let end = r.end();
     let Ok(()) = run(running, r) else {
@@ -64,12 +62,9 @@ pub(crate) fn join_all<A: Allocator>(
     ensures by_end { by_end.new.items ≡ fold (λ rs j. entered (record { job = j; start = now }) rs) by_end.old.items jobs.now }
     ensures heap { IsHeap (λ x y. nat_cmp y.0 x.0) (heap_items ends.new) }
     ensures ends { (f : ℕ → ℕ) → sum_by (λ e. f e.0) (heap_items ends.new) ≡ sum_by (λ j. f (now + j.length)) jobs.now + sum_by (λ e. f e.0) (heap_items ends.old) }
-    ensures len { vec_len running.new ≡ vec_len running.old + length jobs.now }
-    ensures row_len { vec_len by_end.new ≡ vec_len by_end.old + length jobs.now }
-    ensures heap_len { heap_len ends.new ≡ heap_len ends.old + length jobs.now }
-    ensures capacity { vec_capacity running.old ≤ vec_capacity running.new }
-    ensures row_capacity { vec_capacity by_end.old ≤ vec_capacity by_end.new }
-    ensures heap_capacity { heap_capacity ends.old ≤ heap_capacity ends.new }
+    ensures list { Grew (length jobs.now) running.old running.new }
+    ensures row { Grew (length jobs.now) by_end.old by_end.new }
+    ensures heap_room { HeapGrew (length jobs.now) ends.old ends.new }
 {
     for job in jobs {
         let r = Placed {

@@ -9,8 +9,7 @@ use Rattle.std.proofs.lemmas.List.{append-nil, take_all}
 use Rattle.swf_text.specs.Number.{Spells, are_digits, decimal, number_of, is_below_zero}
 use Rattle.swf_text.specs.Entry.{field, whole_number, is_partial, entry_made}
 use Rattle.swf_text.specs.Line.{value_then}
-use Rattle.swf_text.proofs.Numbers.{Spells-number_of, number_of-Spells}
-use Rattle.swf_text.proofs.Words.{onto, onto-value_then}
+use Rattle.swf_text.proofs.Lemmas.{Spells-number_of, number_of-Spells, onto, onto-value_then}
 use Rattle.commands.specs.Words.{job_number, job_value, may_stand, standing, entry_value, entry_values}
 
 -- ---- the value of a word

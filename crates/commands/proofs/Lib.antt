@@ -1,7 +1,7 @@
-pub mod LineWords
-pub mod EntryWords
-pub mod FewWords
-pub mod Told
-pub mod Saved
-pub mod SavedAgain
-pub mod SavedBytes
+mod LineWords
+mod EntryWords
+mod FewWords
+mod Told
+mod Saved
+mod SavedAgain
+mod SavedBytes

@@ -8,8 +8,7 @@ use Rattle.std.proofs.lemmas.List.{append-nil, take_all, take_at}
 use Rattle.std.proofs.lemmas.Str.{IsUtf8-from_ascii}
 use Rattle.swf_text.specs.Line.{fields}
 use Rattle.swf_text.specs.Scan.{first_word, after_word}
-use Rattle.swf_text.proofs.Numbers.{and_first, and_second}
-use Rattle.swf_text.proofs.Words.{fields-next, fields-end, word_left, no_word_left}
+use Rattle.swf_text.proofs.Lemmas.{and_first, and_second, fields-next, fields-end, word_left, no_word_left}
 use Rattle.scenarios.specs.Name.{is_name, is_name_byte}
 
 -- ---- the loop that gathers words

@@ -9,10 +9,7 @@ use Rattle.std.proofs.lemmas.Fmt.{decimal_nonempty, length-decimal-le}
 use Rattle.std.proofs.lemmas.Grind.{common_steps}
 use Rattle.std.proofs.lemmas.List.{append-nil}
 use Rattle.swf_text.specs.Line.{is_blank, fields}
-use Rattle.swf_text.proofs.Numbers.{and_first}
-use Rattle.swf_text.proofs.Plains.{solid_fields}
-use Rattle.swf_text.proofs.Spellings.{spelled}
-use Rattle.swf_text.proofs.Words.{fields-blank}
+use Rattle.swf_text.proofs.Lemmas.{and_first, solid_fields, spelled, fields-blank}
 use Rattle.scenarios.specs.declared.order.Order.{Order}
 use Rattle.scenarios.specs.declared.order.Order.TheVariants.{Arrival, Shortest}
 use Rattle.scenarios.specs.Name.{is_name, is_name_byte}

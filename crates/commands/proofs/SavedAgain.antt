@@ -14,20 +14,19 @@ use Rattle.swf_text.specs.Text.{LogText, is_feed}
 use Rattle.swf_text.specs.Comment.{IsComment}
 use Rattle.swf_text.specs.Entry.{LogEntry, number_of_entry, submit_of}
 use Rattle.swf_text.specs.Log.{comes_before, IsRising, with_entry, log_of}
-use Rattle.swf_text.proofs.Numbers.{and_first, and_second}
+use Rattle.swf_text.proofs.Lemmas.{and_first, and_second, spelled}
 use Rattle.scenarios.specs.declared.order.Order.{Order}
 use Rattle.scenarios.specs.declared.order.Order.TheVariants.{Arrival, Shortest}
 use Rattle.scenarios.specs.Name.{is_name, is_name_byte}
 use Rattle.scenarios.specs.Scenario.{Setting, IsSetting, setting_of}
 use Rattle.scenarios.specs.ScenarioList.{Listed, Listing, empty, named, AreApart, IsListed, add_fault, with_scenario}
-use Rattle.scenarios.proofs.Listings.{bytes_eq-swap, named-append, named-first}
+use Rattle.scenarios.proofs.Lemmas.{bytes_eq-swap, named-append, named-first}
 use Rattle.commands.specs.ScenarioLine.{scenario_line, order_text, scenario_comment}
 use Rattle.commands.specs.Opening.{kept, with_setting, in_order, with_line, told, comment_of}
 use Rattle.commands.specs.Laws.{SavesSoundComments, SavesTheSame}
 use Rattle.commands.proofs.LineWords.{name_bytes, length-name}
 use Rattle.commands.proofs.Told.{kept-append, told_from, told_from-append}
 use Rattle.commands.proofs.Saved.{line_for, scenario_line-comment}
-use Rattle.swf_text.proofs.Spellings.{spelled}
 
 leb_of : (a b : ℕ) → a ≤ b → leb a b ≡ true
 leb_of a b h = grind (arith, nat_tests)

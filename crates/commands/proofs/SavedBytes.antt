@@ -9,13 +9,12 @@ use Rattle.swf_text.specs.Grammar.{IsText}
 use Rattle.swf_text.specs.Log.{comes_before, log_of, with_entry}
 use Rattle.swf_text.specs.Text.{LogText, lines}
 use Rattle.swf_text.specs.Writing.{text_bytes}
-use Rattle.swf_text.proofs.Kept.{one_text, text_sound}
-use Rattle.swf_text.proofs.Trips.{read_again}
-use Rattle.job_table.proofs.Sorted.{log-table}
+use Rattle.swf_text.proofs.Lemmas.{one_text, text_sound, read_again}
+use Rattle.job_table.proofs.Lemmas.{log-table}
 use Rattle.scenarios.specs.declared.order.Order.{Order}
 use Rattle.scenarios.specs.Scenario.{Setting, IsSetting, are_within, setting_of}
 use Rattle.scenarios.specs.ScenarioList.{Listing, IsListing, add_fault, empty}
-use Rattle.scenarios.proofs.Listings.{can_add, IsListing-with}
+use Rattle.scenarios.proofs.Lemmas.{can_add, IsListing-with}
 use Rattle.commands.specs.declared.comment.ScenarioLine.{ScenarioLine}
 use Rattle.commands.specs.declared.opening_fault.OpenTextFault.{OpenTextFault}
 use Rattle.commands.specs.ScenarioLine.{scenario_line}

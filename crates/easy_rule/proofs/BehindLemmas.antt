@@ -9,7 +9,7 @@ use Rattle.scenarios.specs.Job.{EffectiveJob}
 use Rattle.scenarios.specs.declared.order.Order.TheVariants.{Arrival}
 use Rattle.cluster_state.specs.State.{State, free}
 use Rattle.cluster_state.specs.Row.{in_order}
-use Rattle.cluster_state.proofs.RowLemmas.{in_order-All}
+use Rattle.cluster_state.proofs.Lemmas.{in_order-All}
 use Rattle.easy_rule.specs.declared.shadow_time.Shadow.{Shadow}
 use Rattle.easy_rule.specs.Rule.{shadow_of, shadow_for, next, next_of, may_backfill, shadow_at, shadow_time}
 use Rattle.easy_rule.specs.Pass.{row, front, IsPass}

@@ -6,7 +6,7 @@ use Rattle.std.proofs.lemmas.Bool.{cases_Bool, cases_lt, cond-true, cond-false, 
 use Rattle.scenarios.specs.Job.{EffectiveJob, IsWithinLimits}
 use Rattle.scenarios.specs.declared.placed.Placed.{Placed}
 use Rattle.cluster_state.specs.State.{State, IsSound, free, started, all_started, CanStartAll, without, waiting_job}
-use Rattle.cluster_state.proofs.StateLemmas.{sum_by-placed, sound-started, All-find}
+use Rattle.cluster_state.proofs.Lemmas.{sum_by-placed, sound-started, All-find}
 use Rattle.easy_rule.specs.declared.shadow_time.Shadow.{Shadow}
 use Rattle.easy_rule.specs.Rule.{next, next_of, may_backfill, shadow_of, shadow_for, shadow_at, state_after, starts_at}
 use Rattle.easy_rule.specs.Pass.{most_starts, less, picked, left_after, fitting, start_at, row, IsFirstPlace, IsPass}

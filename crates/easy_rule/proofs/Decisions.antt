@@ -7,7 +7,7 @@ use Rattle.scenarios.specs.Job.{EffectiveJob}
 use Rattle.cluster_state.specs.State.{State, IsSound, free, started}
 use Rattle.cluster_state.specs.Row.{in_order}
 use Rattle.scenarios.specs.declared.placed.Placed.{Placed}
-use Rattle.cluster_state.proofs.StateLemmas.{sum_by-without, sound-started}
+use Rattle.cluster_state.proofs.Lemmas.{sum_by-without, sound-started}
 use Rattle.easy_rule.specs.declared.shadow_time.Shadow.{Shadow}
 use Rattle.easy_rule.specs.declared.start.Start.{Start}
 use Rattle.easy_rule.specs.Rule.{next, next_of, may_backfill, shadow_at, shadow_time, shadow_for, decided, decisions}

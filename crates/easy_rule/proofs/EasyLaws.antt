@@ -3,7 +3,7 @@ use Rattle.std.proofs.Common.{◌≡◌, ◌+◌, true, length, All, sum_by, ref
 use Rattle.scenarios.specs.Job.{EffectiveJob}
 use Rattle.scenarios.specs.declared.placed.Placed.{Placed}
 use Rattle.cluster_state.specs.State.{IsSound}
-use Rattle.cluster_state.proofs.StateLemmas.{sum_by-placed, sum_by-without, All-placed, All-without, sound-started}
+use Rattle.cluster_state.proofs.Lemmas.{sum_by-placed, sum_by-without, All-placed, All-without, sound-started}
 use Rattle.easy_rule.specs.Rule.{state_after, starts_at}
 use Rattle.easy_rule.specs.RuleLaws.{IsSettled, Settles, Keeps, Conserves, EasyIsARule}
 use Rattle.easy_rule.proofs.NextLemmas.{All-member, next-facts, next-found, next-fits}

@@ -7,7 +7,7 @@ use Rattle.scenarios.specs.declared.order.Order.{Order}
 use Rattle.scenarios.specs.declared.order.Order.TheVariants.{Arrival, Shortest}
 use Rattle.cluster_state.specs.State.{free}
 use Rattle.cluster_state.specs.Row.{put, by_estimate, in_order}
-use Rattle.cluster_state.proofs.RowLemmas.{Rises, put-before, put-behind, rises-by_estimate, find-put, by_estimate-All, in_order-All}
+use Rattle.cluster_state.proofs.Lemmas.{RisesByEstimate, put-before, put-behind, rises-by_estimate, find-put, by_estimate-All, in_order-All}
 use Rattle.easy_rule.specs.Rule.{next, next_of, may_backfill, shadow_at}
 use Rattle.easy_rule.specs.Laws.{IsFirst, IsNotAfter, NextIsTheFirst}
 use Rattle.easy_rule.proofs.PassLemmas.{none-passes}
@@ -22,7 +22,7 @@ All-at P (j ∷ js) zero other a e = let same : j ≡ other = cc in subst P same
 All-at P (j ∷ js) (suc m) other a e = All-at P js m other (All-tail P j js a) e
 
 -- one more that passes: it is found, or a shorter one is
-find-put-passes : (q : EffectiveJob → Bool) (j : EffectiveJob) (xs : List EffectiveJob) (job : EffectiveJob) → q j ≡ true → Rises xs → find q (put j xs) ≡ Some job
+find-put-passes : (q : EffectiveJob → Bool) (j : EffectiveJob) (xs : List EffectiveJob) (job : EffectiveJob) → q j ≡ true → RisesByEstimate xs → find q (put j xs) ≡ Some job
     → ((j ≡ job) × All (λ x. q x ≡ true → j.estimate ≤ x.estimate) xs) ⊎ ((find q xs ≡ Some job) × (job.estimate < j.estimate))
 find-put-passes q j [] job y r e =
     let k : Some j ≡ Some job = sym (cond-true (q j) (Some j) None y) ∙ e in

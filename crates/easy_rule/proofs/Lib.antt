@@ -1,10 +1,11 @@
-pub mod RuleLemmas
-pub mod WalkLemmas
-pub mod NextLemmas
-pub mod PassLemmas
-pub mod BehindLemmas
-pub mod Decisions
-pub mod EasyLaws
-pub mod FirstLemmas
-pub mod Runs
-pub mod ChoiceLemmas
+mod RuleLemmas
+mod WalkLemmas
+mod NextLemmas
+mod PassLemmas
+mod BehindLemmas
+mod Decisions
+mod EasyLaws
+mod FirstLemmas
+mod Runs
+mod ChoiceLemmas
+pub mod Lemmas

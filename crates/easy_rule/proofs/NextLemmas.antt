@@ -7,7 +7,7 @@ use Rattle.std.proofs.lemmas.Bool.{leb-true, lt-leb, cases_Bool, cond-true, cond
 use Rattle.scenarios.specs.Job.{EffectiveJob, IsWithinLimits}
 use Rattle.cluster_state.specs.State.{State, IsSound, free, waiting_job, started, without}
 use Rattle.cluster_state.specs.Row.{put, by_estimate, in_order}
-use Rattle.cluster_state.proofs.RowLemmas.{find-in_order}
+use Rattle.cluster_state.proofs.Lemmas.{find-in_order}
 use Rattle.scenarios.specs.declared.order.Order.{Order}
 use Rattle.scenarios.specs.declared.order.Order.TheVariants.{Arrival, Shortest}
 use Rattle.easy_rule.specs.declared.shadow_time.Shadow.{Shadow}

@@ -10,9 +10,7 @@ use Rattle.scenarios.specs.declared.order.Order.TheVariants.{Arrival, Shortest}
 use Rattle.scenarios.specs.declared.placed.Placed.{Placed}
 use Rattle.cluster_state.specs.State.{State, IsSound, free, busy, available, back_by, waiting_job, started, without}
 use Rattle.cluster_state.specs.Row.{in_order}
-use Rattle.cluster_state.proofs.StateLemmas.{sum_by-placed}
-use Rattle.cluster_state.proofs.RowLemmas.{without-by_estimate, sum_by-by_estimate, All-by_estimate}
-use Rattle.cluster_state.proofs.EndLemmas.{sum_by-ones}
+use Rattle.cluster_state.proofs.Lemmas.{sum_by-placed, without-by_estimate, sum_by-by_estimate, All-by_estimate, sum_by-ones}
 use Rattle.easy_rule.specs.declared.shadow_time.Shadow.{Shadow}
 use Rattle.easy_rule.specs.Rule.{next, next_of, may_backfill, shadow_at, shadow_time, decided, decisions, state_after, starts_at}
 use Rattle.easy_rule.specs.Pass.{less, row, IsFirstPlace, IsPass}

@@ -8,7 +8,7 @@ use Rattle.scenarios.specs.declared.placed.Placed.{Placed}
 use Rattle.scenarios.specs.Placed.{expected_end}
 use Rattle.cluster_state.specs.State.{State, IsSound, free, busy, back_by, available}
 use Rattle.cluster_state.specs.Ends.{by_end}
-use Rattle.cluster_state.proofs.EndLemmas.{NotLater, Rises, rises-by_end, sum_by-by_end, length-by_end, All-by_end}
+use Rattle.cluster_state.proofs.Lemmas.{NotLater, NoneEndsSooner, rises-by_end, sum_by-by_end, length-by_end, All-by_end}
 use Rattle.easy_rule.specs.declared.shadow_time.Shadow.{Shadow}
 use Rattle.easy_rule.specs.Rule.{shadow_time, shadow_at, ends_read, IsLeast}
 use Rattle.easy_rule.proofs.RuleLemmas.{shadow_time-IsLeast, back-each, back-le-busy}
@@ -25,7 +25,7 @@ end-le a b (inl l) = omega arith
 end-le a b (inr p) = let k = p.0 in omega (arith, k)
 
 -- from a place of the row on, nobody is expected to end earlier than the one there
-pub from-here : (rs : List Placed) (i : ℕ) (d : Placed) → Rises rs → i < length rs → All (λ r. expected_end (get_or rs i d) ≤ expected_end r) (drop i rs)
+pub from-here : (rs : List Placed) (i : ℕ) (d : Placed) → NoneEndsSooner rs → i < length rs → All (λ r. expected_end (get_or rs i d) ≤ expected_end r) (drop i rs)
 from-here [] i d h l = absurd (omega arith)
 from-here (r ∷ rs) zero d h l = All-cons (λ x. expected_end r ≤ expected_end x) r rs (omega arith) (All-weaker (NotLater r) (λ x. expected_end r ≤ expected_end x) (λ x n. end-le r x n) rs h.0)
 from-here (r ∷ rs) (suc i) d h l = from-here rs i d h.1 (omega arith)

@@ -6,7 +6,7 @@ use Rattle.std.specs.Char.{is_ascii_digit}
 use Rattle.std.proofs.lemmas.Grind.{common_steps}
 use Rattle.clap.proofs.OnLiterals.{clap_on_literals}
 use Rattle.swf_text.specs.Number.{are_digits}
-use Rattle.swf_text.proofs.Numbers.{and_first, and_second}
+use Rattle.swf_text.proofs.Lemmas.{and_first, and_second}
 use Rattle.commands.specs.Words.{machine, number_between}
 use Rattle.easybook.specs.Forms.{JoinedSpacingChooses, JoinedWordChooses, NextSpacingChooses, NextWordChooses, NoWordChooses, on_machine, with_spacing}
 use Rattle.easybook.specs.Words.{Choice, choice, chosen}

@@ -14,16 +14,11 @@ use Rattle.easy_rule.specs.Pass.{front}
 use Rattle.easy_rule.specs.Simulation.{before, ready, submitted, IsEvent, bound, last_submit, joined}
 use Rattle.scenarios.specs.SoundPlan.{IsPlan}
 use Rattle.timeline.specs.Laws.{IsQuiet}
-use Rattle.timeline.proofs.Facts.{run-before, sound-arrivals}
-use Rattle.timeline.proofs.Quiet.{quiet-seconds-change-nothing}
-use Rattle.timeline.proofs.Bound.{all-have-ended, all-end-by-the-bound}
-use Rattle.timeline.proofs.Short.{short-plan}
-use Rattle.timeline.proofs.Rest.{submitted-none}
-use Rattle.timeline.proofs.Quiet.{only-ends-unsettle}
+use Rattle.timeline.proofs.Lemmas.{run-before, sound-arrivals, quiet-seconds-change-nothing, all-have-ended, all-end-by-the-bound, short-plan, submitted-none, only-ends-unsettle}
 use Rattle.event_loop.specs.Coming.{NonFalling, NextJobs, IsComing, first_submit}
 use Rattle.event_loop.specs.Events.{IsNextEvent, earlier, IsEngine, Progress}
 use Rattle.event_loop.proofs.ToCome.{non-falling, at_second, at-in, at-from, at-none, from-All, from-falling, from-later, from-same}
-use Rattle.scenarios.proofs.Walks.{from-in, from-out}
+use Rattle.scenarios.proofs.Lemmas.{from-in, from-out}
 use Rattle.event_loop.proofs.Rows.{coming-on}
 
 -- ---- the next submit second

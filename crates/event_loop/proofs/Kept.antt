@@ -7,14 +7,12 @@ use Rattle.scenarios.specs.declared.placed.Placed.{Placed}
 use Rattle.scenarios.specs.Placed.{real_end}
 use Rattle.cluster_state.specs.State.{State, started}
 use Rattle.cluster_state.specs.Snapshot.{Numbers, numbers_of, restored, Fits, IsOfPlan}
-use Rattle.cluster_state.proofs.StateLemmas.{All-placed, All-without}
-use Rattle.cluster_state.proofs.SnapshotLemmas.{numbers-give-the-state-back}
+use Rattle.cluster_state.proofs.Lemmas.{All-placed, All-without, numbers-give-the-state-back}
 use Rattle.easy_rule.specs.Rule.{next}
 use Rattle.easy_rule.specs.Simulation.{before, ready, submitted}
-use Rattle.easy_rule.proofs.NextLemmas.{Member, find-member, next-facts}
-use Rattle.easy_rule.proofs.Decisions.{decided-keeps}
+use Rattle.easy_rule.proofs.Lemmas.{Member, find-member, next-facts, decided-keeps}
 use Rattle.scenarios.specs.SoundPlan.{IsPlan}
-use Rattle.timeline.proofs.Sound.{each-state-is-sound}
+use Rattle.timeline.proofs.Lemmas.{each-state-is-sound}
 
 member-holds : (P : EffectiveJob → Type 0) (js : List EffectiveJob) (job : EffectiveJob) → Member js job → All P js → P job
 member-holds P [] job m a = absurd m

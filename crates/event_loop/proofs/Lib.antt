@@ -1,5 +1,6 @@
-pub mod ToCome
-pub mod Rows
-pub mod EventLemmas
-pub mod Kept
-pub mod RunOn
+mod ToCome
+mod Rows
+mod EventLemmas
+mod Kept
+mod RunOn
+pub mod Lemmas

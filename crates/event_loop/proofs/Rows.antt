@@ -5,7 +5,7 @@ use Rattle.std.proofs.lemmas.Bool.{cases_lt}
 use Rattle.scenarios.specs.Job.{EffectiveJob}
 use Rattle.scenarios.specs.Plan.{from_on}
 use Rattle.event_loop.specs.Coming.{NonFalling, NextJobs, IsComing, from_any, first_submit, next_of}
-use Rattle.scenarios.proofs.Walks.{from-out}
+use Rattle.scenarios.proofs.Lemmas.{from-out}
 use Rattle.event_loop.proofs.ToCome.{at_second, at-from, at-none, from-All, from-falling, from-later, from-same}
 
 abbrev coming_of : List EffectiveJob → Option ℕ → NextJobs

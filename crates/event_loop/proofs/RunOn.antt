@@ -15,9 +15,7 @@ use Rattle.timeline.specs.Laws.{IsQuiet}
 use Rattle.event_loop.specs.Coming.{NextJobs}
 use Rattle.event_loop.specs.Events.{IsNextEvent, IsEngine, Progress, has_event, events_before}
 use Rattle.event_loop.specs.Going.{IsFurther, IsRunOn, IsLast}
-use Rattle.timeline.proofs.Short.{short-plan}
-use Rattle.timeline.proofs.Facts.{starts_before-more}
-use Rattle.timeline.proofs.Quiet.{quiet-seconds-change-nothing}
+use Rattle.timeline.proofs.Lemmas.{short-plan, starts_before-more, quiet-seconds-change-nothing}
 use Rattle.event_loop.proofs.EventLemmas.{event-by-bound, coming-quiet, seen}
 
 pub events_before-more : (plan : Plan) (t : ℕ) → events_before plan (t + 1) ≡ events_before plan t + cond (has_event plan t) 1 0

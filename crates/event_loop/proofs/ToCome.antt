@@ -8,8 +8,7 @@ use Rattle.scenarios.specs.Plan.{from_on}
 use Rattle.cluster_state.specs.State.{State, IsSound, holders}
 use Rattle.easy_rule.specs.Simulation.{joined}
 use Rattle.scenarios.specs.SoundPlan as sound
-use Rattle.scenarios.proofs.Plans.{Lex, Lex-true}
-use Rattle.scenarios.proofs.Walks.{from-in, from-out}
+use Rattle.scenarios.proofs.Lemmas.{Lex, Lex-true, from-in, from-out}
 use Rattle.event_loop.specs.Coming.{NonFalling, first_submit}
 
 -- those of second t

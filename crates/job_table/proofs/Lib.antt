@@ -1,15 +1,16 @@
-pub mod Arrangement
-pub mod LogOrder
-pub mod Keyed
-pub mod Tables
-pub mod Numbers
-pub mod Indexed
-pub mod Versions
-pub mod Same
-pub mod Lookups
-pub mod Sorted
-pub mod Edited
-pub mod Stored
-pub mod Accepted
-pub mod Counted
-pub mod FromZero
+mod Arrangement
+mod LogOrder
+mod Keyed
+mod Tables
+mod Numbers
+mod Indexed
+mod Versions
+mod Same
+mod Lookups
+mod Sorted
+mod Edited
+mod Stored
+mod Accepted
+mod Counted
+mod FromZero
+pub mod Lemmas

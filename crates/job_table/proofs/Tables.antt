@@ -4,7 +4,7 @@ use Rattle.std.specs.List.{AllByRecursion, position_or_len}
 use Rattle.std.proofs.lemmas.Bool.{eq-eqb, cond-true}
 use Rattle.std.proofs.lemmas.Bool.Decides.{nat_tests}
 use Rattle.std.proofs.lemmas.List.Sums.{sum_by-cons}
-use Rattle.swf_text.proofs.Grammars.{exact_number}
+use Rattle.swf_text.proofs.Lemmas.{exact_number}
 use Rattle.swf_text.specs.Entry.{LogEntry, IsEntry, has_number, is_some_number, whole_number, field, number_of_entry, submit_of}
 use Rattle.swf_text.specs.Log.{IsLog, comes_before, with_entry, log_of}
 use Rattle.job_table.specs.Table.{IsTable}

@@ -1,8 +1,9 @@
-pub mod Overlaps
-pub mod Bounds
-pub mod Joins
-pub mod Entries
-pub mod Tallies
-pub mod Forms
-pub mod Unique
-pub mod RowLists
+mod Overlaps
+mod Bounds
+mod Joins
+mod Entries
+mod Tallies
+mod Forms
+mod Unique
+mod RowLists
+pub mod Lemmas

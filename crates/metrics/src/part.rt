@@ -35,7 +35,7 @@ impl<A: Allocator + Copy> Part<A> {
         ensures { IsPartOf [] result }
     {
         let tally = Tally::empty(alloc);
-        tally.is_in_order();
+        tally.stands_in_order();
         Part { tally }
     }
 
@@ -48,7 +48,7 @@ impl<A: Allocator + Copy> Part<A> {
         for each in placed {
             tally.add(each)?;
         }
-        tally.is_in_order();
+        tally.stands_in_order();
         Ok(Part { tally })
     }
 
@@ -60,7 +60,7 @@ impl<A: Allocator + Copy> Part<A> {
         let mut tally = Tally::empty(self.tally.alloc);
         tally.absorb(&self.tally)?;
         tally.absorb(&other.tally)?;
-        tally.is_in_order();
+        tally.stands_in_order();
         Ok(Part { tally })
     }
 
@@ -71,7 +71,7 @@ impl<A: Allocator + Copy> Part<A> {
     {
         let mut tally = self.tally;
         tally.absorb(&other.tally)?;
-        tally.is_in_order();
+        tally.stands_in_order();
         Ok(Part { tally })
     }
 

@@ -84,7 +84,7 @@ impl<A: Allocator + Copy> Part<A> {
     pub fn tables(&self, procs: u64, skips: Skips) -> Result<Tables<A>, Memory>
         ensures { IfOk result (λ tables. tables ≡ tables_of procs skips self.now) }
     {
-        self.tally.is_in_order();
+        self.tally.stands_in_order();
         let alloc = self.tally.alloc;
         let users = user_rows(alloc, &self.tally.users)?;
         let days = day_rows(alloc, procs, &self.tally.days)?;

@@ -6,11 +6,10 @@ use Rattle.scenarios.specs.declared.order.Order.{Order}
 use Rattle.cluster_state.specs.State.{State, free}
 use Rattle.easy_rule.specs.Rule.{next, next_of, may_backfill, shadow_at}
 use Rattle.cluster_state.specs.Row.{put, by_estimate, in_order}
-use Rattle.cluster_state.proofs.StateLemmas.{All-find}
-use Rattle.cluster_state.proofs.RowLemmas.{Rises, put-before, put-behind, rises-by_estimate, find-put}
+use Rattle.cluster_state.proofs.Lemmas.{All-find, RisesByEstimate, put-before, put-behind, rises-by_estimate, find-put}
 
 -- a shorter one is found before one more that passes
-put-shorter : (q : EffectiveJob → Bool) (j b : EffectiveJob) (xs : List EffectiveJob) → Rises xs → find q xs ≡ Some b → b.estimate < j.estimate → find q (put j xs) ≡ Some b
+put-shorter : (q : EffectiveJob → Bool) (j b : EffectiveJob) (xs : List EffectiveJob) → RisesByEstimate xs → find q xs ≡ Some b → b.estimate < j.estimate → find q (put j xs) ≡ Some b
 put-shorter q j b [] r e l = cc
 put-shorter q j b (x ∷ xs) r e l =
     ⊎_elim

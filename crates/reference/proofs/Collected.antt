@@ -17,8 +17,7 @@ use Rattle.scenarios.specs.declared.skip.Skip.{Skip}
 use Rattle.scenarios.specs.declared.skip.Skip.TheVariants.{TooLarge, TooLong}
 use Rattle.scenarios.specs.Effective.{effective, of_size, of_size_and_run, unless_too_long, job_of, size_of, run_of, estimate_of, base_of}
 use Rattle.scenarios.specs.Plan.{jobs_of}
-use Rattle.job_table.proofs.Arrangement.{Opens, Climbs}
-use Rattle.job_table.proofs.LogOrder.{Climbs-log}
+use Rattle.job_table.proofs.Lemmas.{Opens, Climbs, Climbs-log}
 
 abbrev at : EffectiveJob → ℕ
 at job = job.submit

@@ -4,7 +4,7 @@ use Rattle.scenarios.specs.Job.{EffectiveJob}
 use Rattle.cluster_state.specs.State.{State, started}
 use Rattle.easy_rule.specs.declared.start.Start.{Start}
 use Rattle.easy_rule.specs.Rule.{next, decided, decisions}
-use Rattle.easy_rule.proofs.NextLemmas.{decided-start, decided-stop, decisions-start, decisions-stop}
+use Rattle.easy_rule.proofs.Lemmas.{decided-start, decided-stop, decisions-start, decisions-stop}
 
 -- one more start of up to n
 pub state-more : (n i : ℕ) (s r : State) (job : EffectiveJob) (now : ℕ) → i < n → next s now ≡ Some job → decided (n - i) s now ≡ r → decided (n - (i + 1)) (started s job now) now ≡ r

@@ -5,11 +5,11 @@ use Rattle.scenarios.specs.Job.{IsWithinLimits}
 use Rattle.scenarios.specs.declared.placed.Placed.{Placed}
 use Rattle.scenarios.specs.Placed.{real_end}
 use Rattle.cluster_state.specs.State.{State, IsSound, ended_until}
-use Rattle.cluster_state.proofs.StateLemmas.{sum_by-filter-le}
+use Rattle.cluster_state.proofs.Lemmas.{sum_by-filter-le}
 use Rattle.easy_rule.specs.Simulation.{before, ended}
 use Rattle.scenarios.specs.Plan.{Plan}
 use Rattle.scenarios.specs.SoundPlan.{IsPlan}
-use Rattle.timeline.proofs.Facts.{run-before, ended-is}
+use Rattle.timeline.proofs.Lemmas.{run-before, ended-is}
 
 pub sound-ended : (s : State) (t : ℕ) → IsSound s → IsSound (ended s t)
 sound-ended s t h =

@@ -10,7 +10,7 @@ use Rattle.scenarios.specs.Job.{EffectiveJob, IsWithinLimits}
 use Rattle.scenarios.specs.Scenario.{Setting, IsSetting}
 use Rattle.scenarios.specs.Plan.{Plan, jobs_of}
 use Rattle.scenarios.specs.SoundPlan.{IsPlan, IsRising}
-use Rattle.job_table.proofs.Arrangement.{comes, Rises, Climbs, Climbs-adjacent, Rises-Climbs, numbered-permutation, arrangement-unique}
+use Rattle.job_table.proofs.Lemmas.{comes, Rises, Climbs, Climbs-adjacent, Rises-Climbs, numbered-permutation, arrangement-unique}
 use Rattle.reference.proofs.Collected.{IsCollected, log-permutes, Climbs-log-jobs, jobs_of-fit, length-jobs_of}
 
 abbrev at : EffectiveJob → ℕ

@@ -5,14 +5,13 @@ use Rattle.scenarios.specs.Plan.{Plan}
 use Rattle.cluster_state.specs.Snapshot.{numbers_of}
 use Rattle.easy_rule.specs.Simulation.{IsEvent, before, bound}
 use Rattle.scenarios.specs.SoundPlan.{IsPlan}
-use Rattle.timeline.proofs.Events.{events-end-by-the-bound}
-use Rattle.timeline.proofs.Short.{short-plan}
+use Rattle.timeline.proofs.Lemmas.{events-end-by-the-bound, short-plan}
 use Rattle.event_loop.specs.Events.{Progress, events_before, begun}
-use Rattle.event_loop.proofs.RunOn.{events_before-more}
+use Rattle.event_loop.proofs.Lemmas.{events_before-more}
 use Rattle.checkpoints.specs.Coming.{NoneComes}
 use Rattle.checkpoints.specs.Segment.{SegmentView}
 use Rattle.checkpoints.specs.Cut.{Spans, IsCut}
-use Rattle.checkpoints.proofs.Chains.{span-bounded}
+use Rattle.checkpoints.proofs.Lemmas.{span-bounded}
 use Rattle.rejoin.specs.Kept.{next_first, MayBegin, IsKept}
 use Rattle.rejoin.specs.Patch.{AreKept, IsRejoined}
 use Rattle.rejoin.specs.Rejoining.{ChangeView, IsChange, IsClear, AreTaken, IsSpent, IsOn, IsAfter, Stands}

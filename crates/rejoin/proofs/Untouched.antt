@@ -4,7 +4,7 @@ use Rattle.std.proofs.lemmas.Bool.{cond-true}
 use Rattle.scenarios.specs.Plan.{Plan}
 use Rattle.easy_rule.specs.Simulation.{bound}
 use Rattle.event_loop.specs.Events.{events_before, has_event}
-use Rattle.event_loop.proofs.RunOn.{events_before-more, has-event}
+use Rattle.event_loop.proofs.Lemmas.{events_before-more, has-event}
 use Rattle.checkpoints.specs.Segment.{SegmentView}
 use Rattle.checkpoints.specs.Cut.{Spans, IsCut}
 use Rattle.rejoin.specs.Touched.{IsTouched, NothingTouched}

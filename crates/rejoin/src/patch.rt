@@ -1,4 +1,4 @@
-ghost use Rattle.std.specs.Prelude.{◌≡◌, ◌≤◌, ◌<◌, ◌+◌, ◌^◌, ◌∷◌, ◌++◌, [], true, false, drop, map, length, IfOk, IfErr, OnOk};
+ghost use Rattle.std.specs.Prelude.{◌≡◌, ℕ, ◌≤◌, ◌<◌, ◌+◌, ◌^◌, ◌∷◌, ◌++◌, [], true, false, drop, map, length, IfOk, IfErr, OnOk};
 ghost use Rattle.std.specs.Arc.{arc_value};
 ghost use Rattle.checkpoints.specs.Coming.{NoneComes};
 ghost use Rattle.rejoin.specs.Kept.{next_first};
@@ -102,13 +102,13 @@ fn follow<A: Allocator + Copy>(
     alloc: A,
     change: &Change<'_, A>,
     at: usize,
-    _spacing: u32,
     patch: &mut Patch<A>,
 ) -> Result<(), RunFault>
     requires within { at < length change.now.old }
     requires few { patch.old.reused ≤ at }
-    requires stands { Stands change.now _spacing at true patch.old.engine (map arc_value patch.old.segments.items) patch.old.handled patch.old.reused }
-    ensures stands { OnOk result (Stands change.now _spacing (at + 1) patch.new.kept patch.new.engine (map arc_value patch.new.segments.items) patch.new.handled patch.new.reused) }
+    requires stands { (n : ℕ) × Stands change.now n at true patch.old.engine (map arc_value patch.old.segments.items) patch.old.handled patch.old.reused }
+    ensures stands { OnOk result ((n : ℕ) → Stands change.now n at true patch.old.engine (map arc_value patch.old.segments.items) patch.old.handled patch.old.reused
+        → Stands change.now n (at + 1) patch.new.kept patch.new.engine (map arc_value patch.new.segments.items) patch.new.handled patch.new.reused) }
     ensures few { OnOk result (patch.new.reused ≤ at + 1) }
     ensures fault { IfErr result (λ f. f ≡ RunFault.Memory) }
 {
@@ -163,7 +163,7 @@ pub(crate) fn rejoined<A: Allocator + Copy>(
     };
     for at in 0..change.len() {
         if patch.kept {
-            follow(alloc, change, at, spacing, &mut patch)?;
+            follow(alloc, change, at, &mut patch)?;
         } else {
             reach(alloc, change, at, spacing, &mut patch)?;
         }

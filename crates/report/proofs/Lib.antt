@@ -1,1 +1,1 @@
-pub mod Joins
+mod Joins

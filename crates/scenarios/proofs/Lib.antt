@@ -1,5 +1,6 @@
-pub mod Listings
-pub mod EffectiveLemmas
-pub mod Plans
-pub mod Walks
-pub mod Skipping
+mod Listings
+mod EffectiveLemmas
+mod Plans
+mod Walks
+mod Skipping
+pub mod Lemmas

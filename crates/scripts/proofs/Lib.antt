@@ -1,8 +1,8 @@
-pub mod Texts
-pub mod Writings
-pub mod Transcripts
-pub mod Calls
-pub mod Named
-pub mod Looking
-pub mod Sides
-pub mod Settlings
+mod Texts
+mod Writings
+mod Transcripts
+mod Calls
+mod Named
+mod Looking
+mod Sides
+mod Settlings

@@ -23,7 +23,7 @@ use Rattle.version_book.specs.Lookups.{has_id}
 use Rattle.version_book.specs.Sound.{IsBook}
 use Rattle.version_book.specs.Steps.{told, Answers as Answered}
 use Rattle.version_book.specs.Tasks.{IsShownFor}
-use Rattle.version_book.proofs.Stepping.{progress-shown}
+use Rattle.version_book.proofs.Lemmas.{progress-shown}
 use Rattle.scripts.specs.declared.view_report.Report.{Report}
 use Rattle.scripts.specs.declared.view_report.Report.TheVariants as report
 use Rattle.scripts.specs.declared.answer.Refusal.TheVariants as why

@@ -12,7 +12,7 @@ use Rattle.book_machine.specs.Machine.{Machine, Progress, Ticket, version, due, 
 use Rattle.checkpoints.specs.RunView.{RunView}
 use Rattle.version_book.specs.Book.{BookView, StateView, ShownView, TicketView, machine_of, machine_at, progress_of_shown}
 use Rattle.version_book.specs.Tasks.{TaskView, Fits, HasThoseOf, IsOut, due_shown, free_due, task_for, ticket_for}
-use Rattle.version_book.proofs.Lists.{find-map}
+use Rattle.version_book.proofs.Lemmas.{find-map}
 use Rattle.scripts.specs.Steps.{Ended, Published, GivenUp, Left, after_task, IsWorked, AreWorked, IsAtRest}
 use Rattle.scripts.specs.declared.settling.Turn.{Turn}
 use Rattle.scripts.specs.declared.settling.Turn.TheVariants as turn

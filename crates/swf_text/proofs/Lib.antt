@@ -1,19 +1,20 @@
-pub mod Numbers
-pub mod Words
-pub mod Plains
-pub mod Walks
-pub mod Lines
-pub mod Grammars
-pub mod Outcomes
-pub mod Texts
-pub mod Entries
-pub mod Spellings
-pub mod Writings
-pub mod Printed
-pub mod Trips
-pub mod Bounds
-pub mod Headers
-pub mod Comments
-pub mod Kept
-pub mod Seens
-pub mod Tens
+mod Numbers
+mod Words
+mod Plains
+mod Walks
+mod Lines
+mod Grammars
+mod Outcomes
+mod Texts
+mod Entries
+mod Spellings
+mod Writings
+mod Printed
+mod Trips
+mod Bounds
+mod Headers
+mod Comments
+mod Kept
+mod Seens
+mod Tens
+pub mod Lemmas

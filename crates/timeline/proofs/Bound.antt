@@ -7,9 +7,9 @@ use Rattle.scenarios.specs.Job.{EffectiveJob, IsWithinLimits}
 use Rattle.scenarios.specs.declared.placed.Placed.{Placed}
 use Rattle.scenarios.specs.Placed.{real_end}
 use Rattle.cluster_state.specs.State.{State, IsSound, empty, started}
-use Rattle.cluster_state.proofs.StateLemmas.{sum_by-placed, sum_by-without}
+use Rattle.cluster_state.proofs.Lemmas.{sum_by-placed, sum_by-without}
 use Rattle.easy_rule.specs.Rule.{next, state_after}
-use Rattle.easy_rule.proofs.NextLemmas.{next-found}
+use Rattle.easy_rule.proofs.Lemmas.{next-found, decided-keeps, decided-done, nobody-waits}
 use Rattle.scenarios.specs.Plan.{Plan}
 use Rattle.easy_rule.specs.Simulation.{last_submit, bound, before, second, submitted, ready}
 use Rattle.scenarios.specs.SoundPlan.{IsPlan}
@@ -17,7 +17,6 @@ use Rattle.timeline.specs.Laws.{AllHaveEnded, AllEndByTheBound}
 use Rattle.timeline.proofs.Short.{short-plan}
 use Rattle.timeline.proofs.Facts.{IsRun, run-started, run-ready, run-before}
 use Rattle.timeline.proofs.Rest.{submits-by, empty-is, rests}
-use Rattle.easy_rule.proofs.Decisions.{decided-keeps, decided-done, nobody-waits}
 
 -- the seconds that a running job has left from t on, t among them, though it may end at its start
 abbrev left_from : ℕ → Placed → ℕ

@@ -8,10 +8,9 @@ use Rattle.scenarios.specs.Job.{EffectiveJob, IsWithinLimits}
 use Rattle.scenarios.specs.declared.placed.Placed.{Placed}
 use Rattle.scenarios.specs.Placed.{real_end}
 use Rattle.cluster_state.specs.State.{State, IsSound, holders, started, ended_until}
-use Rattle.cluster_state.proofs.StateLemmas.{sound-started, sum_by-filter-le, sum_by-placed, sum_by-without, All-placed, All-find}
+use Rattle.cluster_state.proofs.Lemmas.{sound-started, sum_by-filter-le, sum_by-placed, sum_by-without, All-placed, All-find}
 use Rattle.easy_rule.specs.Rule.{next}
-use Rattle.easy_rule.proofs.NextLemmas.{next-found, next-fits}
-use Rattle.easy_rule.proofs.Decisions.{decided-keeps}
+use Rattle.easy_rule.proofs.Lemmas.{next-found, next-fits, decided-keeps}
 use Rattle.scenarios.specs.Plan.{Plan}
 use Rattle.easy_rule.specs.Simulation.{starts_before, starts_in, before, second, submitted, ready, ended, joined}
 use Rattle.scenarios.specs.SoundPlan.{IsPlan}

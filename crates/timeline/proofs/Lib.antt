@@ -1,12 +1,13 @@
-pub mod Facts
-pub mod Short
-pub mod Rest
-pub mod Bound
-pub mod Once
-pub mod Seconds
-pub mod Quiet
-pub mod Sound
-pub mod Promise
-pub mod Promises
-pub mod Events
-pub mod Starting
+mod Facts
+mod Short
+mod Rest
+mod Bound
+mod Once
+mod Seconds
+mod Quiet
+mod Sound
+mod Promise
+mod Promises
+mod Events
+mod Starting
+pub mod Lemmas

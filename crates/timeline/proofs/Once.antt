@@ -13,7 +13,7 @@ use Rattle.scenarios.specs.SoundPlan.{IsPlan}
 use Rattle.timeline.specs.Laws.{EachJobStartsOnce, NoneStartsEarly}
 use Rattle.timeline.proofs.Short.{short-plan}
 use Rattle.timeline.proofs.Facts.{count-filter, run-ready, run-before, starts_before-more}
-use Rattle.easy_rule.proofs.Decisions.{told, starts-now}
+use Rattle.easy_rule.proofs.Lemmas.{told, starts-now}
 use Rattle.timeline.proofs.Rest.{submits-by}
 use Rattle.timeline.proofs.Bound.{all-have-ended}
 

@@ -8,13 +8,10 @@ use Rattle.scenarios.specs.declared.placed.Placed.{Placed}
 use Rattle.scenarios.specs.Placed.{real_end}
 use Rattle.cluster_state.specs.State.{State, free, busy, back_by, available, started, without}
 use Rattle.cluster_state.specs.Row.{in_order}
-use Rattle.cluster_state.proofs.StateLemmas.{sum_by-without}
+use Rattle.cluster_state.proofs.Lemmas.{sum_by-without}
 use Rattle.easy_rule.specs.Rule.{next, next_of, may_backfill, shadow_at, shadow_time}
 use Rattle.easy_rule.specs.Simulation.{before, submitted, ready}
-use Rattle.easy_rule.proofs.RuleLemmas.{shadow_time-IsLeast, back_by-le}
-use Rattle.easy_rule.proofs.NextLemmas.{next-found, found-passes}
-use Rattle.easy_rule.proofs.PassLemmas.{time-kept}
-use Rattle.easy_rule.proofs.Decisions.{decided-keeps}
+use Rattle.easy_rule.proofs.Lemmas.{shadow_time-IsLeast, back_by-le, next-found, found-passes, time-kept, decided-keeps}
 use Rattle.scenarios.specs.SoundPlan.{IsPlan}
 use Rattle.timeline.proofs.Facts.{IsRun, run-started, run-ready, run-before, before-more}
 

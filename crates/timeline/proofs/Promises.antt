@@ -12,7 +12,7 @@ use Rattle.cluster_state.specs.Row.{in_order}
 use Rattle.easy_rule.specs.declared.start.Start.{Start}
 use Rattle.easy_rule.specs.Rule.{next, next_of, may_backfill, shadow_at, shadow_time}
 use Rattle.easy_rule.specs.Simulation.{before, starts_in, starts_before, bound, sim, start_of}
-use Rattle.easy_rule.proofs.RuleLemmas.{shadow_time-IsLeast, back-each}
+use Rattle.easy_rule.proofs.Lemmas.{shadow_time-IsLeast, back-each}
 use Rattle.scenarios.specs.SoundPlan.{IsPlan}
 use Rattle.timeline.specs.Laws.{IsHead, head_time, ShadowTimesNeverRise, HeadsStartByTheirShadowTimes}
 use Rattle.timeline.proofs.Short.{bound-le}

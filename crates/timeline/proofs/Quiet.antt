@@ -8,8 +8,7 @@ use Rattle.cluster_state.specs.State.{State}
 use Rattle.easy_rule.specs.Pass.{front}
 use Rattle.easy_rule.specs.Rule.{shadow_of, next, state_after, starts_at}
 use Rattle.easy_rule.specs.Simulation.{IsEvent, before, submitted, ready, ended, joined, starts_before}
-use Rattle.easy_rule.proofs.PassLemmas.{state_after-done, starts_at-done}
-use Rattle.easy_rule.proofs.Decisions.{decided-done, next-later, arrivals-unsettle-nobody}
+use Rattle.easy_rule.proofs.Lemmas.{state_after-done, starts_at-done, decided-done, next-later, arrivals-unsettle-nobody}
 use Rattle.timeline.specs.Laws.{EachStateIsSettled, IsQuiet, QuietSecondsChangeNothing, OnlyEndsUnsettle}
 use Rattle.timeline.proofs.Facts.{before-more, starts_before-more}
 

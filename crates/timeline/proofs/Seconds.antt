@@ -7,7 +7,7 @@ use Rattle.easy_rule.specs.Simulation.{before, starts_before, starts_in, ready, 
 use Rattle.scenarios.specs.SoundPlan.{IsPlan}
 use Rattle.timeline.specs.Laws.{AllStartByTheBound}
 use Rattle.timeline.proofs.Short.{short-plan}
-use Rattle.easy_rule.proofs.Decisions.{starts-now}
+use Rattle.easy_rule.proofs.Lemmas.{starts-now}
 
 -- the starts of the seconds before t come before t
 pub starts-below : (plan : Plan) (t : ℕ) → All (λ (x : Start). x.at < t) (starts_before plan t)

@@ -8,13 +8,11 @@ use Rattle.scenarios.specs.Plan.{Plan}
 use Rattle.scenarios.specs.declared.placed.Placed.{Placed}
 use Rattle.scenarios.specs.Placed.{real_end}
 use Rattle.cluster_state.specs.State.{State, started}
-use Rattle.cluster_state.proofs.StateLemmas.{sum_by-placed, All-placed}
-use Rattle.cluster_state.proofs.EndLemmas.{adds-none, adds-one, one-adds}
+use Rattle.cluster_state.proofs.Lemmas.{sum_by-placed, All-placed, adds-none, adds-one, one-adds}
 use Rattle.easy_rule.specs.declared.start.Start.{Start}
 use Rattle.easy_rule.specs.Rule.{next, decided, decisions}
 use Rattle.easy_rule.specs.Simulation.{before, starts_before, starts_in, ready, bound, sim}
-use Rattle.easy_rule.proofs.NextLemmas.{decided-start, decided-stop, decisions-start, decisions-stop}
-use Rattle.easy_rule.proofs.Decisions.{cases_option, decided-keeps}
+use Rattle.easy_rule.proofs.Lemmas.{decided-start, decided-stop, decisions-start, decisions-stop, cases_option, decided-keeps}
 use Rattle.scenarios.specs.SoundPlan.{IsPlan}
 use Rattle.timeline.specs.Laws.{StartsAreRunningJobs}
 use Rattle.timeline.proofs.Facts.{before-more, starts_before-more}

@@ -6,7 +6,7 @@ use Rattle.std.specs.List.{AllByRecursion}
 use Rattle.std.proofs.lemmas.Bool.{eq-eqb, ne_eqb}
 use Rattle.book_machine.specs.Machine.{Machine, opened}
 use Rattle.book_machine.specs.Sound.{IsClaim, IsSound as IsSoundMachine}
-use Rattle.book_machine.proofs.Sound.{sound-opened, sound_after}
+use Rattle.book_machine.proofs.Lemmas.{sound-opened, sound_after}
 use Rattle.version_book.specs.declared.worker_refusal.ClaimRefusal.{ClaimRefusal}
 use Rattle.version_book.specs.Book.{BookView, StateView, ShownView, TicketView, ticket_of_view, machine_of}
 use Rattle.version_book.specs.Lookups.{has_number}

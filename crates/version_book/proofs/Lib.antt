@@ -1,10 +1,11 @@
-pub mod Lists
-pub mod Changing
-pub mod Logs
-pub mod Ids
-pub mod Stepping
-pub mod SessionSteps
-pub mod WorkerSteps
-pub mod Histories
-pub mod Readings
-pub mod Claimed
+mod Lists
+mod Changing
+mod Logs
+mod Ids
+mod Stepping
+mod SessionSteps
+mod WorkerSteps
+mod Histories
+mod Readings
+mod Claimed
+pub mod Lemmas

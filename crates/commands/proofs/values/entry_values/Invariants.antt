@@ -1,5 +1,5 @@
 use Rattle.std.proofs.Common.{◌≡◌, ◌+◌, length, take, drop, map}
-use Rattle.swf_text.proofs.Words.{onto}
+use Rattle.swf_text.proofs.Lemmas.{onto}
 use Rattle.commands.specs.Words.{entry_values}
 use Rattle.commands.proofs.values.entry_values.Given as goal
 

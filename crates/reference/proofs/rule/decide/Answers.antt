@@ -1,7 +1,7 @@
 use Rattle.std.proofs.Common.{◌≡◌, ◌-◌, ◌<◌, ◌∙◌, sym, arith, Some, None, length}
 use Rattle.cluster_state.specs.State.{State}
 use Rattle.easy_rule.specs.Rule.{next}
-use Rattle.easy_rule.proofs.NextLemmas.{next-found, next-fits}
+use Rattle.easy_rule.proofs.Lemmas.{next-found, next-fits}
 use Rattle.reference.proofs.Decided.{state-more, starts-more, state-stop, starts-stop, state-end, starts-end}
 use Rattle.reference.proofs.rule.decide.Goals as goal
 

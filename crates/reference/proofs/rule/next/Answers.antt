@@ -3,7 +3,7 @@ use Rattle.std.proofs.lemmas.List.Elements.{All-head}
 use Rattle.scenarios.specs.Job.{EffectiveJob}
 use Rattle.scenarios.specs.declared.order.Order.TheVariants.{Arrival, Shortest}
 use Rattle.cluster_state.specs.State.{State, free}
-use Rattle.easy_rule.proofs.RuleLemmas.{shadow_time-IsLeast}
+use Rattle.easy_rule.proofs.Lemmas.{shadow_time-IsLeast}
 use Rattle.reference.proofs.Choice.{next-later}
 use Rattle.reference.proofs.rule.next.Goals as goal
 

@@ -2,7 +2,7 @@ use Rattle.std.proofs.Common.{◌≤◌, arith}
 use Rattle.scenarios.specs.declared.placed.Placed.{Placed}
 use Rattle.scenarios.specs.Placed.{expected_end}
 use Rattle.cluster_state.specs.State.{available}
-use Rattle.easy_rule.proofs.RuleLemmas.{shadow_time-IsLeast, shadow_time-small, seen-more, seen-all}
+use Rattle.easy_rule.proofs.Lemmas.{shadow_time-IsLeast, shadow_time-small, seen-more, seen-all}
 use Rattle.reference.proofs.rule.shadow_time.Goals as goal
 use Rattle.reference.proofs.rule.shadow_time.Goals.{then-end-time+then-need-available, else-end-time, else-end-time-via-then-end-time+else-need-available, else-end-time-via-else-end-time}
 

@@ -1,5 +1,5 @@
 use Rattle.std.proofs.Common.{◌+◌, ◌∙◌, sym}
-use Rattle.timeline.proofs.Facts.{absent-item}
+use Rattle.timeline.proofs.Lemmas.{absent-item}
 use Rattle.reference.proofs.simulation.arrive_at.Goals as goal
 
 pub arrive-requires-clause-absent : goal.arrive-requires-clause-absent

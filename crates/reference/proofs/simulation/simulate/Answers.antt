@@ -3,10 +3,7 @@ use Rattle.scenarios.specs.Plan.{Plan}
 use Rattle.cluster_state.specs.State.{State}
 use Rattle.easy_rule.specs.Rule.{state_after}
 use Rattle.easy_rule.specs.Simulation.{before, starts_before, last_submit, bound}
-use Rattle.timeline.proofs.Facts.{sound-arrivals, second-is, machine-is, before-more, starts_before-more}
-use Rattle.timeline.proofs.Short.{short-plan}
-use Rattle.timeline.proofs.Rest.{all-started}
-use Rattle.timeline.proofs.Seconds.{all-start-early}
+use Rattle.timeline.proofs.Lemmas.{sound-arrivals, second-is, machine-is, before-more, starts_before-more, short-plan, all-started, all-start-early}
 use Rattle.reference.proofs.Ending.{ended-until-is}
 use Rattle.reference.proofs.simulation.simulate.Goals as goal
 

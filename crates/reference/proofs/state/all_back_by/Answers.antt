@@ -1,7 +1,7 @@
 use Rattle.std.proofs.Common.{ap, arith}
 use Rattle.std.proofs.lemmas.List.Sums.{sum_by_more_le}
 use Rattle.cluster_state.specs.State.{back_by}
-use Rattle.easy_rule.proofs.RuleLemmas.{back-le-busy}
+use Rattle.easy_rule.proofs.Lemmas.{back-le-busy}
 use Rattle.reference.proofs.state.all_back_by.Goals as goal
 
 pub overflow_add-sum : goal.overflow_add-sum

@@ -1,5 +1,5 @@
 use Rattle.std.proofs.Common.{sym}
-use Rattle.cluster_state.proofs.StateLemmas.{placed-position}
+use Rattle.cluster_state.proofs.Lemmas.{placed-position}
 use Rattle.reference.proofs.state.put_in.Goals as goal
 
 pub returns-clause-ok : goal.returns-clause-ok

@@ -1,5 +1,5 @@
 use Rattle.std.proofs.Common.{◌∙◌, sym}
-use Rattle.cluster_state.proofs.StateLemmas.{without-none, without-some}
+use Rattle.cluster_state.proofs.Lemmas.{without-none, without-some}
 use Rattle.reference.proofs.state.take_out.Goals as goal
 
 pub returns-in-None : goal.returns-in-None

@@ -9,16 +9,16 @@ use Rattle.rejoin.proofs.Turns.{keep-behind, behind-snapshot, resumed-behind, st
 use Rattle.rejoin.proofs.patch.follow.Goals as goal
 
 pub returns-then-is_clear-clause-stands : goal.returns-then-is_clear-clause-stands
-returns-then-is_clear-clause-stands g c =
+returns-then-is_clear-clause-stands g c n stands =
     let change = c.args.change.now in
     let s = arc_value c.segment-segment.result.now in
     let rest = drop (c.args.at + 1) change.old in
     let here = c.segment-segment.ensures.here in
     let clear = (c.is_clear.ensures s rest here).0 c.if-is_clear.true in
     let ss : List SegmentView = map arc_value c.args.patch.now.segments.items in
-    stands-taken change c.args._spacing (c.args.at + 1) c.take.new.patch.kept c.take.new.patch.engine (map arc_value c.take.new.patch.segments.items) (ss ++ s ∷ []) c.take.new.patch.handled c.args.patch.now.handled c.take.new.patch.reused (c.args.patch.now.reused + 1)
+    stands-taken change n (c.args.at + 1) c.take.new.patch.kept c.take.new.patch.engine (map arc_value c.take.new.patch.segments.items) (ss ++ s ∷ []) c.take.new.patch.handled c.args.patch.now.handled c.take.new.patch.reused (c.args.patch.now.reused + 1)
     c.in_ok-take.ensures.kept c.in_ok-take.ensures.segments c.in_ok-take.ensures.handled c.in_ok-take.ensures.reused
-    (keep-behind change c.segment-segment.ensures.sound c.args._spacing c.args.at s here c.args.patch.now.engine c.take.new.patch.engine ss c.args.patch.now.handled c.args.patch.now.reused c.requires.stands clear)
+    (keep-behind change c.segment-segment.ensures.sound n c.args.at s here c.args.patch.now.engine c.take.new.patch.engine ss c.args.patch.now.handled c.args.patch.now.reused stands clear)
 
 pub resume-requires-clause-snapshot : goal.resume-requires-clause-snapshot
 resume-requires-clause-snapshot g c s rest e =
@@ -27,13 +27,13 @@ resume-requires-clause-snapshot g c s rest e =
     let here = c.segment-segment.ensures.here in
     let same : seg ≡ s = heads seg s (drop (c.args.at + 1) change.old) rest (sym here ∙ e) in
     subst (λ (x : SegmentView). x.before ≡ numbers_of (before change.is x.first)) same
-    (behind-snapshot change c.segment-segment.ensures.sound c.args._spacing c.args.at seg here c.args.patch.now.engine (map arc_value c.args.patch.now.segments.items) c.args.patch.now.handled c.args.patch.now.reused c.requires.stands)
+    (behind-snapshot change c.segment-segment.ensures.sound c.requires.stands.0 c.args.at seg here c.args.patch.now.engine (map arc_value c.args.patch.now.segments.items) c.args.patch.now.handled c.args.patch.now.reused c.requires.stands.1)
 
 pub returns-clause-stands : goal.returns-clause-stands
-returns-clause-stands g c =
+returns-clause-stands g c n stands =
     let change = c.args.change.now in
     let s = arc_value c.segment-segment.result.now in
     let rest = drop (c.args.at + 1) change.old in
     let here = c.segment-segment.ensures.here in
-    resumed-behind change c.segment-segment.ensures.sound c.args._spacing c.args.at s here c.args.patch.now.engine c.in_ok-patch.field-0 (map arc_value c.args.patch.now.segments.items) c.args.patch.now.handled c.args.patch.now.reused c.requires.stands
+    resumed-behind change c.segment-segment.ensures.sound n c.args.at s here c.args.patch.now.engine c.in_ok-patch.field-0 (map arc_value c.args.patch.now.segments.items) c.args.patch.now.handled c.args.patch.now.reused stands
     (λ clear. false≢true (sym c.if-is_clear.false ∙ (c.is_clear.ensures s rest here).1 clear)) (c.in_ok-patch.ensures.ok s rest here)

@@ -1,7 +1,7 @@
 use Rattle.std.proofs.Common.{◌≤◌, false, map, subst, sym, List, IfSome}
 use Rattle.std.specs.Arc.{arc_value}
 use Rattle.checkpoints.specs.Segment.{SegmentView}
-use Rattle.checkpoints.proofs.Worked.{push-seen}
+use Rattle.checkpoints.proofs.Lemmas.{push-seen}
 use Rattle.rejoin.specs.Rejoining.{Stands}
 use Rattle.rejoin.proofs.Turns.{stands-worked, work-down}
 use Rattle.rejoin.proofs.patch.work_to.Goals as goal

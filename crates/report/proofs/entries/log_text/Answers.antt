@@ -3,7 +3,7 @@ use Rattle.std.specs.Prelude.{codes}
 use Rattle.report.specs.Heading.{heading}
 use Rattle.report.specs.Entries.{entry_line}
 use Rattle.report.proofs.Joins.{headed, first_line}
-use Rattle.job_table.proofs.FromZero.{from-zero}
+use Rattle.job_table.proofs.Lemmas.{from-zero}
 use Rattle.report.proofs.entries.log_text.Goals as goal
 
 pub entries-init : goal.entries-init

@@ -3,7 +3,7 @@ use Rattle.std.proofs.lemmas.Bool.{cond-true, cond-false, eq-eqb, ne_eqb}
 use Rattle.scenarios.specs.Job.{EffectiveJob}
 use Rattle.scenarios.specs.declared.placed.Placed.{Placed}
 use Rattle.cluster_state.specs.State.{State, free, started, without, CanStartAll}
-use Rattle.cluster_state.proofs.StateLemmas.{sum_by-placed}
+use Rattle.cluster_state.proofs.Lemmas.{sum_by-placed}
 use Rattle.run_checks.proofs.clusters.start_first_and_last.Goals as goal
 
 three : (w : List EffectiveJob) (a b c : EffectiveJob) → length w ≡ 3 → a ≡ get_or w 0 a → b ≡ get_or w 1 b → c ≡ get_or w 2 c → w ≡ a ∷ b ∷ c ∷ []

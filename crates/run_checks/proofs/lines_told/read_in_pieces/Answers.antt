@@ -1,7 +1,7 @@
 use Rattle.std.proofs.Common.{◌∙◌, ap, map}
 use Rattle.swf_text.specs.Line.{line_of}
 use Rattle.swf_text.specs.Bounds.{bytes_at}
-use Rattle.swf_text.proofs.Bounds.{readings_at}
+use Rattle.swf_text.proofs.Lemmas.{readings_at}
 use Rattle.run_checks.proofs.lines_told.read_in_pieces.Goals as goal
 
 pub assemble-requires-clause-readings : goal.assemble-requires-clause-readings

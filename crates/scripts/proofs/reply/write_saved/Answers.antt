@@ -3,7 +3,7 @@ use Rattle.std.specs.Prelude.{count_by}
 use Rattle.std.specs.Io.KnownBytes.{Appends}
 use Rattle.std.proofs.lemmas.Result.{err_from_is_err_and}
 use Rattle.swf_text.specs.Text.{is_feed}
-use Rattle.swf_text.proofs.Writings.{front_more, writes_then}
+use Rattle.swf_text.proofs.Lemmas.{front_more, writes_then}
 use Rattle.scripts.specs.Lines.{saved_line}
 use Rattle.scripts.proofs.reply.write_saved.Goals as goal
 

@@ -7,7 +7,7 @@ use Rattle.scenarios.specs.Plan.{Plan, plan_of, jobs_of}
 use Rattle.scenarios.specs.PlanView.{PlanView, plan_in}
 use Rattle.easy_rule.specs.declared.start.Start.{Start}
 use Rattle.scenarios.specs.SoundPlan.{IsPlan}
-use Rattle.timeline.proofs.Seconds.{all-start-early}
+use Rattle.timeline.proofs.Lemmas.{all-start-early}
 use Rattle.checkpoints.specs.Schedule.{row_of, rows_of}
 use Rattle.checkpoints.specs.RunView.{RunView}
 use Rattle.checkpoints.specs.declared.row.Row.{Row}

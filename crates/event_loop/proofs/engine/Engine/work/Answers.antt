@@ -6,7 +6,7 @@ use Rattle.scenarios.specs.PlanView.{plan_in}
 use Rattle.cluster_state.specs.State.{State}
 use Rattle.easy_rule.specs.Rule.{state_after, starts_at}
 use Rattle.easy_rule.specs.Simulation.{starts_in}
-use Rattle.timeline.proofs.Facts.{second-is, before-more}
+use Rattle.timeline.proofs.Lemmas.{second-is, before-more}
 use Rattle.event_loop.specs.Events.{Progress}
 use Rattle.event_loop.proofs.EventLemmas.{ready-at, sound-ready, known-settled, known-stands}
 use Rattle.event_loop.proofs.engine.Engine.work.Goals as goal

@@ -24,14 +24,14 @@ invariant_of-result g c =
     let a = is_tally_from _ c.self.invariant in
     let b = is_tally_from _ c.other.invariant in
     let f = c.in_ok-absorb.ensures [] a.jobs c.empty-tally.ensures a.same in
-    is_part_from _ (is_joined_part _ _ _ a b (sum_of_counts _ _ _ _ (sym c.self.view_is) (sym c.other.view_is) c.requires) (c.in_ok-absorb-2.ensures a.jobs b.jobs f b.same)) c.is_in_order.ensures.users c.is_in_order.ensures.days
+    is_part_from _ (is_joined_part _ _ _ a b (sum_of_counts _ _ _ _ (sym c.self.view_is) (sym c.other.view_is) c.requires) (c.in_ok-absorb-2.ensures a.jobs b.jobs f b.same)) c.stands_in_order.ensures.users c.stands_in_order.ensures.days
 
 pub returns : goal.returns
 returns g c = λ xs ys h k.
     let P : PartSums → Type 0 = IsPartOf xs in let Q : PartSums → Type 0 = IsPartOf ys in
     let a = tally_from xs _ (subst P (sym c.self.view_is) h) in
     let b = tally_from ys _ (subst Q (sym c.other.view_is) k) in
-    part_from _ _ (c.in_ok-absorb-2.ensures xs ys (c.in_ok-absorb.ensures [] xs c.empty-tally.ensures a) b) c.is_in_order.ensures.users c.is_in_order.ensures.days
+    part_from _ _ (c.in_ok-absorb-2.ensures xs ys (c.in_ok-absorb.ensures [] xs c.empty-tally.ensures a) b) c.stands_in_order.ensures.users c.stands_in_order.ensures.days
 
 pub absorb-requires-clause-few : goal.absorb-requires-clause-few
 absorb-requires-clause-few g c =

@@ -33,7 +33,7 @@ loop-each-preserved g c =
 pub invariant_of-result : goal.invariant_of-result
 invariant_of-result g c =
     let m : c.loop-each.each-index ≤ length c.args.placed.now = omega arith in
-    is_part_from _ (is_first_part c.args.placed.now c.loop-each.each-index _ c.requires.few m c.loop-each.invariant.each c.loop-each.invariant.sums) c.is_in_order.ensures.users c.is_in_order.ensures.days
+    is_part_from _ (is_first_part c.args.placed.now c.loop-each.each-index _ c.requires.few m c.loop-each.invariant.each c.loop-each.invariant.sums) c.stands_in_order.ensures.users c.stands_in_order.ensures.days
 
 pub returns : goal.returns
-returns g c = part_from _ _ (all_of c.args.placed.now c.loop-each.each-index _ c.loop-each-test.false c.loop-each.invariant.sums) c.is_in_order.ensures.users c.is_in_order.ensures.days
+returns g c = part_from _ _ (all_of c.args.placed.now c.loop-each.each-index _ c.loop-each-test.false c.loop-each.invariant.sums) c.stands_in_order.ensures.users c.stands_in_order.ensures.days

@@ -1,4 +1,4 @@
-use Rattle.cluster_state.proofs.StateLemmas.{sound-arrived}
+use Rattle.cluster_state.proofs.Lemmas.{sound-arrived}
 use Rattle.reference.proofs.state.PlainState.arrive.Goals as goal
 
 pub invariant_of-self-2 : goal.invariant_of-self-2

@@ -1,5 +1,5 @@
 use Rattle.std.proofs.Common.{arith}
-use Rattle.easy_rule.proofs.RuleLemmas.{available-le}
+use Rattle.easy_rule.proofs.Lemmas.{available-le}
 use Rattle.reference.proofs.state.PlainState.available.Goals as goal
 
 pub overflow_add-result : goal.overflow_add-result

@@ -1,4 +1,4 @@
-use Rattle.cluster_state.proofs.StateLemmas.{sound-started}
+use Rattle.cluster_state.proofs.Lemmas.{sound-started}
 use Rattle.reference.proofs.state.PlainState.start.Goals as goal
 
 pub invariant_of-self : goal.invariant_of-self

@@ -1,7 +1,7 @@
 use Rattle.std.proofs.Common.{◌∙◌, ap}
 use Rattle.scenarios.specs.PlanView.{PlanView}
 use Rattle.scenarios.specs.Skips.{skips_of}
-use Rattle.job_table.proofs.FromZero.{from-zero}
+use Rattle.job_table.proofs.Lemmas.{from-zero}
 use Rattle.scenarios.proofs.plan_ref.PlanRef.skips.Goals as goal
 
 pub returns : goal.returns

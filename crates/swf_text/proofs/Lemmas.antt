@@ -1,0 +1,19 @@
+-- What crates above cite of these proofs, passed on from one place. Declares nothing.
+-- the bytes of a number: the two sides of a test that joins two, and the value that they spell
+pub use Rattle.swf_text.proofs.Numbers.{and_first, and_second, Spells-number_of, number_of-Spells}
+-- the words of a line: the next one, the last one, and values put before those behind them
+pub use Rattle.swf_text.proofs.Words.{fields-blank, fields-next, fields-end, word_left, no_word_left, onto, onto-value_then}
+-- the bytes of a number are words without blanks
+pub use Rattle.swf_text.proofs.Plains.{solid_fields}
+-- a number that is read exactly
+pub use Rattle.swf_text.proofs.Grammars.{exact_number}
+-- the canonical spelling of a value spells it
+pub use Rattle.swf_text.proofs.Spellings.{spelled}
+-- a text that is written part after part
+pub use Rattle.swf_text.proofs.Writings.{front_more, writes_then}
+-- a text that is written is read back
+pub use Rattle.swf_text.proofs.Trips.{read_again}
+-- a text that is read by the bounds of its lines
+pub use Rattle.swf_text.proofs.Bounds.{readings_at}
+-- what holds of each text that was read
+pub use Rattle.swf_text.proofs.Kept.{text_sound, one_text}
