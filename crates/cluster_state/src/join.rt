@@ -6,7 +6,7 @@ ghost use Rattle.cluster_state.specs.State.{placed};
 ghost use Rattle.cluster_state.specs.Ends.{entered};
 ghost use Rattle.cluster_state.specs.Room.{Grew, HeapGrew};
 
-use crate::running::{enter, run};
+use crate::running::{enter, put_by_number};
 use scenarios::{Job, Placed};
 use std::alloc::Allocator;
 use std::cmp::Reverse;
@@ -34,7 +34,7 @@ pub(crate) fn join<A: Allocator>(
     ensures heap_room { HeapGrew 1 ends.old ends.new }
 {
     let end = r.end();
-    let Ok(()) = run(running, r) else {
+    let Ok(()) = put_by_number(running, r) else {
         unreachable!()
     };
     let Ok(()) = enter(by_end, r) else {

@@ -30,7 +30,10 @@ fn place_after(running: &[Placed], number: u64) -> Option<usize>
 }
 
 // Puts a running job in its place by number.
-pub(crate) fn run<A: Allocator>(running: &mut Vec<Placed, A>, r: Placed) -> Result<(), Memory>
+pub(crate) fn put_by_number<A: Allocator>(
+    running: &mut Vec<Placed, A>,
+    r: Placed,
+) -> Result<(), Memory>
     ensures ok { OnOk result (running.new.items ≡ placed r running.old.items) }
     ensures err { OnErr result (running.new.items ≡ running.old.items) }
     ensures len { OnOk result (vec_len running.new ≡ vec_len running.old + 1) }

@@ -6,7 +6,7 @@ use Rattle.std.proofs.Math.Seq.{take-suc-set}
 use Rattle.std.proofs.Math.ListN.{drop_of_length-le}
 use Rattle.std.proofs.lemmas.Grind.{common_steps}
 use Rattle.std.proofs.lemmas.List.{append-nil, take_all}
-use Rattle.swf_text.specs.Number.{Spells, are_digits, decimal, number_of, is_below_zero}
+use Rattle.swf_text.specs.Number.{Spells, are_digits, digits_value, number_of, is_below_zero}
 use Rattle.swf_text.specs.Entry.{field, whole_number, is_partial, entry_made}
 use Rattle.swf_text.specs.Line.{value_then}
 use Rattle.swf_text.proofs.Lemmas.{Spells-number_of, number_of-Spells, onto, onto-value_then}
@@ -24,7 +24,7 @@ from_bytes_is bytes None spells only = go (number_of bytes) refl
     go (Some v) e = only v (Spells-number_of bytes v e) ∙ sym e
 
 -- digits spell their number
-digits_spell : (word : List ℕ) → are_digits word ≡ true → decimal word ≤ 1000000000000 → Spells word (pos (1000000 * decimal word))
+digits_spell : (word : List ℕ) → are_digits word ≡ true → digits_value word ≤ 1000000000000 → Spells word (pos (1000000 * digits_value word))
 digits_spell word digits few = record {
   parts = record { is_negative = false; whole = word; fraction = None };
   is_text = sym (append-nil word);
@@ -41,10 +41,10 @@ zero-leb : (a : ℕ) → leb 0 a ≡ true
 zero-leb a = grind (arith, common_steps)
 
 pub job_value-is : (word : List ℕ) (n : ℕ) → job_number word ≡ Some n → number_of word ≡ job_value word
-job_value-is word n is = go (are_digits word) refl (leb (decimal word) 1000000000000) refl (zero-leb (decimal word)) is
+job_value-is word n is = go (are_digits word) refl (leb (digits_value word) 1000000000000) refl (zero-leb (digits_value word)) is
   where
-    go : (a : Bool) → are_digits word ≡ a → (b : Bool) → leb (decimal word) 1000000000000 ≡ b → leb 0 (decimal word) ≡ true → job_number word ≡ Some n → number_of word ≡ job_value word
-    go true ea true eb least h = rw (ea, least, eb) (number_of-Spells word (pos (1000000 * decimal word)) (digits_spell word ea (le-leb (decimal word) 1000000000000 eb)))
+    go : (a : Bool) → are_digits word ≡ a → (b : Bool) → leb (digits_value word) 1000000000000 ≡ b → leb 0 (digits_value word) ≡ true → job_number word ≡ Some n → number_of word ≡ job_value word
+    go true ea true eb least h = rw (ea, least, eb) (number_of-Spells word (pos (1000000 * digits_value word)) (digits_spell word ea (le-leb (digits_value word) 1000000000000 eb)))
     go true ea false eb least h = let wrong : None ≡ Some n = rw (ea, least, eb) at h in absurd (cc)
     go false ea b eb least h = let wrong : None ≡ Some n = rw ea at h in absurd (cc)
 

@@ -22,7 +22,7 @@ use Rattle.scenarios.specs.Scenario.{Setting, IsSetting, setting_of}
 use Rattle.scenarios.specs.ScenarioList.{Listed, Listing, empty, named, AreApart, IsListed, add_fault, with_scenario}
 use Rattle.scenarios.proofs.Lemmas.{bytes_eq-swap, named-append, named-first}
 use Rattle.commands.specs.ScenarioLine.{scenario_line, order_text, scenario_comment}
-use Rattle.commands.specs.Opening.{kept, with_setting, in_order, with_line, told, comment_of}
+use Rattle.commands.specs.Opening.{kept, with_setting, with_order, with_line, told, comment_of}
 use Rattle.commands.specs.Laws.{SavesSoundComments, SavesTheSame}
 use Rattle.commands.proofs.LineWords.{name_bytes, length-name}
 use Rattle.commands.proofs.Told.{kept-append, told_from, told_from-append}
@@ -157,7 +157,7 @@ adds s list is new room last =
     let free : add_fault s.name list ≡ None = rw (called, new, more, ids) refl in
     let within : setting_of s.setting.procs s.setting.factor ≡ Some (record { procs = s.setting.procs; factor = s.setting.factor; order = Arrival }) = rw (a, b, c, d) refl in
     ap (with_line list) (line_is_told s is)
-    ∙ ap (λ o. with_setting s.name (in_order o (line_for s.name s.setting)) list) within
+    ∙ ap (λ o. with_setting s.name (with_order o (line_for s.name s.setting)) list) within
     ∙ ap (λ o. cond (is_some o) list (with_scenario s.name s.setting list)) free
 
 AllNew : Listing → List Listed → Type 0

@@ -24,14 +24,14 @@ with_setting name None list = list
 with_setting name (Some setting) list = if is_some (add_fault name list) then list else with_scenario name setting list
 
 -- the list with the scenario of a line, in its order of backfills
-abbrev pub in_order : Option Setting → ScenarioLine → Option Setting
-in_order None line = None
-in_order (Some setting) line = Some (record setting { order = line.order })
+abbrev pub with_order : Option Setting → ScenarioLine → Option Setting
+with_order None line = None
+with_order (Some setting) line = Some (record setting { order = line.order })
 
 -- the list with the scenario that a comment tells of, if any
 abbrev pub with_line : Listing → Option ScenarioLine → Listing
 with_line list None = list
-with_line list (Some line) = with_setting line.name (in_order (setting_of line.procs line.factor) line) list
+with_line list (Some line) = with_setting line.name (with_order (setting_of line.procs line.factor) line) list
 
 -- the list of the scenarios that the comments tell of, in order: each within the limits whose name is new, while there is room
 abbrev pub told : List (List ℕ) → Listing

@@ -2,7 +2,7 @@
 use Rattle.std.specs.Prelude.{ℕ, List, [], ◌∷◌, ◌++◌, length, drop, ◌&&◌, ◌==◌, nat_eq, nat_le, if◌then◌else◌, Option, Some, None, codes}
 use Rattle.std.specs.List.{starts_with}
 use Rattle.std.specs.Fmt.{decimal as decimal_text}
-use Rattle.swf_text.specs.Number.{are_digits, decimal}
+use Rattle.swf_text.specs.Number.{are_digits, digits_value}
 use Rattle.swf_text.specs.Line.{from_first, fields}
 use Rattle.scenarios.specs.declared.order.Order.{Order}
 use Rattle.scenarios.specs.declared.order.Order.TheVariants.{Arrival, Shortest}
@@ -14,7 +14,7 @@ use Rattle.commands.specs.Words.{name_of, order_of}
 
 -- a number of one to eighteen digits
 abbrev pub short_number : List ℕ → Option ℕ
-short_number word = if are_digits word && nat_le (length word) 18 then Some (decimal word) else None
+short_number word = if are_digits word && nat_le (length word) 18 then Some (digits_value word) else None
 
 -- the line of these parts, where there are all
 abbrev pub line_of_parts : Option (List ℕ) → Option ℕ → Option ℕ → Option Order → Option ScenarioLine

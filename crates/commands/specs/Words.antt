@@ -2,7 +2,7 @@
 use Rattle.std.specs.Prelude.{ℕ, ◌+◌, ◌*◌, List, [], ◌∷◌, Bool, ◌&&◌, ◌||◌, ◌==◌, not, nat_le, if◌then◌else◌, Option, Some, None, Result, Ok, ℤ, pos, codes}
 use Rattle.std.specs.Option.{option_map}
 use Rattle.std.specs.Str.{bytes_eq}
-use Rattle.swf_text.specs.Number.{are_digits, decimal, number_of, is_below_zero}
+use Rattle.swf_text.specs.Number.{are_digits, digits_value, number_of, is_below_zero}
 use Rattle.swf_text.specs.Entry.{is_partial}
 use Rattle.swf_text.specs.Line.{value_then}
 use Rattle.scenarios.specs.declared.order.Order.{Order}
@@ -16,7 +16,7 @@ name_of word = if is_name word then Some word else None
 -- the number that the digits of a word spell, where it is within these limits
 abbrev pub number_between : ℕ → ℕ → List ℕ → Option ℕ
 number_between least most word =
-    if are_digits word && nat_le least (decimal word) && nat_le (decimal word) most then Some (decimal word) else None
+    if are_digits word && nat_le least (digits_value word) && nat_le (digits_value word) most then Some (digits_value word) else None
 
 -- a job number is at most a trillion
 abbrev pub job_number : List ℕ → Option ℕ

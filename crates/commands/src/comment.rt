@@ -5,7 +5,7 @@ use crate::name::Name;
 use crate::values::order_of;
 use crate::words::words_of;
 use scenarios::Order;
-use swf_text::{are_digits, decimal, from_first};
+use swf_text::{are_digits, digits_value, from_first};
 
 /// What a comment that tells of a scenario has behind its `;`.
 const MARK: &[u8] = b"Scenario:";
@@ -28,7 +28,7 @@ fn short_number(word: &[u8]) -> Option<u64>
     ensures { result ≡ short_number word.now }
 {
     if are_digits(word) && word.len() <= DIGIT_LIMIT {
-        Some(decimal(word))
+        Some(digits_value(word))
     } else {
         None
     }

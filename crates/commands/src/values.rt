@@ -3,7 +3,7 @@ ghost use Rattle.swf_text.specs.Number.{number_of};
 ghost use Rattle.commands.specs.Words.{number_between, order_of, entry_value, may_stand, entry_values, job_value};
 
 use scenarios::Order;
-use swf_text::{Value, whole_part};
+use swf_text::{Value, read_digits};
 
 /// The greatest job number.
 pub(crate) const JOB_LIMIT: u64 = 1_000_000_000_000;
@@ -13,7 +13,7 @@ pub(crate) fn number_between(word: &[u8], least: u64, most: u64) -> Option<u64>
     requires { most ≤ 1000000000000 }
     ensures { result ≡ number_between least most word.now }
 {
-    let number = whole_part(word)?;
+    let number = read_digits(word)?;
     if number < least || number > most {
         return None;
     }

@@ -6,11 +6,11 @@ use crate::shadow_time::Shadow;
 use scenarios::Job;
 
 // Whether a later job may start now, in the place of the head.
-pub(crate) fn backfills(job: &Job, now: u64, free: u64, head: Shadow) -> bool
-    ensures { result ≡ may_backfill now free head job.now }
+pub(crate) fn backfills(job: &Job, now: u64, free: u64, shadow: Shadow) -> bool
+    ensures { result ≡ may_backfill now free shadow job.now }
 {
     job.size() <= free
-        && (now <= head.time && job.estimate() <= head.time - now || job.size() <= head.extra)
+        && (now <= shadow.time && job.estimate() <= shadow.time - now || job.size() <= shadow.extra)
 }
 
 // The place of the first job of the row that may start now, where none before `place` may.
@@ -19,14 +19,14 @@ pub(crate) fn first_place(
     place: usize,
     now: u64,
     free: u64,
-    head: Shadow,
+    shadow: Shadow,
 ) -> Option<usize>
-    requires { All (λ j. may_backfill now free head j ≡ false) (take place row.now) }
-    ensures none { IfNone result (All (λ j. may_backfill now free head j ≡ false) row.now) }
-    ensures found { IfSome result (IsFirstPlace (may_backfill now free head) row.now) }
+    requires { All (λ j. may_backfill now free shadow j ≡ false) (take place row.now) }
+    ensures none { IfNone result (All (λ j. may_backfill now free shadow j ≡ false) row.now) }
+    ensures found { IfSome result (IsFirstPlace (may_backfill now free shadow) row.now) }
 {
     for at in place..row.len() {
-        if backfills(&row[at], now, free, head) {
+        if backfills(&row[at], now, free, shadow) {
             return Some(at);
         }
     }
@@ -34,14 +34,14 @@ pub(crate) fn first_place(
 }
 
 // What the head leaves once this later job runs too.
-pub(crate) fn left_by(head: Shadow, now: u64, job: &Job) -> Shadow
-    ensures { result ≡ less head now job.now }
+pub(crate) fn left_by(shadow: Shadow, now: u64, job: &Job) -> Shadow
+    ensures { result ≡ less shadow now job.now }
 {
-    if now <= head.time && job.estimate() <= head.time - now {
-        return head;
+    if now <= shadow.time && job.estimate() <= shadow.time - now {
+        return shadow;
     }
     Shadow {
-        time: head.time,
-        extra: head.extra.saturating_sub(job.size()),
+        time: shadow.time,
+        extra: shadow.extra.saturating_sub(job.size()),
     }
 }

@@ -4,7 +4,7 @@ ghost use Rattle.easy_rule.specs.Rule.{may_backfill, next, shadow_of, state_afte
 ghost use Rattle.easy_rule.specs.Pass.{front};
 
 use crate::backfill::backfills;
-use crate::pass::{pass_on, room_for_starts, told};
+use crate::pass::{pass_on, room_for_starts, with_starts};
 use crate::shadow_time::Shadow;
 use crate::start::Start;
 use cluster_state::Cluster;
@@ -13,10 +13,10 @@ use std::alloc::Allocator;
 use swf_text::Memory;
 
 // Whether one of these later jobs may start now.
-fn may_any(jobs: &[Job], now: u64, free: u64, head: Shadow) -> bool
-    ensures { result ≡ list_any (may_backfill now free head) jobs.now }
+fn may_any(jobs: &[Job], now: u64, free: u64, shadow: Shadow) -> bool
+    ensures { result ≡ list_any (may_backfill now free shadow) jobs.now }
 {
-    jobs.iter().any(|job| backfills(job, now, free, head))
+    jobs.iter().any(|job| backfills(job, now, free, shadow))
 }
 
 /// As `decide_with_shadow`, where the state's shadow is known and nobody of the first `settled`
@@ -54,5 +54,5 @@ pub fn decide_behind<A: Allocator + Copy>(
     };
     let (mut chosen, starts) = room_for_starts(alloc, cluster)?;
     let left = pass_on(cluster, &mut chosen, shadow, place, now);
-    Ok((told(starts, &chosen, now), left))
+    Ok((with_starts(starts, &chosen, now), left))
 }

@@ -33,17 +33,17 @@ pub(crate) fn choose<A: Allocator>(
     place: usize,
     now: u64,
     free: u64,
-    head: Shadow,
+    shadow: Shadow,
     chosen: &mut Vec<Job, A>,
 ) -> Shadow
     requires limits { All IsWithinLimits row.now }
     requires room { vec_len chosen.old + min (length row.now) free ≤ vec_capacity chosen.old }
-    ensures jobs { chosen.new.items ≡ chosen.old.items ++ picked now free head (drop place row.now) }
-    ensures left { result ≡ left_after now free head (drop place row.now) }
+    ensures jobs { chosen.new.items ≡ chosen.old.items ++ picked now free shadow (drop place row.now) }
+    ensures left { result ≡ left_after now free shadow (drop place row.now) }
     ensures capacity { vec_capacity chosen.old ≤ vec_capacity chosen.new }
 {
     let mut room = free;
-    let mut left = head;
+    let mut left = shadow;
     for at in place..row.len() {
         if room == 0 {
             return left;

@@ -3,9 +3,9 @@ ghost use Rattle.cluster_state.specs.State.{free};
 ghost use Rattle.easy_rule.specs.Rule.{next, shadow_of, state_after, starts_at};
 
 use crate::backfill::first_place;
-use crate::head::shadow_for;
-use crate::pass::{pass_on, room_for_starts, start_heads, start_later, told};
+use crate::pass::{pass_on, room_for_starts, start_heads, start_later, with_starts};
 use crate::shadow_time::Shadow;
+use crate::shadow_walk::shadow_for;
 use crate::start::Start;
 use cluster_state::Cluster;
 use std::alloc::Allocator;
@@ -68,7 +68,7 @@ pub fn decide_with_shadow<A: Allocator + Copy>(
         let (mut chosen, starts) = room_for_starts(alloc, cluster)?;
         start_heads(cluster, &mut chosen, now);
         let left = start_later(cluster, &mut chosen, now);
-        return Ok((told(starts, &chosen, now), left));
+        return Ok((with_starts(starts, &chosen, now), left));
     }
     let shadow = shadow_for(cluster, need);
     let Some(place) = first_place(cluster.row(), 0, now, free, shadow) else {
@@ -76,5 +76,5 @@ pub fn decide_with_shadow<A: Allocator + Copy>(
     };
     let (mut chosen, starts) = room_for_starts(alloc, cluster)?;
     let left = pass_on(cluster, &mut chosen, shadow, place, now);
-    Ok((told(starts, &chosen, now), Some(left)))
+    Ok((with_starts(starts, &chosen, now), Some(left)))
 }

@@ -6,14 +6,14 @@ mod behind;
 mod choice;
 mod decision;
 pub mod examples;
-mod head;
 pub mod laws;
 mod pass;
 mod shadow_time;
+mod shadow_walk;
 mod start;
 
 pub use behind::decide_behind;
 pub use decision::{decide, decide_with_shadow};
-pub use head::{shadow, shadow_counted};
 pub use shadow_time::Shadow;
+pub use shadow_walk::{shadow, shadow_counted};
 pub use start::Start;

@@ -4,8 +4,8 @@ ghost use Rattle.easy_rule.specs.Rule.{shadow_of, state_after, starts_at};
 ghost use Rattle.easy_rule.specs.Pass.{most_starts, start_at, IsPass};
 
 use crate::choice::{choose, choose_heads};
-use crate::head::shadow_for;
 use crate::shadow_time::Shadow;
+use crate::shadow_walk::shadow_for;
 use crate::start::Start;
 use cluster_state::Cluster;
 use scenarios::Job;
@@ -34,7 +34,11 @@ pub(crate) fn room_for_starts<A: Allocator + Copy>(
 }
 
 // The starts of these jobs, in an empty list with room for them.
-pub(crate) fn told<A: Allocator>(list: Vec<Start, A>, chosen: &[Job], now: u64) -> Vec<Start, A>
+pub(crate) fn with_starts<A: Allocator>(
+    list: Vec<Start, A>,
+    chosen: &[Job],
+    now: u64,
+) -> Vec<Start, A>
     requires empty { list.items ≡ [] }
     requires room { length chosen.now ≤ vec_capacity list }
     ensures { result.items ≡ map (start_at now) chosen.now }

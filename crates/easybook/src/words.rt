@@ -14,7 +14,7 @@ use scenarios::MAX_PROCS;
 use std::alloc::{AllocError, Global};
 use std::error::Error;
 use std::fmt;
-use swf_text::whole_part;
+use swf_text::read_digits;
 
 /// The spacing where the words give none.
 const SPACING: u32 = 256;
@@ -123,7 +123,7 @@ fn number(text: &str, most: u64) -> Option<u64>
     ensures value { result ≡ number_between 1 most text.now }
     ensures within { IfSome result (λ n. (1 ≤ n) × (n ≤ most)) }
 {
-    let number = whole_part(text.as_bytes())?;
+    let number = read_digits(text.as_bytes())?;
     if number < 1 || number > most {
         return None;
     }

@@ -7,29 +7,29 @@ use Rattle.report.specs.Pieces.{thousandths, percent}
 use Rattle.report.specs.Heading.{title}
 
 -- a word, and the number that it names
-abbrev pub told : List ℕ → ℕ → List ℕ
-told word n = word ++ codes " " ++ decimal n
+abbrev pub word_and_number : List ℕ → ℕ → List ℕ
+word_and_number word n = word ++ codes " " ++ decimal n
 
 abbrev pub jobs_line : Overall → List ℕ
-jobs_line all = told (codes "jobs") all.jobs ++ told (codes " killed") all.killed ++ codes "\n"
+jobs_line all = word_and_number (codes "jobs") all.jobs ++ word_and_number (codes " killed") all.killed ++ codes "\n"
 
 -- how many entries were skipped, by reason
 abbrev pub skips_line : Skips → List ℕ
 skips_line skips =
-    told (codes "skipped size") skips.size ++ told (codes " run") skips.run ++ told (codes " large") skips.large
-    ++ told (codes " long") skips.long ++ codes "\n"
+    word_and_number (codes "skipped size") skips.size ++ word_and_number (codes " run") skips.run ++ word_and_number (codes " large") skips.large
+    ++ word_and_number (codes " long") skips.long ++ codes "\n"
 
 abbrev pub wait_line : Overall → List ℕ
-wait_line all = told (codes "wait mean") all.wait ++ told (codes " greatest") all.greatest_wait ++ codes "\n"
+wait_line all = word_and_number (codes "wait mean") all.wait ++ word_and_number (codes " greatest") all.greatest_wait ++ codes "\n"
 
 abbrev pub length_line : Overall → List ℕ
-length_line all = told (codes "length mean") all.length ++ codes "\n"
+length_line all = word_and_number (codes "length mean") all.length ++ codes "\n"
 
 abbrev pub slowdown_line : Overall → List ℕ
 slowdown_line all = codes "slowdown mean " ++ thousandths 0 all.slowdown ++ codes "\n"
 
 abbrev pub busy_line : Overall → List ℕ
-busy_line all = told (codes "busy") all.busy ++ told (codes " span") all.span ++ codes "\n"
+busy_line all = word_and_number (codes "busy") all.busy ++ word_and_number (codes " span") all.span ++ codes "\n"
 
 abbrev pub utilization_line : Overall → List ℕ
 utilization_line all = codes "utilization " ++ percent 0 all.utilization ++ codes "\n"

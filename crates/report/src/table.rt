@@ -1,7 +1,7 @@
 //! The report on all jobs.
 
 ghost use Rattle.std.specs.Prelude.{◌≡◌, ◌++◌, OnOk, IfOk, codes};
-ghost use Rattle.report.specs.Table.{told, jobs_line, skips_line, wait_line, length_line, slowdown_line, busy_line, utilization_line, table_text};
+ghost use Rattle.report.specs.Table.{word_and_number, jobs_line, skips_line, wait_line, length_line, slowdown_line, busy_line, utilization_line, table_text};
 
 use crate::heading::push_title;
 use crate::pieces::{push_number, push_percent, push_thousandths};

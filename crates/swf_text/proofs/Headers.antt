@@ -8,7 +8,7 @@ use Rattle.std.proofs.lemmas.List.{take_at, drop_at, take-append-drop}
 use Rattle.std.proofs.lemmas.Bool.{cases_Bool, eq-eqb, eqb-true, lt-ltb, le-leb, leb-true, ltb-true}
 use Rattle.std.specs.Cmp.Lexicographic.{same_text}
 use Rattle.std.specs.Prelude.{IfSome}
-use Rattle.swf_text.specs.Number.{decimal}
+use Rattle.swf_text.specs.Number.{digits_value}
 use Rattle.swf_text.specs.Line.{is_blank, from_first}
 use Rattle.swf_text.specs.Scan.{ends}
 use Rattle.swf_text.specs.Header.{IsHeader, IsFirstHeader, digit_len, header_of, header_value, header_number, number_then, label_then, colon_then, to_label, or_later}
@@ -118,7 +118,7 @@ header_form label (b ∷ bs) n h =
     let count = digit_len tail in
     let digits = take count tail in
     let after = drop count tail in
-    let number = kept (ltb 0 (length digits) && leb (length digits) 18 && ends after) (Some (decimal digits)) n colon.2 in
+    let number = kept (ltb 0 (length digits) && leb (length digits) 18 && ends after) (Some (digits_value digits)) n colon.2 in
     let both = and_first (ltb 0 (length digits) && leb (length digits) 18) (ends after) number.0 in
     let body_is : body ≡ label ++ 58 ∷ (take blanks rest ++ (digits ++ after)) =
     sym (take-append-drop (length label) body) ∙ ap (λ (l : List ℕ). l ++ drop (length label) body) (sym label_is) ∙ ap (λ (l : List ℕ). label ++ l) (colon.1 ∙ ap (λ (l : List ℕ). 58 ∷ l) (sym (take-append-drop blanks rest) ∙ ap (λ (l : List ℕ). take blanks rest ++ l) (sym (take-append-drop count tail)))) in
@@ -134,7 +134,7 @@ header_form label (b ∷ bs) n h =
       some = ltb-true 0 (length digits) (and_first (ltb 0 (length digits)) (leb (length digits) 18) both);
       few = leb-true (length digits) 18 (and_second (ltb 0 (length digits)) (leb (length digits) 18) both);
       end = and_second (ltb 0 (length digits) && leb (length digits) 18) (ends after) number.0;
-      value = some_is (decimal digits) n number.1;
+      value = some_is (digits_value digits) n number.1;
     }
   where
     some_is : (a c : ℕ) → Some a ≡ Some c → c ≡ a

@@ -10,7 +10,7 @@ use Rattle.std.proofs.lemmas.Bool.{lt-ltb, cases_Bool, cases_lt, eqb-true, eqb-f
 use Rattle.std.proofs.lemmas.List.Sums.{fold-append, prefix_len_passes}
 use Rattle.std.proofs.lemmas.List.Folds.{list_all-append}
 use Rattle.std.proofs.lemmas.List.{get_or-take, get_or_past, length-take, get_or-reverse, nil_from_length}
-use Rattle.swf_text.specs.Number.{Spells, decimal, are_digits, decimal_at, millionths_of, six_digits, without_zeros, is_zero, canonical, canonical_parts, signed, magnitude, greatest, number_of, fraction_value, is_below_zero}
+use Rattle.swf_text.specs.Number.{Spells, digits_value, are_digits, decimal_at, millionths_of, six_digits, without_zeros, is_zero, canonical, canonical_parts, signed, magnitude, greatest, number_of, fraction_value, is_below_zero}
 use Rattle.swf_text.proofs.Numbers.{number_of-Spells, and_first, and_second}
 
 and_true : {a b : Bool} → a ≡ true → b ≡ true → (a && b) ≡ true
@@ -25,7 +25,7 @@ digit_tests n lt = grind (arith, common_steps)
 
 -- the digits of a number spell it
 abbrev pub Spelled : ℕ → List ℕ → Type 0
-Spelled n ds = (list_all is_ascii_digit ds ≡ true) × (decimal ds ≡ n)
+Spelled n ds = (list_all is_ascii_digit ds ≡ true) × (digits_value ds ≡ n)
 
 pub spelled : (n : ℕ) → n < 2 ^ 64 → Spelled n (decimal_text n)
 spelled n lt = decimal_by_steps Spelled

@@ -8,7 +8,7 @@ use Rattle.std.proofs.lemmas.Grind.{common_steps}
 use Rattle.std.proofs.lemmas.Bool.{cases_Bool, lt-ltb}
 use Rattle.std.proofs.lemmas.List.{append-nil, take-append-drop, length-take-le, take_all, nil_from_length}
 use Rattle.std.proofs.lemmas.List.Folds.{list_any-append}
-use Rattle.swf_text.specs.Number.{decimal, are_digits, begins_negative, unsigned_text, sign_text, signed, greatest, millionths_of}
+use Rattle.swf_text.specs.Number.{digits_value, are_digits, begins_negative, unsigned_text, sign_text, signed, greatest, millionths_of}
 use Rattle.swf_text.specs.Line.{is_blank, is_high, fields, from_first, values_from, value_then, job_line, job_of_values}
 use Rattle.swf_text.specs.Scan.{Word, ends}
 use Rattle.swf_text.proofs.Numbers.{sign_again, number_of-Spells}
@@ -20,8 +20,8 @@ use Rattle.swf_text.proofs.Plains.{is_plain, word_fields, spelling_plain, all_lo
 digits_tests : (ds : List ℕ) → list_all is_ascii_digit ds ≡ true → 0 < length ds → IsTrue (are_digits ds)
 digits_tests ds all some = let t : ltb 0 (length ds) ≡ true = lt-ltb 0 (length ds) some in rw (t, all) refl
 
-module _ (bytes unsigned : List ℕ) (n : Bool) (count whole : ℕ) (sign : n ≡ begins_negative bytes) (body : unsigned ≡ unsigned_text bytes) (within : count ≤ length unsigned) (digits : list_all is_ascii_digit (take count unsigned) ≡ true) (value : whole ≡ decimal (take count unsigned)) (some : 0 < count) (small : whole ≤ 1000000000000) where
-  exact : decimal (take count unsigned) ≡ whole
+module _ (bytes unsigned : List ℕ) (n : Bool) (count whole : ℕ) (sign : n ≡ begins_negative bytes) (body : unsigned ≡ unsigned_text bytes) (within : count ≤ length unsigned) (digits : list_all is_ascii_digit (take count unsigned) ≡ true) (value : whole ≡ digits_value (take count unsigned)) (some : 0 < count) (small : whole ≤ 1000000000000) where
+  exact : digits_value (take count unsigned) ≡ whole
   exact = sym value
 
   filled : 0 < length (take count unsigned)
@@ -32,7 +32,7 @@ module _ (bytes unsigned : List ℕ) (n : Bool) (count whole : ℕ) (sign : n �
 
   pub word_whole : (rest : List ℕ) (v : ℤ) → rest ≡ drop count unsigned → ends rest ≡ true → v ≡ signed n (1000000 * whole) → Word bytes v rest
   word_whole rest v is end v_is =
-      let size : 1000000 * whole ≡ 1000000 * decimal (take count unsigned) + 0 = omega (arith, exact) in
+      let size : 1000000 * whole ≡ 1000000 * digits_value (take count unsigned) + 0 = omega (arith, exact) in
       record {
         word = sign_text n ++ (take count unsigned ++ []);
         is = apart ∙ ap (λ (r : List ℕ). sign_text n ++ (take count unsigned ++ r)) (sym is) ∙ ap (λ (u : List ℕ). sign_text n ++ u) (ap (λ (t : List ℕ). t ++ rest) (sym (append-nil (take count unsigned)))) ∙ sym (append_assoc (sign_text n) (take count unsigned ++ []) rest);
@@ -49,7 +49,7 @@ module _ (bytes unsigned : List ℕ) (n : Bool) (count whole : ℕ) (sign : n �
 
   pub word_point : (fraction rest : List ℕ) (v : ℤ) → drop count unsigned ≡ 46 ∷ (fraction ++ rest) → list_all is_ascii_digit fraction ≡ true → 0 < length fraction → 1000000 * whole + millionths_of fraction ≤ greatest → ends rest ≡ true → v ≡ signed n (1000000 * whole + millionths_of fraction) → Word bytes v rest
   word_point fraction rest v is all more fits end v_is =
-      let size : 1000000 * whole + millionths_of fraction ≡ 1000000 * decimal (take count unsigned) + millionths_of fraction = ap (λ (k : ℕ). 1000000 * k + millionths_of fraction) (sym exact) in
+      let size : 1000000 * whole + millionths_of fraction ≡ 1000000 * digits_value (take count unsigned) + millionths_of fraction = ap (λ (k : ℕ). 1000000 * k + millionths_of fraction) (sym exact) in
       record {
         word = sign_text n ++ (take count unsigned ++ 46 ∷ fraction);
         is = apart ∙ ap (λ (r : List ℕ). sign_text n ++ (take count unsigned ++ r)) is ∙ ap (λ (u : List ℕ). sign_text n ++ u) (sym (append_assoc (take count unsigned) (46 ∷ fraction) rest)) ∙ sym (append_assoc (sign_text n) (take count unsigned ++ 46 ∷ fraction) rest);

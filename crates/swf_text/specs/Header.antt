@@ -2,7 +2,7 @@
 use Rattle.std.specs.Prelude.{◌≡◌, ℕ, ◌-◌, ◌<◌, ◌≤◌, List, [], ◌∷◌, ◌++◌, length, take, drop, true, ◌&&◌, ◌==◌, nat_eq, nat_lt, nat_le, if◌then◌else◌, Option, Some, None}
 use Rattle.std.specs.List.{AllByRecursion, prefix_len, list_all, starts_with}
 use Rattle.std.specs.Char.{is_ascii_digit}
-use Rattle.swf_text.specs.Number.{decimal}
+use Rattle.swf_text.specs.Number.{digits_value}
 use Rattle.swf_text.specs.Line.{is_blank, from_first}
 use Rattle.swf_text.specs.Scan.{ends}
 
@@ -19,7 +19,7 @@ pub record IsHeader (label comment : List ℕ) (n : ℕ) : Type 0 where
   pub some : 0 < length digits
   pub few : length digits ≤ 18
   pub end : ends rest ≡ true
-  pub value : n ≡ decimal digits
+  pub value : n ≡ digits_value digits
 
 -- the first comment of this form has this number
 pub record IsFirstHeader (label : List ℕ) (comments : List (List ℕ)) (n : ℕ) : Type 0 where
@@ -34,7 +34,7 @@ pub record IsFirstHeader (label : List ℕ) (comments : List (List ℕ)) (n : �
 
 -- the number of the digits, where they are one to eighteen and the end or a blank follows
 abbrev pub number_then : List ℕ → List ℕ → Option ℕ
-number_then digits rest = if nat_lt 0 (length digits) && nat_le (length digits) 18 && ends rest then Some (decimal digits) else None
+number_then digits rest = if nat_lt 0 (length digits) && nat_le (length digits) 18 && ends rest then Some (digits_value digits) else None
 
 -- how many digits the bytes begin with
 abbrev pub digit_len : List ℕ → ℕ

@@ -6,8 +6,8 @@ use Rattle.std.specs.Fmt.{decimal as decimal_text}
 use Rattle.std.specs.Char.{is_ascii_digit}
 
 -- the number that digits spell
-abbrev pub decimal : List ℕ → ℕ
-decimal digits = fold (λ n digit. 10 * n + (digit - 48)) 0 digits
+abbrev pub digits_value : List ℕ → ℕ
+digits_value digits = fold (λ n digit. 10 * n + (digit - 48)) 0 digits
 
 -- one digit or more
 abbrev pub are_digits : List ℕ → Bool
@@ -50,7 +50,7 @@ fraction_value (Some digits) = millionths_of digits
 
 -- the size in millionths, without the sign
 abbrev pub magnitude : Parts → ℕ
-magnitude parts = 1000000 * decimal parts.whole + fraction_value parts.fraction
+magnitude parts = 1000000 * digits_value parts.whole + fraction_value parts.fraction
 
 -- a size with a sign
 abbrev pub signed : Bool → ℕ → ℤ

@@ -1,7 +1,7 @@
 ghost use Rattle.std.specs.Prelude.{◌≡◌, ◌≤◌, ℕ, length, true, IfSome, Some};
 ghost use Rattle.std.specs.List.{list_all};
 ghost use Rattle.std.specs.Char.{is_ascii_digit};
-ghost use Rattle.swf_text.specs.Number.{decimal};
+ghost use Rattle.swf_text.specs.Number.{digits_value};
 ghost use Rattle.swf_text.specs.Header.{IsFirstHeader, header_value, colon_then, label_then, to_label, header_of, header_number};
 
 use crate::scan::{blank_count, from_first};
@@ -14,10 +14,10 @@ const DIGIT_LIMIT: usize = 18;
 
 /// The number that at most eighteen digits spell, 0 of none. Its conditions are that they are
 /// digits, and so few. Takes no memory.
-pub fn decimal(digits: &[u8]) -> u64
+pub fn digits_value(digits: &[u8]) -> u64
     requires few { length digits.now ≤ 18 }
     requires all { list_all is_ascii_digit digits.now ≡ true }
-    ensures { result ≡ decimal digits.now }
+    ensures { result ≡ digits_value digits.now }
 {
     let mut value = 0u64;
     for byte in digits {
@@ -33,7 +33,7 @@ fn header_value(bytes: &[u8]) -> Option<u64>
     let count = digit_count(bytes);
     let (digits, rest) = bytes.split_at(count);
     if count > 0 && count <= DIGIT_LIMIT && is_ended(rest) {
-        Some(decimal(digits))
+        Some(digits_value(digits))
     } else {
         None
     }

@@ -2,7 +2,7 @@ ghost use Rattle.std.specs.Prelude.{◌≡◌, ◌<◌, ◌≤◌, ◌&&◌, nat
 ghost use Rattle.std.specs.List.{list_all, list_any, before_first, after_first};
 ghost use Rattle.std.specs.Option.{option_copied};
 ghost use Rattle.std.specs.Char.{is_ascii_digit};
-ghost use Rattle.swf_text.specs.Number.{number_of, begins_negative, unsigned_text, is_point, is_fraction, fraction_value, decimal, are_digits, millionths_of, decimal_at};
+ghost use Rattle.swf_text.specs.Number.{number_of, begins_negative, unsigned_text, is_point, is_fraction, fraction_value, digits_value, are_digits, millionths_of, decimal_at};
 
 use crate::value::{Value, signed_value};
 use memchr::memchr;
@@ -28,8 +28,8 @@ fn all_digits(bytes: &[u8]) -> bool
 
 /// The number that the digits spell, where it is at most a trillion; None of other bytes, and of
 /// none. Takes no memory.
-pub fn whole_part(digits: &[u8]) -> Option<u64>
-    ensures value { result ≡ (if are_digits digits.now && nat_le (decimal digits.now) 1000000000000 then Some (decimal digits.now) else None) }
+pub fn read_digits(digits: &[u8]) -> Option<u64>
+    ensures value { result ≡ (if are_digits digits.now && nat_le (digits_value digits.now) 1000000000000 then Some (digits_value digits.now) else None) }
     ensures small { IfSome result (λ n. n ≤ 1000000000000) }
 {
     if !are_digits(digits) {
@@ -110,7 +110,7 @@ pub(crate) fn number(bytes: &[u8]) -> Option<Value>
 {
     let (is_negative, unsigned) = split_sign(bytes);
     let (whole, fraction) = split_point(unsigned);
-    let whole = whole_part(whole)?;
+    let whole = read_digits(whole)?;
     let fraction = fraction_value(fraction)?;
     let magnitude = 1_000_000 * whole + fraction;
     if magnitude > LIMIT {

@@ -1,7 +1,7 @@
 ghost use Rattle.std.specs.Prelude.{◌≡◌, ◌∷◌, ◌++◌, ◌+◌, ◌*◌, ◌≤◌, ◌<◌, take, drop, length, IfSome, IsTrue, List, ℕ, true};
 ghost use Rattle.std.specs.List.{list_all};
 ghost use Rattle.std.specs.Char.{is_ascii_digit};
-ghost use Rattle.swf_text.specs.Number.{decimal, greatest, millionths_of};
+ghost use Rattle.swf_text.specs.Number.{digits_value, greatest, millionths_of};
 ghost use Rattle.swf_text.specs.Scan.{Word, ends};
 ghost use Rattle.swf_text.specs.Header.{digit_len};
 ghost use Rattle.swf_text.specs.Line.{job_line, job_of_values};
@@ -18,7 +18,7 @@ const DIGITS: usize = 12;
 fn leading_digits(bytes: &[u8]) -> (u64, usize)
     ensures within { result.1 ≤ length bytes.now }
     ensures digits { list_all is_ascii_digit (take result.1 bytes.now) ≡ true }
-    ensures value { result.0 ≡ decimal (take result.1 bytes.now) }
+    ensures value { result.0 ≡ digits_value (take result.1 bytes.now) }
     ensures limit { result.0 < 1000000000000 }
 {
     let front = &bytes[..bytes.len().min(DIGITS)];

@@ -1,6 +1,6 @@
 use Rattle.std.proofs.Common.{◌≡◌, ◌≤◌, length, map, take, vec_len, vec_capacity}
 use Rattle.easy_rule.specs.Pass.{start_at}
-use Rattle.easy_rule.proofs.pass.told.Given as goal
+use Rattle.easy_rule.proofs.pass.with_starts.Given as goal
 
 abbrev pub invariant-loop-job : goal.invariant-loop-job
 invariant-loop-job g l = record {

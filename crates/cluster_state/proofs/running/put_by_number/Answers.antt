@@ -1,6 +1,6 @@
 use Rattle.std.proofs.Common.{sym}
 use Rattle.cluster_state.proofs.StateLemmas.{placed-position}
-use Rattle.cluster_state.proofs.running.run.Goals as goal
+use Rattle.cluster_state.proofs.running.put_by_number.Goals as goal
 
 pub returns-clause-ok : goal.returns-clause-ok
 returns-clause-ok g c =

@@ -1,6 +1,6 @@
 use Rattle.std.proofs.Common.{◌≡◌}
 use Rattle.easy_rule.proofs.WalkLemmas.{IsWalk}
-use Rattle.easy_rule.proofs.head.walk.Given as goal
+use Rattle.easy_rule.proofs.shadow_walk.walk.Given as goal
 
 abbrev pub invariant-loop-r : goal.invariant-loop-r
 invariant-loop-r g l = record {

@@ -4,8 +4,8 @@ use Rattle.scenarios.specs.Placed.{expected_end}
 use Rattle.cluster_state.specs.State.{State}
 use Rattle.cluster_state.specs.Ends.{by_end}
 use Rattle.easy_rule.proofs.WalkLemmas.{walk-more, walk-shadow, walk-least, walk-stops, walk-ends, walk-room, walk-reads, walk-reads-all, early-end}
-use Rattle.easy_rule.proofs.head.walk.Goals.{else-need-room-via-then-need-room+else-time-end, else-need-room-via-else-need-room}
-use Rattle.easy_rule.proofs.head.walk.Goals as goal
+use Rattle.easy_rule.proofs.shadow_walk.walk.Goals.{else-need-room-via-then-need-room+else-time-end, else-need-room-via-else-need-room}
+use Rattle.easy_rule.proofs.shadow_walk.walk.Goals as goal
 
 pub expected_end-end-requires : goal.expected_end-end-requires
 expected_end-end-requires g c =
