@@ -8,18 +8,12 @@ use crate::keyword::{Keyword, keyword_of};
 use crate::name::Name;
 use crate::values::{JOB_LIMIT, entry_values, number_between, order_of, value_of};
 use crate::words::words_of;
-use scenarios::{Order, Scenario};
+use scenarios::{MAX_FACTOR, MAX_PROCS, Order, Scenario};
 use std::alloc::Allocator;
 use swf_text::{Entry, Fields, LINE_LIMIT, without_returns};
 
 /// The greatest field.
 const FIELD_LIMIT: u64 = 255;
-
-/// The largest machine, in processors.
-const MAX_PROCS: u64 = 16_777_216;
-
-/// The greatest factor, in thousandths.
-const MAX_FACTOR: u64 = 100_000;
 
 // The command of the eighteen words behind `insert`.
 fn insert<A: Allocator + Copy>(alloc: A, words: &[&[u8]]) -> Result<Command<A>, CommandFault>

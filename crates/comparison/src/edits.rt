@@ -1,5 +1,5 @@
 ghost use Rattle.std.specs.Prelude.{◌≡◌, ◌<◌, IfSome, map};
-ghost use Rattle.job_table.specs.Accepted.{AreAccepted, IsEdit};
+ghost use Rattle.job_table.specs.Accepted.{AreAccepted};
 ghost use Rattle.job_table.specs.Edit.{edit_of, log_after};
 
 use crate::logs::{edited_log, line_at};
@@ -212,21 +212,6 @@ pub(crate) fn edits_of(
     Some(edits)
 }
 
-// Each edit of a program keeps to what holds of edits: of its entry, or of its value.
-fn is_edit(edit: &Edit<Global>)
-    ensures { IsEdit (edit_of edit.now) }
-{
-    match edit {
-        Edit::Insert(entry) => {
-            let _submit = entry.submit();
-        }
-        Edit::Remove(_) => {}
-        Edit::Change { value, .. } => {
-            let _millionths = value.millionths();
-        }
-    }
-}
-
 // The table after these edits; none where one is refused.
 fn edited(table: JobTable<Global>, edits: &[Edit<Global>]) -> Option<JobTable<Global>>
     ensures accepted { IfSome result (λ t. AreAccepted table (map edit_of edits.now)) }
@@ -236,7 +221,6 @@ fn edited(table: JobTable<Global>, edits: &[Edit<Global>]) -> Option<JobTable<Gl
         [] => Some(table),
         [first, rest @ ..] => {
             let mut table = table;
-            is_edit(first);
             table.apply(first).ok()?;
             edited(table, rest)
         }

@@ -1,4 +1,4 @@
-ghost use Rattle.std.specs.Prelude.{◌≡◌, ◌≤◌, ◌<◌, ◌^◌, ◌↔◌, OnOk, IfOk, IfSome, IsTrue, IsSomeAnd, None, Some, length, All};
+ghost use Rattle.std.specs.Prelude.{◌≡◌, ◌≤◌, ◌<◌, ◌^◌, OnOk, IfOk, IfSome, None, Some, length, All};
 ghost use Rattle.scenarios.specs.Placed.{real_end};
 ghost use Rattle.easy_rule.specs.Rule.{next, shadow_of, state_after, starts_at};
 ghost use Rattle.easy_rule.specs.Pass.{front};
@@ -7,16 +7,6 @@ use cluster_state::Cluster;
 use easy_rule::{Shadow, Start, decide_behind, decide_with_shadow};
 use std::alloc::Allocator;
 use swf_text::Memory;
-
-// Whether the first job to end does so by a second.
-fn is_by(end: Option<u64>, second: u64) -> bool
-    ensures { IsTrue result ↔ IsSomeAnd end (λ t. t ≤ second) }
-{
-    match end {
-        None => false,
-        Some(end) => end <= second,
-    }
-}
 
 // The shadow that is known, where it still stands at a second: no job ends by then.
 pub(crate) fn standing_at<A: Allocator + Copy>(
@@ -28,7 +18,7 @@ pub(crate) fn standing_at<A: Allocator + Copy>(
     ensures stands { IfSome result (λ _. All (λ r. second < real_end r) cluster.now.state.running) }
     ensures kept { All (λ r. second < real_end r) cluster.now.state.running → result ≡ known }
 {
-    if is_by(cluster.next_end(), second) {
+    if cluster.next_end().is_some_and(|end| end <= second) {
         return None;
     }
     known

@@ -29,7 +29,7 @@ log-table es l =
     (log_of-rises es (log-counted es l))
 
 -- the order that the code sorts by
-lt-comes : (a b c d : ℕ) → is_lt (ordering_then (nat_cmp a c) (nat_cmp b d)) ≡ comes a b c d
+pub lt-comes : (a b c d : ℕ) → is_lt (ordering_then (nat_cmp a c) (nat_cmp b d)) ≡ comes a b c d
 lt-comes a b c d = go (nat_lt a c) (a == c)
   where
     last : (x y : Bool) → is_lt (cond x Less (cond y Equal Greater)) ≡ x

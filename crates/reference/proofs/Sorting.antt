@@ -1,7 +1,6 @@
 -- A log's jobs, sorted, are those of the log.
-use Rattle.std.proofs.Common.{◌≡◌, ℕ, ◌+◌, ◌≤◌, List, [], ◌∷◌, Bool, true, false, cond, nat_lt, nat_eq, ◌==◌, ◌||◌, ◌&&◌, subst, length, get_or, All, count_by, refl, ap, sym, ◌∙◌, arith}
-use Rattle.std.specs.Ordering.{nat_cmp, ordering_then, is_lt}
-use Rattle.std.specs.declared.cmp.Ordering.TheVariants.{Less, Equal, Greater}
+use Rattle.std.proofs.Common.{◌≡◌, ℕ, ◌+◌, ◌≤◌, List, [], ◌∷◌, nat_eq, subst, length, get_or, All, count_by, ap, sym, ◌∙◌, arith}
+use Rattle.std.specs.Ordering.{nat_cmp, ordering_then}
 use Rattle.std.specs.List.Sorted.{IsPermutation, IsSortedByKey}
 use Rattle.std.proofs.lemmas.List.Sorted.{All-permutation, length_permutation}
 use Rattle.swf_text.specs.Entry.{LogEntry}
@@ -10,7 +9,7 @@ use Rattle.scenarios.specs.Job.{EffectiveJob, IsWithinLimits}
 use Rattle.scenarios.specs.Scenario.{Setting, IsSetting}
 use Rattle.scenarios.specs.Plan.{Plan, jobs_of}
 use Rattle.scenarios.specs.SoundPlan.{IsPlan, IsRising}
-use Rattle.job_table.proofs.Lemmas.{comes, Rises, Climbs, Climbs-adjacent, Rises-Climbs, numbered-permutation, arrangement-unique}
+use Rattle.job_table.proofs.Lemmas.{lt-comes, Rises, Climbs, Climbs-adjacent, Rises-Climbs, numbered-permutation, arrangement-unique}
 use Rattle.reference.proofs.Collected.{IsCollected, log-permutes, Climbs-log-jobs, jobs_of-fit, length-jobs_of}
 
 abbrev at : EffectiveJob → ℕ
@@ -21,20 +20,6 @@ num job = job.number
 
 abbrev pub key : EffectiveJob → ℕ × ℕ
 key job = (job.submit, job.number)
-
--- the order that the code sorts by
-lt-comes : (a b c d : ℕ) → is_lt (ordering_then (nat_cmp a c) (nat_cmp b d)) ≡ comes a b c d
-lt-comes a b c d = go (nat_lt a c) (a == c)
-  where
-    last : (x y : Bool) → is_lt (cond x Less (cond y Equal Greater)) ≡ x
-    last true y = refl
-    last false true = refl
-    last false false = refl
-
-    go : (x y : Bool) → is_lt (ordering_then (cond x Less (cond y Equal Greater)) (nat_cmp b d)) ≡ (x || (y && nat_lt b d))
-    go true y = refl
-    go false true = last (nat_lt b d) (b == d)
-    go false false = refl
 
 pub Climbs-sorted : (jobs : List EffectiveJob) → IsSortedByKey key (λ x y. ordering_then (nat_cmp x.0 y.0) (nat_cmp x.1 y.1)) jobs → Climbs at num jobs
 Climbs-sorted jobs h = Climbs-adjacent at num jobs (λ k d l. sym (lt-comes (get_or jobs (k + 1) d).submit (get_or jobs (k + 1) d).number (get_or jobs k d).submit (get_or jobs k d).number) ∙ h k d (omega arith) l)

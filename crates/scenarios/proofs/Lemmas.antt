@@ -4,6 +4,6 @@ pub use Rattle.scenarios.proofs.Listings.{bytes_eq-swap, named-append, named-fir
 -- the job of a number, by the entry of that number
 pub use Rattle.scenarios.proofs.EffectiveLemmas.{kept, look-up, once-numbered}
 -- submit order: an earlier second, or the same one and a smaller number
-pub use Rattle.scenarios.proofs.Plans.{Lex, Lex-true}
+pub use Rattle.scenarios.proofs.Plans.{Lex, Lex-true, Lex-trans}
 -- the jobs from a second on, entry by entry
 pub use Rattle.scenarios.proofs.Walks.{from-in, from-out}

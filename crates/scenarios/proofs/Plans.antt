@@ -5,13 +5,13 @@ use Rattle.std.proofs.lemmas.List.Sums.{sum_by-cons}
 use Rattle.std.proofs.lemmas.List.Elements.{All-nil, All-cons, All-head, All-tail, All-weaker}
 use Rattle.std.proofs.lemmas.Bool.{cases_Bool, lt-ltb, ltb-true, eq-eqb, eqb-true, and_from, and_parts, or_left, or_right}
 use Rattle.swf_text.specs.Entry.{LogEntry, IsEntry, submit_of, number_of_entry}
-use Rattle.swf_text.specs.Log.{IsRising}
+use Rattle.swf_text.specs.Log.{IsRising, submits_before}
 use Rattle.job_table.specs.Table.{IsTable}
 use Rattle.scenarios.specs.Job.{EffectiveJob, IsWithinLimits}
 use Rattle.scenarios.specs.Scenario.{Setting, IsSetting}
 use Rattle.scenarios.specs.Plan.{jobs_of, plan_of}
 use Rattle.scenarios.proofs.EffectiveLemmas.{kept, takes, within-limits, once-numbered}
-use Rattle.scenarios.specs.SoundPlan.{IsPlan, is_before}
+use Rattle.scenarios.specs.SoundPlan.{IsPlan}
 use Rattle.scenarios.specs.SoundPlan as sound
 
 -- what an entry gives to its job holds of the jobs
@@ -47,14 +47,11 @@ once-jobs s n (e ∷ es) = go (kept s e) refl (once-jobs s n es)
         omega (arith, i, same, sum_by-cons (λ (e : LogEntry). cond {A = ℕ} (number_of_entry e == n) 1 0) e es, sum_by-cons (λ (j : EffectiveJob). cond {A = ℕ} (nat_eq j.number n) 1 0) job (jobs_of es s))
 
 -- ---- the order of the log
--- the first pair comes before the second
+-- a second and a number stand before another two in submit order, as a fact
 abbrev pub Lex : ℕ → ℕ → ℕ → ℕ → Type 0
 Lex a b c d = (a < c) ⊎ ((a ≡ c) × (b < d))
 
-abbrev lex : ℕ → ℕ → ℕ → ℕ → Bool
-lex a b c d = nat_lt a c || (a == c && nat_lt b d)
-
-pub Lex-true : (a b c d : ℕ) → lex a b c d ≡ true → Lex a b c d
+pub Lex-true : (a b c d : ℕ) → submits_before a b c d ≡ true → Lex a b c d
 Lex-true a b c d h =
     ⊎_elim
     (λ (y : nat_lt a c ≡ true). inl (ltb-true a c y))
@@ -64,11 +61,11 @@ Lex-true a b c d h =
     inr (eqb-true a c p.0, ltb-true b d p.1))
     (cases_Bool (nat_lt a c))
 
-true-Lex : (a b c d : ℕ) → Lex a b c d → lex a b c d ≡ true
+true-Lex : (a b c d : ℕ) → Lex a b c d → submits_before a b c d ≡ true
 true-Lex a b c d (inl l) = or_left (nat_lt a c) (a == c && nat_lt b d) (lt-ltb a c l)
 true-Lex a b c d (inr p) = or_right (nat_lt a c) (a == c && nat_lt b d) (and_from (a == c) (nat_lt b d) (eq-eqb a c p.0) (lt-ltb b d p.1))
 
-Lex-trans : (a b c d e f : ℕ) → Lex a b c d → Lex c d e f → Lex a b e f
+pub Lex-trans : (a b c d e f : ℕ) → Lex a b c d → Lex c d e f → Lex a b e f
 Lex-trans a b c d e f (inl l) (inl m) = inl (omega arith)
 Lex-trans a b c d e f (inl l) (inr m) = inl (let k = m.0 in omega (arith, k))
 Lex-trans a b c d e f (inr l) (inl m) = inl (let k = l.0 in omega (arith, k))

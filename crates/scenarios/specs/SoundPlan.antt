@@ -1,11 +1,12 @@
 -- What each plan of a log keeps.
-use Rattle.std.specs.Prelude.{ℕ, ◌≤◌, Bool, ◌&&◌, ◌||◌, ◌==◌, nat_eq, nat_lt, IsTrue, List, [], ◌∷◌, length, All, count_by}
+use Rattle.std.specs.Prelude.{ℕ, ◌≤◌, Bool, nat_eq, IsTrue, List, [], ◌∷◌, length, All, count_by}
+use Rattle.swf_text.specs.Log.{submits_before}
 use Rattle.scenarios.specs.Job.{EffectiveJob, IsWithinLimits}
 use Rattle.scenarios.specs.Plan.{Plan}
 
--- the earlier submit second comes first, and of one second the smaller job number
+-- the one job stands before the other in submit order
 abbrev pub is_before : EffectiveJob → EffectiveJob → Bool
-is_before a b = nat_lt a.submit b.submit || (a.submit == b.submit && nat_lt a.number b.number)
+is_before a b = submits_before a.submit a.number b.submit b.number
 
 -- each job comes before the next
 abbrev pub IsRising : List EffectiveJob → Type 0

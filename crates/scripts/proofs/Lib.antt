@@ -1,4 +1,3 @@
-mod Texts
 mod Writings
 mod Transcripts
 mod Calls

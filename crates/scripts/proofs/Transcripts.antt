@@ -4,6 +4,7 @@ use Rattle.std.specs.List.{before_first, after_first}
 use Rattle.std.specs.Io.KnownBytes.{Appends}
 use Rattle.std.proofs.KnownBytes.{Appends-trans}
 use Rattle.swf_text.specs.Text.{lines, is_feed}
+use Rattle.swf_text.proofs.Lemmas.{lines-next}
 use Rattle.scenarios.specs.ScenarioList.{Listed, named}
 use Rattle.commands.specs.declared.command.Command.{Command}
 use Rattle.commands.specs.declared.command.Command.TheVariants as asks
@@ -12,7 +13,6 @@ use Rattle.commands.specs.Commands.{command_of_line}
 use Rattle.scripts.specs.Session.{Session}
 use Rattle.scripts.specs.Steps.{Answers, IsNamed}
 use Rattle.scripts.specs.Transcript.{IsLine, IsTranscript, IsTranscriptOf, is_quit, looked_at}
-use Rattle.scripts.proofs.Texts.{lines-next}
 use Rattle.scripts.proofs.Writings.{front_more, front_after}
 
 -- ---- each command has an answer

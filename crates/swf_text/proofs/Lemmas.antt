@@ -5,6 +5,8 @@ pub use Rattle.swf_text.proofs.Numbers.{and_first, and_second, Spells-number_of,
 pub use Rattle.swf_text.proofs.Words.{fields-blank, fields-next, fields-end, word_left, no_word_left, onto, onto-value_then}
 -- the bytes of a number are words without blanks
 pub use Rattle.swf_text.proofs.Plains.{solid_fields}
+-- the lines of a text: the first one, and those behind it
+pub use Rattle.swf_text.proofs.Texts.{line_found, rest_found, line_none, rest_none, lines-next, after-shorter}
 -- a number that is read exactly
 pub use Rattle.swf_text.proofs.Grammars.{exact_number}
 -- the canonical spelling of a value spells it

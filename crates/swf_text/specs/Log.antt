@@ -10,11 +10,15 @@ pub record IsLog (entries : List LogEntry) : Type 0 where
   pub distinct : (n : ℕ) → count_by (has_number n) entries ≤ 1
   pub room : length entries ≤ entry_limit
 
--- the earlier submit second comes first, and of one second the smaller job number
+-- Submit order, of a second and a job number and another two: the earlier submit second comes first, and of one second the
+-- smaller job number.
+abbrev pub submits_before : ℕ → ℕ → ℕ → ℕ → Bool
+submits_before second number other_second other_number =
+    nat_lt second other_second || (second == other_second && nat_lt number other_number)
+
+-- the one entry stands before the other in submit order
 abbrev pub comes_before : LogEntry → LogEntry → Bool
-comes_before a b =
-    nat_lt (submit_of a) (submit_of b)
-    || (submit_of a == submit_of b && nat_lt (number_of_entry a) (number_of_entry b))
+comes_before a b = submits_before (submit_of a) (number_of_entry a) (submit_of b) (number_of_entry b)
 
 -- each entry comes before the next
 abbrev pub IsRising : List LogEntry → Type 0

@@ -1,4 +1,4 @@
-use Rattle.scripts.proofs.Texts.{line_found, rest_found, line_none, rest_none}
+use Rattle.swf_text.proofs.Lemmas.{line_found, rest_found, line_none, rest_none}
 use Rattle.scripts.proofs.line.split_line.Goals as goal
 
 pub returns-in-Some-clause-line : goal.returns-in-Some-clause-line

@@ -5,6 +5,7 @@ use Rattle.std.proofs.KnownBytes.{Appends-trans, Appends-nil}
 use Rattle.std.proofs.lemmas.Bool.{eqb-true}
 use Rattle.std.proofs.lemmas.Result.{err_from_is_err_and}
 use Rattle.swf_text.specs.Text.{is_feed, lines}
+use Rattle.swf_text.proofs.Lemmas.{after-shorter}
 use Rattle.commands.specs.declared.command.Command.{Command}
 use Rattle.commands.specs.declared.fault.CommandFault.{CommandFault}
 use Rattle.commands.specs.Commands.{command_of_line}
@@ -12,7 +13,6 @@ use Rattle.version_book.specs.Book.{machine_of}
 use Rattle.scripts.specs.Session.{Session}
 use Rattle.scripts.specs.Replies.{reply_text}
 use Rattle.scripts.specs.Transcript.{IsLine, IsTranscript, looked_at, is_quit}
-use Rattle.scripts.proofs.Texts.{after-shorter}
 use Rattle.scripts.proofs.Transcripts.{Leads, leads_more, told_part, told_quit, told_end}
 use Rattle.scripts.proofs.run.run_lines.Goals as goal
 
