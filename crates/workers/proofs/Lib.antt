@@ -1,0 +1,3 @@
+pub mod Gaining
+pub mod Works
+pub mod Portions

@@ -1,0 +1,19 @@
+use Rattle.std.proofs.Common.{rules, ◌≡◌, ◌∙◌}
+use Rattle.std.specs.Prelude.{Some}
+use Rattle.workers.specs.declared.worker.WorkerEnd.TheVariants as ends
+use Rattle.workers.specs.Work.{WorksThrough}
+use Rattle.workers.proofs.Works.{on_after_through, through_after_through}
+use Rattle.workers.proofs.worker.Worker.run.Goals as goal
+
+pub returns-in-Some-round-clause-list : goal.returns-in-Some-round-clause-list
+returns-in-Some-round-clause-list g c = on_after_through _ _ _ c.loop.invariant.2 c.round.ensures.on
+
+pub returns-in-Some-round-clause-stopped : goal.returns-in-Some-round-clause-stopped
+returns-in-Some-round-clause-stopped g c = λ e.
+    let stopped : c.round.result ≡ Some ends.Stopped = search rules in
+    through_after_through _ _ _ c.loop.invariant.2 (c.round.ensures.stopped stopped)
+
+pub loop-preserved : goal.loop-preserved
+loop-preserved g c =
+    let through : WorksThrough c.loop.self.list c.round.new.self.list = c.in_default.ensures.through in
+    (tt, tt, through_after_through _ _ _ c.loop.invariant.2 through, c.round.ensures.number ∙ c.loop.invariant.3)

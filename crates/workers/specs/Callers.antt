@@ -1,0 +1,44 @@
+-- Sessions and workers, as those who use them see them.
+use Rattle.std.specs.Prelude.{ℕ, ◌+◌, ◌≡◌, ◌<◌, nat_lt, if◌then◌else◌, max, List, [], Option, None, Some, Result, Ok, Err}
+use Rattle.workers.specs.Lists.{Exchanged}
+
+-- a session: its number, the calls that it made with their replies, and the greatest version that an edit or a view gave it
+pub record SessionView : Type 0 where
+  pub number : ℕ
+  pub list : List Exchanged
+  pub seen : ℕ
+
+pub record WorkerView : Type 0 where
+  pub number : ℕ
+  pub list : List Exchanged
+
+-- of each kind a desk opens at most so many
+abbrev pub most : ℕ
+most = 64
+
+-- the number of the next caller of a kind, where so many were opened
+abbrev pub next_caller : ℕ → Option ℕ
+next_caller opened = if nat_lt opened most then Some opened else None
+
+-- how many were opened then
+abbrev pub opened_after : ℕ → ℕ
+opened_after opened = if nat_lt opened most then opened + 1 else opened
+
+-- a caller who has called nothing
+abbrev pub new_session : ℕ → SessionView
+new_session number = record { number = number; list = []; seen = 0 }
+
+abbrev pub new_worker : ℕ → WorkerView
+new_worker number = record { number = number; list = [] }
+
+-- one who was just opened, under a number below 64
+abbrev pub IsNewSession : SessionView → Type 0
+IsNewSession s = (s ≡ new_session s.number) × (s.number < most)
+
+abbrev pub IsNewWorker : WorkerView → Type 0
+IsNewWorker w = (w ≡ new_worker w.number) × (w.number < most)
+
+-- what a session has seen after an edit
+abbrev pub seen_after : {E : Type 0} → ℕ → Result ℕ E → ℕ
+seen_after seen (Ok version) = max seen version
+seen_after seen (Err refusal) = seen

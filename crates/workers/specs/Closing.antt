@@ -1,0 +1,48 @@
+-- What a closed desk says of its callers' lists.
+use Rattle.std.specs.Prelude.{◌≡◌, ℕ, ◌<◌, ◌==◌, ◌||◌, Bool, true, List, length, Option, None, Some}
+use Rattle.std.specs.List.{All, list_any}
+use Rattle.book_machine.specs.declared.caller.Caller.TheVariants as caller
+use Rattle.book_machine.specs.History.{Noted}
+use Rattle.workers.specs.Lists.{part_of, same_caller}
+use Rattle.workers.specs.Callers.{SessionView, WorkerView}
+use Rattle.workers.specs.declared.close_fault.CloseFault.{CloseFault}
+use Rattle.workers.specs.declared.close_fault.CloseFault.TheVariants as faults
+
+-- each session's list is the part of the notes with its name
+abbrev pub SessionsTell : List SessionView → List Noted → Type 0
+SessionsTell sessions notes = All (λ (s : SessionView). s.list ≡ part_of (caller.Session s.number) notes) sessions
+
+abbrev pub WorkersTell : List WorkerView → List Noted → Type 0
+WorkersTell workers notes = All (λ (w : WorkerView). w.list ≡ part_of (caller.Worker w.number) notes) workers
+
+-- one of these made the note
+abbrev pub is_known : List SessionView → List WorkerView → Noted → Bool
+is_known sessions workers n =
+    list_any (λ (s : SessionView). same_caller n.caller (caller.Session s.number)) sessions
+    || list_any (λ (w : WorkerView). same_caller n.caller (caller.Worker w.number)) workers
+
+-- The lists are the notes: each caller's list is the part with its name, in order, and no note is anyone else's.
+pub record IsTold (sessions : List SessionView) (workers : List WorkerView) (notes : List Noted) : Type 0 where
+  pub by_sessions : SessionsTell sessions notes
+  pub by_workers : WorkersTell workers notes
+  pub known : All (λ (n : Noted). is_known sessions workers n ≡ true) notes
+
+abbrev pub has_session : List SessionView → ℕ → Bool
+has_session sessions k = list_any (λ (s : SessionView). s.number == k) sessions
+
+abbrev pub has_worker : List WorkerView → ℕ → Bool
+has_worker workers k = list_any (λ (w : WorkerView). w.number == k) workers
+
+-- The callers are so many sessions and so many workers, numbered from 0 on. So none that a desk opened is missing where it opened
+-- as many.
+pub record AreAll (opened_sessions opened_workers : ℕ) (sessions : List SessionView) (workers : List WorkerView) : Type 0 where
+  pub as_many_sessions : length sessions ≡ opened_sessions
+  pub as_many_workers : length workers ≡ opened_workers
+  pub sessions_in : (k : ℕ) → k < opened_sessions → has_session sessions k ≡ true
+  pub workers_in : (k : ℕ) → k < opened_workers → has_worker workers k ≡ true
+
+-- What speaks against closing: that callers are missing, or else that the lists are not the notes; each exactly where it holds.
+abbrev pub SpeaksAgainst : Type 0 → Type 0 → Option CloseFault → Type 0
+SpeaksAgainst AreIn Told None = AreIn × Told
+SpeaksAgainst AreIn Told (Some faults.StillOut) = AreIn → ⊥
+SpeaksAgainst AreIn Told (Some faults.Mismatch) = AreIn × (Told → ⊥)

@@ -1,0 +1,22 @@
+-- What is read of the book under the lock. It is a book at every moment at which the lock is got.
+use Rattle.std.specs.Prelude.{◌≡◌, ℕ, length}
+use Rattle.std.specs.Arc.{arc_value}
+use Rattle.version_book.specs.Book.{BookView, PublishedView}
+use Rattle.version_book.specs.Sound.{IsBook}
+use Rattle.version_book.specs.Tasks.{IsShownFor}
+use Rattle.workers.specs.declared.current.Current.{Current}
+
+-- this is where the book stands
+pub record IsCurrentOf {A : Type 0} (b : BookView) (c : Current A) : Type 0 where
+  pub version : c.version ≡ length b.state.edits
+  pub table : arc_value c.table ≡ b.state.current
+  pub scenarios : c.scenarios ≡ b.state.listing
+
+-- At some moment a book stood there.
+abbrev pub IsCurrentOnce : {A : Type 0} → Current A → Type 0
+IsCurrentOnce c = (b : BookView) × IsBook b × IsCurrentOf b c
+
+-- At some moment this was shown by a book: it is what the book had published for the scenario, at a version that is not below the
+-- one seen, and the simulation, second by second, of that version's log under the scenario.
+abbrev pub IsShownOnce : ℕ → ℕ → PublishedView → Type 0
+IsShownOnce id seen p = (b : BookView) × IsBook b × IsShownFor b.state id seen p

@@ -1,0 +1,78 @@
+-- What a worker's list may hold: claims, each of a ticket followed by what became of it.
+use Rattle.std.specs.Prelude.{◌≡◌, ℕ, ◌==◌, if◌then◌else◌, List, [], ◌∷◌, ◌++◌, Option, None, Some, Result, Ok, Err, ◌⊎◌}
+use Rattle.book_machine.specs.Call.{BookCall, Claim, Finish, GiveUp}
+use Rattle.book_machine.specs.declared.reply.Reply.{Reply}
+use Rattle.book_machine.specs.declared.reply.Reply.TheVariants as reply
+use Rattle.version_book.specs.Answers.{finish_answer, fitted, give_up_answer}
+use Rattle.version_book.specs.declared.worker_refusal.FinishRefusal.{FinishRefusal}
+use Rattle.version_book.specs.declared.worker_refusal.FinishRefusal.TheVariants as finish
+use Rattle.version_book.specs.declared.worker_refusal.GiveUpRefusal.{GiveUpRefusal}
+use Rattle.version_book.specs.declared.worker_refusal.GiveUpRefusal.TheVariants as give_up
+use Rattle.workers.specs.Lists.{Exchanged, Gains}
+use Rattle.workers.specs.declared.worker.WorkerEnd.{WorkerEnd}
+use Rattle.workers.specs.declared.worker.WorkerEnd.TheVariants as ends
+
+-- ---- how a list goes on
+
+-- the ticket that a worker holds after a claim was replied so
+abbrev pub held_by_claim : Reply → Option (Option ℕ)
+held_by_claim (reply.Claimed ticket id version base) = Some (Some ticket)
+held_by_claim reply.NoneDue = Some None
+held_by_claim reply.TooManyTickets = Some None
+held_by_claim _ = None
+
+-- the ticket held after a call, where the call may come next: who holds none claims, who holds one hands it in or gives it up
+abbrev pub held_after_call : Option ℕ → BookCall → Reply → Option (Option ℕ)
+held_after_call None Claim r = held_by_claim r
+held_after_call (Some held) (Finish ticket fits) r = if ticket == held then Some None else None
+held_after_call (Some held) (GiveUp ticket) r = if ticket == held then Some None else None
+held_after_call held call r = None
+
+-- the ticket held after all calls of a list, where they may follow one another
+abbrev pub held_after : Option ℕ → List Exchanged → Option (Option ℕ)
+held_after held [] = Some held
+held_after held (e ∷ es) = elim (held_after_call held e.call e.reply) [ None ↦ None | Some now ↦ held_after now es ]
+
+-- the list goes on with claims, each of a ticket followed by a finish or a give-up of this ticket, the last one perhaps not
+abbrev pub WorksOn : List Exchanged → List Exchanged → Type 0
+WorksOn old new = (added : List Exchanged) × (held : Option ℕ) × (new ≡ old ++ added) × (held_after None added ≡ Some held)
+
+-- the same, and no ticket is left
+abbrev pub WorksThrough : List Exchanged → List Exchanged → Type 0
+WorksThrough old new = (added : List Exchanged) × (new ≡ old ++ added) × (held_after None added ≡ Some None)
+
+-- ---- how a ticket is handed in
+
+-- a worker ends at a full journal and at want of memory; all else that a finish is told is passed over
+abbrev pub end_of_finish : Result ℕ FinishRefusal → Option WorkerEnd
+end_of_finish (Ok version) = None
+end_of_finish (Err finish.JournalFull) = Some ends.Full
+end_of_finish (Err finish.UnknownTicket) = None
+end_of_finish (Err finish.Stranger) = None
+end_of_finish (Err (finish.Stale published)) = None
+end_of_finish (Err finish.Memory) = Some ends.Memory
+
+abbrev pub end_of_give_up : {U : Type 0} → Result U GiveUpRefusal → Option WorkerEnd
+end_of_give_up (Ok _) = None
+end_of_give_up (Err give_up.JournalFull) = Some ends.Full
+end_of_give_up (Err give_up.UnknownTicket) = None
+end_of_give_up (Err give_up.Memory) = Some ends.Memory
+
+-- the run for the ticket was handed in, the list has the answer, and the worker ends by it
+abbrev pub Finishes : ℕ → List Exchanged → List Exchanged → Option WorkerEnd → Type 0
+Finishes ticket old new end =
+    (answer : Result ℕ FinishRefusal) × Gains old new (Finish ticket (fitted answer)) (finish_answer answer) × (end ≡ end_of_finish answer)
+
+-- the ticket was given up, the list has the answer, and the worker ends by it
+abbrev pub GivesUp : ℕ → List Exchanged → List Exchanged → Option WorkerEnd → Type 0
+GivesUp ticket old new end =
+    (answer : Result (Unit {0}) GiveUpRefusal) × Gains old new (GiveUp ticket) (give_up_answer answer) × (end ≡ end_of_give_up answer)
+
+-- a run that was made is handed in; one that was refused for memory is given up
+abbrev pub HandsIn : {R E : Type 0} → ℕ → Result R E → List Exchanged → List Exchanged → Option WorkerEnd → Type 0
+HandsIn ticket (Ok run) old new end = Finishes ticket old new end
+HandsIn ticket (Err refused) old new end = GivesUp ticket old new end
+
+-- one of the two
+abbrev pub HandsInOnce : ℕ → List Exchanged → List Exchanged → Option WorkerEnd → Type 0
+HandsInOnce ticket old new end = Finishes ticket old new end ⊎ GivesUp ticket old new end

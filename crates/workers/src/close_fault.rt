@@ -1,0 +1,39 @@
+use std::error::Error;
+use std::fmt;
+
+/// Why a desk is not closed, in the order of checks.
+#[derive(Clone, Copy, Debug, PartialEq, Eq)]
+pub enum CloseFault {
+    /// A session or worker that the desk opened was not handed in.
+    StillOut,
+    /// A list is not what the journal has of its caller, or a note is of no caller that was handed in.
+    Mismatch,
+}
+
+impl CloseFault {
+    ghost use Rattle.std.specs.Prelude.{◌≡◌};
+    ghost use Rattle.workers.specs.Names.{close_fault_name};
+
+    /// The fault's name, which is the variant's own.
+    pub fn name(&self) -> &'static str
+        ensures { result.now ≡ close_fault_name self.now }
+    {
+        match self {
+            CloseFault::StillOut => "StillOut",
+            CloseFault::Mismatch => "Mismatch",
+        }
+    }
+}
+
+impl fmt::Display for CloseFault {
+    ghost use Rattle.std.specs.Prelude.{Some};
+    ghost use Rattle.workers.specs.Names.{close_fault_name};
+
+    ghost output = { λ fault. Some (close_fault_name fault) };
+
+    fn fmt<W: fmt::Write>(&self, f: &mut fmt::Formatter<W>) -> fmt::Result {
+        f.write_str(self.name())
+    }
+}
+
+impl Error for CloseFault {}

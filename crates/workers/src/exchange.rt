@@ -1,0 +1,36 @@
+ghost use Rattle.std.specs.Prelude.{◌≡◌, ◌<◌, ◌++◌, map, OnOk, vec_len, vec_capacity};
+ghost use Rattle.book_machine.specs.Noted.{call_of};
+ghost use Rattle.workers.specs.Lists.{exchanged_of, gained};
+
+use book_machine::{Call, Reply};
+use std::alloc::Allocator;
+use swf_text::Memory;
+
+/// A call and its reply, as the caller's own list keeps them.
+#[derive(Drop)]
+pub struct Exchange<A: Allocator + Copy> {
+    pub call: Call<A>,
+    pub reply: Reply,
+}
+
+// Makes room for a call.
+pub(crate) fn make_room<A: Allocator + Copy>(list: &mut Vec<Exchange<A>, A>) -> Result<(), Memory>
+    ensures items { list.new.items ≡ list.old.items }
+    ensures room { OnOk result (vec_len list.new < vec_capacity list.new) }
+{
+    Ok(list.reserve(1)?)
+}
+
+// Adds a call with its reply, if it has one.
+pub(crate) fn keep<A: Allocator + Copy>(
+    list: &mut Vec<Exchange<A>, A>,
+    call: Call<A>,
+    reply: Option<Reply>,
+)
+    requires room { vec_len list.old < vec_capacity list.old }
+    ensures { map exchanged_of list.new.items ≡ map exchanged_of list.old.items ++ gained (call_of call) reply }
+{
+    if let Some(reply) = reply {
+        list.push_reserved(Exchange { call, reply });
+    }
+}

@@ -1,0 +1,18 @@
+/// What a worker calls around its work, while it does not hold the lock.
+pub trait Gate {
+    /// The task of this ticket was claimed, and is to be worked now.
+    fn before_work(&self, ticket: u64);
+
+    /// The run for this ticket was made, and is to be handed in now.
+    fn before_finish(&self, ticket: u64);
+}
+
+/// A gate that does nothing.
+#[derive(Clone, Copy, Debug)]
+pub struct NoGate;
+
+impl Gate for NoGate {
+    fn before_work(&self, _ticket: u64) {}
+
+    fn before_finish(&self, _ticket: u64) {}
+}

@@ -1,0 +1,60 @@
+// A caller's list beside the notes.
+ghost use Rattle.std.specs.Prelude.{◌≡◌, ◌↔◌, IsTrue, drop, map};
+ghost use Rattle.book_machine.specs.Noted.{noted_of};
+ghost use Rattle.workers.specs.Lists.{exchanged_by, exchanged_of, part_of, same_caller};
+
+use crate::exchange::Exchange;
+use book_machine::{Caller, Note};
+use std::alloc::Allocator;
+
+// Whether both are one caller.
+pub(crate) fn is_same_caller(one: Caller, two: Caller) -> bool
+    ensures { result ≡ same_caller one two }
+{
+    match (one, two) {
+        (Caller::Session(k), Caller::Session(m)) => k == m,
+        (Caller::Worker(k), Caller::Worker(m)) => k == m,
+        _ => false,
+    }
+}
+
+// Whether a listed call is that of a note, with its reply.
+fn is_noted<A: Allocator + Copy>(exchange: &Exchange<A>, note: &Note<A>) -> bool
+    ensures { IsTrue result ↔ (exchanged_of exchange.now ≡ exchanged_by (noted_of note.now)) }
+{
+    exchange.call.same(&note.call) && exchange.reply == note.reply
+}
+
+// Whether a list is the part of the notes with a caller's name.
+pub(crate) fn is_part<A: Allocator + Copy>(
+    who: Caller,
+    list: &[Exchange<A>],
+    notes: &[Note<A>],
+) -> bool
+    ensures { IsTrue result ↔ (map exchanged_of list.now ≡ part_of who (map noted_of notes.now)) }
+{
+    let mut left = list;
+    for note in notes {
+        if is_same_caller(note.caller, who) {
+            let Some((first, rest)) = left.split_first() else {
+                return false;
+            };
+            if !is_noted(first, note) {
+                return false;
+            }
+            left = rest;
+        }
+    }
+    left.is_empty()
+}
+
+// The notes after so many.
+pub(crate) fn later_notes<A: Allocator + Copy>(journal: &[Note<A>], opening: usize) -> &[Note<A>]
+    ensures { result.now ≡ drop opening journal.now }
+{
+    if opening <= journal.len() {
+        &journal[opening..]
+    } else {
+        &[]
+    }
+}

@@ -1,0 +1,234 @@
+ghost use Rattle.std.specs.Prelude.{◌≡◌, ◌≤◌, IfOk, OnErr};
+ghost use Rattle.job_table.specs.Edit.{edit_of};
+ghost use Rattle.book_machine.specs.Call.{AddScenario, DropScenario, Edit as Edits, Retry, View};
+ghost use Rattle.version_book.specs.Answers.{add_answer, drop_answer, edit_answer, retry_answer, view_answer};
+ghost use Rattle.workers.specs.Callers.{new_session, seen_after};
+ghost use Rattle.workers.specs.Lists.{Gains};
+ghost use Rattle.workers.specs.Readings.{IsCurrentOnce, IsShownOnce};
+
+use crate::current::Current;
+use crate::desk::Desk;
+use crate::exchange::{Exchange, make_room};
+use crate::settled::Settled;
+use book_machine::{Call, Name, NotedEdit};
+use job_table::Edit;
+use scenarios::{Scenario, ScenarioId};
+use std::alloc::Allocator;
+use std::marker::Model;
+use std::sync::Wait;
+use swf_text::Memory;
+use version_book::{AddRefusal, DropRefusal, EditRefusal, Published, RetryRefusal, ViewRefusal};
+
+/// An analyst at a desk: a number, a list of its own calls with their replies, and the greatest
+/// version that an edit or a view gave it.
+///
+/// Each call takes the desk that opened the session, and holds its lock for one call of the book.
+/// JournalFull and Memory are not listed; Memory comes first where the list has no room.
+#[derive(Drop)]
+pub struct Session<A: Allocator + Copy> {
+    alloc: A,
+    number: u64,
+    list: Vec<Exchange<A>, A>,
+    seen: u64,
+}
+
+impl<A: Allocator + Copy> Model for Session<A> {
+    ghost use Rattle.std.specs.Prelude.{map};
+    ghost use Rattle.workers.specs.Callers.{SessionView};
+    ghost use Rattle.workers.specs.Lists.{exchanged_of};
+
+    ghost Value = { SessionView };
+
+    ghost view = { λ s. record { number = s.number; list = map exchanged_of s.list.items; seen = s.seen } };
+}
+
+impl<A: Allocator + Copy> Session<A> {
+    ghost use Rattle.std.specs.Prelude.{map};
+    ghost use Rattle.workers.specs.Lists.{exchanged_of};
+
+    // A session that has called nothing.
+    pub(crate) fn new(alloc: A, number: u64) -> Session<A>
+        ensures { result ≡ new_session number }
+    {
+        Session {
+            alloc,
+            number,
+            list: Vec::new(alloc),
+            seen: 0,
+        }
+    }
+
+    /// Its number.
+    pub fn number(&self) -> u64
+        ensures { result ≡ self.now.number }
+    {
+        self.number
+    }
+
+    /// Its own calls and their replies, in their order.
+    pub fn list(&self) -> &[Exchange<A>]
+        ensures { map exchanged_of result.now ≡ self.now.list }
+    {
+        self.list.as_slice()
+    }
+
+    /// The greatest version that an edit or a view gave it; 0 at first.
+    pub fn seen(&self) -> u64
+        ensures { result ≡ self.now.seen }
+    {
+        self.seen
+    }
+
+    /// Edits the log, as `Book::edit` does, and has then seen the new version. Whoever waits is woken.
+    pub fn edit<R: Wait>(
+        &mut self,
+        rt: &R,
+        desk: &Desk<A>,
+        edit: &Edit<A>,
+    ) -> Result<u64, EditRefusal>
+        ensures list { Gains self.old.list self.new.list (Edits (edit_of edit.now)) (edit_answer result) }
+        ensures number { self.new.number ≡ self.old.number }
+        ensures seen { self.new.seen ≡ seen_after self.old.seen result }
+    {
+        let call = Call::Edit(NotedEdit::new(self.alloc, edit)?);
+        make_room(&mut self.list)?;
+        let told = desk
+            .shared
+            .lock(rt)
+            .edit_for(self.number, &mut self.list, call, edit);
+        if let Ok(version) = told {
+            self.seen = self.seen.max(version);
+            desk.changed.notify_all();
+        }
+        told
+    }
+
+    /// Adds a scenario, as `Book::add_scenario` does. Whoever waits is woken.
+    pub fn add_scenario<R: Wait>(
+        &mut self,
+        rt: &R,
+        desk: &Desk<A>,
+        name: &str,
+        scenario: Scenario,
+    ) -> Result<ScenarioId, AddRefusal>
+        ensures list { Gains self.old.list self.new.list (AddScenario name.now scenario) (add_answer result) }
+        ensures number { self.new.number ≡ self.old.number }
+        ensures seen { self.new.seen ≡ self.old.seen }
+    {
+        let call = Call::AddScenario {
+            name: Name::new(self.alloc, name)?,
+            scenario,
+        };
+        make_room(&mut self.list)?;
+        let told = desk
+            .shared
+            .lock(rt)
+            .add_for(self.number, &mut self.list, call, name, scenario);
+        if told.is_ok() {
+            desk.changed.notify_all();
+        }
+        told
+    }
+
+    /// Drops the scenario with this name, as `Book::drop_scenario` does. Whoever waits is woken.
+    pub fn drop_scenario<R: Wait>(
+        &mut self,
+        rt: &R,
+        desk: &Desk<A>,
+        name: &str,
+    ) -> Result<ScenarioId, DropRefusal>
+        ensures list { Gains self.old.list self.new.list (DropScenario name.now) (drop_answer result) }
+        ensures number { self.new.number ≡ self.old.number }
+        ensures seen { self.new.seen ≡ self.old.seen }
+    {
+        let call = Call::DropScenario {
+            name: Name::new(self.alloc, name)?,
+        };
+        make_room(&mut self.list)?;
+        let told = desk
+            .shared
+            .lock(rt)
+            .drop_for(self.number, &mut self.list, call, name);
+        if told.is_ok() {
+            desk.changed.notify_all();
+        }
+        told
+    }
+
+    /// Has a scenario that was given up tried again, as `Book::retry` does. Whoever waits is woken.
+    pub fn retry<R: Wait>(
+        &mut self,
+        rt: &R,
+        desk: &Desk<A>,
+        id: ScenarioId,
+    ) -> Result<(), RetryRefusal>
+        ensures list { Gains self.old.list self.new.list (Retry id) (retry_answer result) }
+        ensures number { self.new.number ≡ self.old.number }
+        ensures seen { self.new.seen ≡ self.old.seen }
+    {
+        make_room(&mut self.list)?;
+        let told = desk
+            .shared
+            .lock(rt)
+            .retry_for(self.number, &mut self.list, id);
+        if told.is_ok() {
+            desk.changed.notify_all();
+        }
+        told
+    }
+
+    /// What is published for a scenario, as `Book::view` tells: its version is not below what this
+    /// session has seen, and is then what it has seen.
+    pub fn view<R: Wait>(
+        &mut self,
+        rt: &R,
+        desk: &Desk<A>,
+        id: ScenarioId,
+    ) -> Result<Published<A>, ViewRefusal>
+        ensures list { Gains self.old.list self.new.list (View id self.old.seen) (view_answer result) }
+        ensures number { self.new.number ≡ self.old.number }
+        ensures seen { IfOk result (λ p. (self.old.seen ≤ p.version) × (self.new.seen ≡ p.version)) }
+        ensures err { OnErr result (self.new.seen ≡ self.old.seen) }
+        ensures shown { IfOk result (IsShownOnce id self.old.seen) }
+    {
+        make_room(&mut self.list)?;
+        let told = desk
+            .shared
+            .lock(rt)
+            .view_for(self.number, &mut self.list, id, self.seen);
+        if let Ok(published) = &told {
+            self.seen = published.version();
+        }
+        told
+    }
+
+    /// The id of the scenario with this name. It is not listed.
+    pub fn find<R: Wait>(&self, rt: &R, desk: &Desk<A>, name: &str) -> Option<ScenarioId> {
+        desk.shared.lock(rt).find(name)
+    }
+
+    /// The current version. It is not listed.
+    pub fn version<R: Wait>(&self, rt: &R, desk: &Desk<A>) -> u64 {
+        desk.shared.lock(rt).version()
+    }
+
+    /// The current version with its log and the scenarios, all of one moment. It is not listed.
+    /// Memory where a growth is refused.
+    pub fn current<R: Wait>(&self, rt: &R, desk: &Desk<A>) -> Result<Current<A>, Memory>
+        ensures { IfOk result IsCurrentOnce }
+    {
+        desk.shared.lock(rt).current()
+    }
+
+    /// Waits until every scenario shows a version that this session has seen, or a newer one, or is
+    /// given up, or until the desk is stopped, and answers which. It sleeps while it waits.
+    pub fn settle<R: Wait>(&self, rt: &R, desk: &Desk<A>) -> Settled {
+        let seen = self.seen;
+        let shared = desk.changed.wait_while(
+            rt,
+            desk.shared.lock(rt),
+            |shared| shared.settled_for(seen).is_none(),
+        );
+        shared.settled_for(seen).unwrap()
+    }
+}

@@ -1,0 +1,116 @@
+// What a session does while it holds the lock: one call of the book, which its list then gains.
+ghost use Rattle.std.specs.Prelude.{◌≡◌, ◌<◌, map, IfOk, vec_len, vec_capacity};
+ghost use Rattle.job_table.specs.Edit.{edit_of};
+ghost use Rattle.book_machine.specs.declared.caller.Caller.TheVariants as caller;
+ghost use Rattle.book_machine.specs.Call.{AddScenario, DropScenario, Edit as Edits, Retry, View};
+ghost use Rattle.book_machine.specs.Noted.{call_of};
+ghost use Rattle.version_book.specs.Answers.{add_answer, drop_answer, edit_answer, retry_answer, view_answer};
+ghost use Rattle.version_book.specs.Sound.{IsBook};
+ghost use Rattle.version_book.specs.Steps.{Answers};
+ghost use Rattle.version_book.specs.Tasks.{IsShownFor};
+ghost use Rattle.workers.specs.Lists.{Gains, exchanged_of};
+
+use crate::exchange::{Exchange, keep};
+use crate::shared::Shared;
+use book_machine::Call;
+use job_table::Edit;
+use scenarios::{Scenario, ScenarioId};
+use std::alloc::Allocator;
+use version_book::{AddRefusal, DropRefusal, EditRefusal, Published, RetryRefusal, ViewRefusal};
+
+impl<A: Allocator + Copy> Shared<A> {
+    // An edit of the log.
+    pub(crate) fn edit_for(
+        &mut self,
+        session: u64,
+        list: &mut Vec<Exchange<A>, A>,
+        call: Call<A>,
+        edit: &Edit<A>,
+    ) -> Result<u64, EditRefusal>
+        requires room { vec_len list.old < vec_capacity list.old }
+        requires call { call_of call ≡ Edits (edit_of edit.now) }
+        ensures book { Answers self.old.book self.new.book (caller.Session session) (Edits (edit_of edit.now)) (edit_answer result) }
+        ensures list { Gains (map exchanged_of list.old.items) (map exchanged_of list.new.items) (Edits (edit_of edit.now)) (edit_answer result) }
+    {
+        let notes = self.notes();
+        let told = self.book.edit(session, edit);
+        keep(list, call, self.reply_behind(notes));
+        told
+    }
+
+    // One scenario more.
+    pub(crate) fn add_for(
+        &mut self,
+        session: u64,
+        list: &mut Vec<Exchange<A>, A>,
+        call: Call<A>,
+        name: &str,
+        scenario: Scenario,
+    ) -> Result<ScenarioId, AddRefusal>
+        requires room { vec_len list.old < vec_capacity list.old }
+        requires call { call_of call ≡ AddScenario name.now scenario }
+        ensures book { Answers self.old.book self.new.book (caller.Session session) (AddScenario name.now scenario) (add_answer result) }
+        ensures list { Gains (map exchanged_of list.old.items) (map exchanged_of list.new.items) (AddScenario name.now scenario) (add_answer result) }
+    {
+        let notes = self.notes();
+        let told = self.book.add_scenario(session, name, scenario);
+        keep(list, call, self.reply_behind(notes));
+        told
+    }
+
+    // One scenario less.
+    pub(crate) fn drop_for(
+        &mut self,
+        session: u64,
+        list: &mut Vec<Exchange<A>, A>,
+        call: Call<A>,
+        name: &str,
+    ) -> Result<ScenarioId, DropRefusal>
+        requires room { vec_len list.old < vec_capacity list.old }
+        requires call { call_of call ≡ DropScenario name.now }
+        ensures book { Answers self.old.book self.new.book (caller.Session session) (DropScenario name.now) (drop_answer result) }
+        ensures list { Gains (map exchanged_of list.old.items) (map exchanged_of list.new.items) (DropScenario name.now) (drop_answer result) }
+    {
+        let notes = self.notes();
+        let told = self.book.drop_scenario(session, name);
+        keep(list, call, self.reply_behind(notes));
+        told
+    }
+
+    // A scenario is tried again.
+    pub(crate) fn retry_for(
+        &mut self,
+        session: u64,
+        list: &mut Vec<Exchange<A>, A>,
+        id: ScenarioId,
+    ) -> Result<(), RetryRefusal>
+        requires room { vec_len list.old < vec_capacity list.old }
+        ensures book { Answers self.old.book self.new.book (caller.Session session) (Retry id) (retry_answer result) }
+        ensures list { Gains (map exchanged_of list.old.items) (map exchanged_of list.new.items) (Retry id) (retry_answer result) }
+    {
+        let notes = self.notes();
+        let told = self.book.retry(session, id);
+        keep(list, Call::Retry { id }, self.reply_behind(notes));
+        told
+    }
+
+    // What is published for a scenario, unless the session has seen a newer version.
+    pub(crate) fn view_for(
+        &mut self,
+        session: u64,
+        list: &mut Vec<Exchange<A>, A>,
+        id: ScenarioId,
+        seen: u64,
+    ) -> Result<Published<A>, ViewRefusal>
+        requires room { vec_len list.old < vec_capacity list.old }
+        ensures book { Answers self.old.book self.new.book (caller.Session session) (View id seen) (view_answer result) }
+        ensures list { Gains (map exchanged_of list.old.items) (map exchanged_of list.new.items) (View id seen) (view_answer result) }
+        ensures shown { IfOk result (IsShownFor self.old.book.state id seen) }
+        ensures sound { IsBook self.old.book }
+    {
+        let notes = self.notes();
+        let told = self.book.view(session, id, seen);
+        keep(list, Call::View { id, seen }, self.reply_behind(notes));
+        told
+    }
+}

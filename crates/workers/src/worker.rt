@@ -1,0 +1,238 @@
+ghost use Rattle.std.specs.Prelude.{◌≡◌, IfNone, IfOk, MatchOption, Some};
+ghost use Rattle.std.specs.Arc.{arc_value};
+ghost use Rattle.book_machine.specs.Call.{Claim};
+ghost use Rattle.version_book.specs.Answers.{claim_answer};
+ghost use Rattle.workers.specs.Callers.{new_worker};
+ghost use Rattle.workers.specs.declared.worker.WorkerEnd.TheVariants as ends;
+ghost use Rattle.workers.specs.Lists.{Gains};
+ghost use Rattle.workers.specs.Work.{Finishes, GivesUp, HandsIn, HandsInOnce, WorksOn, WorksThrough, end_of_finish, end_of_give_up};
+
+use crate::desk::Desk;
+use crate::exchange::{Exchange, make_room};
+use crate::gate::Gate;
+use checkpoints::Run;
+use std::alloc::Allocator;
+use std::marker::Model;
+use std::sync::{Arc, Wait};
+use swf_text::Memory;
+use version_book::{ClaimRefusal, FinishRefusal, GiveUpRefusal, Task};
+
+/// Why a worker ended.
+#[derive(Clone, Copy, Debug, PartialEq, Eq)]
+pub enum WorkerEnd {
+    /// The desk was stopped.
+    Stopped,
+    /// The journal has 1,000,000 notes.
+    Full,
+    /// A growth was refused in a claim, a finish or a give-up.
+    Memory,
+}
+
+/// One who makes runs at a desk: a number, and a list of its own calls with their replies.
+#[derive(Drop)]
+pub struct Worker<A: Allocator + Copy> {
+    number: u64,
+    list: Vec<Exchange<A>, A>,
+}
+
+impl<A: Allocator + Copy> Model for Worker<A> {
+    ghost use Rattle.std.specs.Prelude.{map};
+    ghost use Rattle.workers.specs.Callers.{WorkerView};
+    ghost use Rattle.workers.specs.Lists.{exchanged_of};
+
+    ghost Value = { WorkerView };
+
+    ghost view = { λ w. record { number = w.number; list = map exchanged_of w.list.items } };
+}
+
+// Whether a worker ends by what its finish was told.
+fn end_of_finish(told: Result<u64, FinishRefusal>) -> Option<WorkerEnd>
+    ensures { result ≡ end_of_finish told }
+{
+    match told {
+        Err(FinishRefusal::JournalFull) => Some(WorkerEnd::Full),
+        Err(FinishRefusal::Memory) => Some(WorkerEnd::Memory),
+        _ => None,
+    }
+}
+
+// Whether a worker ends by what its give-up was told.
+fn end_of_give_up(told: Result<(), GiveUpRefusal>) -> Option<WorkerEnd>
+    ensures { result ≡ end_of_give_up told }
+{
+    match told {
+        Err(GiveUpRefusal::JournalFull) => Some(WorkerEnd::Full),
+        Err(GiveUpRefusal::Memory) => Some(WorkerEnd::Memory),
+        _ => None,
+    }
+}
+
+// The run that a task wants.
+fn run_for<A: Allocator + Copy>(task: &Task<A>) -> Result<Arc<Run<A>, A>, Memory>
+    ensures log { IfOk result (λ run. (arc_value run).log ≡ task.now.log) }
+    ensures setting { IfOk result (λ run. (arc_value run).setting ≡ task.now.setting) }
+{
+    let (run, _work) = task.work()?;
+    Ok(run)
+}
+
+impl<A: Allocator + Copy> Worker<A> {
+    ghost use Rattle.std.specs.Prelude.{map};
+    ghost use Rattle.workers.specs.Lists.{exchanged_of};
+
+    // A worker that has called nothing.
+    pub(crate) fn new(alloc: A, number: u64) -> Worker<A>
+        ensures { result ≡ new_worker number }
+    {
+        Worker {
+            number,
+            list: Vec::new(alloc),
+        }
+    }
+
+    /// Its number.
+    pub fn number(&self) -> u64
+        ensures { result ≡ self.now.number }
+    {
+        self.number
+    }
+
+    /// Its own calls and their replies, in their order.
+    pub fn list(&self) -> &[Exchange<A>]
+        ensures { map exchanged_of result.now ≡ self.now.list }
+    {
+        self.list.as_slice()
+    }
+
+    // Waits until a scenario is due or the desk is stopped, and claims; None where it is stopped.
+    fn claim<R: Wait>(
+        &mut self,
+        rt: &R,
+        desk: &Desk<A>,
+    ) -> Option<Result<Option<Task<A>>, ClaimRefusal>>
+        ensures list { MatchOption result (self.new ≡ self.old) (λ told. Gains self.old.list self.new.list Claim (claim_answer told)) }
+        ensures number { self.new.number ≡ self.old.number }
+    {
+        if make_room(&mut self.list).is_err() {
+            return Some(Err(ClaimRefusal::Memory));
+        }
+        let mut shared = desk.when_busy(rt);
+        if shared.stopped {
+            return None;
+        }
+        Some(shared.claim_for(self.number, &mut self.list))
+    }
+
+    // Hands in the run for a ticket, and wakes whoever waits.
+    fn finish<R: Wait>(
+        &mut self,
+        rt: &R,
+        desk: &Desk<A>,
+        ticket: u64,
+        run: Arc<Run<A>, A>,
+    ) -> Option<WorkerEnd>
+        ensures list { Finishes ticket self.old.list self.new.list result }
+        ensures number { self.new.number ≡ self.old.number }
+    {
+        if make_room(&mut self.list).is_err() {
+            return Some(WorkerEnd::Memory);
+        }
+        let told = desk
+            .shared
+            .lock(rt)
+            .finish_for(self.number, &mut self.list, ticket, run);
+        desk.changed.notify_all();
+        end_of_finish(told)
+    }
+
+    // Gives a ticket up, and wakes whoever waits.
+    fn give_up<R: Wait>(&mut self, rt: &R, desk: &Desk<A>, ticket: u64) -> Option<WorkerEnd>
+        ensures list { GivesUp ticket self.old.list self.new.list result }
+        ensures number { self.new.number ≡ self.old.number }
+    {
+        if make_room(&mut self.list).is_err() {
+            return Some(WorkerEnd::Memory);
+        }
+        let told = desk
+            .shared
+            .lock(rt)
+            .give_up_for(self.number, &mut self.list, ticket);
+        desk.changed.notify_all();
+        end_of_give_up(told)
+    }
+
+    // Hands in what came of the work for a ticket: the run, or that none came for want of memory.
+    fn hand_in<R: Wait>(
+        &mut self,
+        rt: &R,
+        desk: &Desk<A>,
+        ticket: u64,
+        made: Result<Arc<Run<A>, A>, Memory>,
+    ) -> Option<WorkerEnd>
+        ensures list { HandsIn ticket made self.old.list self.new.list result }
+        ensures number { self.new.number ≡ self.old.number }
+    {
+        match made {
+            Ok(run) => self.finish(rt, desk, ticket, run),
+            Err(_) => self.give_up(rt, desk, ticket),
+        }
+    }
+
+    // Works a task without the lock, and hands in what came of it.
+    fn work<R: Wait, G: Gate>(
+        &mut self,
+        rt: &R,
+        desk: &Desk<A>,
+        gate: &G,
+        task: Task<A>,
+    ) -> Option<WorkerEnd>
+        ensures list { HandsInOnce task.ticket self.old.list self.new.list result }
+        ensures number { self.new.number ≡ self.old.number }
+    {
+        let ticket = task.ticket();
+        gate.before_work(ticket);
+        let made = run_for(&task);
+        if made.is_ok() {
+            gate.before_finish(ticket);
+        }
+        self.hand_in(rt, desk, ticket, made)
+    }
+
+    // One round: waits, claims, works, hands in. None where another round is to come.
+    fn round<R: Wait, G: Gate>(&mut self, rt: &R, desk: &Desk<A>, gate: &G) -> Option<WorkerEnd>
+        ensures on { WorksOn self.old.list self.new.list }
+        ensures through { IfNone result (WorksThrough self.old.list self.new.list) }
+        ensures stopped { result ≡ Some ends.Stopped → WorksThrough self.old.list self.new.list }
+        ensures number { self.new.number ≡ self.old.number }
+    {
+        match self.claim(rt, desk) {
+            None => Some(WorkerEnd::Stopped),
+            Some(Ok(Some(task))) => self.work(rt, desk, gate, task),
+            Some(Ok(None)) => None,
+            Some(Err(ClaimRefusal::TooManyTickets)) => None,
+            Some(Err(ClaimRefusal::JournalFull)) => Some(WorkerEnd::Full),
+            Some(Err(ClaimRefusal::Memory)) => Some(WorkerEnd::Memory),
+        }
+    }
+
+    /// Works until the desk is stopped, the journal is full, or a growth is refused in a claim, a
+    /// finish or a give-up; in the last two cases it stops the desk. It sleeps while nothing is due.
+    ///
+    /// Its list goes on with claims, each of a ticket followed by a finish or a give-up of this
+    /// ticket, the last one perhaps not.
+    pub fn run<R: Wait, G: Gate>(&mut self, rt: &R, desk: &Desk<A>, gate: &G) -> WorkerEnd
+        ensures list { WorksOn self.old.list self.new.list }
+        ensures stopped { result ≡ ends.Stopped → WorksThrough self.old.list self.new.list }
+        ensures number { self.new.number ≡ self.old.number }
+    {
+        for _ in rt.forever() {
+            if let Some(end) = self.round(rt, desk, gate) {
+                if end != WorkerEnd::Stopped {
+                    desk.stop(rt);
+                }
+                return end;
+            }
+        }
+        unreachable!()
+    }
+}

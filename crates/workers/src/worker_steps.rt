@@ -1,0 +1,85 @@
+// What a worker does while it holds the lock: one call of the book, which its list then gains.
+ghost use Rattle.std.specs.Prelude.{◌≡◌, ◌<◌, map, IfOk, vec_len, vec_capacity};
+ghost use Rattle.std.specs.Option.{option_map};
+ghost use Rattle.std.specs.Arc.{arc_value};
+ghost use Rattle.book_machine.specs.declared.caller.Caller.TheVariants as caller;
+ghost use Rattle.book_machine.specs.Call.{Claim, Finish, GiveUp};
+ghost use Rattle.version_book.specs.Answers.{TellsFit, claim_answer, finish_answer, fitted, give_up_answer};
+ghost use Rattle.version_book.specs.Steps.{Answers};
+ghost use Rattle.version_book.specs.Tasks.{Fits, due_shown, task_for};
+ghost use Rattle.workers.specs.Lists.{Gains, exchanged_of};
+
+use crate::exchange::{Exchange, keep};
+use crate::shared::Shared;
+use book_machine::Call;
+use checkpoints::Run;
+use std::alloc::Allocator;
+use std::sync::Arc;
+use version_book::{ClaimRefusal, FinishRefusal, GiveUpRefusal, Task};
+
+// Whether the run fitted its ticket, as the answer tells.
+fn is_fitting(told: &Result<u64, FinishRefusal>) -> bool
+    ensures { result ≡ fitted told.now }
+{
+    matches!(told, Ok(_) | Err(FinishRefusal::Stale { .. }))
+}
+
+impl<A: Allocator + Copy> Shared<A> {
+    // A ticket for the first scenario that is due.
+    pub(crate) fn claim_for(
+        &mut self,
+        worker: u64,
+        list: &mut Vec<Exchange<A>, A>,
+    ) -> Result<Option<Task<A>>, ClaimRefusal>
+        requires room { vec_len list.old < vec_capacity list.old }
+        ensures book { Answers self.old.book self.new.book (caller.Worker worker) Claim (claim_answer result) }
+        ensures list { Gains (map exchanged_of list.old.items) (map exchanged_of list.new.items) Claim (claim_answer result) }
+        ensures task { IfOk result (λ task. task ≡ option_map (task_for self.old.book.state) (due_shown self.old.book.state)) }
+    {
+        let notes = self.notes();
+        let told = self.book.claim(worker);
+        keep(list, Call::Claim, self.reply_behind(notes));
+        told
+    }
+
+    // A run for a ticket.
+    pub(crate) fn finish_for(
+        &mut self,
+        worker: u64,
+        list: &mut Vec<Exchange<A>, A>,
+        ticket: u64,
+        run: Arc<Run<A>, A>,
+    ) -> Result<u64, FinishRefusal>
+        requires room { vec_len list.old < vec_capacity list.old }
+        ensures book { Answers self.old.book self.new.book (caller.Worker worker) (Finish ticket (fitted result)) (finish_answer result) }
+        ensures list { Gains (map exchanged_of list.old.items) (map exchanged_of list.new.items) (Finish ticket (fitted result)) (finish_answer result) }
+        ensures fits { TellsFit (Fits self.old.book.state ticket (arc_value run)) result }
+    {
+        let notes = self.notes();
+        let told = self.book.finish(worker, ticket, run);
+        let fits = is_fitting(&told);
+        keep(
+            list,
+            Call::Finish { ticket, fits },
+            self.reply_behind(notes),
+        );
+        told
+    }
+
+    // A ticket for which no run comes.
+    pub(crate) fn give_up_for(
+        &mut self,
+        worker: u64,
+        list: &mut Vec<Exchange<A>, A>,
+        ticket: u64,
+    ) -> Result<(), GiveUpRefusal>
+        requires room { vec_len list.old < vec_capacity list.old }
+        ensures book { Answers self.old.book self.new.book (caller.Worker worker) (GiveUp ticket) (give_up_answer result) }
+        ensures list { Gains (map exchanged_of list.old.items) (map exchanged_of list.new.items) (GiveUp ticket) (give_up_answer result) }
+    {
+        let notes = self.notes();
+        let told = self.book.give_up(worker, ticket);
+        keep(list, Call::GiveUp { ticket }, self.reply_behind(notes));
+        told
+    }
+}
