@@ -1,3 +1,3 @@
-pub mod Gaining
-pub mod Works
-pub mod Portions
+mod Gaining
+mod Works
+mod Portions
