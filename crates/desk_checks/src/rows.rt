@@ -1,0 +1,173 @@
+// Every call of a session, and a scenario that is dropped and added again while a run of it is made.
+use crate::crew::{Crew, Script};
+use crate::desks::{crew_of, ten};
+use crate::flag::Flag;
+use job_table::{Edit, EditFault};
+use scenarios::{AddFault, ScenarioId};
+use std::alloc::Global;
+use std::process::Abort;
+use std::sync::Wait;
+use std::thread::Threads;
+use version_book::{AddRefusal, Book, DropRefusal, EditRefusal, Reply, RetryRefusal, ViewRefusal};
+use workers::{Desk, Gate, Session};
+
+/// A scenario is dropped and added again while a worker holds a ticket of it.
+#[derive(Drop)]
+struct AddedAgain {
+    is_claimed: Flag,
+    is_added: Flag,
+    wrong: Flag,
+}
+
+impl Gate for AddedAgain {
+    fn before_work(&self, _ticket: u64) {
+        self.is_claimed.set();
+        if !self.is_added.wait() {
+            self.wrong.set();
+        }
+    }
+
+    fn before_finish(&self, _ticket: u64) {}
+}
+
+// The version that a view tells, or why it tells none.
+fn viewed<R: Wait>(
+    rt: &R,
+    desk: &Desk<Global>,
+    session: &mut Session<Global>,
+    id: ScenarioId,
+) -> Result<u64, ViewRefusal> {
+    match session.view(rt, desk, id) {
+        Ok(shown) => Ok(shown.version()),
+        Err(refusal) => Err(refusal),
+    }
+}
+
+// Adds the scenario `big`, and tells its id.
+fn added<R: Wait>(
+    rt: &R,
+    desk: &Desk<Global>,
+    session: &mut Session<Global>,
+) -> Option<ScenarioId> {
+    session.add_scenario(rt, desk, "big", ten()?).ok()
+}
+
+// Drops it and adds it again: the old id is gone, and of the new one nothing is shown yet.
+fn adds_again<R: Wait>(rt: &R, desk: &Desk<Global>, session: &mut Session<Global>) -> bool {
+    let Ok(old) = session.drop_scenario(rt, desk, "big") else {
+        return false;
+    };
+    let Some(new) = added(rt, desk, session) else {
+        return false;
+    };
+    viewed(rt, desk, session, old) == Err(ViewRefusal::NoSuchScenario)
+        && viewed(rt, desk, session, new) == Err(ViewRefusal::NotYet)
+        && session.find(rt, desk, "big") == Some(new)
+}
+
+impl Script for AddedAgain {
+    fn play<R: Wait>(&self, rt: &R, desk: &Desk<Global>, session: &mut Session<Global>) {
+        let is_right = added(rt, desk, session).is_some()
+            && self.is_claimed.wait()
+            && adds_again(rt, desk, session);
+        if !is_right {
+            self.wrong.set();
+        }
+        self.is_added.set();
+        let _ = session.settle(rt, desk);
+    }
+}
+
+// A desk without scenarios.
+fn without_scenario<R: Wait>(rt: &R, alloc: Global) -> Option<Crew> {
+    let mut crew = crew_of(rt, alloc, 1, 1)?;
+    let _id = crew
+        .sessions
+        .first_mut()?
+        .drop_scenario(rt, &crew.desk, "base")
+        .ok()?;
+    Some(crew)
+}
+
+// The book after that.
+fn book_after<R: Threads + Wait + Sync>(rt: &R, alloc: Global) -> Option<Book<Global>> {
+    let mut crew = without_scenario(rt, alloc)?;
+    let again = AddedAgain {
+        is_claimed: Flag::new(),
+        is_added: Flag::new(),
+        wrong: Flag::new(),
+    };
+    if crew.run(rt, alloc, &again, &again) && !again.wrong.is_set() {
+        crew.close()
+    } else {
+        None
+    }
+}
+
+// Whether the closed ticket was handed in and is unknown.
+fn has_unknown_ticket(book: &Book<Global>) -> bool {
+    book.journal()
+        .iter()
+        .any(|note| note.reply == Reply::UnknownTicket)
+}
+
+fn is_unknown<R: Threads + Wait + Sync>(rt: &R, alloc: Global) -> Option<bool> {
+    Some(has_unknown_ticket(&book_after(rt, alloc)?))
+}
+
+// Whether each refusal of a session's calls comes where it should.
+fn are_refused<R: Wait>(
+    rt: &R,
+    desk: &Desk<Global>,
+    session: &mut Session<Global>,
+) -> Option<bool> {
+    let ten = ten()?;
+    let base = session.find(rt, desk, "base")?;
+    let edit = session.edit(rt, desk, &Edit::Remove(99));
+    let twice = session.add_scenario(rt, desk, "base", ten);
+    let absent = session.drop_scenario(rt, desk, "big");
+    let early = viewed(rt, desk, session, base);
+    let unmarked = session.retry(rt, desk, base);
+    let gone = session.drop_scenario(rt, desk, "base");
+    let late = session.retry(rt, desk, base);
+    Some(
+        edit == Err(EditRefusal::Fault(EditFault::NoSuchJob))
+            && twice == Err(AddRefusal::Fault(AddFault::NameTaken))
+            && absent == Err(DropRefusal::NoSuchScenario)
+            && early == Err(ViewRefusal::NotYet)
+            && unmarked == Ok(())
+            && gone == Ok(base)
+            && late == Err(RetryRefusal::NoSuchScenario),
+    )
+}
+
+// Whether they do, and how many calls a session has listed then.
+fn listed<R: Wait>(rt: &R, alloc: Global) -> Option<(bool, usize)> {
+    let mut crew = crew_of(rt, alloc, 2, 0)?;
+    let refused = are_refused(rt, &crew.desk, crew.sessions.get_mut(1)?)?;
+    let calls = crew.sessions.get(1)?.list().len();
+    let _book = crew.close()?;
+    Some((refused, calls))
+}
+
+// How many sessions a desk opens, and whether it closes with them.
+fn opened<R: Wait>(rt: &R, alloc: Global) -> Option<bool> {
+    let crew = crew_of(rt, alloc, 64, 64)?;
+    let none_more = crew.desk.open_session(rt).is_none() && crew.desk.open_worker(rt).is_none();
+    Some(none_more && crew.close().is_some())
+}
+
+#[test]
+fn a_ticket_of_a_dropped_scenario_is_unknown(rt: HostRuntime) {
+    assert!(rt; is_unknown(&rt, rt.alloc()) == Some(true));
+}
+
+#[test]
+fn refusals_are_told_and_listed(rt: HostRuntime) {
+    assert!(rt; listed(&rt, rt.alloc()) == Some((true, 7)));
+}
+
+#[test]
+fn sixty_four_of_each_are_opened(rt: HostRuntime) {
+    assert!(rt; opened(&rt, rt.alloc()) == Some(true));
+}
