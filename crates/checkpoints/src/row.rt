@@ -1,4 +1,5 @@
-ghost use Rattle.std.specs.Prelude.{◌≡◌, ◌<◌, ◌^◌};
+ghost use Rattle.std.specs.Prelude.{◌≡◌, ◌<◌};
+ghost use Rattle.scenarios.specs.Limits.{seconds_end};
 ghost use Rattle.checkpoints.specs.Schedule.{row_at};
 
 use scenarios::Job;
@@ -25,7 +26,7 @@ pub struct Row {
 impl Row {
     // The row of a job that starts at this second.
     pub(crate) fn at(job: &Job, start: u64) -> Row
-        requires { start < 2 ^ 49 }
+        requires { start < seconds_end }
         ensures { result ≡ row_at job.now start }
     {
         Row {

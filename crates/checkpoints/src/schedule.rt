@@ -1,7 +1,8 @@
-ghost use Rattle.std.specs.Prelude.{◌≡◌, ℕ, ◌<◌, ◌^◌, map, All, IfOk, OnOk};
+ghost use Rattle.std.specs.Prelude.{◌≡◌, ℕ, ◌<◌, map, All, IfOk, OnOk};
 ghost use Rattle.std.specs.Arc.{arc_value};
 ghost use Rattle.std.specs.List.{filter_map};
 ghost use Rattle.std.specs.List.Sorted.{IsNonDecreasingBy};
+ghost use Rattle.scenarios.specs.Limits.{seconds_end};
 ghost use Rattle.scenarios.specs.PlanView.{plan_in};
 ghost use Rattle.easy_rule.specs.Simulation.{start_of};
 ghost use Rattle.checkpoints.specs.Cut.{all_starts};
@@ -80,7 +81,7 @@ pub(crate) fn rows_of<A: Allocator + Copy>(
     plan: &PlanRef<'_, A>,
     mut starts: Vec<Start, A>,
 ) -> Result<Vec<Row, A>, Memory>
-    requires { All (λ x. x.at < 2 ^ 49) starts.items }
+    requires { All (λ x. x.at < seconds_end) starts.items }
     ensures { IfOk result (λ rows. rows.items ≡ filter_map (row_of starts.items) (plan_in plan.now).jobs) }
 {
     sort_by_number(&mut starts)?;

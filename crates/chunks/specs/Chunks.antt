@@ -61,11 +61,11 @@ module _ {X : Type 0} where
 
 -- the element stands before one with these two numbers: by its first number, and of one first number by its second
 abbrev pub stands : {X : Type 0} → (X → ℕ) → (X → ℕ) → ℕ → ℕ → X → Bool
-stands first second a b x = nat_lt (first x) a || (first x == a && nat_lt (second x) b)
+stands major minor a b x = nat_lt (major x) a || (major x == a && nat_lt (minor x) b)
 
 -- the place of the first element that doesn't stand before one with these two numbers; past the last where there is none
 abbrev pub place_in : {X : Type 0} → (X → ℕ) → (X → ℕ) → ℕ → ℕ → List X → ℕ
-place_in first second a b xs = position_or_len (λ x. not (stands first second a b x)) xs
+place_in major minor a b xs = position_or_len (λ x. not (stands major minor a b x)) xs
 
 -- how many elements move to another chunk when a chunk of this length is put back
 abbrev pub moved : ℕ → ℕ

@@ -11,15 +11,15 @@ pub trait Copied: Drop {
 
 /// What stands in the order of two numbers: by the first, and of one first number by the second.
 pub trait Keyed: Copied {
-    ghost first: { Self → ℕ };
+    ghost major: { Self → ℕ };
 
-    ghost second: { Self → ℕ };
+    ghost minor: { Self → ℕ };
 
     /// The number that orders first.
-    fn first(&self) -> u64
-        ensures { result ≡ first self.now };
+    fn major(&self) -> u64
+        ensures { result ≡ major self.now };
 
     /// The number that orders those of one first number.
-    fn second(&self) -> u64
-        ensures { result ≡ second self.now };
+    fn minor(&self) -> u64
+        ensures { result ≡ minor self.now };
 }

@@ -56,20 +56,20 @@ impl<T: Keyed, A: Allocator + Copy> Chunks<T, A> {
     }
 
     /// The first element that doesn't stand before one with these two numbers.
-    pub fn find(&self, first: u64, second: u64) -> Option<&T>
-        requires { IsPartitionedBy (stands T.first T.second first second) (flat self.now) }
-        ensures { option_copied result ≡ slice_get (flat self.now) (place_in T.first T.second first second (flat self.now)) }
+    pub fn find(&self, major: u64, minor: u64) -> Option<&T>
+        requires { IsPartitionedBy (stands T.major T.minor major minor) (flat self.now) }
+        ensures { option_copied result ≡ slice_get (flat self.now) (place_in T.major T.minor major minor (flat self.now)) }
     {
-        self.rest(first, second).peek()
+        self.rest(major, minor).peek()
     }
 
     /// The elements from the first on that doesn't stand before one with these two numbers.
-    pub fn rest(&self, first: u64, second: u64) -> Rest<'_, T, A>
-        requires { IsPartitionedBy (stands T.first T.second first second) (flat self.now) }
-        ensures { result ≡ drop (place_in T.first T.second first second (flat self.now)) (flat self.now) }
+    pub fn rest(&self, major: u64, minor: u64) -> Rest<'_, T, A>
+        requires { IsPartitionedBy (stands T.major T.minor major minor) (flat self.now) }
+        ensures { result ≡ drop (place_in T.major T.minor major minor (flat self.now)) (flat self.now) }
     {
         let groups = self.groups.as_slice();
-        Rest::new(groups, place_of(groups, first, second))
+        Rest::new(groups, place_of(groups, major, minor))
     }
 
     /// All elements, in order.
@@ -89,15 +89,15 @@ impl<T: Keyed, A: Allocator + Copy> Chunks<T, A> {
     /// behind the last element is the last chunk, and 129 more where that is full; at most 385.
     /// Memory where a growth was refused.
     pub fn with(&self, item: T, count: &mut u32) -> Result<Chunks<T, A>, Memory>
-        requires parted { IsPartitionedBy (stands T.first T.second (T.first item) (T.second item)) (flat self.now) }
+        requires parted { IsPartitionedBy (stands T.major T.minor (T.major item) (T.minor item)) (flat self.now) }
         requires room { count.old ≤ 768 }
-        ensures list { IfOk result (λ list. flat list ≡ insert (flat self.now) (place_in T.first T.second (T.first item) (T.second item) (flat self.now)) item) }
-        ensures count { OnOk result (count.new ≡ count.old + joining (place_in T.first T.second (T.first item) (T.second item) (flat self.now)) self.now) }
+        ensures list { IfOk result (λ list. flat list ≡ insert (flat self.now) (place_in T.major T.minor (T.major item) (T.minor item) (flat self.now)) item) }
+        ensures count { OnOk result (count.new ≡ count.old + joining (place_in T.major T.minor (T.major item) (T.minor item) (flat self.now)) self.now) }
         ensures least { 1 ≤ length (flat self.now) → OnOk result (count.old < count.new) }
         ensures most { OnOk result (count.new ≤ count.old + 385) }
     {
         let old = self.groups.as_slice();
-        let place = open_place(old, place_of(old, item.first(), item.second()));
+        let place = open_place(old, place_of(old, item.major(), item.minor()));
         let alloc = *self.groups.allocator();
         let groups = inserted(alloc, old, place, item, count)?;
         Ok(Chunks { groups })
@@ -106,17 +106,17 @@ impl<T: Keyed, A: Allocator + Copy> Chunks<T, A> {
     /// The list without the first element that doesn't stand before one with these two numbers.
     /// Counts each element that it copies: those of that element's chunk, at most 256. Memory where
     /// a growth was refused.
-    pub fn without(&self, first: u64, second: u64, count: &mut u32) -> Result<Chunks<T, A>, Memory>
-        requires parted { IsPartitionedBy (stands T.first T.second first second) (flat self.now) }
-        requires there { place_in T.first T.second first second (flat self.now) < length (flat self.now) }
+    pub fn without(&self, major: u64, minor: u64, count: &mut u32) -> Result<Chunks<T, A>, Memory>
+        requires parted { IsPartitionedBy (stands T.major T.minor major minor) (flat self.now) }
+        requires there { place_in T.major T.minor major minor (flat self.now) < length (flat self.now) }
         requires room { count.old ≤ 768 }
-        ensures list { IfOk result (λ list. flat list ≡ remove (flat self.now) (place_in T.first T.second first second (flat self.now))) }
-        ensures count { OnOk result (count.new ≡ count.old + touched (place_in T.first T.second first second (flat self.now)) self.now) }
+        ensures list { IfOk result (λ list. flat list ≡ remove (flat self.now) (place_in T.major T.minor major minor (flat self.now))) }
+        ensures count { OnOk result (count.new ≡ count.old + touched (place_in T.major T.minor major minor (flat self.now)) self.now) }
         ensures least { OnOk result (count.old < count.new) }
         ensures most { OnOk result (count.new ≤ count.old + 256) }
     {
         let old = self.groups.as_slice();
-        let place = place_of(old, first, second);
+        let place = place_of(old, major, minor);
         let alloc = *self.groups.allocator();
         let groups = removed(alloc, old, place, count)?;
         Ok(Chunks { groups })
@@ -126,16 +126,16 @@ impl<T: Keyed, A: Allocator + Copy> Chunks<T, A> {
     /// each element that it copies: those of that element's chunk, at most 256. Memory where a
     /// growth was refused.
     pub fn exchanged(&self, item: T, count: &mut u32) -> Result<Chunks<T, A>, Memory>
-        requires parted { IsPartitionedBy (stands T.first T.second (T.first item) (T.second item)) (flat self.now) }
-        requires there { place_in T.first T.second (T.first item) (T.second item) (flat self.now) < length (flat self.now) }
+        requires parted { IsPartitionedBy (stands T.major T.minor (T.major item) (T.minor item)) (flat self.now) }
+        requires there { place_in T.major T.minor (T.major item) (T.minor item) (flat self.now) < length (flat self.now) }
         requires room { count.old ≤ 768 }
-        ensures list { IfOk result (λ list. flat list ≡ slice_set (flat self.now) (place_in T.first T.second (T.first item) (T.second item) (flat self.now)) item) }
-        ensures count { OnOk result (count.new ≡ count.old + touched (place_in T.first T.second (T.first item) (T.second item) (flat self.now)) self.now) }
+        ensures list { IfOk result (λ list. flat list ≡ slice_set (flat self.now) (place_in T.major T.minor (T.major item) (T.minor item) (flat self.now)) item) }
+        ensures count { OnOk result (count.new ≡ count.old + touched (place_in T.major T.minor (T.major item) (T.minor item) (flat self.now)) self.now) }
         ensures least { OnOk result (count.old < count.new) }
         ensures most { OnOk result (count.new ≤ count.old + 256) }
     {
         let old = self.groups.as_slice();
-        let place = place_of(old, item.first(), item.second());
+        let place = place_of(old, item.major(), item.minor());
         let alloc = *self.groups.allocator();
         let groups = with_another(alloc, old, place, item, count)?;
         Ok(Chunks { groups })

@@ -19,15 +19,15 @@ impl Copied for Numbered {
 }
 
 impl Keyed for Numbered {
-    ghost first = { λ pair. pair.number };
+    ghost major = { λ pair. pair.number };
 
-    ghost second = { λ pair. pair.number };
+    ghost minor = { λ pair. pair.number };
 
-    fn first(&self) -> u64 {
+    fn major(&self) -> u64 {
         self.number
     }
 
-    fn second(&self) -> u64 {
+    fn minor(&self) -> u64 {
         self.number
     }
 }
@@ -39,15 +39,15 @@ impl<A: Allocator + Copy> Copied for Entry<A> {
 }
 
 impl<A: Allocator + Copy> Keyed for Entry<A> {
-    ghost first = { submit_of };
+    ghost major = { submit_of };
 
-    ghost second = { number_of_entry };
+    ghost minor = { number_of_entry };
 
-    fn first(&self) -> u64 {
+    fn major(&self) -> u64 {
         self.submit()
     }
 
-    fn second(&self) -> u64 {
+    fn minor(&self) -> u64 {
         self.number()
     }
 }

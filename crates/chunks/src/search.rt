@@ -11,19 +11,19 @@ use crate::row::elements;
 use std::alloc::Allocator;
 
 // Whether an element stands before one with these two numbers.
-fn is_before<T: Keyed>(item: &T, first: u64, second: u64) -> bool
-    ensures { result ≡ stands T.first T.second first second item.now }
+fn is_before<T: Keyed>(item: &T, major: u64, minor: u64) -> bool
+    ensures { result ≡ stands T.major T.minor major minor item.now }
 {
-    let own = item.first();
-    own < first || (own == first && item.second() < second)
+    let own = item.major();
+    own < major || (own == major && item.minor() < minor)
 }
 
 // Whether a chunk's last element stands before one with these two numbers.
-fn ends_before<T: Keyed>(items: &[T], first: u64, second: u64) -> bool
-    ensures { result ≡ ends_by (stands T.first T.second first second) items.now }
+fn ends_before<T: Keyed>(items: &[T], major: u64, minor: u64) -> bool
+    ensures { result ≡ ends_by (stands T.major T.minor major minor) items.now }
 {
     match items.last() {
-        Some(last) => is_before(last, first, second),
+        Some(last) => is_before(last, major, minor),
         None => false,
     }
 }
@@ -31,63 +31,59 @@ fn ends_before<T: Keyed>(items: &[T], first: u64, second: u64) -> bool
 // Whether the last element of the last of these chunks stands before one with these two numbers.
 fn last_ends_before<T: Keyed, A: Allocator + Copy>(
     chunks: &[Chunk<T, A>],
-    first: u64,
-    second: u64,
+    major: u64,
+    minor: u64,
 ) -> bool
-    ensures { result ≡ ends_by (ends (stands T.first T.second first second)) chunks.now }
+    ensures { result ≡ ends_by (ends (stands T.major T.minor major minor)) chunks.now }
 {
     match chunks.last() {
-        Some(chunk) => ends_before(chunk.as_slice(), first, second),
+        Some(chunk) => ends_before(chunk.as_slice(), major, minor),
         None => false,
     }
 }
 
 // How many chunks end before an element with these two numbers.
-fn chunk_before<T: Keyed, A: Allocator + Copy>(
-    row: &[Chunk<T, A>],
-    first: u64,
-    second: u64,
-) -> usize
+fn chunk_before<T: Keyed, A: Allocator + Copy>(row: &[Chunk<T, A>], major: u64, minor: u64) -> usize
     requires sized { AreSized (contents row.now) }
-    requires parted { IsPartitionedBy (stands T.first T.second first second) (flat (contents row.now)) }
+    requires parted { IsPartitionedBy (stands T.major T.minor major minor) (flat (contents row.now)) }
     ensures within { result ≤ length row.now }
-    ensures place { result ≡ position_or_len (λ chunk. not (ends_by (stands T.first T.second first second) chunk)) (contents row.now) }
+    ensures place { result ≡ position_or_len (λ chunk. not (ends_by (stands T.major T.minor major minor) chunk)) (contents row.now) }
 {
     row.partition_point(
         |chunk: &Chunk<T, A>| -> bool
-            ensures { result ≡ ends_by (stands T.first T.second first second) chunk.now.value.items }
-        { ends_before(chunk.as_slice(), first, second) },
+            ensures { result ≡ ends_by (stands T.major T.minor major minor) chunk.now.value.items }
+        { ends_before(chunk.as_slice(), major, minor) },
     )
 }
 
 // How many groups end before an element with these two numbers.
 fn group_before<T: Keyed, A: Allocator + Copy>(
     groups: &[Group<T, A>],
-    first: u64,
-    second: u64,
+    major: u64,
+    minor: u64,
 ) -> usize
     requires sized { AreGrouped groups.now }
-    requires parted { IsPartitionedBy (stands T.first T.second first second) (flat (chunks_in groups.now)) }
+    requires parted { IsPartitionedBy (stands T.major T.minor major minor) (flat (chunks_in groups.now)) }
     ensures within { result ≤ length groups.now }
-    ensures place { result ≡ position_or_len (λ chunks. not (ends_by (ends (stands T.first T.second first second)) chunks)) (contents groups.now) }
+    ensures place { result ≡ position_or_len (λ chunks. not (ends_by (ends (stands T.major T.minor major minor)) chunks)) (contents groups.now) }
 {
     groups.partition_point(
         |group: &Group<T, A>| -> bool
-            ensures { result ≡ ends_by (ends (stands T.first T.second first second)) group.now.value.items }
-        { last_ends_before(group.as_slice(), first, second) },
+            ensures { result ≡ ends_by (ends (stands T.major T.minor major minor)) group.now.value.items }
+        { last_ends_before(group.as_slice(), major, minor) },
     )
 }
 
 // How many of these elements stand before one with these two numbers.
-fn before<T: Keyed>(items: &[T], first: u64, second: u64) -> usize
-    requires { IsPartitionedBy (stands T.first T.second first second) items.now }
+fn before<T: Keyed>(items: &[T], major: u64, minor: u64) -> usize
+    requires { IsPartitionedBy (stands T.major T.minor major minor) items.now }
     ensures within { result ≤ length items.now }
-    ensures place { result ≡ position_or_len (λ x. not (stands T.first T.second first second x)) items.now }
+    ensures place { result ≡ position_or_len (λ x. not (stands T.major T.minor major minor x)) items.now }
 {
     items.partition_point(
         |item: &T| -> bool
-            ensures { result ≡ stands T.first T.second first second item.now }
-        { is_before(item, first, second) },
+            ensures { result ≡ stands T.major T.minor major minor item.now }
+        { is_before(item, major, minor) },
     )
 }
 
@@ -95,21 +91,21 @@ fn before<T: Keyed>(items: &[T], first: u64, second: u64) -> usize
 // last group where there is none.
 pub(crate) fn place_of<T: Keyed, A: Allocator + Copy>(
     groups: &[Group<T, A>],
-    first: u64,
-    second: u64,
+    major: u64,
+    minor: u64,
 ) -> Place
     requires sized { AreGrouped groups.now }
-    requires parted { IsPartitionedBy (stands T.first T.second first second) (flat (chunks_in groups.now)) }
+    requires parted { IsPartitionedBy (stands T.major T.minor major minor) (flat (chunks_in groups.now)) }
     ensures spot { IsSpot result.group result.chunk groups.now }
     ensures within { result.at ≤ length (chunk_at result.group result.chunk groups.now) }
-    ensures place { place_at result.group result.chunk result.at groups.now ≡ place_in T.first T.second first second (flat (chunks_in groups.now)) }
+    ensures place { place_at result.group result.chunk result.at groups.now ≡ place_in T.major T.minor major minor (flat (chunks_in groups.now)) }
     ensures inside { place_at result.group result.chunk result.at groups.now < length (flat (chunks_in groups.now)) → result.at < length (chunk_at result.group result.chunk groups.now) }
     ensures there { result.group < length groups.now → result.at < length (chunk_at result.group result.chunk groups.now) }
 {
-    let group = group_before(groups, first, second);
+    let group = group_before(groups, major, minor);
     let chunks = elements(groups, group);
-    let chunk = chunk_before(chunks, first, second);
-    let at = before(elements(chunks, chunk), first, second);
+    let chunk = chunk_before(chunks, major, minor);
+    let at = before(elements(chunks, chunk), major, minor);
     Place { group, chunk, at }
 }
 

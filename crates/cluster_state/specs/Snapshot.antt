@@ -1,7 +1,8 @@
 -- A state as a log can tell it again: the numbers of its jobs, apart from their sizes and lengths.
-use Rattle.std.specs.Prelude.{◌≡◌, ℕ, ◌+◌, ◌^◌, ◌≤◌, ◌<◌, nat_eq, List, Option, IsSome, Some, map, find, count_by, All}
+use Rattle.std.specs.Prelude.{◌≡◌, ℕ, ◌+◌, ◌≤◌, ◌<◌, nat_eq, List, Option, IsSome, Some, map, find, count_by, All}
 use Rattle.std.specs.List.{filter_map}
 use Rattle.std.specs.Option.{option_map}
+use Rattle.scenarios.specs.Limits.{seconds_end}
 use Rattle.scenarios.specs.Job.{EffectiveJob}
 use Rattle.scenarios.specs.Plan.{Plan}
 use Rattle.scenarios.specs.declared.placed.Placed.{Placed}
@@ -28,7 +29,7 @@ standing p n = count_by (λ m. nat_eq m n) p.waiting + count_by (λ r. nat_eq r.
 -- what is true of the numbers of each cluster: none stands twice, and starts are seconds
 pub record IsSnapshot (p : Numbers) : Type 0 where
   pub once : (n : ℕ) → standing p n ≤ 1
-  pub started : All (λ r. r.start < 2 ^ 49) p.running
+  pub started : All (λ r. r.start < seconds_end) p.running
 
 -- the first of these jobs that has the number
 abbrev pub job_numbered : List EffectiveJob → ℕ → Option EffectiveJob

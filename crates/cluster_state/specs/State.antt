@@ -1,6 +1,7 @@
 -- The state of a simulated machine, apart from how the code keeps it.
-use Rattle.std.specs.Prelude.{◌≡◌, ℕ, ◌+◌, ◌-◌, ◌^◌, ◌≤◌, ◌<◌, nat_eq, nat_le, nat_lt, if◌then◌else◌, List, [], ◌∷◌, ◌++◌, Option, Some, IsSomeAnd, filter, find, sum_by, count_by, All}
+use Rattle.std.specs.Prelude.{◌≡◌, ℕ, ◌+◌, ◌-◌, ◌≤◌, ◌<◌, nat_eq, nat_le, nat_lt, if◌then◌else◌, List, [], ◌∷◌, ◌++◌, Option, Some, IsSomeAnd, filter, find, sum_by, count_by, All}
 use Rattle.std.specs.Option.{option_map_or}
+use Rattle.scenarios.specs.Limits.{procs_limit, seconds_end}
 use Rattle.scenarios.specs.Job.{EffectiveJob, IsWithinLimits}
 use Rattle.scenarios.specs.declared.order.Order.{Order}
 use Rattle.scenarios.specs.declared.placed.Placed.{Placed}
@@ -105,10 +106,10 @@ ended_until s t = record { machine = s.machine; order = s.order; waiting = s.wai
 
 -- what is true of the state of each cluster: jobs are within the limits, running ones within the machine, and no two have one number
 pub record IsSound (s : State) : Type 0 where
-  pub limited : s.machine ≤ 16777216
+  pub limited : s.machine ≤ procs_limit
   pub fits : busy s.running ≤ s.machine
   pub once : (n : ℕ) → holders s n ≤ 1
   pub waiting_fit : All (λ j. j.size ≤ s.machine) s.waiting
   pub waiting_limits : All IsWithinLimits s.waiting
   pub running_limits : All (λ r. IsWithinLimits r.job) s.running
-  pub started : All (λ r. r.start < 2 ^ 49) s.running
+  pub started : All (λ r. r.start < seconds_end) s.running

@@ -1,5 +1,6 @@
-ghost use Rattle.std.specs.Prelude.{◌≡◌, ◌-◌, ◌<◌, ◌≤◌, ◌+◌, ◌^◌, ◌↔◌, [], OnOk, OnErr, IfOk, IfSome, IsNone, IsOk, IsTrue, MatchOption, All, Any, length, slice_get, count_by, nat_eq, IsPermutation};
+ghost use Rattle.std.specs.Prelude.{◌≡◌, ◌-◌, ◌<◌, ◌≤◌, ◌+◌, ◌↔◌, [], OnOk, OnErr, IfOk, IfSome, IsNone, IsOk, IsTrue, MatchOption, All, Any, length, slice_get, count_by, nat_eq, IsPermutation};
 ghost use Rattle.std.specs.Option.{option_copied};
+ghost use Rattle.scenarios.specs.Limits.{procs_limit, seconds_end};
 ghost use Rattle.scenarios.specs.declared.order.Order.TheVariants.{Arrival};
 
 use crate::ends::{drop_until, first_end, heap_of_ends, is_by};
@@ -54,7 +55,7 @@ impl<A: Allocator + Copy> Cluster<A> {
 
     /// An empty machine of `procs` processors, with backfills in order of arrival.
     pub fn new(alloc: A, procs: u64) -> Cluster<A>
-        requires { procs ≤ 16777216 }
+        requires { procs ≤ procs_limit }
         ensures { result.state ≡ empty procs Arrival }
     {
         Cluster::with_order(alloc, procs, Order::Arrival)
@@ -69,7 +70,7 @@ impl<A: Allocator + Copy> Cluster<A> {
 
     // An empty machine with backfills in this order.
     fn with_order(alloc: A, procs: u64, order: Order) -> Cluster<A>
-        requires { procs ≤ 16777216 }
+        requires { procs ≤ procs_limit }
         ensures { result.state ≡ empty procs order }
     {
         Cluster {
@@ -276,7 +277,7 @@ impl<A: Allocator + Copy> Cluster<A> {
     /// as it was.
     pub fn start(&mut self, number: u64, now: u64) -> Result<(), Memory>
         requires fits { CanStart self.old.state number }
-        requires now { now < 2 ^ 49 }
+        requires now { now < seconds_end }
         ensures ok { OnOk result (self.new.state ≡ after_start self.old.state number now) }
         ensures err { OnErr result (self.new.state ≡ self.old.state) }
         ensures room { 1 ≤ self.old.spare → IsOk result }
@@ -302,7 +303,7 @@ impl<A: Allocator + Copy> Cluster<A> {
     /// then as it was.
     pub fn start_all(&mut self, jobs: &[Job], now: u64) -> Result<(), Memory>
         requires fits { CanStartAll self.old.state jobs.now now }
-        requires now { now < 2 ^ 49 }
+        requires now { now < seconds_end }
         ensures ok { OnOk result (self.new.state ≡ all_started self.old.state jobs.now now) }
         ensures err { OnErr result (self.new.state ≡ self.old.state) }
         ensures room { length jobs.now ≤ self.old.spare → IsOk result }

@@ -1,7 +1,8 @@
-ghost use Rattle.std.specs.Prelude.{◌≡◌, ◌≤◌, ◌<◌, ◌^◌, ◌↔◌, ℕ, IfOk, IfSome, IsSomeAnd, IsTrue, All, slice_get, sum_by, nat_lt, if◌then◌else◌};
+ghost use Rattle.std.specs.Prelude.{◌≡◌, ◌≤◌, ◌<◌, ◌↔◌, ℕ, IfOk, IfSome, IsSomeAnd, IsTrue, All, slice_get, sum_by, nat_lt, if◌then◌else◌};
 ghost use Rattle.std.specs.Option.{option_map};
 ghost use Rattle.std.specs.BinaryHeap.{heap_items, heap_len, heap_capacity, IsHeap};
 ghost use Rattle.std.specs.Ordering.{nat_cmp};
+ghost use Rattle.scenarios.specs.Limits.{seconds_end};
 ghost use Rattle.scenarios.specs.Placed.{real_end};
 
 use scenarios::Placed;
@@ -52,7 +53,7 @@ pub(crate) fn heap_of_ends<A: Allocator>(
     alloc: A,
     running: &[Placed],
 ) -> Result<BinaryHeap<Reverse<u64>, A>, Memory>
-    requires { All (λ r. r.start < 2 ^ 49) running.now }
+    requires { All (λ r. r.start < seconds_end) running.now }
     ensures heap { IfOk result (λ ends. IsHeap (λ x y. nat_cmp y.0 x.0) (heap_items ends)) }
     ensures ends { IfOk result (λ ends. (f : ℕ → ℕ) → sum_by (λ e. f e.0) (heap_items ends) ≡ sum_by (λ r. f (real_end r)) running.now) }
 {

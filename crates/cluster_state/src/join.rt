@@ -1,6 +1,7 @@
-ghost use Rattle.std.specs.Prelude.{◌≡◌, ◌+◌, ◌≤◌, ◌<◌, ◌^◌, ℕ, length, fold, sum_by, vec_len, vec_capacity};
+ghost use Rattle.std.specs.Prelude.{◌≡◌, ◌+◌, ◌≤◌, ◌<◌, ℕ, length, fold, sum_by, vec_len, vec_capacity};
 ghost use Rattle.std.specs.BinaryHeap.{heap_items, heap_len, heap_capacity, IsHeap};
 ghost use Rattle.std.specs.Ordering.{nat_cmp};
+ghost use Rattle.scenarios.specs.Limits.{seconds_end};
 ghost use Rattle.scenarios.specs.Placed.{real_end};
 ghost use Rattle.cluster_state.specs.State.{placed};
 ghost use Rattle.cluster_state.specs.Ends.{entered};
@@ -24,7 +25,7 @@ pub(crate) fn join<A: Allocator>(
     requires row_room { vec_len by_end.old < vec_capacity by_end.old }
     requires heap_room { heap_len ends.old < heap_capacity ends.old }
     requires heap { IsHeap (λ x y. nat_cmp y.0 x.0) (heap_items ends.old) }
-    requires start { r.start < 2 ^ 49 }
+    requires start { r.start < seconds_end }
     ensures running { running.new.items ≡ placed r running.old.items }
     ensures by_end { by_end.new.items ≡ entered r by_end.old.items }
     ensures heap { IsHeap (λ x y. nat_cmp y.0 x.0) (heap_items ends.new) }
@@ -57,7 +58,7 @@ pub(crate) fn join_all<A: Allocator>(
     requires row_room { vec_len by_end.old + length jobs.now ≤ vec_capacity by_end.old }
     requires heap_room { heap_len ends.old + length jobs.now ≤ heap_capacity ends.old }
     requires heap { IsHeap (λ x y. nat_cmp y.0 x.0) (heap_items ends.old) }
-    requires now { now < 2 ^ 49 }
+    requires now { now < seconds_end }
     ensures running { running.new.items ≡ fold (λ rs j. placed (record { job = j; start = now }) rs) running.old.items jobs.now }
     ensures by_end { by_end.new.items ≡ fold (λ rs j. entered (record { job = j; start = now }) rs) by_end.old.items jobs.now }
     ensures heap { IsHeap (λ x y. nat_cmp y.0 x.0) (heap_items ends.new) }

@@ -5,6 +5,7 @@ use Rattle.std.specs.Str.{bytes_eq}
 use Rattle.swf_text.specs.Number.{are_digits, digits_value, number_of, is_below_zero}
 use Rattle.swf_text.specs.Entry.{is_partial}
 use Rattle.swf_text.specs.Line.{value_then}
+use Rattle.scenarios.specs.Limits.{procs_limit, factor_limit}
 use Rattle.scenarios.specs.declared.order.Order.{Order}
 use Rattle.scenarios.specs.declared.order.Order.TheVariants.{Arrival, Shortest}
 use Rattle.scenarios.specs.Name.{is_name}
@@ -28,11 +29,11 @@ field_number word = number_between 0 255 word
 
 -- a machine has 1 to 16,777,216 processors
 abbrev pub machine : List ℕ → Option ℕ
-machine word = number_between 1 16777216 word
+machine word = number_between 1 procs_limit word
 
 -- a factor on estimates is 1 to 100,000 thousandths
 abbrev pub factor : List ℕ → Option ℕ
-factor word = number_between 1 100000 word
+factor word = number_between 1 factor_limit word
 
 -- the order that a word names
 abbrev pub order_of : List ℕ → Option Order

@@ -1,5 +1,6 @@
 -- What the layers above need of a rule that starts jobs, whichever rule it is.
-use Rattle.std.specs.Prelude.{◌≡◌, ℕ, ◌+◌, ◌^◌, ◌≤◌, ◌<◌, Bool, true, nat_eq, List, [], None, All, sum_by, count_by}
+use Rattle.std.specs.Prelude.{◌≡◌, ℕ, ◌+◌, ◌≤◌, ◌<◌, Bool, true, nat_eq, List, [], None, All, sum_by, count_by}
+use Rattle.scenarios.specs.Limits.{seconds_end}
 use Rattle.scenarios.specs.Job.{EffectiveJob}
 use Rattle.scenarios.specs.declared.order.Order.{Order}
 use Rattle.scenarios.specs.declared.placed.Placed.{Placed}
@@ -26,7 +27,7 @@ pub record Settles (Settled : State → ℕ → Type 0) (after : State → ℕ �
 pub record Keeps (after : State → ℕ → State) (starts : State → ℕ → List Start) : Type 0 where
   pub machine : (s : State) (now : ℕ) → (after s now).machine ≡ s.machine
   pub order : (s : State) (now : ℕ) → (after s now).order ≡ s.order
-  pub sound : (s : State) (now : ℕ) → now < 2 ^ 49 → IsSound s → IsSound (after s now)
+  pub sound : (s : State) (now : ℕ) → now < seconds_end → IsSound s → IsSound (after s now)
   pub waits : (p : EffectiveJob → Bool) (s : State) (now : ℕ) → All (λ j. p j ≡ true) s.waiting → All (λ j. p j ≡ true) (after s now).waiting
   pub runs : (p : Placed → Bool) (s : State) (now : ℕ) → All (λ r. p r ≡ true) s.running → All (λ j. p (record { job = j; start = now }) ≡ true) s.waiting → All (λ r. p r ≡ true) (after s now).running
   pub starts_now : (s : State) (now : ℕ) → All (λ x. x.at ≡ now) (starts s now)
@@ -35,10 +36,10 @@ pub record Keeps (after : State → ℕ → State) (starts : State → ℕ → L
 -- queue is told as a start.
 pub record Conserves (after : State → ℕ → State) (starts : State → ℕ → List Start) : Type 0 where
   pub work :
-      (f : EffectiveJob → ℕ) (s : State) (now : ℕ) → now < 2 ^ 49 → IsSound s
+      (f : EffectiveJob → ℕ) (s : State) (now : ℕ) → now < seconds_end → IsSound s
       → sum_by f (after s now).waiting + sum_by (λ r. f r.job) (after s now).running ≡ sum_by f s.waiting + sum_by (λ r. f r.job) s.running
   pub told :
-      (number : ℕ) (s : State) (now : ℕ) → now < 2 ^ 49 → IsSound s
+      (number : ℕ) (s : State) (now : ℕ) → now < seconds_end → IsSound s
       → count_by (λ x. nat_eq x.number number) (starts s now) + count_by (λ j. nat_eq j.number number) (after s now).waiting ≡ count_by (λ j. nat_eq j.number number) s.waiting
 
 -- a rule settles, keeps and conserves

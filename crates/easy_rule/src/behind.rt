@@ -1,5 +1,6 @@
-ghost use Rattle.std.specs.Prelude.{◌≡◌, ◌+◌, ◌<◌, ◌≤◌, ◌^◌, OnOk, OnErr, IsOk, IfOk, None, Some, length};
+ghost use Rattle.std.specs.Prelude.{◌≡◌, ◌+◌, ◌<◌, ◌≤◌, OnOk, OnErr, IsOk, IfOk, None, Some, length};
 ghost use Rattle.std.specs.List.{list_any};
+ghost use Rattle.scenarios.specs.Limits.{seconds_end};
 ghost use Rattle.easy_rule.specs.Rule.{may_backfill, next, shadow_of, state_after, starts_at};
 ghost use Rattle.easy_rule.specs.Pass.{front};
 
@@ -32,7 +33,7 @@ pub fn decide_behind<A: Allocator + Copy>(
     shadow: Shadow,
     now: u64,
 ) -> Result<(Vec<Start, A>, Shadow), Memory>
-    requires now { now < 2 ^ 49 }
+    requires now { now < seconds_end }
     requires within { settled ≤ length cluster.old.state.waiting }
     requires settled { next (front cluster.old.state settled) now ≡ None }
     requires shadow { shadow_of cluster.old.state ≡ Some shadow }

@@ -1,4 +1,5 @@
-ghost use Rattle.std.specs.Prelude.{◌≡◌, ◌+◌, ◌<◌, ◌≤◌, ◌^◌, OnOk, OnErr, IsOk, IfOk, IfSome, IsSome, None, Some, length};
+ghost use Rattle.std.specs.Prelude.{◌≡◌, ◌+◌, ◌<◌, ◌≤◌, OnOk, OnErr, IsOk, IfOk, IfSome, IsSome, None, Some, length};
+ghost use Rattle.scenarios.specs.Limits.{seconds_end};
 ghost use Rattle.cluster_state.specs.State.{free};
 ghost use Rattle.easy_rule.specs.Rule.{next, shadow_of, state_after, starts_at};
 
@@ -27,7 +28,7 @@ pub fn decide<A: Allocator + Copy>(
     cluster: &mut Cluster<A>,
     now: u64,
 ) -> Result<Vec<Start, A>, Memory>
-    requires { now < 2 ^ 49 }
+    requires { now < seconds_end }
     ensures state { OnOk result (cluster.new.state ≡ state_after cluster.old.state now) }
     ensures starts { IfOk result (λ starts. starts.items ≡ starts_at cluster.old.state now) }
     ensures room { IfOk result (λ starts. cluster.old.spare ≤ cluster.new.spare + length starts.items) }
@@ -46,7 +47,7 @@ pub fn decide_with_shadow<A: Allocator + Copy>(
     cluster: &mut Cluster<A>,
     now: u64,
 ) -> Result<(Vec<Start, A>, Option<Shadow>), Memory>
-    requires { now < 2 ^ 49 }
+    requires { now < seconds_end }
     ensures state { OnOk result (cluster.new.state ≡ state_after cluster.old.state now) }
     ensures starts { IfOk result (λ decision. decision.0.items ≡ starts_at cluster.old.state now) }
     ensures room { IfOk result (λ decision. cluster.old.spare ≤ cluster.new.spare + length decision.0.items) }

@@ -1,4 +1,5 @@
-ghost use Rattle.std.specs.Prelude.{◌≡◌, ◌<◌, ◌≤◌, ◌+◌, ◌^◌, ◌++◌, [], Some, OnOk, IfOk, IfSome, IsSome, map, length, slice_get, vec_len, vec_capacity};
+ghost use Rattle.std.specs.Prelude.{◌≡◌, ◌<◌, ◌≤◌, ◌+◌, ◌++◌, [], Some, OnOk, IfOk, IfSome, IsSome, map, length, slice_get, vec_len, vec_capacity};
+ghost use Rattle.scenarios.specs.Limits.{seconds_end};
 ghost use Rattle.cluster_state.specs.State.{free};
 ghost use Rattle.easy_rule.specs.Rule.{shadow_of, state_after, starts_at};
 ghost use Rattle.easy_rule.specs.Pass.{most_starts, start_at, IsPass};
@@ -62,7 +63,7 @@ pub(crate) fn start_heads<A: Allocator + Copy>(
     chosen: &mut Vec<Job, A>,
     now: u64,
 )
-    requires now { now < 2 ^ 49 }
+    requires now { now < seconds_end }
     requires none { chosen.old.items ≡ [] }
     requires spare { most_starts cluster.old.state ≤ cluster.old.spare }
     requires room { vec_len chosen.old + most_starts cluster.old.state ≤ vec_capacity chosen.old }
@@ -89,7 +90,7 @@ pub(crate) fn pass_on<A: Allocator + Copy>(
     place: usize,
     now: u64,
 ) -> Shadow
-    requires now { now < 2 ^ 49 }
+    requires now { now < seconds_end }
     requires pass { IsPass cluster.old.state now shadow place }
     requires spare { most_starts cluster.old.state ≤ cluster.old.spare }
     requires room { vec_len chosen.old + most_starts cluster.old.state ≤ vec_capacity chosen.old }
@@ -114,7 +115,7 @@ pub(crate) fn start_later<A: Allocator + Copy>(
     chosen: &mut Vec<Job, A>,
     now: u64,
 ) -> Option<Shadow>
-    requires now { now < 2 ^ 49 }
+    requires now { now < seconds_end }
     requires head { IfSome (slice_get cluster.old.state.waiting 0) (λ head. free cluster.old.state < head.size) }
     requires spare { most_starts cluster.old.state ≤ cluster.old.spare }
     requires room { vec_len chosen.old + most_starts cluster.old.state ≤ vec_capacity chosen.old }

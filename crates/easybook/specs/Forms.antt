@@ -3,6 +3,7 @@ use Rattle.std.specs.Prelude.{◌≡◌, ℕ, List, [], ◌∷◌, ◌++◌, Som
 use Rattle.std.specs.Option.{option_map}
 use Rattle.swf_text.specs.Number.{are_digits}
 use Rattle.commands.specs.Words.{machine, number_between}
+use Rattle.checkpoints.specs.Spacing.{spacing_limit}
 use Rattle.easybook.specs.Words.{Choice, chosen}
 
 -- on this machine, with the spacing that holds where none is named, with the log on standard input
@@ -29,9 +30,9 @@ NextWordChooses =
 -- `--spacing=N` chooses what N spells, and is bad where that is not 1 to 65,536
 abbrev pub JoinedSpacingChooses : Type 0
 JoinedSpacingChooses =
-    (name number : List ℕ) → chosen (name ∷ (codes "--spacing=" ++ number) ∷ []) ≡ option_map with_spacing (number_between 1 65536 number)
+    (name number : List ℕ) → chosen (name ∷ (codes "--spacing=" ++ number) ∷ []) ≡ option_map with_spacing (number_between 1 spacing_limit number)
 
 -- and so does `--spacing N`, where N is digits
 abbrev pub NextSpacingChooses : Type 0
 NextSpacingChooses =
-    (name number : List ℕ) → are_digits number ≡ true → chosen (name ∷ codes "--spacing" ∷ number ∷ []) ≡ option_map with_spacing (number_between 1 65536 number)
+    (name number : List ℕ) → are_digits number ≡ true → chosen (name ∷ codes "--spacing" ∷ number ∷ []) ≡ option_map with_spacing (number_between 1 spacing_limit number)

@@ -6,6 +6,7 @@ use Rattle.clap.specs.Simple.{App, matches_of, new_app, new_rule, with_rule}
 use Rattle.clap.specs.Faults.{fault_of}
 use Rattle.clap.specs.declared.builder.action.ArgAction.TheVariants.{Set}
 use Rattle.commands.specs.Words.{machine, number_between}
+use Rattle.checkpoints.specs.Spacing.{spacing_limit}
 use Rattle.easybook.specs.declared.words.WordsFault.{WordsFault}
 use Rattle.easybook.specs.declared.words.WordsFault.TheVariants.{BadWords, Memory}
 
@@ -40,7 +41,7 @@ procs_of (Some text) = option_map Some (machine text)
 -- no value chooses 256; a value chooses the number that its digits spell, from 1 to 65,536, and any other is bad
 abbrev pub spacing_of : Option Text → Option ℕ
 spacing_of None = Some 256
-spacing_of (Some text) = number_between 1 65536 text
+spacing_of (Some text) = number_between 1 spacing_limit text
 
 -- a choice, unless a value is bad
 abbrev pub choice : Option Text → Option (Option ℕ) → Option ℕ → Option Choice

@@ -1,4 +1,5 @@
 ghost use Rattle.std.specs.Prelude.{◌≤◌};
+ghost use Rattle.checkpoints.specs.Spacing.{spacing_limit};
 
 /// What the program's words choose.
 #[derive(Clone, Copy, Debug, PartialEq, Eq)]
@@ -10,7 +11,7 @@ pub struct Options {
     /// How many workers simulate beside each other, 1 to 64.
     pub workers: u32,
     ghost some_spacing: { 1 ≤ spacing },
-    ghost spacing_fits: { spacing ≤ 65536 },
+    ghost spacing_fits: { spacing ≤ spacing_limit },
     ghost some_workers: { 1 ≤ workers },
     ghost workers_fit: { workers ≤ 64 },
 }

@@ -3,6 +3,8 @@ ghost use Rattle.std.specs.Option.{option_map};
 ghost use Rattle.clap.specs.Words.{app_of, fault_of, first_value, found_of, kind_of, matches_of, rows_of, rule_of, with_rule};
 ghost use Rattle.clap.specs.declared.error.kind.ErrorKind.TheVariants.{OutOfMemory};
 ghost use Rattle.commands.specs.Words.{number_between};
+ghost use Rattle.scenarios.specs.Limits.{procs_limit};
+ghost use Rattle.checkpoints.specs.Spacing.{spacing_limit};
 ghost use Rattle.easybook.specs.Words.{IsWordsFault, chosen, command_line, option_rule, procs_of, spacing_of};
 ghost use Rattle.easybook.specs.declared.words.WordsFault.TheVariants.{BadWords};
 
@@ -133,7 +135,7 @@ fn number(text: &str, most: u64) -> Option<u64>
 // The machine that the words name, if they name one; None where what they name is none.
 fn machine(matches: &ArgMatches<'_>) -> Option<Option<u64>>
     ensures value { result ≡ procs_of (first_value (found_of matches.now) (codes "procs")) }
-    ensures within { IfSome result (λ procs. IfSome procs (λ n. (1 ≤ n) × (n ≤ 16777216))) }
+    ensures within { IfSome result (λ procs. IfSome procs (λ n. (1 ≤ n) × (n ≤ procs_limit))) }
 {
     match matches.get_str("procs") {
         None => Some(None),
@@ -145,7 +147,7 @@ fn machine(matches: &ArgMatches<'_>) -> Option<Option<u64>>
 // name is none.
 fn spacing(matches: &ArgMatches<'_>) -> Option<u32>
     ensures value { result ≡ spacing_of (first_value (found_of matches.now) (codes "spacing")) }
-    ensures within { IfSome result (λ n. (1 ≤ n) × (n ≤ 65536)) }
+    ensures within { IfSome result (λ n. (1 ≤ n) × (n ≤ spacing_limit)) }
 {
     let Some(text) = matches.get_str("spacing") else {
         return Some(SPACING);
@@ -163,7 +165,7 @@ fn spacing(matches: &ArgMatches<'_>) -> Option<u32>
 pub fn read_words<'a>(alloc: Global, words: &'a [&'a str]) -> Result<Words<'a>, WordsFault>
     ensures chosen { IfOk result (λ w. chosen (map (λ w. w.now) words.now) ≡ Some (record { log = option_map (λ t. t.now) w.log; procs = w.options.procs; spacing = w.options.spacing })) }
     ensures refused { IfErr result (IsWordsFault (map (λ w. w.now) words.now)) }
-    ensures machine { IfOk result (λ w. IfSome w.options.procs (λ n. (1 ≤ n) × (n ≤ 16777216))) }
+    ensures machine { IfOk result (λ w. IfSome w.options.procs (λ n. (1 ≤ n) × (n ≤ procs_limit))) }
     ensures workers { IfOk result (λ w. w.options.workers ≡ 2) }
     ensures scripts { IfOk result (λ w. vec_len w.scripts ≡ 0) }
 {

@@ -1,4 +1,5 @@
-ghost use Rattle.std.specs.Prelude.{◌≡◌, ◌≤◌, ◌<◌, ◌^◌, OnOk, IfOk, IfSome, None, Some, length, All};
+ghost use Rattle.std.specs.Prelude.{◌≡◌, ◌≤◌, ◌<◌, OnOk, IfOk, IfSome, None, Some, length, All};
+ghost use Rattle.scenarios.specs.Limits.{seconds_end};
 ghost use Rattle.scenarios.specs.Placed.{real_end};
 ghost use Rattle.easy_rule.specs.Rule.{next, shadow_of, state_after, starts_at};
 ghost use Rattle.easy_rule.specs.Pass.{front};
@@ -36,7 +37,7 @@ pub(crate) fn decide_knowing<A: Allocator + Copy>(
     settled: usize,
     now: u64,
 ) -> Result<(Vec<Start, A>, Option<Shadow>), Memory>
-    requires now { now < 2 ^ 49 }
+    requires now { now < seconds_end }
     requires within { settled ≤ length cluster.old.state.waiting }
     requires settled { IfSome known (λ _. next (front cluster.old.state settled) now ≡ None) }
     requires known { IfSome known (λ w. shadow_of cluster.old.state ≡ Some w) }

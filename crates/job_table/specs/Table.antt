@@ -1,5 +1,5 @@
 -- A job table: a log in its order, and an index of its jobs.
-use Rattle.std.specs.Prelude.{◌≡◌, ℕ, ◌<◌, ◌==◌, ◌&&◌, ◌||◌, nat_lt, nat_le, Bool, List, [], ◌∷◌, length, filter, find, Option, option_map}
+use Rattle.std.specs.Prelude.{◌≡◌, ℕ, ◌<◌, ◌==◌, nat_le, List, [], ◌∷◌, length, filter, find, Option, option_map}
 use Rattle.chunks.specs.declared.numbered.Numbered.{Numbered}
 use Rattle.swf_text.specs.Entry.{LogEntry, number_of_entry, submit_of}
 use Rattle.swf_text.specs.Log.{IsLog, IsRising}
@@ -49,7 +49,3 @@ pub record IsStored (entries : List LogEntry) (pairs : List Numbered) (len : ℕ
   pub table : IsTable entries
   pub index : IsIndex pairs entries
   pub count : len ≡ length entries
-
--- the entry stands before one with this submit second and job number
-abbrev pub stands_before : ℕ → ℕ → LogEntry → Bool
-stands_before submit number e = nat_lt (submit_of e) submit || (submit_of e == submit && nat_lt (number_of_entry e) number)

@@ -4,6 +4,7 @@ use Rattle.std.specs.Ordering.{int_cmp, nat_cmp}
 use Rattle.std.specs.BTreeMap.{is_at}
 use Rattle.std.specs.Map.{lookup, keys_of}
 use Rattle.std.specs.List.Sorted.{IsStrictlySortedBy}
+use Rattle.swf_text.specs.Limits.{entry_limit}
 use Rattle.scenarios.specs.declared.placed.Placed.{Placed}
 use Rattle.metrics.specs.declared.users.UserSums.{UserSums}
 use Rattle.metrics.specs.declared.totals.Totals.{Totals}
@@ -29,7 +30,7 @@ pub record IsPartOf (ps : List Placed) (v : PartSums) : Type 0 where
 -- jobs within the limits, no more than a log may have
 pub record AreJobs (ps : List Placed) : Type 0 where
   pub each : All IsPlaced ps
-  pub few : length ps ≤ 4194304
+  pub few : length ps ≤ entry_limit
 
 -- a part is that of some jobs
 pub record IsPart (v : PartSums) : Type 0 where

@@ -1,6 +1,7 @@
 //! A part: the sums over some jobs.
 
 ghost use Rattle.std.specs.Prelude.{◌≡◌, ◌+◌, ◌≤◌, List, [], ◌++◌, IfOk};
+ghost use Rattle.swf_text.specs.Limits.{entry_limit};
 ghost use Rattle.metrics.specs.Part.{IsPartOf, IsPart};
 ghost use Rattle.metrics.specs.Placed.{CanSum};
 
@@ -54,7 +55,7 @@ impl<A: Allocator + Copy> Part<A> {
 
     /// The part of the jobs of both.
     pub fn merge(&self, other: &Part<A>) -> Result<Part<A>, Memory>
-        requires { self.now.totals.count + other.now.totals.count ≤ 4194304 }
+        requires { self.now.totals.count + other.now.totals.count ≤ entry_limit }
         ensures { IfOk result (λ part. (xs ys : List Placed) → IsPartOf xs self.now → IsPartOf ys other.now → IsPartOf (xs ++ ys) part) }
     {
         let mut tally = Tally::empty(self.tally.alloc);
@@ -66,7 +67,7 @@ impl<A: Allocator + Copy> Part<A> {
 
     /// The part of the jobs of both, made of this one with no copy.
     pub fn absorb(self, other: &Part<A>) -> Result<Part<A>, Memory>
-        requires { self.totals.count + other.now.totals.count ≤ 4194304 }
+        requires { self.totals.count + other.now.totals.count ≤ entry_limit }
         ensures { IfOk result (λ part. (xs ys : List Placed) → IsPartOf xs self → IsPartOf ys other.now → IsPartOf (xs ++ ys) part) }
     {
         let mut tally = self.tally;

@@ -4,6 +4,7 @@ ghost use Rattle.std.specs.Prelude.{◌≡◌, ℕ, ℤ, ◌+◌, ◌≤◌, ◌
 ghost use Rattle.std.specs.Ordering.{int_cmp, nat_cmp};
 ghost use Rattle.std.specs.Map.{keys_of};
 ghost use Rattle.std.specs.List.Sorted.{IsStrictlySortedBy};
+ghost use Rattle.swf_text.specs.Limits.{entry_limit};
 ghost use Rattle.metrics.specs.Sums.{sums_in, IsTallyOf, IsTally};
 ghost use Rattle.metrics.specs.Placed.{CanStart, IsPlaced};
 
@@ -38,7 +39,7 @@ impl<A: Allocator + Copy> Tally<A> {
 
     // One job more.
     pub(crate) fn add(&mut self, placed: &Placed) -> Result<(), AllocError>
-        requires few { self.old.totals.count < 4194304 }
+        requires few { self.old.totals.count < entry_limit }
         requires part { IsTally (sums_in self.old) }
         requires placed { CanStart placed.now }
         ensures limits { IsPlaced placed.now }
@@ -56,7 +57,7 @@ impl<A: Allocator + Copy> Tally<A> {
 
     // The jobs of another tally more.
     pub(crate) fn absorb(&mut self, other: &Tally<A>) -> Result<(), AllocError>
-        requires few { self.old.totals.count + other.now.totals.count ≤ 4194304 }
+        requires few { self.old.totals.count + other.now.totals.count ≤ entry_limit }
         requires part { IsTally (sums_in self.old) }
         requires others { IsTally (sums_in other.now) }
         ensures { OnOk result ((xs ys : List Placed) → IsTallyOf xs (sums_in self.old) → IsTallyOf ys (sums_in other.now) → IsTallyOf (xs ++ ys) (sums_in self.new)) }

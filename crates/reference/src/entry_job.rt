@@ -1,6 +1,7 @@
 ghost use Rattle.std.specs.Prelude.{◌≡◌, ◌≤◌, IfOk, IfSome, nat_abs};
 ghost use Rattle.swf_text.specs.Number.{whole_of, greatest};
 ghost use Rattle.swf_text.specs.Entry.{field};
+ghost use Rattle.scenarios.specs.Limits.{factor_limit};
 ghost use Rattle.scenarios.specs.Job.{IsWithinLimits};
 ghost use Rattle.scenarios.specs.Effective.{effective, whole_field, positive, size_of, estimate_of};
 
@@ -53,7 +54,7 @@ fn size_of(line: &Fields) -> Option<u64>
 // The base times the factor in thousandths, rounded up, and at least one second.
 fn estimate_of(base: u64, factor: u64) -> u64
     requires base { base ≤ 1000000000000 }
-    requires factor { factor ≤ 100000 }
+    requires factor { factor ≤ factor_limit }
     ensures { result ≡ estimate_of base factor }
 {
     ((base * factor + 999) / 1000).max(1)

@@ -1,4 +1,5 @@
 ghost use Rattle.std.specs.Prelude.{◌≡◌, ℕ, ◌+◌, ◌≤◌, length, sum_by};
+ghost use Rattle.swf_text.specs.Limits.{entry_limit};
 ghost use Rattle.scenarios.specs.Plan.{Plan};
 ghost use Rattle.easy_rule.specs.Simulation.{bound, last_submit};
 
@@ -18,7 +19,7 @@ pub(crate) fn last_submit(jobs: &[PlainJob]) -> u64
 
 // The seconds that these jobs run, one after another.
 fn total_length(jobs: &[PlainJob]) -> u64
-    requires { length jobs.now ≤ 4194304 }
+    requires { length jobs.now ≤ entry_limit }
     ensures value { result ≡ sum_by (λ j. j.length) jobs.now }
     ensures limit { result ≤ 419430400000000 }
 {
@@ -31,7 +32,7 @@ fn total_length(jobs: &[PlainJob]) -> u64
 
 // A second by which all of these jobs have ended: the greatest submit second and all lengths.
 pub(crate) fn bound(jobs: &[PlainJob]) -> u64
-    requires { length jobs.now ≤ 4194304 }
+    requires { length jobs.now ≤ entry_limit }
     ensures { (plan : Plan) → plan.jobs ≡ jobs.now → result ≡ bound plan }
 {
     last_submit(jobs) + total_length(jobs)

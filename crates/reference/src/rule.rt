@@ -1,4 +1,5 @@
-ghost use Rattle.std.specs.Prelude.{◌≡◌, ◌<◌, ◌≤◌, ◌^◌, IfOk, OnOk, find};
+ghost use Rattle.std.specs.Prelude.{◌≡◌, ◌<◌, ◌≤◌, IfOk, OnOk, find};
+ghost use Rattle.scenarios.specs.Limits.{seconds_end};
 ghost use Rattle.cluster_state.specs.State.{free, IsSound};
 ghost use Rattle.cluster_state.specs.Row.{by_estimate};
 ghost use Rattle.easy_rule.specs.Rule.{may_backfill, next, shadow_time, starts_at, state_after};
@@ -108,7 +109,7 @@ pub(crate) fn decide<A: Allocator + Copy>(
     state: &mut PlainState<A>,
     now: u64,
 ) -> Result<Vec<Start, A>, Memory>
-    requires { now < 2 ^ 49 }
+    requires { now < seconds_end }
     ensures state { OnOk result (state.new ≡ state_after state.old now) }
     ensures starts { IfOk result (λ starts. starts.items ≡ starts_at state.old now) }
 {

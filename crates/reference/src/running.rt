@@ -1,4 +1,4 @@
-ghost use Rattle.std.specs.Prelude.{◌≡◌, ◌^◌, ◌<◌};
+ghost use Rattle.std.specs.Prelude.{◌≡◌, ◌<◌};
 ghost use Rattle.scenarios.specs.Placed.{expected_end, real_end};
 
 use crate::job::PlainJob;
@@ -19,7 +19,9 @@ impl Model for PlainRunning {
 
     ghost view = { λ r. record { job = r.job; start = r.start } };
 
-    ghost invariant = { λ r. r.start < 2 ^ 49 };
+    ghost use Rattle.scenarios.specs.Limits.{seconds_end};
+
+    ghost invariant = { λ r. r.start < seconds_end };
 
     ghost inverse = { λ r. record { job = r.job; start = r.start } };
 }

@@ -1,4 +1,5 @@
-ghost use Rattle.std.specs.Prelude.{◌≡◌, ℕ, ◌<◌, ◌≤◌, ◌^◌, All, IfOk, OnOk, nat_eq, filter, take};
+ghost use Rattle.std.specs.Prelude.{◌≡◌, ℕ, ◌<◌, ◌≤◌, All, IfOk, OnOk, nat_eq, filter, take};
+ghost use Rattle.scenarios.specs.Limits.{seconds_end};
 ghost use Rattle.cluster_state.specs.State.{IsSound};
 ghost use Rattle.easy_rule.specs.Simulation.{joined, sim};
 
@@ -35,7 +36,7 @@ fn arrive_at<A: Allocator + Copy>(
 /// queue, and those that start are decided. It stops once no job waits, runs or is still to come.
 pub fn simulate<A: Allocator + Copy>(alloc: A, plan: &LogPlan<A>) -> Result<Vec<Start, A>, Memory>
     ensures starts { IfOk result (λ starts. starts.items ≡ sim plan.now) }
-    ensures within { IfOk result (λ starts. All (λ start. start.at < 2 ^ 49) starts.items) }
+    ensures within { IfOk result (λ starts. All (λ start. start.at < seconds_end) starts.items) }
 {
     let jobs = plan.jobs();
     let last = last_submit(jobs);

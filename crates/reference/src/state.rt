@@ -1,4 +1,5 @@
 ghost use Rattle.std.specs.Prelude.{◌≡◌, ◌↔◌, ◌<◌, ◌≤◌, ◌^◌, [], IsTrue, OnErr, OnOk, Some, nat_eq, nat_lt, not, filter, position, sum_by};
+ghost use Rattle.scenarios.specs.Limits.{procs_limit, seconds_end};
 ghost use Rattle.scenarios.specs.Job.{IsWithinLimits};
 ghost use Rattle.scenarios.specs.Placed.{real_end};
 ghost use Rattle.cluster_state.specs.State.{arrived, available, back_by, busy, empty, free, holders, placed, started, waiting_job, without, IsSound};
@@ -32,7 +33,7 @@ fn back_by(r: &PlainRunning, t: u64) -> u64
 
 // The processors that come back by second t.
 fn all_back_by(running: &[PlainRunning], t: u64) -> u64
-    requires { busy running.now ≤ 16777216 }
+    requires { busy running.now ≤ procs_limit }
     ensures { result ≡ sum_by (back_by t) running.now }
 {
     let mut sum = 0;
@@ -179,7 +180,7 @@ impl<A: Allocator + Copy> PlainState<A> {
     pub(crate) fn start(&mut self, job: PlainJob, now: u64) -> Result<(), Memory>
         requires waits { waiting_job self.old job.number ≡ Some job }
         requires fits { job.size ≤ free self.old }
-        requires early { now < 2 ^ 49 }
+        requires early { now < seconds_end }
         ensures { OnOk result (self.new ≡ started self.old job now) }
     {
         put_in(&mut self.running, PlainRunning { job, start: now })?;

@@ -4,6 +4,7 @@ use Rattle.std.specs.Prelude.{ℕ, ℤ, pos, negsuc, ◌+◌, ◌*◌, ◌/◌, 
 use Rattle.std.specs.Option.{option_or}
 use Rattle.swf_text.specs.Number.{whole_of}
 use Rattle.swf_text.specs.Entry.{LogEntry, field, number_of_entry, submit_of}
+use Rattle.scenarios.specs.Limits.{estimate_limit}
 use Rattle.scenarios.specs.declared.skip.Skip.{Skip}
 use Rattle.scenarios.specs.declared.skip.Skip.TheVariants.{NoSize, NoRun, TooLarge, TooLong}
 use Rattle.scenarios.specs.Job.{EffectiveJob}
@@ -57,7 +58,7 @@ job_of entry size run estimate = record {
 
 -- an estimate or a length above the limit is skipped
 abbrev pub unless_too_long : EffectiveJob → Result EffectiveJob Skip
-unless_too_long job = if nat_lt 100000000 job.estimate || nat_lt 100000000 job.length then Err TooLong else Ok job
+unless_too_long job = if nat_lt estimate_limit job.estimate || nat_lt estimate_limit job.length then Err TooLong else Ok job
 
 abbrev pub of_size_and_run : LogEntry → Setting → ℕ → Option ℕ → Result EffectiveJob Skip
 of_size_and_run entry scenario size None = Err NoRun

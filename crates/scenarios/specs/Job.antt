@@ -1,5 +1,6 @@
 -- A job as the simulation sees it.
 use Rattle.std.specs.Prelude.{ℕ, ℤ, Bool, ◌≤◌}
+use Rattle.scenarios.specs.Limits.{procs_limit, estimate_limit}
 
 -- An entry of a log under a scenario. Times are whole seconds, the size is a number of processors.
 -- From its start on the job takes its processors for its length; it is expected to take them for its estimate.
@@ -15,9 +16,9 @@ pub record EffectiveJob : Type 0 where
 -- the limits that each effective job is within
 pub record IsWithinLimits (job : EffectiveJob) : Type 0 where
   pub takes_some : 1 ≤ job.size
-  pub fits_some : job.size ≤ 16777216
+  pub fits_some : job.size ≤ procs_limit
   pub lasts : 1 ≤ job.length
   pub within_estimate : job.length ≤ job.estimate
-  pub within_limit : job.estimate ≤ 100000000
+  pub within_limit : job.estimate ≤ estimate_limit
   pub submitted : job.submit ≤ 1000000000000
   pub numbered : job.number ≤ 1000000000000

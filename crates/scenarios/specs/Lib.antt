@@ -1,3 +1,4 @@
+pub mod Limits
 pub mod Job
 pub mod Scenario
 pub mod Effective

@@ -1,5 +1,6 @@
 -- What a log is simulated under.
 use Rattle.std.specs.Prelude.{ℕ, Bool, ◌≤◌, ◌&&◌, nat_le, if◌then◌else◌, Option, Some, None}
+use Rattle.scenarios.specs.Limits.{procs_limit, factor_limit}
 use Rattle.scenarios.specs.declared.order.Order.{Order}
 use Rattle.scenarios.specs.declared.order.Order.TheVariants.{Arrival}
 
@@ -12,12 +13,12 @@ pub record Setting : Type 0 where
 -- the limits of a scenario
 pub record IsSetting (scenario : Setting) : Type 0 where
   pub some_procs : 1 ≤ scenario.procs
-  pub procs_fit : scenario.procs ≤ 16777216
+  pub procs_fit : scenario.procs ≤ procs_limit
   pub some_factor : 1 ≤ scenario.factor
-  pub factor_fits : scenario.factor ≤ 100000
+  pub factor_fits : scenario.factor ≤ factor_limit
 
 abbrev pub are_within : ℕ → ℕ → Bool
-are_within procs factor = nat_le 1 procs && nat_le procs 16777216 && nat_le 1 factor && nat_le factor 100000
+are_within procs factor = nat_le 1 procs && nat_le procs procs_limit && nat_le 1 factor && nat_le factor factor_limit
 
 -- the scenario of this machine and factor, with backfills in order of arrival; none outside the limits
 abbrev pub setting_of : ℕ → ℕ → Option Setting

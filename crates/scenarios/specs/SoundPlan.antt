@@ -1,6 +1,8 @@
 -- What each plan of a log keeps.
 use Rattle.std.specs.Prelude.{ℕ, ◌≤◌, Bool, nat_eq, IsTrue, List, [], ◌∷◌, length, All, count_by}
+use Rattle.swf_text.specs.Limits.{entry_limit}
 use Rattle.swf_text.specs.Log.{submits_before}
+use Rattle.scenarios.specs.Limits.{procs_limit}
 use Rattle.scenarios.specs.Job.{EffectiveJob, IsWithinLimits}
 use Rattle.scenarios.specs.Plan.{Plan}
 
@@ -16,9 +18,9 @@ IsRising (job ∷ next ∷ jobs) = IsTrue (is_before job next) × IsRising (next
 
 -- a machine within its limit, and jobs that fit it, at most as many as a log has, rising by submit second and number, no two of one number
 pub record IsPlan (plan : Plan) : Type 0 where
-  pub limited : plan.machine ≤ 16777216
+  pub limited : plan.machine ≤ procs_limit
   pub sizes : All (λ j. j.size ≤ plan.machine) plan.jobs
   pub limits : All IsWithinLimits plan.jobs
-  pub few : length plan.jobs ≤ 4194304
+  pub few : length plan.jobs ≤ entry_limit
   pub once : (n : ℕ) → count_by (λ j. nat_eq j.number n) plan.jobs ≤ 1
   pub rising : IsRising plan.jobs

@@ -1,5 +1,6 @@
 ghost use Rattle.std.specs.Prelude.{◌≡◌, ◌≤◌, ◌^◌, ◌<◌, IfOk, IfSome, nat_abs};
 ghost use Rattle.swf_text.specs.Entry.{field};
+ghost use Rattle.scenarios.specs.Limits.{factor_limit};
 ghost use Rattle.scenarios.specs.Job.{IsWithinLimits};
 ghost use Rattle.scenarios.specs.Effective.{effective, whole_field, positive, natural, size_of, run_of, base_of, estimate_of};
 
@@ -68,7 +69,7 @@ fn base_of(line: &Fields, run: u64) -> u64
 // The estimate, in seconds.
 fn estimate_of(base: u64, factor: u64) -> u64
     requires base { base ≤ 1000000000000 }
-    requires factor { factor ≤ 100000 }
+    requires factor { factor ≤ factor_limit }
     ensures { result ≡ estimate_of base factor }
 {
     (base * factor).div_ceil(1000).max(1)

@@ -1,4 +1,5 @@
-ghost use Rattle.std.specs.Prelude.{◌≡◌, ◌<◌, ◌^◌};
+ghost use Rattle.std.specs.Prelude.{◌≡◌, ◌<◌};
+ghost use Rattle.scenarios.specs.Limits.{seconds_end};
 ghost use Rattle.scenarios.specs.Job.{IsWithinLimits};
 ghost use Rattle.scenarios.specs.Placed.{expected_end, real_end};
 
@@ -19,7 +20,7 @@ pub struct Placed {
 impl Placed {
     /// The second at which it ends: its start and its length.
     pub fn end(&self) -> u64
-        requires { self.now.start < 2 ^ 49 }
+        requires { self.now.start < seconds_end }
         ensures value { result ≡ real_end self.now }
         ensures limits { IsWithinLimits self.now.job }
     {
@@ -28,7 +29,7 @@ impl Placed {
 
     /// The second by which it has surely ended: its start and its estimate.
     pub fn expected_end(&self) -> u64
-        requires { self.now.start < 2 ^ 49 }
+        requires { self.now.start < seconds_end }
         ensures value { result ≡ expected_end self.now }
         ensures limits { IsWithinLimits self.now.job }
     {

@@ -1,4 +1,5 @@
 ghost use Rattle.std.specs.Prelude.{◌≡◌, ◌+◌, ◌≤◌, ◌<◌, ◌^◌, ◌∷◌, [], length};
+ghost use Rattle.swf_text.specs.Limits.{entry_limit};
 ghost use Rattle.scenarios.specs.Skips.{count_of, skips_of};
 ghost use Rattle.scenarios.specs.declared.skip.Skip.TheVariants as reasons;
 
@@ -45,7 +46,7 @@ pub(crate) fn skips_among<A: Allocator + Copy>(
     mut entries: Cursor<'_, A>,
     scenario: &Scenario,
 ) -> Skips
-    requires { length entries ≤ 4194304 }
+    requires { length entries ≤ entry_limit }
     ensures { result ≡ skips_of entries.entry scenario.now }
 {
     let mut skips = Skips {

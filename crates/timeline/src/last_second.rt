@@ -1,4 +1,5 @@
 ghost use Rattle.std.specs.Prelude.{◌≡◌, ℕ, ◌+◌, ◌≤◌, ◌<◌, length, sum_by};
+ghost use Rattle.swf_text.specs.Limits.{entry_limit};
 ghost use Rattle.scenarios.specs.Plan.{Plan};
 ghost use Rattle.cluster_state.specs.State.{empty};
 ghost use Rattle.easy_rule.specs.Simulation.{before, bound, last_submit};
@@ -20,7 +21,7 @@ pub fn last_submit(jobs: &[Job]) -> u64
 
 // The seconds that these jobs run, one after another.
 fn total_length(jobs: &[Job]) -> u64
-    requires { length jobs.now ≤ 4194304 }
+    requires { length jobs.now ≤ entry_limit }
     ensures value { result ≡ sum_by (λ j. j.length) jobs.now }
     ensures limit { result ≤ 419430400000000 }
 {
@@ -36,7 +37,7 @@ fn total_length(jobs: &[Job]) -> u64
 ///
 /// From the greatest submit second on, no second passes at which nobody runs while a job waits.
 pub fn bound(jobs: &[Job]) -> u64
-    requires { length jobs.now ≤ 4194304 }
+    requires { length jobs.now ≤ entry_limit }
     ensures value { (plan : Plan) → plan.jobs ≡ jobs.now → result ≡ bound plan }
     ensures ended { (plan : Plan) (t : ℕ) → plan.jobs ≡ jobs.now → IsPlan plan → result < t → before plan t ≡ empty plan.machine plan.order }
 {

@@ -2,9 +2,7 @@ ghost use Rattle.std.specs.Prelude.{◌≡◌, ◌≤◌, length, map, find, IfO
 ghost use Rattle.std.specs.Option.{option_map};
 ghost use Rattle.std.specs.Arc.{arc_value};
 ghost use Rattle.job_table.specs.Edit.{edit_of};
-ghost use Rattle.job_table.specs.Table.{IsTable};
 ghost use Rattle.scenarios.specs.ScenarioList.{id_of};
-ghost use Rattle.checkpoints.specs.RunView.{IsRun};
 ghost use Rattle.checkpoints.specs.Spacing.{IsSpacing, IsRefusal};
 ghost use Rattle.version_book.specs.Book.{StateView, machine_at};
 ghost use Rattle.version_book.specs.Sound.{IsSound};
@@ -14,12 +12,13 @@ use crate::lookups::{first_due, settled};
 use crate::shown::Shown;
 use crate::ticket::Ticket;
 use book_machine::SettleState;
-use checkpoints::{MAX_SPACING, Run};
+use checkpoints::MAX_SPACING;
 use job_table::{Edit, JobTable};
 use scenarios::{ScenarioId, ScenarioList};
 use std::alloc::Allocator;
 use std::marker::Model;
 use std::sync::Arc;
+use swf_text::ENTRY_LIMIT;
 
 /// The most scenarios of a book.
 const SCENARIO_LIMIT: usize = 64;
@@ -55,21 +54,6 @@ impl<A: Allocator + Copy> Model for State<A> {
     ghost invariant = { λ s. IsSound (record { spacing = s.spacing; opening = arc_value s.opening; current = arc_value s.current; edits = map edit_of s.edits.items; listing = s.scenarios; shown = s.shown.items; tickets = s.tickets.items; next_ticket = s.next_ticket }) × (64 ≤ vec_capacity s.shown) × (256 ≤ vec_capacity s.tickets) };
 }
 
-// Each table is a log in its order.
-fn is_table<A: Allocator + Copy>(table: &JobTable<A>)
-    ensures { IsTable table.now }
-{
-    let _entries = table.len();
-}
-
-// Each run is that of its own log and scenario.
-pub(crate) fn is_run<A: Allocator + Copy>(run: &Run<A>)
-    ensures { IsRun run.now }
-{
-    let _segments = run.segments();
-    let _tables = run.tables();
-}
-
 impl<A: Allocator + Copy> State<A> {
     ghost use Rattle.version_book.specs.Steps.{IsFault, opening_state};
 
@@ -83,7 +67,7 @@ impl<A: Allocator + Copy> State<A> {
         if spacing < 1 || spacing > MAX_SPACING {
             return Err(BookFault::BadSpacing);
         }
-        is_table(&table);
+        prove!(table.len() <= ENTRY_LIMIT);
         let opening = Arc::new(alloc, table)?;
         let current = opening.clone()?;
         Ok(State {

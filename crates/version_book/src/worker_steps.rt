@@ -12,12 +12,13 @@ ghost use Rattle.version_book.specs.Tasks.{Fits, IsNext, base_since, bases_since
 use crate::lookups::{close, first_due, mark, publish, published_version, ticket_of};
 use crate::published::Published;
 use crate::shown::{Shown, is_below};
-use crate::state::{State, TICKET_LIMIT, is_run};
+use crate::state::{State, TICKET_LIMIT};
 use crate::task::{Base, Task};
 use crate::ticket::Ticket;
 use crate::worker_refusal::{ClaimRefusal, FinishRefusal, GiveUpRefusal};
 use checkpoints::Run;
 use job_table::Edit;
+use scenarios::MAX_PROCS;
 use std::alloc::Allocator;
 use std::sync::Arc;
 use swf_text::Memory;
@@ -140,7 +141,7 @@ impl<A: Allocator + Copy> State<A> {
         let id = ticket.id();
         let version = ticket.version();
         let found = published_version(self.shown.as_slice(), id);
-        is_run(&run);
+        prove!(run.plan().scenario().procs() <= MAX_PROCS);
         close(&mut self.tickets, number);
         if is_below(found, version) {
             publish(&mut self.shown, id, Published::new(version, run));

@@ -6,6 +6,6 @@ use Rattle.chunks.proofs.search.before.Goals as goal
 
 pub returns-clause-place : goal.returns-clause-place
 returns-clause-place g c =
-    let test = stands g.T.Keyed.first g.T.Keyed.second c.args.first c.args.second in
+    let test = stands g.T.Keyed.major g.T.Keyed.minor c.args.major c.args.minor in
     let split = IsPartitionPoint-from_clause test c.args.items.now c.partition_point.result c.partition_point.ensures.partitioned c.requires (λ a r q k. search rules) in
     placed_at test c.args.items.now c.partition_point.result c.partition_point.ensures.bound split

@@ -7,6 +7,6 @@ use Rattle.chunks.proofs.search.chunk_before.Goals as goal
 
 pub returns-clause-place : goal.returns-clause-place
 returns-clause-place g c =
-    let test = stands g.T.Keyed.first g.T.Keyed.second c.args.first c.args.second in
+    let test = stands g.T.Keyed.major g.T.Keyed.minor c.args.major c.args.minor in
     let split = IsPartitionPoint-from_clause (λ chunk. ends_by test (items_of chunk)) c.args.row.now c.partition_point.result c.partition_point.ensures.partitioned (parted-row test c.args.row.now c.requires.sized c.requires.parted) (λ a r q k. search rules) in
     point_at test c.args.row.now c.partition_point.result c.partition_point.ensures.bound split

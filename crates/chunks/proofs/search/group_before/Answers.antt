@@ -9,7 +9,7 @@ use Rattle.chunks.proofs.search.group_before.Goals as goal
 
 pub returns-clause-place : goal.returns-clause-place
 returns-clause-place g c =
-    let test = stands g.T.Keyed.first g.T.Keyed.second c.args.first c.args.second in
+    let test = stands g.T.Keyed.major g.T.Keyed.minor c.args.major c.args.minor in
     let parted = parted_groups test c.args.groups.now c.requires.sized.groups c.requires.sized.chunks c.requires.parted in
     let split = IsPartitionPoint-from_clause (λ group. ends_by (ends test) (items_of group)) c.args.groups.now c.partition_point.result c.partition_point.ensures.partitioned parted (λ a r q k. search rules) in
     point_at (ends test) c.args.groups.now c.partition_point.result c.partition_point.ensures.bound split

@@ -4,4 +4,4 @@ use Rattle.chunks.proofs.list.Chunks.rest.Goals as goal
 
 pub place_of-requires-clause-parted : goal.place_of-requires-clause-parted
 place_of-requires-clause-parted g c =
-    parted_for g.T.Keyed.first g.T.Keyed.second c.args.first c.args.second c.args.first c.args.second c.as_slice-groups.result.now c.self.inside.groups.items c.args.self.now c.as_slice-groups.ensures.value c.self.view_is refl refl c.requires
+    parted_for g.T.Keyed.major g.T.Keyed.minor c.args.major c.args.minor c.args.major c.args.minor c.as_slice-groups.result.now c.self.inside.groups.items c.args.self.now c.as_slice-groups.ensures.value c.self.view_is refl refl c.requires

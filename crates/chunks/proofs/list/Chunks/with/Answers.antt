@@ -6,12 +6,12 @@ use Rattle.chunks.proofs.list.Chunks.with.Goals as goal
 
 pub place_of-requires-clause-parted : goal.place_of-requires-clause-parted
 place_of-requires-clause-parted g c =
-    parted_for g.T.Keyed.first g.T.Keyed.second c.first.result c.second.result _ _ c.as_slice-old.result.now c.self.inside.groups.items c.args.self.now c.as_slice-old.ensures.value c.self.view_is c.first.ensures c.second.ensures c.requires.parted
+    parted_for g.T.Keyed.major g.T.Keyed.minor c.major.result c.minor.result _ _ c.as_slice-old.result.now c.self.inside.groups.items c.args.self.now c.as_slice-old.ensures.value c.self.view_is c.major.ensures c.minor.ensures c.requires.parted
 
 pub returns-clause-count : goal.returns-clause-count
 returns-clause-count g c =
     let place = c.open_place-place.result in
-    joining_for g.T.Keyed.first g.T.Keyed.second c.first.result c.second.result _ _ c.as_slice-old.result.now c.self.inside.groups.items c.args.self.now c.as_slice-old.ensures.value c.self.view_is c.first.ensures c.second.ensures
+    joining_for g.T.Keyed.major g.T.Keyed.minor c.major.result c.minor.result _ _ c.as_slice-old.result.now c.self.inside.groups.items c.args.self.now c.as_slice-old.ensures.value c.self.view_is c.major.ensures c.minor.ensures
     _ _ _ _ c.place_of.ensures.place c.open_place-place.ensures.touched c.in_ok-groups.ensures.count
 
 pub returns-clause-least : goal.returns-clause-least
