@@ -17,6 +17,7 @@ past A front all procs known old new (Err (faults.Log f)) many more h = let with
 past A front all procs known old new (Err faults.NoMachine) many more h = let within = h.0.within in absurd (omega arith)
 past A front all procs known old new (Err faults.BadMachine) many more h = let within = h.0.within in absurd (omega arith)
 past A front all procs known old new (Err faults.Memory) many more h = h
+past A front all procs known old new (Err (faults.Close f)) many more h = absurd (h.0)
 
 pub alone_of_log : {X : Type 0} (A : Type 0) (front all : List ℕ) (procs : Option ℕ) (known old new : Option (List ℕ)) (result : Result X ProgramFault) → front ≡ take (log_limit + 1) all → RunsAlone A front procs known old new result → RunsAlone A all procs known old new result
 alone_of_log A front all procs known old new result is h = elim (cases_lt log_limit (length front)) [
@@ -39,3 +40,4 @@ alone_of_script A log procs known old new front (Err (faults.Log f)) is h = h
 alone_of_script A log procs known old new front (Err faults.NoMachine) is h = h
 alone_of_script A log procs known old new front (Err faults.BadMachine) is h = h
 alone_of_script A log procs known old new front (Err faults.Memory) is h = h
+alone_of_script A log procs known old new front (Err (faults.Close f)) is h = h

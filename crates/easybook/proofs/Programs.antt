@@ -22,3 +22,4 @@ file_ends {X} A file procs known old new log script result is_log is_script h = 
   go (Err (faults.Log f)) a = of_all file log (λ l. RunsAlone {X = X} A l procs known old new (Err (faults.Log f))) (λ all is p. alone_of_log {X = X} A log all procs known old new (Err (faults.Log f)) is p) is_log a
   go (Err faults.NoMachine) a = of_all file log (λ l. RunsAlone {X = X} A l procs known old new (Err faults.NoMachine)) (λ all is p. alone_of_log {X = X} A log all procs known old new (Err faults.NoMachine) is p) is_log a
   go (Err faults.BadMachine) a = of_all file log (λ l. RunsAlone {X = X} A l procs known old new (Err faults.BadMachine)) (λ all is p. alone_of_log {X = X} A log all procs known old new (Err faults.BadMachine) is p) is_log a
+  go (Err (faults.Close f)) a = of_all file log (λ l. RunsAlone {X = X} A l procs known old new (Err (faults.Close f))) (λ all is p. alone_of_log {X = X} A log all procs known old new (Err (faults.Close f)) is p) is_log a

@@ -10,11 +10,11 @@ use Rattle.easybook.specs.Input.{IsInputFault}
 use Rattle.easybook.specs.declared.fault.ProgramFault.{ProgramFault}
 use Rattle.easybook.specs.declared.fault.ProgramFault.TheVariants as faults
 
-keeps : (old : Option (List ℕ)) → Keeps old old
+pub keeps : (old : Option (List ℕ)) → Keeps old old
 keeps None = tt
 keeps (Some xs) = refl
 
-opens : (log : List ℕ) (procs : Option ℕ) (spacing : ℕ) (comments : List (List ℕ)) (book : BookView) → IsBookOf log procs spacing comments book → CanBeOpened log procs
+pub opens : (log : List ℕ) (procs : Option ℕ) (spacing : ℕ) (comments : List (List ℕ)) (book : BookView) → IsBookOf log procs spacing comments book → CanBeOpened log procs
 opens log procs spacing comments book b = (comments, b.table, b.scenarios, b.is_opened)
 
 -- the log is opened, and the script is not had
@@ -26,6 +26,7 @@ unread {X} A log procs spacing comments book known old fault told b h is = subst
   go faults.Memory h = (tt, keeps old)
   go faults.Write h = absurd h
   go (faults.Log f) h = absurd h
+  go (faults.Close f) h = absurd h
   go faults.NoMachine h = absurd h
   go faults.BadMachine h = absurd h
 

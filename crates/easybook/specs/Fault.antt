@@ -4,6 +4,8 @@ use Rattle.swf_text.specs.declared.fault.FaultKind.{FaultKind}
 use Rattle.swf_text.specs.declared.fault.FaultKind.TheVariants as kinds
 use Rattle.commands.specs.declared.opening_fault.OpenTextFault.{OpenTextFault}
 use Rattle.commands.specs.declared.opening_fault.OpenTextFault.TheVariants as openings
+use Rattle.shared_scripts.specs.declared.fault.SharedFault.{SharedFault}
+use Rattle.shared_scripts.specs.declared.fault.SharedFault.TheVariants as shared
 use Rattle.easybook.specs.declared.fault.ProgramFault.{ProgramFault}
 use Rattle.easybook.specs.declared.fault.ProgramFault.TheVariants as faults
 
@@ -20,3 +22,8 @@ abbrev pub fault_of_opening : OpenTextFault → ProgramFault
 fault_of_opening openings.NoMachine = faults.NoMachine
 fault_of_opening openings.BadMachine = faults.BadMachine
 fault_of_opening openings.Memory = faults.Memory
+
+-- why scripts side by side have no answer
+abbrev pub fault_of_scripts : SharedFault → ProgramFault
+fault_of_scripts (shared.Close fault) = faults.Close fault
+fault_of_scripts shared.Memory = faults.Memory

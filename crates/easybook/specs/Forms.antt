@@ -8,11 +8,19 @@ use Rattle.easybook.specs.Words.{Choice, chosen}
 
 -- on this machine, with the spacing that holds where none is named, with the log on standard input
 abbrev pub on_machine : ℕ → Choice
-on_machine procs = record { log = None; procs = Some procs; spacing = 256 }
+on_machine procs = record { log = None; procs = Some procs; spacing = 256; workers = 2; scripts = [] }
 
 -- with this spacing, where no machine is named, with the log on standard input
 abbrev pub with_spacing : ℕ → Choice
-with_spacing spacing = record { log = None; procs = None; spacing = spacing }
+with_spacing spacing = record { log = None; procs = None; spacing = spacing; workers = 2; scripts = [] }
+
+-- with so many workers, where nothing else is named
+abbrev pub with_workers : ℕ → Choice
+with_workers workers = record { log = None; procs = None; spacing = 256; workers = workers; scripts = [] }
+
+-- with these scripts, where nothing else is named
+abbrev pub with_scripts : List (List ℕ) → Choice
+with_scripts scripts = record { log = None; procs = None; spacing = 256; workers = 2; scripts = scripts }
 
 -- the program's name alone chooses no log, no machine, and 256 event seconds
 abbrev pub NoWordChooses : Type 0
@@ -36,3 +44,13 @@ JoinedSpacingChooses =
 abbrev pub NextSpacingChooses : Type 0
 NextSpacingChooses =
     (name number : List ℕ) → are_digits number ≡ true → chosen (name ∷ codes "--spacing" ∷ number ∷ []) ≡ option_map with_spacing (number_between 1 spacing_limit number)
+
+-- `--workers=N` chooses what N spells, and is bad where that is not 1 to 64
+abbrev pub JoinedWorkersChoose : Type 0
+JoinedWorkersChoose =
+    (name number : List ℕ) → chosen (name ∷ (codes "--workers=" ++ number) ∷ []) ≡ option_map with_workers (number_between 1 64 number)
+
+-- `--script=FILE` names a script, and two of them two, in their order
+abbrev pub ScriptsAreChosen : Type 0
+ScriptsAreChosen =
+    (name one other : List ℕ) → chosen (name ∷ (codes "--script=" ++ one) ∷ (codes "--script=" ++ other) ∷ []) ≡ Some (with_scripts (one ∷ other ∷ []))

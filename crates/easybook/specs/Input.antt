@@ -15,3 +15,8 @@ abbrev pub IsReadFault : ProgramFault → Type 0
 IsReadFault Read = Unit {0}
 IsReadFault Memory = Unit {0}
 IsReadFault fault = ⊥
+
+-- it has too many bytes, or the reader answered an error, or memory was short
+abbrev pub IsNotHad : ProgramFault → Type 0
+IsNotHad TooLong = Unit {0}
+IsNotHad fault = IsReadFault fault

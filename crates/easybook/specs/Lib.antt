@@ -6,6 +6,7 @@ pub mod Input
 pub mod Opened
 pub mod Plain
 pub mod Program
+pub mod Shared
 pub mod Split
 pub mod Stop
 pub mod Texts

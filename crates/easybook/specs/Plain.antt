@@ -46,6 +46,7 @@ IsFaultOf log procs faults.BadMachine = IsNotOpened log procs openings.BadMachin
 IsFaultOf log procs faults.Memory = Unit {0}
 IsFaultOf log procs faults.Read = ⊥
 IsFaultOf log procs faults.Write = ⊥
+IsFaultOf log procs (faults.Close fault) = ⊥
 
 -- the schedule of the log, or the fault
 abbrev pub IsTextOrFault : {X : Type 0} → (X → List ℕ) → List ℕ → Option ℕ → Result X ProgramFault → Type 0

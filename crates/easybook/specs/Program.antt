@@ -1,10 +1,11 @@
 -- What the program does: what its words choose, its whole input, and what it writes of them.
-use Rattle.std.specs.Prelude.{◌≡◌, ℕ, ◌<◌, List, length, Option, Some, None, IfSome, Result, Ok, Err, ◌⊎◌}
+use Rattle.std.specs.Prelude.{◌≡◌, ℕ, ◌+◌, ◌<◌, List, [], ◌∷◌, length, Option, Some, None, IfSome, Result, Ok, Err, ◌⊎◌}
 use Rattle.std.specs.declared.alloc.Global.{Global}
 use Rattle.std.specs.Io.KnownBytes.{Keeps}
 use Rattle.clap.specs.Walk.{Text}
 use Rattle.easybook.specs.Alone.{RunsAlone}
 use Rattle.easybook.specs.Plain.{Answers}
+use Rattle.easybook.specs.Shared.{RunsShared}
 use Rattle.easybook.specs.Split.{IsCut}
 use Rattle.easybook.specs.Words.{Choice, IsWordsFault, chosen}
 use Rattle.easybook.specs.declared.fault.ProgramFault.{ProgramFault}
@@ -52,6 +53,17 @@ EndsOnInput {X = X} A procs known old new (Err faults.TooLong) =
     (IfSome known (λ all. input_limit < length all) × Keeps old new) ⊎ OfAll known (λ input. RunsInput {X = X} A input procs old new (Err faults.TooLong))
 EndsOnInput A procs known old new result = OfAll known (λ input. RunsInput A input procs old new result)
 
+-- ---- scripts in files, side by side
+
+-- The scripts are worked on the log. Where the log or one of them cannot be read, or memory is short for them, nothing is said
+-- of them and nothing is written; so too where one has too many bytes.
+abbrev pub EndsOnScripts : {X : Type 0} → ℕ → Option ℕ → Option (List ℕ) → Option (List ℕ) → Option (List ℕ) → Result X ProgramFault → Type 0
+EndsOnScripts count procs known old new (Err faults.Read) = Keeps old new
+EndsOnScripts count procs known old new (Err faults.Memory) = Keeps old new
+EndsOnScripts count procs known old new (Err faults.TooLong) = Keeps old new
+EndsOnScripts count procs known old new result =
+    OfAll known (λ log. (scripts : List (List ℕ)) × (length scripts ≡ count) × RunsShared log procs scripts old new result)
+
 -- ---- the program
 
 -- With a log named, the file's bytes are not known. Without one, all that standard input has is the log, and the script if
@@ -60,9 +72,19 @@ abbrev pub EndsFrom : {X : Type 0} → Option Text → Option ℕ → Option (Li
 EndsFrom (Some file) procs known old new result = EndsOnFile Global None procs known old new result
 EndsFrom None procs known old new result = EndsOnInput Global procs known old new result
 
+-- what standard input has of the log, where scripts are named: nothing where a file is named, otherwise all
+abbrev pub log_known : Option Text → Option (List ℕ) → Option (List ℕ)
+log_known (Some file) known = None
+log_known None known = known
+
+-- scripts that are named are worked side by side; where none is, one session works alone, or none
+abbrev pub EndsWith : {X : Type 0} → List Text → Option Text → Option ℕ → Option (List ℕ) → Option (List ℕ) → Option (List ℕ) → Result X ProgramFault → Type 0
+EndsWith [] log procs known old new result = EndsFrom log procs known old new result
+EndsWith (script ∷ scripts) log procs known old new result = EndsOnScripts (length scripts + 1) procs (log_known log known) old new result
+
 -- the words are taken, and what they choose is run
 abbrev pub EndsBy : {X : Type 0} → List Text → Option (List ℕ) → Option (List ℕ) → Option (List ℕ) → Result X ProgramFault → Type 0
-EndsBy words known old new result = (choice : Choice) × (chosen words ≡ Some choice) × EndsFrom choice.log choice.procs known old new result
+EndsBy words known old new result = (choice : Choice) × (chosen words ≡ Some choice) × EndsWith choice.scripts choice.log choice.procs known old new result
 
 -- what the program wrote, by how it ends: where the words are bad, nothing
 abbrev pub Ends : {X : Type 0} → List Text → Option (List ℕ) → Option (List ℕ) → Option (List ℕ) → Result X Stop → Type 0

@@ -16,6 +16,7 @@ fault_line faults.BadMachine = codes "bad machine size"
 fault_line faults.TooLong = codes "input too long"
 fault_line faults.Read = codes "read failed"
 fault_line faults.Write = codes "write failed"
+fault_line (faults.Close fault) = codes "histories differ"
 fault_line faults.Memory = codes "out of memory"
 
 abbrev pub words_line : WordsFault → List ℕ

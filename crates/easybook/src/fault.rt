@@ -2,10 +2,12 @@ ghost use Rattle.std.specs.Prelude.{◌≡◌};
 ghost use Rattle.easybook.specs.declared.fault.ProgramFault.TheVariants.{Memory as OutOfMemory, Write as WriteFailed};
 
 use commands::OpenTextFault;
-use std::alloc::AllocFailed;
+use shared_scripts::SharedFault;
+use std::alloc::{AllocError, AllocFailed};
 use std::error::Error;
 use std::fmt;
 use swf_text::{FaultKind, Memory, SwfFault, WriteFault};
+use workers::CloseFault;
 
 /// Why the program ends without its answer. It displays as the line that the program writes.
 #[derive(Clone, Copy, Debug, PartialEq, Eq)]
@@ -22,7 +24,9 @@ pub enum ProgramFault {
     Read,
     /// A writer answered an error, or took no byte.
     Write,
-    /// A growth was refused.
+    /// The lists of the sessions and workers are not the book's history.
+    Close(CloseFault),
+    /// A growth, or the start of a thread, was refused.
     Memory,
 }
 
@@ -40,6 +44,7 @@ impl fmt::Display for ProgramFault {
             ProgramFault::TooLong => f.write_str("input too long"),
             ProgramFault::Read => f.write_str("read failed"),
             ProgramFault::Write => f.write_str("write failed"),
+            ProgramFault::Close(_) => f.write_str("histories differ"),
             ProgramFault::Memory => f.write_str("out of memory"),
         }
     }
@@ -76,6 +81,20 @@ impl From<OpenTextFault> for ProgramFault {
     }
 }
 
+impl From<SharedFault> for ProgramFault {
+    ghost use Rattle.std.specs.Prelude.{◌≡◌};
+    ghost use Rattle.easybook.specs.Fault.{fault_of_scripts};
+
+    ghost from_gives = { λ fault given. given ≡ fault_of_scripts fault };
+
+    fn from(fault: SharedFault) -> ProgramFault {
+        match fault {
+            SharedFault::Close(fault) => ProgramFault::Close(fault),
+            SharedFault::Memory => ProgramFault::Memory,
+        }
+    }
+}
+
 impl From<WriteFault> for ProgramFault {
     ghost from_gives = { λ _ fault. fault ≡ WriteFailed };
 
@@ -88,6 +107,14 @@ impl From<Memory> for ProgramFault {
     ghost from_gives = { λ _ fault. fault ≡ OutOfMemory };
 
     fn from(_memory: Memory) -> ProgramFault {
+        ProgramFault::Memory
+    }
+}
+
+impl From<AllocError> for ProgramFault {
+    ghost from_gives = { λ _ fault. fault ≡ OutOfMemory };
+
+    fn from(_error: AllocError) -> ProgramFault {
         ProgramFault::Memory
     }
 }

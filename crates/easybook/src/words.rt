@@ -1,11 +1,10 @@
 ghost use Rattle.std.specs.Prelude.{◌≡◌, ◌≤◌, IfOk, IfErr, IfSome, Some, Err, false, [], codes, map, vec_len};
-ghost use Rattle.std.specs.Option.{option_map};
 ghost use Rattle.clap.specs.Words.{app_of, fault_of, first_value, found_of, kind_of, matches_of, rows_of, rule_of, with_rule};
 ghost use Rattle.clap.specs.declared.error.kind.ErrorKind.TheVariants.{OutOfMemory};
 ghost use Rattle.commands.specs.Words.{number_between};
 ghost use Rattle.scenarios.specs.Limits.{procs_limit};
 ghost use Rattle.checkpoints.specs.Spacing.{spacing_limit};
-ghost use Rattle.easybook.specs.Words.{IsWordsFault, chosen, command_line, option_rule, procs_of, spacing_of};
+ghost use Rattle.easybook.specs.Words.{IsWordsFault, choice_of, chosen, command_line, found_scripts, option_rule, procs_of, script_rule, spacing_of, with_numbers, workers_of};
 ghost use Rattle.easybook.specs.declared.words.WordsFault.TheVariants.{BadWords};
 
 use crate::options::Options;
@@ -23,6 +22,9 @@ const SPACING: u32 = 256;
 
 /// The workers where the words give none.
 const WORKERS: u32 = 2;
+
+/// The most workers, and the most scripts.
+const CALLERS: u64 = 64;
 
 /// Why the program's words choose nothing.
 #[derive(Clone, Copy, Debug, PartialEq, Eq)]
@@ -89,6 +91,16 @@ fn option<'a>(alloc: Global, name: &'a str) -> Arg<'a>
     Arg::new(alloc, name).long(name).action(ArgAction::Set)
 }
 
+// The option that names a script, any number of times.
+fn script<'a>(alloc: Global) -> Arg<'a>
+    ensures rule { rule_of result ≡ script_rule }
+    ensures local { result.global ≡ false }
+{
+    Arg::new(alloc, "script")
+        .long("script")
+        .action(ArgAction::Append)
+}
+
 // The command with one more argument.
 fn with_argument<'a>(command: Command<'a>, arg: Arg<'a>) -> Result<Command<'a>, AllocError>
     requires { arg.global ≡ false }
@@ -97,14 +109,23 @@ fn with_argument<'a>(command: Command<'a>, arg: Arg<'a>) -> Result<Command<'a>, 
     command.arg(arg)
 }
 
+// The command with the options that have a number behind them.
+fn with_numbers<'a>(alloc: Global, command: Command<'a>) -> Result<Command<'a>, AllocError>
+    ensures { IfOk result (λ c. app_of c ≡ with_numbers (app_of command.entry)) }
+{
+    let command = with_argument(command, option(alloc, "procs"))?;
+    let command = with_argument(command, option(alloc, "spacing"))?;
+    with_argument(command, option(alloc, "workers"))
+}
+
 // The words that the program takes.
 fn command<'a>(alloc: Global) -> Result<Command<'a>, AllocError>
     ensures { IfOk result (λ command. app_of command ≡ command_line) }
 {
     let log = Arg::new(alloc, "LOG").action(ArgAction::Set);
     let command = with_argument(Command::new(alloc, "easybook"), log)?;
-    let command = with_argument(command, option(alloc, "procs"))?;
-    with_argument(command, option(alloc, "spacing"))
+    let command = with_numbers(alloc, command)?;
+    with_argument(command, script(alloc))
 }
 
 // What stands behind the words that the program takes.
@@ -156,18 +177,43 @@ fn spacing(matches: &ArgMatches<'_>) -> Option<u32>
     Some(spacing as u32)
 }
 
+// The workers that the words name, or those which hold where they name none; None where what they
+// name is none.
+fn workers(matches: &ArgMatches<'_>) -> Option<u32>
+    ensures value { result ≡ workers_of (first_value (found_of matches.now) (codes "workers")) }
+    ensures within { IfSome result (λ n. (1 ≤ n) × (n ≤ 64)) }
+{
+    let Some(text) = matches.get_str("workers") else {
+        return Some(WORKERS);
+    };
+    let workers = number(text, CALLERS)?;
+    Some(workers as u32)
+}
+
+// The files of scripts that the words name.
+fn scripts<'a>(alloc: Global, matches: &ArgMatches<'a>) -> Result<Vec<&'a str>, AllocError>
+    ensures { IfOk result (λ paths. map (λ p. p.now) paths.items ≡ found_scripts (found_of matches.now)) }
+{
+    match matches.get_strs("script") {
+        Some(paths) => Ok(Vec::from_slice(alloc, paths)?),
+        None => Ok(Vec::new(alloc)),
+    }
+}
+
 /// Reads the program's words, its name first.
 ///
 /// LOG, a word that is no option and no option's value, is the file that holds the log. `--procs N`
 /// gives the machine's processors, digits from 1 to 16,777,216, and `--spacing N` the most event
-/// seconds to a segment of a run, digits from 1 to 65,536; it is 256 where none is given. Any other
-/// word is a bad argument, as is one given twice. Want of memory is never told as bad words.
+/// seconds to a segment of a run, digits from 1 to 65,536; it is 256 where none is given.
+/// `--workers N` gives the workers, digits from 1 to 64; they are 2 where none is given. Each
+/// `--script FILE` names a file that holds a script; they are at most 64. Any other word is a bad
+/// argument, as is one given twice. Want of memory is never told as bad words.
 pub fn read_words<'a>(alloc: Global, words: &'a [&'a str]) -> Result<Words<'a>, WordsFault>
-    ensures chosen { IfOk result (λ w. chosen (map (λ w. w.now) words.now) ≡ Some (record { log = option_map (λ t. t.now) w.log; procs = w.options.procs; spacing = w.options.spacing })) }
+    ensures chosen { IfOk result (λ w. chosen (map (λ w. w.now) words.now) ≡ Some (choice_of w)) }
     ensures refused { IfErr result (IsWordsFault (map (λ w. w.now) words.now)) }
     ensures machine { IfOk result (λ w. IfSome w.options.procs (λ n. (1 ≤ n) × (n ≤ procs_limit))) }
-    ensures workers { IfOk result (λ w. w.options.workers ≡ 2) }
-    ensures scripts { IfOk result (λ w. vec_len w.scripts ≡ 0) }
+    ensures workers { IfOk result (λ w. (1 ≤ w.options.workers) × (w.options.workers ≤ 64)) }
+    ensures scripts { IfOk result (λ w. vec_len w.scripts ≤ 64) }
 {
     let matches = matched(alloc, words)?;
     let Some(procs) = machine(&matches) else {
@@ -176,13 +222,20 @@ pub fn read_words<'a>(alloc: Global, words: &'a [&'a str]) -> Result<Words<'a>, 
     let Some(spacing) = spacing(&matches) else {
         return Err(WordsFault::BadWords);
     };
+    let Some(workers) = workers(&matches) else {
+        return Err(WordsFault::BadWords);
+    };
+    let scripts = scripts(alloc, &matches)?;
+    if scripts.len() as u64 > CALLERS {
+        return Err(WordsFault::BadWords);
+    }
     Ok(Words {
         log: matches.get_str("LOG"),
         options: Options {
             procs,
             spacing,
-            workers: WORKERS,
+            workers,
         },
-        scripts: Vec::new(alloc),
+        scripts,
     })
 }

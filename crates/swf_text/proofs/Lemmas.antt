@@ -12,7 +12,7 @@ pub use Rattle.swf_text.proofs.Grammars.{exact_number}
 -- the canonical spelling of a value spells it
 pub use Rattle.swf_text.proofs.Spellings.{spelled}
 -- a text that is written part after part
-pub use Rattle.swf_text.proofs.Writings.{front_more, writes_then}
+pub use Rattle.swf_text.proofs.Writings.{front_more, front_after, writes_then}
 -- a text that is written is read back
 pub use Rattle.swf_text.proofs.Trips.{read_again}
 -- a text that is read by the bounds of its lines

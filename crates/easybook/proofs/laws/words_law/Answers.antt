@@ -1,4 +1,4 @@
-use Rattle.easybook.proofs.Forms.{joined_spacing, joined_word, next_spacing, next_word, no_word}
+use Rattle.easybook.proofs.Forms.{joined_spacing, joined_word, joined_workers, next_spacing, next_word, no_word, two_scripts}
 use Rattle.easybook.proofs.laws.words_law.Goals as goal
 
 pub returns-clause-none : goal.returns-clause-none
@@ -15,3 +15,9 @@ returns-clause-joined_spacing c = joined_spacing
 
 pub returns-clause-spacing_apart : goal.returns-clause-spacing_apart
 returns-clause-spacing_apart c = next_spacing
+
+pub returns-clause-workers : goal.returns-clause-workers
+returns-clause-workers c = joined_workers
+
+pub returns-clause-scripts : goal.returns-clause-scripts
+returns-clause-scripts c = two_scripts

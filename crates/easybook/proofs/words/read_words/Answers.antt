@@ -1,6 +1,8 @@
-use Rattle.std.proofs.Common.{rules, map}
+use Rattle.std.proofs.Common.{rules, ◌≡◌, length, map, Some, None, sym, ap, ◌∙◌, arith}
+use Rattle.std.proofs.lemmas.List.{length-map}
 use Rattle.clap.specs.Words.{found_of}
-use Rattle.easybook.proofs.Choices.{chosen-found}
+use Rattle.easybook.specs.Words.{found_scripts, scripts_of}
+use Rattle.easybook.proofs.Choices.{chosen-found, few-scripts, many-scripts}
 use Rattle.easybook.proofs.words.read_words.Goals as goal
 
 pub returns-in_default-clause-refused : goal.returns-in_default-clause-refused
@@ -8,12 +10,26 @@ returns-in_default-clause-refused c =
     let found = chosen-found (map (λ w. w.now) c.args.words.now) (found_of c.in_ok-matches.matches) c.in_ok-matches.ensures.taken c.in_ok-matches.ensures.rows in
     search (rules, found)
 
-pub returns-clause-chosen : goal.returns-clause-chosen
-returns-clause-chosen c =
-    let found = chosen-found (map (λ w. w.now) c.args.words.now) (found_of c.in_ok-matches.matches) c.in_ok-matches.ensures.taken c.in_ok-matches.ensures.rows in
-    search (rules, found)
-
 pub returns-in_default-spacing-clause-refused : goal.returns-in_default-spacing-clause-refused
 returns-in_default-spacing-clause-refused c =
     let found = chosen-found (map (λ w. w.now) c.args.words.now) (found_of c.in_ok-matches.matches) c.in_ok-matches.ensures.taken c.in_ok-matches.ensures.rows in
     search (rules, found)
+
+pub returns-in_default-workers-clause-refused : goal.returns-in_default-workers-clause-refused
+returns-in_default-workers-clause-refused c =
+    let found = chosen-found (map (λ w. w.now) c.args.words.now) (found_of c.in_ok-matches.matches) c.in_ok-matches.ensures.taken c.in_ok-matches.ensures.rows in
+    search (rules, found)
+
+pub returns-then-len-gt-CALLERS-clause-refused : goal.returns-then-len-gt-CALLERS-clause-refused
+returns-then-len-gt-CALLERS-clause-refused c =
+    let found = chosen-found (map (λ w. w.now) c.args.words.now) (found_of c.in_ok-matches.matches) c.in_ok-matches.ensures.taken c.in_ok-matches.ensures.rows in
+    let paths = map (λ p. p.now) c.in_ok-scripts.scripts.items in
+    let many : scripts_of (found_scripts (found_of c.in_ok-matches.matches)) ≡ None = ap scripts_of (sym c.in_ok-scripts.ensures) ∙ many-scripts paths (omega (arith, length-map c.in_ok-scripts.scripts.items (λ p. p.now), c.in_ok-scripts.scripts.ok.0, c.len.ensures, c.if-len-gt-CALLERS.true)) in
+    search (rules, found, many)
+
+pub returns-clause-chosen : goal.returns-clause-chosen
+returns-clause-chosen c =
+    let found = chosen-found (map (λ w. w.now) c.args.words.now) (found_of c.in_ok-matches.matches) c.in_ok-matches.ensures.taken c.in_ok-matches.ensures.rows in
+    let paths = map (λ p. p.now) c.in_ok-scripts.scripts.items in
+    let few : scripts_of (found_scripts (found_of c.in_ok-matches.matches)) ≡ Some paths = ap scripts_of (sym c.in_ok-scripts.ensures) ∙ few-scripts paths (omega (arith, length-map c.in_ok-scripts.scripts.items (λ p. p.now), c.in_ok-scripts.scripts.ok.0, c.len.ensures, c.if-len-gt-CALLERS.false)) in
+    search (rules, found, few)

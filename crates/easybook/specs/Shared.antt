@@ -1,0 +1,40 @@
+-- What is written of a log and several scripts that are worked side by side.
+use Rattle.std.specs.Prelude.{◌≡◌, ℕ, ◌+◌, ◌<◌, nat_le, Bool, true, List, [], ◌∷◌, ◌++◌, length, take, Option, Result, Ok, Err, ◌⊎◌, codes}
+use Rattle.std.specs.Fmt.{decimal}
+use Rattle.std.specs.List.{list_all}
+use Rattle.std.specs.Io.KnownBytes.{Appends, Keeps}
+use Rattle.easybook.specs.Alone.{CanBeOpened, script_limit}
+use Rattle.easybook.specs.Plain.{IsFaultOf, log_limit}
+use Rattle.easybook.specs.declared.fault.ProgramFault.{ProgramFault}
+use Rattle.easybook.specs.declared.fault.ProgramFault.TheVariants as faults
+
+-- the line before what the script with this number was answered
+abbrev pub head_line : ℕ → List ℕ
+head_line number = codes "== " ++ decimal number ++ codes "\n"
+
+-- what scripts were answered, one after another, the first of which has this number
+abbrev pub headed : ℕ → List (List ℕ) → List ℕ
+headed number [] = []
+headed number (text ∷ texts) = head_line number ++ text ++ headed (number + 1) texts
+
+-- whether each script has at most as many bytes as a script may have
+abbrev pub are_within : List (List ℕ) → Bool
+are_within scripts = list_all (λ script. nat_le (length script) script_limit) scripts
+
+abbrev pub AreWithin : List (List ℕ) → Type 0
+AreWithin scripts = are_within scripts ≡ true
+
+-- a text for each of so many scripts, one after another
+abbrev pub IsHeaded : ℕ → List ℕ → Type 0
+IsHeaded count text = (texts : List (List ℕ)) × (length texts ≡ count) × (text ≡ headed 1 texts)
+
+-- What was written, by what is answered: a text for each script, or where the writer failed a beginning of that, or nothing.
+-- The lengths are judged before the log; want of memory, and a history that is not the callers', say nothing of either.
+abbrev pub RunsShared : {X : Type 0} → List ℕ → Option ℕ → List (List ℕ) → Option (List ℕ) → Option (List ℕ) → Result X ProgramFault → Type 0
+RunsShared log procs scripts old new (Ok x) = AreWithin scripts × CanBeOpened log procs × ((text : List ℕ) × IsHeaded (length scripts) text × Appends old new text)
+RunsShared log procs scripts old new (Err faults.Write) =
+    AreWithin scripts × CanBeOpened log procs × ((text : List ℕ) × IsHeaded (length scripts) text × ((n : ℕ) × Appends old new (take n text)))
+RunsShared log procs scripts old new (Err faults.TooLong) = ((log_limit < length log) ⊎ (AreWithin scripts → ⊥)) × Keeps old new
+RunsShared log procs scripts old new (Err faults.Memory) = Keeps old new
+RunsShared log procs scripts old new (Err (faults.Close fault)) = Keeps old new
+RunsShared log procs scripts old new (Err fault) = AreWithin scripts × IsFaultOf log procs fault × Keeps old new

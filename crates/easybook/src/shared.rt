@@ -1,0 +1,120 @@
+ghost use Rattle.std.specs.Prelude.{◌≡◌, ◌<◌, ◌+◌, ◌^◌, ◌++◌, length, map, nat_le};
+ghost use Rattle.std.specs.List.{list_all};
+ghost use Rattle.swf_text.specs.Writing.{Writes};
+ghost use Rattle.easybook.specs.Alone.{script_limit};
+ghost use Rattle.easybook.specs.Shared.{RunsShared, head_line, headed};
+
+use crate::alone::SCRIPT_LIMIT;
+use crate::book::{OpenedBook, opened_book};
+use crate::fault::ProgramFault;
+use crate::opened::LOG_LIMIT;
+use crate::options::Options;
+use itoa::Buffer;
+use shared_scripts::run_scripts;
+use std::alloc::Allocator;
+use std::io::Write;
+use std::sync::Wait;
+use std::thread::Threads;
+use swf_text::{WriteFault, write_bytes};
+use workers::{Gate, NoGate};
+
+// Whether a script has at most 16,777,216 bytes.
+fn is_within<A: Allocator + Copy>(script: &Vec<u8, A>) -> bool
+    ensures { result ≡ nat_le (length script.now.items) script_limit }
+{
+    script.len() as u64 <= SCRIPT_LIMIT
+}
+
+// Whether each of these has.
+fn are_within<A: Allocator + Copy>(scripts: &[Vec<u8, A>]) -> bool
+    ensures { result ≡ list_all (λ s. nat_le (length s.items) script_limit) scripts.now }
+{
+    scripts.iter().all(|script| is_within(script))
+}
+
+// Writes the line before what the script with this number was answered.
+fn write_head<W: Write>(writer: &mut W, number: u64) -> Result<(), WriteFault>
+    ensures { Writes result (W.contents writer.old) (W.contents writer.new) (head_line number) }
+{
+    let mut buffer = Buffer::new();
+    write_bytes(writer, b"== ")?;
+    write_bytes(writer, buffer.format(number).as_bytes())?;
+    write_bytes(writer, b"\n")
+}
+
+// Writes what the script with this number was answered.
+fn write_one<W: Write>(writer: &mut W, number: u64, text: &[u8]) -> Result<(), WriteFault>
+    ensures { Writes result (W.contents writer.old) (W.contents writer.new) (head_line number ++ text.now) }
+{
+    write_head(writer, number)?;
+    write_bytes(writer, text)
+}
+
+// Writes what the scripts were answered, one after another, the first of which has this number.
+fn write_all<W: Write, A: Allocator + Copy>(
+    writer: &mut W,
+    number: u64,
+    texts: &[Vec<u8, A>],
+) -> Result<(), WriteFault>
+    requires { number + length texts.now < 2 ^ 64 }
+    ensures { Writes result (W.contents writer.old) (W.contents writer.new) (headed number (map (λ t. t.items) texts.now)) }
+{
+    let Some((text, rest)) = texts.split_first() else {
+        return Ok(());
+    };
+    write_one(writer, number, text.as_slice())?;
+    write_all(writer, number + 1, rest)
+}
+
+/// Works scripts on one log side by side: each as a session of its own, on a thread of its own, while
+/// `options.workers` threads simulate. What each script is answered is written once all have ended,
+/// in the scripts' order, each after a line `== k`, k from 1. The scripts are 1 to 64.
+///
+/// The log is opened as by `run_alone`. The faults in their order: TooLong where the log has over
+/// 1,073,741,824 bytes, or a script over 16,777,216; Log with its first faulty line; NoMachine where
+/// nothing names a scenario or the machine's processors; BadMachine where it has not 1 to 16,777,216;
+/// Memory where a growth, or the start of a thread, is refused, but for one that answers a command;
+/// Close where the callers' lists are not the book's history; Write where the writer answers an error
+/// or takes no byte. Each but Write comes before the first byte is written.
+pub fn run_shared<W: Write, A: Allocator + Copy + Send + Sync, R: Threads + Wait + Sync>(
+    rt: &R,
+    alloc: A,
+    scripts: &[Vec<u8, A>],
+    writer: &mut W,
+    log: &[u8],
+    options: Options,
+) -> Result<(), ProgramFault>
+    ensures { RunsShared log.now options.procs (map (λ s. s.items) scripts.now) (W.contents writer.old) (W.contents writer.new) result }
+{
+    run_shared_gated(rt, alloc, scripts, writer, log, options, &NoGate)
+}
+
+/// As `run_shared`; the gate is called around each piece of the workers' work.
+pub fn run_shared_gated<
+    W: Write,
+    A: Allocator + Copy + Send + Sync,
+    R: Threads + Wait + Sync,
+    G: Gate + Sync,
+>(
+    rt: &R,
+    alloc: A,
+    scripts: &[Vec<u8, A>],
+    writer: &mut W,
+    log: &[u8],
+    options: Options,
+    gate: &G,
+) -> Result<(), ProgramFault>
+    ensures { RunsShared log.now options.procs (map (λ s. s.items) scripts.now) (W.contents writer.old) (W.contents writer.new) result }
+{
+    if log.len() > LOG_LIMIT {
+        return Err(ProgramFault::TooLong);
+    }
+    if !are_within(scripts) {
+        return Err(ProgramFault::TooLong);
+    }
+    let OpenedBook { book, comments } = opened_book(alloc, log, options)?;
+    let comments = comments.as_slice();
+    let texts = run_scripts(rt, alloc, book, comments, scripts, options.workers, gate)?;
+    write_all(writer, 1, texts.as_slice())?;
+    Ok(())
+}

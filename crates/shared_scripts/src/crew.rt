@@ -1,0 +1,184 @@
+ghost use Rattle.std.specs.Prelude.{◌≡◌, IfOk, length, vec_len};
+
+use crate::fault::SharedFault;
+use crate::seat::Seat;
+use std::alloc::Allocator;
+use std::sync::Wait;
+use std::thread;
+use std::thread::Threads;
+use swf_text::Memory;
+use version_book::Book;
+use workers::{Desk, Gate, Session, Worker, close};
+
+/// One analyst's part: which script it is, the session that works it, and what it was answered.
+#[derive(Drop)]
+struct Part<A: Allocator + Copy> {
+    place: usize,
+    session: Session<A>,
+    told: Vec<u8, A>,
+    is_whole: bool,
+}
+
+// Works a part's script to its end.
+fn work_part<A: Allocator + Copy, R: Wait>(
+    rt: &R,
+    alloc: A,
+    desk: &Desk<A>,
+    comments: &[Vec<u8, A>],
+    scripts: &[Vec<u8, A>],
+    part: &mut Part<A>,
+) {
+    let seat = Seat {
+        alloc,
+        rt,
+        desk,
+        comments,
+    };
+    let Some(script) = scripts.get(part.place) else {
+        return;
+    };
+    part.is_whole = seat
+        .work(&mut part.session, script.as_slice(), &mut part.told)
+        .is_ok();
+}
+
+// A part for each of at most 64 scripts, each with a session.
+fn parts_of<A: Allocator + Copy, R: Wait>(
+    rt: &R,
+    alloc: A,
+    desk: &Desk<A>,
+    count: usize,
+) -> Result<Vec<Part<A>, A>, Memory>
+    ensures { IfOk result (λ parts. vec_len parts ≡ count) }
+{
+    let mut parts = Vec::with_capacity(alloc, count)?;
+    for place in 0..count {
+        let Some(session) = desk.open_session(rt) else {
+            return Err(Memory);
+        };
+        parts.push(Part {
+            place,
+            session,
+            told: Vec::new(alloc),
+            is_whole: false,
+        })?;
+    }
+    Ok(parts)
+}
+
+// So many workers, at most 64.
+fn workers_of<A: Allocator + Copy, R: Wait>(
+    rt: &R,
+    alloc: A,
+    desk: &Desk<A>,
+    count: u32,
+) -> Result<Vec<Worker<A>, A>, Memory> {
+    let mut workers = Vec::with_capacity(alloc, count as usize)?;
+    for _ in 0..count {
+        let Some(worker) = desk.open_worker(rt) else {
+            return Ok(workers);
+        };
+        workers.push(worker)?;
+    }
+    Ok(workers)
+}
+
+// Works all parts and has the workers work, each on a thread of its own; once all parts have ended the
+// desk is stopped, and the workers end. False where a thread could not be started, or memory was
+// short for that: the desk is then stopped at once.
+fn run_crew<A: Allocator + Copy + Send + Sync, R: Threads + Wait + Sync, G: Gate + Sync>(
+    rt: &R,
+    alloc: A,
+    desk: &Desk<A>,
+    comments: &[Vec<u8, A>],
+    scripts: &[Vec<u8, A>],
+    parts: &mut Vec<Part<A>, A>,
+    workers: &mut Vec<Worker<A>, A>,
+    gate: &G,
+) -> bool {
+    thread::scope(thread::scope_env(), rt, |scope| {
+        let mut all = true;
+        for worker in workers.iter_mut() {
+            if scope
+                .spawn(move || {
+                    let _ = worker.run(rt, desk, gate);
+                })
+                .is_err()
+            {
+                all = false;
+            }
+        }
+        let mut handles = Vec::new(alloc);
+        for part in parts.iter_mut() {
+            match scope.spawn(move || work_part(rt, alloc, desk, comments, scripts, part)) {
+                Ok(handle) => {
+                    if handles.push(handle).is_err() {
+                        all = false;
+                    }
+                }
+                Err(_) => all = false,
+            }
+        }
+        if !all {
+            desk.stop(rt);
+        }
+        for handle in handles {
+            handle.join(rt);
+        }
+        desk.stop(rt);
+        all
+    })
+}
+
+// Keeps what a script was answered, if that is all of it.
+fn keep_whole<A: Allocator + Copy>(
+    outputs: &mut Vec<Vec<u8, A>, A>,
+    told: Vec<u8, A>,
+    is_whole: bool,
+) -> Result<(), Memory> {
+    if !is_whole {
+        return Ok(());
+    }
+    outputs.push(told)?;
+    Ok(())
+}
+
+/// Works scripts side by side on a book, each with a session of its own, while so many workers
+/// simulate, and answers what each script was answered, in the scripts' order. Scripts and workers are
+/// at most 64 each; the comments are those of the log, which `save` writes. The gate is called around
+/// each piece of work.
+///
+/// Memory where a growth for this, or the start of a thread, is refused, or where there are more than
+/// 64 scripts; every thread has then ended.
+/// Close where the callers' lists are not the book's history, which does not happen.
+pub fn run_scripts<A: Allocator + Copy + Send + Sync, R: Threads + Wait + Sync, G: Gate + Sync>(
+    rt: &R,
+    alloc: A,
+    book: Book<A>,
+    comments: &[Vec<u8, A>],
+    scripts: &[Vec<u8, A>],
+    workers: u32,
+    gate: &G,
+) -> Result<Vec<Vec<u8, A>, A>, SharedFault>
+    ensures { IfOk result (λ texts. vec_len texts ≡ length scripts.now) }
+{
+    let desk = Desk::new(alloc, book);
+    let mut sessions = Vec::with_capacity(alloc, scripts.len())?;
+    let mut outputs = Vec::with_capacity(alloc, scripts.len())?;
+    let mut parts = parts_of(rt, alloc, &desk, scripts.len())?;
+    let mut crew = workers_of(rt, alloc, &desk, workers)?;
+    let are_started = run_crew(
+        rt, alloc, &desk, comments, scripts, &mut parts, &mut crew, gate,
+    );
+    for part in parts {
+        sessions.push(part.session)?;
+        keep_whole(&mut outputs, part.told, part.is_whole)?;
+    }
+    if !are_started || outputs.len() != scripts.len() {
+        return Err(SharedFault::Memory);
+    }
+    match close(desk, sessions, crew) {
+        Ok(_) => Ok(outputs),
+        Err((fault, _, _, _)) => Err(SharedFault::Close(fault)),
+    }
+}
