@@ -1,5 +1,6 @@
-//! Tests of `swf_text`, in a crate of their own so that the library is proved once: numbers, lines
-//! and whole logs as they are read, and as they are written.
+//! Tests of `swf_text` and `parallel_reader`, in a crate of their own so that the libraries are
+//! proved once: numbers, lines and whole logs as they are read, also by several threads, and as they
+//! are written.
 #![tactic(auto)]
 
 #[cfg(test)]
@@ -15,5 +16,7 @@ mod numbers;
 mod pieces;
 #[cfg(test)]
 mod texts;
+#[cfg(test)]
+mod threads;
 #[cfg(test)]
 mod writing;

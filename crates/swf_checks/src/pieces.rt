@@ -31,8 +31,8 @@ fn read_by_lines(alloc: Global, bytes: &[u8]) -> Result<Result<SwfText<Global>, 
     Ok(assemble(alloc, bytes, &bounds, &readings))
 }
 
-// What is written of a reading, or its fault; none where memory is short.
-fn told_of(
+/// What is written of a reading, or its fault; none where memory is short.
+pub(crate) fn told_of(
     alloc: Global,
     read: Result<SwfText<Global>, SwfFault>,
 ) -> Option<Result<Vec<u8>, SwfFault>> {
@@ -42,8 +42,11 @@ fn told_of(
     }
 }
 
-// Whether two readings answer the same.
-fn are_alike(one: &Result<Vec<u8>, SwfFault>, other: &Result<Vec<u8>, SwfFault>) -> bool {
+/// Whether two readings answer the same.
+pub(crate) fn are_alike(
+    one: &Result<Vec<u8>, SwfFault>,
+    other: &Result<Vec<u8>, SwfFault>,
+) -> bool {
     match (one, other) {
         (Ok(one), Ok(other)) => one == other,
         (Err(one), Err(other)) => one == other,
@@ -63,7 +66,8 @@ fn fault_by_lines(alloc: Global, bytes: &[u8]) -> Option<SwfFault> {
     read_by_lines(alloc, bytes).ok()?.err()
 }
 
-const LOGS: [&str; 12] = [
+/// Logs with and without faults.
+pub(crate) const LOGS: [&str; 12] = [
     "",
     "\n",
     "\n\n; a\r\n;b",

@@ -7,6 +7,10 @@ pub use Rattle.swf_text.proofs.Words.{fields-blank, fields-next, fields-end, wor
 pub use Rattle.swf_text.proofs.Plains.{solid_fields}
 -- the lines of a text: the first one, and those behind it
 pub use Rattle.swf_text.proofs.Texts.{line_found, rest_found, line_none, rest_none, lines-next, after-shorter}
+-- lines that are added one after another
+pub use Rattle.swf_text.proofs.Texts.{with_lines-append, read_none, at_end}
+-- what a reading answers, and the line that was being read
+pub use Rattle.swf_text.proofs.Outcomes.{gives_text, gives_only, gives_fault, reached}
 -- a number that is read exactly
 pub use Rattle.swf_text.proofs.Grammars.{exact_number}
 -- the canonical spelling of a value spells it
@@ -17,5 +21,7 @@ pub use Rattle.swf_text.proofs.Writings.{front_more, front_after, writes_then}
 pub use Rattle.swf_text.proofs.Trips.{read_again}
 -- a text that is read by the bounds of its lines
 pub use Rattle.swf_text.proofs.Bounds.{readings_at}
+-- the fault of a line among others
+pub use Rattle.swf_text.proofs.Bounds.{lines_fault}
 -- what holds of each text that was read
-pub use Rattle.swf_text.proofs.Kept.{text_sound, one_text}
+pub use Rattle.swf_text.proofs.Kept.{text_sound, one_text, gives_comments}

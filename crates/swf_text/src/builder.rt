@@ -1,4 +1,4 @@
-ghost use Rattle.std.specs.Prelude.{◌≡◌, ◌+◌, ◌-◌, ◌≤◌, ℕ, List, length, slice_get, OnOk, Some, true};
+ghost use Rattle.std.specs.Prelude.{◌≡◌, ◌+◌, ◌-◌, ◌≤◌, ℕ, List, length, slice_get, OnErr, OnOk, Some, true};
 ghost use Rattle.std.specs.List.{AllByRecursion, count_by};
 ghost use Rattle.swf_text.specs.Entry.{IsEntry, LogEntry, field, whole_number, is_partial, has_number};
 ghost use Rattle.swf_text.specs.Text.{empty};
@@ -9,6 +9,7 @@ use crate::entry::Entry;
 use crate::fault::FaultKind;
 use crate::limits::ENTRY_LIMIT;
 use crate::line::{Fields, LineRead};
+use crate::memory::Memory;
 use crate::scan::{from_first, read_line, without_returns};
 use crate::seen::SeenNumbers;
 use crate::text::SwfText;
@@ -16,9 +17,10 @@ use crate::value::Value;
 use std::alloc::Allocator;
 use std::marker::Model;
 
-/// The part of a log that was read, and the numbers of its jobs.
+/// The part of a log that was read, line after line from the first one on, and the numbers of its
+/// jobs. Contracts see it as the comments and entries that it has.
 #[derive(Drop)]
-pub(crate) struct Builder<A: Allocator + Copy> {
+pub struct Builder<A: Allocator + Copy> {
     comments: Vec<Vec<u8, A>, A>,
     entries: Vec<Entry<A>, A>,
     numbers: SeenNumbers<A>,
@@ -50,6 +52,7 @@ fn add_part<A: Allocator + Copy>(
     ensures sound { AllByRecursion IsEntry entries.old.items → AllByRecursion IsEntry entries.new.items }
     ensures count { length entries.new.items ≡ length entries.old.items }
     ensures numbers { (n : ℕ) → count_by (has_number n) entries.new.items ≡ count_by (has_number n) entries.old.items }
+    ensures kept { OnErr result (entries.new.items ≡ entries.old.items) }
 {
     // Named here since the check has to be told of the type.
     let _number: &Value = &part.0[0];
@@ -66,8 +69,8 @@ fn add_part<A: Allocator + Copy>(
 }
 
 impl<A: Allocator + Copy> Builder<A> {
-    // Nothing read yet.
-    pub(crate) fn new(alloc: A) -> Builder<A>
+    /// Nothing read yet. Takes no memory.
+    pub fn new(alloc: A) -> Builder<A>
         ensures { result ≡ empty }
     {
         Builder {
@@ -77,9 +80,20 @@ impl<A: Allocator + Copy> Builder<A> {
         }
     }
 
+    /// Makes room for this many more entries, or for as many as a log may have, so that those that
+    /// are there are not moved when others come. Memory where the growth was refused; the room and
+    /// what was read are then as they were.
+    pub fn make_room(&mut self, entries: usize) -> Result<(), Memory>
+        ensures { self.new ≡ self.old }
+    {
+        self.entries.reserve(entries.min(ENTRY_LIMIT))?;
+        Ok(())
+    }
+
     // Adds a job line: an entry, or a part of the last one.
     fn add_job(&mut self, alloc: A, job: Fields) -> Result<(), FaultKind>
-        ensures { Adds self.new result (with_job self.old job.0) }
+        ensures adds { Adds self.new result (with_job self.old job.0) }
+        ensures kept { OnErr result (self.new ≡ self.old) }
     {
         let Some(number) = job_number(&job) else {
             return Err(FaultKind::BadJobNumber);
@@ -102,14 +116,15 @@ impl<A: Allocator + Copy> Builder<A> {
         Ok(())
     }
 
-    // Adds what a line holds, given its reading.
-    pub(crate) fn add_read(
-        &mut self,
-        alloc: A,
-        line: &[u8],
-        read: LineRead,
-    ) -> Result<(), FaultKind>
-        ensures { Adds self.new result (with_read self.old line.now read) }
+    /// Adds what the next line holds, given as it stands, without its line feed, and as `read_line`
+    /// reads it: nothing for blanks, a comment, an entry, or a part of the last entry.
+    ///
+    /// Its fault is that of the line by itself; then, of a job line, the first among the lines
+    /// before it, in the order of `FaultKind`; or `Memory` where a growth was refused. With a fault
+    /// nothing is added.
+    pub fn add_read(&mut self, alloc: A, line: &[u8], read: LineRead) -> Result<(), FaultKind>
+        ensures adds { Adds self.new result (with_read self.old line.now read) }
+        ensures kept { OnErr result (self.new ≡ self.old) }
     {
         match read {
             LineRead::Blank => Ok(()),
@@ -131,8 +146,8 @@ impl<A: Allocator + Copy> Builder<A> {
         self.add_read(alloc, line, read_line(line))
     }
 
-    // The log that was read.
-    pub(crate) fn finish(self) -> SwfText<A>
+    /// The log that was read. Takes no memory.
+    pub fn finish(self) -> SwfText<A>
         ensures { result ≡ self }
     {
         let Builder {

@@ -149,6 +149,7 @@ impl<A: Allocator + Copy> Entry<A> {
         ensures main { self.new.main ≡ self.old.main }
         ensures entry { IsEntry self.new }
         ensures added { OnOk result (self.new ≡ record self.old { parts = self.old.parts ++ part.0 ∷ [] }) }
+        ensures kept { OnErr result (self.new ≡ self.old) }
     {
         self.parts.push(part)
     }

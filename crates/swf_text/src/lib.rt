@@ -22,6 +22,7 @@ mod walk;
 mod writer;
 
 pub use assembly::{assemble, line_at, line_bounds};
+pub use builder::Builder;
 pub use entry::Entry;
 pub use fault::{EntryFault, FaultKind, SwfFault, WriteFault};
 pub use header::{digits_value, header_number};
@@ -30,7 +31,7 @@ pub use limits::{ENTRY_LIMIT, LINE_LIMIT};
 pub use line::{Fields, LineFault, LineRead};
 pub use memory::Memory;
 pub use number::{are_digits, read_digits};
-pub use reader::read_swf;
+pub use reader::{read_swf, split_line};
 pub use scan::{from_first, next_word, read_line, without_returns};
 pub use text::SwfText;
 pub use value::Value;

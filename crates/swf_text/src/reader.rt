@@ -11,8 +11,9 @@ use crate::text::SwfText;
 use memchr::memchr;
 use std::alloc::Allocator;
 
-// The bytes before the first line feed, and those after it.
-pub(crate) fn split_line(bytes: &[u8]) -> (&[u8], &[u8])
+/// The bytes before the first line feed, and those after it; all of them and none where there is no
+/// line feed. Takes no memory.
+pub fn split_line(bytes: &[u8]) -> (&[u8], &[u8])
     ensures line { result.0.now ≡ before_first is_feed bytes.now }
     ensures rest { result.1.now ≡ after_first is_feed bytes.now }
 {

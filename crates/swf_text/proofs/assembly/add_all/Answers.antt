@@ -14,7 +14,7 @@ returns-in-Err-clause-exact g c =
     let counts = same_count c.args.bytes.now c.args.bounds.now c.args.readings.now c.requires.bounds c.requires.readings in
     let step = step_at c.args.bytes.now c.args.bounds.now c.args.readings.now c.requires.bounds c.requires.readings c.loop-place.text c.loop-place.place (0, 0) c.index-readings-place.result c.line_at-line.result.now c.loop-place-test.true c.index-readings-place.is c.line_at-line.ensures in
     subst (FailsAt c.in-Err.kind (c.loop-place.place + 1)) c.loop-place.invariant.read
-    (lines_fault c.in-Err.kind (c.loop-place.place + 1) c.loop-place.text (lines c.args.bytes.now) c.loop-place.place (omega (arith, counts, c.loop-place-test.true)) (subst (Fails c.in-Err.kind) step c.in-Err.ensures))
+    (lines_fault c.in-Err.kind (c.loop-place.place + 1) c.loop-place.text (lines c.args.bytes.now) c.loop-place.place (omega (arith, counts, c.loop-place-test.true)) (subst (Fails c.in-Err.kind) step c.in-Err.ensures.adds))
 
 pub returns-in-Err-clause-reached : goal.returns-in-Err-clause-reached
 returns-in-Err-clause-reached g c =
@@ -31,7 +31,7 @@ loop-place-preserved g c =
     let counts = same_count c.args.bytes.now c.args.bounds.now c.args.readings.now c.requires.bounds c.requires.readings in
     let step = step_at c.args.bytes.now c.args.bounds.now c.args.readings.now c.requires.bounds c.requires.readings c.loop-place.text c.loop-place.place (0, 0) c.index-readings-place.result c.line_at-line.result.now c.loop-place-test.true c.index-readings-place.is c.line_at-line.ensures in
     let within : c.loop-place.place < length (lines c.args.bytes.now) = omega (arith, counts, c.loop-place-test.true) in
-    let added : with_line c.loop-place.text (get_or (lines c.args.bytes.now) c.loop-place.place []) ≡ Ok c.add_read.new.self = sym step ∙ c.in_default.ensures in
+    let added : with_line c.loop-place.text (get_or (lines c.args.bytes.now) c.loop-place.place []) ≡ Ok c.add_read.new.self = sym step ∙ c.in_default.ensures.adds in
     record {
       read = sym (lines_next (c.loop-place.place + 1) c.loop-place.text c.add_read.new.self (lines c.args.bytes.now) c.loop-place.place within added) ∙ c.loop-place.invariant.read;
       done = lines_more (lines c.args.bytes.now) c.loop-place.place c.loop-place.text c.add_read.new.self within c.loop-place.invariant.done added;

@@ -11,14 +11,14 @@ invariant_of-self g c = record {
   index = record { rise = c.self.invariant.index.rise; known = λ n. c.self.invariant.index.known n ∙ sym (any_same (has_number n) c.add_part.new.entries.items c.self.inside.entries.items (c.add_part.ensures.numbers n)) };
 }
 
-pub returns-then-contains : goal.returns-then-contains
-returns-then-contains g c =
+pub returns-then-contains-clause-adds : goal.returns-then-contains-clause-adds
+returns-then-contains-clause-adds g c =
     let seen : c.self.inside.entries.items ≡ c.args.self.now.entries = ap (λ (t : LogText). t.entries) c.self.view_is in
     job_known c.args.self.now c.args.job.0 c.in-Some.number (sym c.in-Some.ensures.value) (sym c.if-is_partial_line.ensures) (sym c.if-is_before_start.ensures.value)
     (seen_jobs c.self.inside.entries.items c.self.inside.entries.items c.args.self.now seen c.in-Some.number true (sym (c.self.invariant.index.known c.in-Some.number) ∙ sym c.if-contains.ensures))
 
-pub returns-then-len-ge-ENTRY_LIMIT : goal.returns-then-len-ge-ENTRY_LIMIT
-returns-then-len-ge-ENTRY_LIMIT g c =
+pub returns-then-len-ge-ENTRY_LIMIT-clause-adds : goal.returns-then-len-ge-ENTRY_LIMIT-clause-adds
+returns-then-len-ge-ENTRY_LIMIT-clause-adds g c =
     let seen : c.self.inside.entries.items ≡ c.args.self.now.entries = ap (λ (t : LogText). t.entries) c.self.view_is in
     job_late c.args.self.now c.args.job.0 c.in-Some.number (sym c.in-Some.ensures.value) (sym c.if-is_partial_line.ensures) (sym c.if-is_before_start.ensures.value)
     (seen_jobs c.self.inside.entries.items c.self.inside.entries.items c.args.self.now seen c.in-Some.number false (sym (c.self.invariant.index.known c.in-Some.number) ∙ sym c.if-contains.ensures))
@@ -44,8 +44,8 @@ invariant_of-self-2 g c =
       };
     }
 
-pub returns : goal.returns
-returns g c =
+pub returns-clause-adds : goal.returns-clause-adds
+returns-clause-adds g c =
     let done = rw c.unwrap.ensures at c.push.ensures.items in
     let job : LogEntry = c.of_main.result in
     let put : c.push.new.self.items ≡ c.self.inside.entries.items ++ job ∷ [] = done ∙ ap (λ (l : List LogEntry). l ++ job ∷ []) c.in_ok-reserve.ensures.items in

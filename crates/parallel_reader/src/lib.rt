@@ -1,0 +1,8 @@
+//! Reads a log with several threads: what each line is, side by side; what it adds to the lines
+//! before it, in order.
+#![tactic(auto)]
+
+mod batch;
+mod reader;
+
+pub use reader::read_parallel;
