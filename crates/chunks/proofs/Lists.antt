@@ -1,11 +1,11 @@
 -- A list in chunks, read as one list.
-use Rattle.std.proofs.Common.{◌≡◌, ℕ, zero, suc, ◌+◌, ◌-◌, ◌<◌, ◌≤◌, List, [], ◌∷◌, ◌++◌, length, length-drop, take, drop, get_or, slice_get, refl, ap, sym, subst, ◌∙◌, arith}
+use Rattle.std.proofs.Common.{◌≡◌, ℕ, zero, suc, ◌+◌, ◌-◌, ◌%◌, ◌<◌, ◌≤◌, List, [], ◌∷◌, ◌++◌, length, length-drop, take, drop, reverse, get_or, slice_get, refl, ap, sym, subst, ◌∙◌, arith, append_assoc, take-append-drop}
 use Rattle.std.specs.List.Sorted.{IsPartitionedBy}
 use Rattle.std.proofs.Math.Seq.{drop-append-add}
-use Rattle.std.proofs.lemmas.List.{drop-append-le, take_all}
+use Rattle.std.proofs.lemmas.List.{append-nil, drop-append-le, length-take-le, reverse-append, take_all}
 use Rattle.std.specs.declared.sync.Arc.{Arc}
 use Rattle.std.specs.declared.vec.Vec.{Vec}
-use Rattle.chunks.specs.Chunks.{flat, start, stands, place_in, touched, joining, moved, AreSized, AreWhole, AreFull}
+use Rattle.chunks.specs.Chunks.{flat, start, stands, place_in, touched, joining, moved, AreSized, AreFull}
 use Rattle.chunks.specs.Groups.{chunks_in}
 use Rattle.chunks.proofs.Changes.{flat_at}
 
@@ -13,26 +13,37 @@ add_parts : (a b c : ℕ) → a + b + c ≡ a + (b + c)
 add_parts a b c = omega arith
 
 module _ {X : Type 0} where
-  -- ---- whole chunks
-  pub whole_push : (cs ds : List (List X)) (c : List X) → ds ≡ cs ++ c ∷ [] → AreWhole cs → length c ≡ 256 → AreWhole ds
-  whole_push cs ds c e w h = subst AreWhole (sym e) (go cs w)
-    where
-      go : (bs : List (List X)) → AreWhole bs → AreWhole (bs ++ c ∷ [])
-      go [] t = (h, tt)
-      go (b ∷ bs) t = (t.0, go bs t.1)
+  -- ---- chunks cut off from the end of a list, the last of them first
+  pub record AreCutOff (left all : List X) (cut : List (List X)) : Type 0 where
+    pub rest : left ++ flat (reverse cut) ≡ all
+    pub sized : AreSized (reverse cut)
+    pub full : AreFull (reverse cut)
+    pub whole : 1 ≤ length (reverse cut) → length left % 256 ≡ 0
 
-  pub whole_full : (cs : List (List X)) → AreWhole cs → AreFull cs
-  whole_full [] w = tt
-  whole_full (c ∷ []) w = tt
-  whole_full (c ∷ d ∷ cs) w = (w.0, whole_full (d ∷ cs) w.1)
+  pub cut_none : (left all : List X) (cut : List (List X)) → left ≡ all → cut ≡ [] → AreCutOff left all cut
+  cut_none left all cut e f = subst (AreCutOff left all) (sym f) (record { rest = append-nil left ∙ e; sized = tt; full = tt; whole = λ low. absurd (omega (arith, low)) })
 
-  pub full_push : (cs ds : List (List X)) (c : List X) → ds ≡ cs ++ c ∷ [] → AreWhole cs → AreFull ds
-  full_push cs ds c e w = subst AreFull (sym e) (go cs w)
-    where
-      go : (bs : List (List X)) → AreWhole bs → AreFull (bs ++ c ∷ [])
-      go [] t = tt
-      go (b ∷ []) t = (t.0, tt)
-      go (b ∷ d ∷ bs) t = (t.0, go (d ∷ bs) t.1)
+  full_more : (chunk : List X) (cs : List (List X)) → (1 ≤ length cs → length chunk ≡ 256) → AreFull cs → AreFull (chunk ∷ cs)
+  full_more chunk [] e f = tt
+  full_more chunk (c ∷ cs) e f = (e (omega arith), f)
+
+  pub cut_more : (left all kept chunk : List X) (cut new : List (List X)) (n : ℕ) → AreCutOff left all cut → new ≡ cut ++ chunk ∷ [] → kept ≡ take n left → chunk ≡ drop n left
+      → n < length left → length left ≤ n + 256 → n % 256 ≡ 0 → AreCutOff kept all new
+  cut_more left all kept chunk cut new n before push keep off low high whole =
+      let back : reverse new ≡ chunk ∷ reverse cut = ap reverse push ∙ reverse-append cut (chunk ∷ []) in
+      let long : length chunk ≡ length left - n = ap length off ∙ length-drop n left in
+      let short : length kept ≡ n = ap length keep ∙ length-take-le n left (omega arith) in
+      record {
+        rest = ap (λ (cs : List (List X)). kept ++ flat cs) back ∙ sym (append_assoc kept chunk (flat (reverse cut)))
+            ∙ ap (λ (x : List X). x ++ flat (reverse cut)) (ap (λ (x : List X). x ++ chunk) keep ∙ ap (λ (x : List X). take n left ++ x) off ∙ take-append-drop n left) ∙ before.rest;
+        sized = subst AreSized (sym back) (record { low = omega (arith, long); high = omega (arith, long) }, before.sized);
+        full = subst AreFull (sym back) (full_more chunk (reverse cut) (λ some. let e = before.whole some in omega (arith, long, e)) before.full);
+        whole = λ some. omega (arith, short);
+      }
+
+  -- and all of them, once nothing is left
+  pub cut_all : (left all : List X) (cut : List (List X)) → AreCutOff left all cut → left ≡ [] → flat (reverse cut) ≡ all
+  cut_all left all cut before none = sym (ap (λ (x : List X). x ++ flat (reverse cut)) none) ∙ before.rest
 
   -- ---- one chunk more at the end
   pub sized_push : (cs : List (List X)) (c : List X) → AreSized cs → 1 ≤ length c → length c ≤ 256 → AreSized (cs ++ c ∷ [])

@@ -1,5 +1,6 @@
 -- Rows of shared chunks, read as lists.
-use Rattle.std.proofs.Common.{◌≡◌, ℕ, ◌+◌, ◌<◌, List, [], ◌∷◌, ◌++◌, length, take, drop, get_or, ap, sym, ◌∙◌, append_assoc, take-append-drop}
+use Rattle.std.proofs.Common.{◌≡◌, ℕ, ◌+◌, ◌<◌, List, [], ◌∷◌, ◌++◌, length, take, drop, reverse, get_or, refl, ap, sym, ◌∙◌, append_assoc, take-append-drop}
+use Rattle.std.proofs.lemmas.Grind.{reverse_onto}
 use Rattle.std.proofs.lemmas.List.{map_push, take_more, get_or-map, append-nil, length-map, take-map, drop-map}
 use Rattle.std.specs.declared.sync.Arc.{Arc}
 use Rattle.std.specs.declared.vec.Vec.{Vec}
@@ -13,6 +14,16 @@ module _ {X A : Type 0} where
   -- the elements of a shared chunk
   abbrev pub items_of : Arc (Vec X A) A → List X
   items_of chunk = chunk.value.items
+
+  -- a row in the other order
+  turned-go : (row : List (Arc (Vec X A) A)) → contents (reverse row) ≡ reverse (contents row)
+  turned-go [] = refl
+  turned-go (chunk ∷ row) =
+      ap contents (reverse_onto row chunk []) ∙ map_push items_of (reverse row) chunk ∙ ap (λ (r : List (List X)). r ++ items_of chunk ∷ []) (turned-go row)
+      ∙ sym (reverse_onto (contents row) (items_of chunk) [])
+
+  pub turned : (row new : List (Arc (Vec X A) A)) → new ≡ reverse row → contents new ≡ reverse (contents row)
+  turned row new e = ap contents e ∙ turned-go row
 
   -- one more shared chunk at the end
   pub shared_more : (start row more after : List (Arc (Vec X A) A)) (i : ℕ) (item fresh : Arc (Vec X A) A) → i < length more → contents row ≡ contents start ++ take i (contents more)

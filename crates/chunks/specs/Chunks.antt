@@ -39,11 +39,6 @@ module _ {X : Type 0} where
   touched place (chunk ∷ []) = length chunk
   touched place (chunk ∷ next ∷ later) = if nat_lt place (length chunk) then length chunk else touched (place - length chunk) (next ∷ later)
 
-  -- each chunk has 256 elements
-  abbrev pub AreWhole : List (List X) → Type 0
-  AreWhole [] = Unit {0}
-  AreWhole (chunk ∷ chunks) = (length chunk ≡ 256) × AreWhole chunks
-
   -- each chunk but the last has 256 elements
   abbrev pub AreFull : List (List X) → Type 0
   AreFull [] = Unit {0}

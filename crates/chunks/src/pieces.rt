@@ -1,5 +1,5 @@
-ghost use Rattle.std.specs.Prelude.{◌≡◌, ◌≤◌, ◌<◌, ◌+◌, ◌++◌, ◌∷◌, [], IfOk, OnOk, length, vec_len};
-ghost use Rattle.chunks.specs.Chunks.{AreFull, AreSized, AreWhole, contents, flat, moved};
+ghost use Rattle.std.specs.Prelude.{◌≡◌, ◌≤◌, ◌<◌, ◌+◌, ◌%◌, ◌++◌, ◌∷◌, [], IfOk, OnOk, length, vec_len};
+ghost use Rattle.chunks.specs.Chunks.{AreFull, AreSized, contents, flat, moved};
 
 use crate::copied::Copied;
 use std::alloc::Allocator;
@@ -93,6 +93,16 @@ pub(crate) fn joined<T: Drop, A: Allocator + Copy>(
     Ok(row)
 }
 
+// Where the last chunk of so many elements starts.
+fn last_start(len: usize) -> usize
+    requires { 1 ≤ len }
+    ensures some { result < len }
+    ensures most { len ≤ result + 256 }
+    ensures whole { result % 256 ≡ 0 }
+{
+    (len - 1) / CHUNK_LIMIT * CHUNK_LIMIT
+}
+
 // One chunk more at the end of a row.
 fn push_chunk<T: Drop, A: Allocator + Copy>(
     alloc: A,
@@ -105,48 +115,22 @@ fn push_chunk<T: Drop, A: Allocator + Copy>(
     Ok(())
 }
 
-// The tail chunk with one element more; where it is full, it joins the row and another is opened.
-fn put_last<T: Drop, A: Allocator + Copy>(
-    alloc: A,
-    row: &mut Vec<Chunk<T, A>, A>,
-    mut tail: Vec<T, A>,
-    item: T,
-) -> Result<Vec<T, A>, Memory>
-    requires most { vec_len tail ≤ 256 }
-    requires sized { AreSized (contents row.old.items) }
-    requires whole { AreWhole (contents row.old.items) }
-    ensures flat { IfOk result (λ new. flat (contents row.new.items) ++ new.items ≡ flat (contents row.old.items) ++ tail.items ++ item ∷ []) }
-    ensures sized { OnOk result (AreSized (contents row.new.items)) }
-    ensures whole { OnOk result (AreWhole (contents row.new.items)) }
-    ensures most { IfOk result (λ new. vec_len new ≤ 256) }
-{
-    if tail.len() < CHUNK_LIMIT {
-        tail.push(item)?;
-        return Ok(tail);
-    }
-    push_chunk(alloc, row, tail)?;
-    let mut next = Vec::with_capacity(alloc, CHUNK_LIMIT)?;
-    next.push(item)?;
-    Ok(next)
-}
-
-// The chunks of a list, each but the last of them full.
+// The chunks of a list, each but the last of them full. Its elements move once, into their chunk,
+// those of the last chunk first.
 pub(crate) fn chunks_of<T: Drop, A: Allocator + Copy>(
     alloc: A,
-    items: Vec<T, A>,
+    mut items: Vec<T, A>,
 ) -> Result<Vec<Chunk<T, A>, A>, Memory>
     ensures flat { IfOk result (λ row. flat (contents row.items) ≡ items.items) }
     ensures sized { IfOk result (λ row. AreSized (contents row.items)) }
     ensures full { IfOk result (λ row. AreFull (contents row.items)) }
 {
     let mut row = Vec::with_capacity(alloc, items.len() / CHUNK_LIMIT + 1)?;
-    let mut tail = Vec::new(alloc);
-    for item in items {
-        tail = put_last(alloc, &mut row, tail, item)?;
+    'chunks: while !items.is_empty() {
+        let before = last_start(items.len());
+        let chunk = items.split_off(before)?;
+        push_chunk(alloc, &mut row, chunk)?;
     }
-    if tail.is_empty() {
-        return Ok(row);
-    }
-    push_chunk(alloc, &mut row, tail)?;
+    row.reverse();
     Ok(row)
 }

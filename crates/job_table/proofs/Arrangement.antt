@@ -1,15 +1,16 @@
 -- A collection has one rising arrangement: by two numbers of each element, the second of which no two share.
-use Rattle.std.proofs.Common.{◌≡◌, ◌≢◌, ◌⊎◌, ℕ, suc, ◌+◌, ◌≤◌, ◌<◌, List, [], ◌∷◌, length, get_or, subst, Bool, true, false, ◌&&◌, ◌||◌, ◌==◌, nat_lt, nat_eq, cond, All, count_by, refl, sym, ◌∙◌, arith, inl, inr}
+use Rattle.std.proofs.Common.{◌≡◌, ◌≢◌, ◌⊎◌, ℕ, suc, ◌+◌, ◌≤◌, ◌<◌, List, [], ◌∷◌, length, get_or, subst, Bool, true, false, nat_eq, cond, All, count_by, refl, sym, ◌∙◌, arith, inl, inr}
 use Rattle.std.specs.List.Sorted.{IsPermutation}
 use Rattle.std.proofs.lemmas.List.Sorted.{IsPermutation-sym, All-permutation, sum_by-IsPermutation}
 use Rattle.std.proofs.lemmas.List.Sums.{sum_by-cons}
 use Rattle.std.proofs.lemmas.List.Elements.{All-nil, All-cons, All-head, All-tail, All-weaker}
 use Rattle.std.proofs.lemmas.Bool.{cond-true, eq-eqb, true≢false}
 use Rattle.std.proofs.lemmas.Bool.Decides.{nat_tests}
+use Rattle.swf_text.specs.Log.{submits_before}
 
 -- the pair (s, n) comes before (t, m)
 abbrev pub comes : ℕ → ℕ → ℕ → ℕ → Bool
-comes s n t m = nat_lt s t || (s == t && nat_lt n m)
+comes s n t m = submits_before s n t m
 
 pub comes-trans : (a b c d e f : ℕ) → comes a b c d ≡ true → comes c d e f ≡ true → comes a b e f ≡ true
 comes-trans a b c d e f h k = grind (arith, nat_tests)

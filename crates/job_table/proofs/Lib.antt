@@ -8,6 +8,7 @@ mod Versions
 mod Same
 mod Lookups
 mod Sorted
+mod InOrder
 mod Edited
 mod Stored
 mod Accepted

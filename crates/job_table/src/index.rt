@@ -1,4 +1,5 @@
 ghost use Rattle.std.specs.Prelude.{◌≡◌, ◌≤◌, ◌<◌, ◌+◌, ◌==◌, ℕ, IfOk, OnOk, Some, None, true, is_some, length, map, if◌then◌else◌};
+ghost use Rattle.std.specs.List.Sorted.{IsNonDecreasingBy, IsPermutation};
 ghost use Rattle.chunks.specs.Chunks.{flat, joining, place_in, touched};
 ghost use Rattle.job_table.specs.Arranged.{IsDistinct};
 ghost use Rattle.job_table.specs.Table.{IsIndex, NumbersRise, number_in, pair_of, second_of};
@@ -25,13 +26,28 @@ fn pairs_of<A: Allocator + Copy>(alloc: A, rows: &[Entry<A>]) -> Result<Vec<Numb
     Ok(pairs)
 }
 
+// Puts pairs in order of their numbers. Those that stand so are left, and no memory is taken.
+fn sort_pairs<A: Allocator + Copy>(pairs: &mut Vec<Numbered, A>) -> Result<(), Memory>
+    ensures same { OnOk result (IsPermutation pairs.old.items pairs.new.items) }
+    ensures order { OnOk result (IsNonDecreasingBy number_in pairs.new.items) }
+{
+    let rising = pairs
+        .as_slice()
+        .is_sorted_by(|one, next| one.number <= next.number);
+    if rising {
+        return Ok(());
+    }
+    pairs.sort_by_key(|pair| pair.number)?;
+    Ok(())
+}
+
 // The index of these entries.
 pub(crate) fn index_of<A: Allocator + Copy>(alloc: A, rows: &[Entry<A>]) -> Result<Index<A>, Memory>
     requires { IsDistinct rows.now }
     ensures { IfOk result (λ index. IsIndex (flat index) rows.now) }
 {
     let mut pairs = pairs_of(alloc, rows)?;
-    pairs.sort_by_key(|pair| pair.number)?;
+    sort_pairs(&mut pairs)?;
     Ok(Chunks::of(alloc, pairs)?)
 }
 

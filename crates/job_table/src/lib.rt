@@ -2,6 +2,7 @@
 //! least one for each chunk that it makes anew, and at most 1,024.
 #![tactic(auto)]
 
+mod arranging;
 mod cursor;
 mod edit;
 mod fault;

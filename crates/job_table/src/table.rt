@@ -8,6 +8,7 @@ ghost use Rattle.job_table.specs.Counted.{fewest};
 ghost use Rattle.job_table.specs.Edit.{Change, Insert, Remove, edit_of, entry_of, holds, without, changed, applied, change_fault, fault_of, IsRefusal};
 ghost use Rattle.job_table.specs.Table.{IsTable, entries_from};
 
+use crate::arranging::arrange;
 use crate::cursor::Cursor;
 use crate::edit::Edit;
 use crate::fault::EditFault;
@@ -71,14 +72,14 @@ impl<A: Allocator + Copy> JobTable<A> {
         Ok(JobTable::of_entries(alloc, entries)?)
     }
 
-    /// The table of these entries, which it takes over. Its condition is what holds of every log: job
-    /// numbers are distinct, and there are at most 4,194,304 entries. Memory where a growth was
-    /// refused.
+    /// The table of these entries, which it takes over: each moves once, into its chunk. Those in
+    /// order are not sorted. Its condition is what holds of every log: job numbers are distinct, and
+    /// there are at most 4,194,304 entries. Memory where a growth was refused.
     pub fn of_entries(alloc: A, mut entries: Vec<Entry<A>, A>) -> Result<JobTable<A>, Memory>
         requires { IsLog entries.items }
         ensures { IfOk result (λ table. table ≡ log_of entries.items) }
     {
-        entries.sort_by_key(|entry| (entry.submit(), entry.number()))?;
+        arrange(&mut entries)?;
         let index = index_of(alloc, entries.as_slice())?;
         let len = entries.len();
         let rows = Chunks::of(alloc, entries)?;

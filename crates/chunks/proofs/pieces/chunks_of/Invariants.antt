@@ -1,6 +1,10 @@
-use Rattle.std.proofs.Common.{◌≡◌, ◌≤◌, ◌++◌, vec_len}
-use Rattle.chunks.specs.Chunks.{AreSized, AreWhole, contents, flat}
+use Rattle.std.proofs.Common.{vec_len}
+use Rattle.chunks.specs.Chunks.{contents}
+use Rattle.chunks.proofs.Lists.{AreCutOff}
 use Rattle.chunks.proofs.pieces.chunks_of.Given as goal
 
-abbrev pub invariant-loop-item : goal.invariant-loop-item
-invariant-loop-item g l = (flat (contents l.row.items) ++ l.tail.items ≡ l.yielded) × AreSized (contents l.row.items) × AreWhole (contents l.row.items) × (vec_len l.tail ≤ 256)
+abbrev pub invariant-chunks : goal.invariant-chunks
+invariant-chunks g l = AreCutOff l.items.items l.fn.items.items (contents l.row.items)
+
+abbrev pub decreases-chunks : goal.decreases-chunks
+decreases-chunks g l = vec_len l.items
