@@ -4,8 +4,11 @@ mod Totals
 mod Lookups
 mod Searches
 mod Found
+mod Known
+mod Counting
+mod Told
 mod Placing
-mod Rows
+mod EachRow
 mod Worked
 mod Coming
 mod Alike

@@ -3,6 +3,7 @@ pub mod Cut
 pub mod Coming
 pub mod Sums
 pub mod Schedule
+pub mod Starts
 pub mod Spacing
 pub mod RunView
 pub mod Names

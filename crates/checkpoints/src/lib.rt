@@ -7,15 +7,18 @@ mod fault;
 pub mod laws;
 mod parts;
 mod row;
+mod rows;
 mod run;
 mod schedule;
 mod segment;
 mod simulation;
+mod starts;
 mod sums;
 
 pub use cutting::{comes_before, next_segment};
 pub use fault::RunFault;
 pub use row::Row;
+pub use rows::Rows;
 pub use run::Run;
 pub use segment::Segment;
 pub use simulation::{MAX_SPACING, simulate};

@@ -1,13 +1,15 @@
-ghost use Rattle.std.specs.Prelude.{◌≡◌, map, length, IfOk};
+ghost use Rattle.std.specs.Prelude.{◌≡◌, ◌≤◌, ◌+◌, map, length, IfOk};
 ghost use Rattle.std.specs.Arc.{arc_value};
 
 use crate::row::Row;
-use crate::schedule::{rows_of, start_in, starts_in};
+use crate::rows::Rows;
+use crate::schedule::{listed, start_in};
 use crate::segment::Segment;
+use crate::starts::Starts;
 use crate::sums::tables_of;
 use job_table::JobTable;
 use metrics::Tables;
-use scenarios::{Plan, Scenario};
+use scenarios::{Plan, Scenario, Skips};
 use std::alloc::Allocator;
 use std::marker::Model;
 use std::sync::Arc;
@@ -141,6 +143,25 @@ impl<A: Allocator + Copy> Run<A> {
         start_in(&self.segments.as_slice()[later.saturating_sub(1)..], number)
     }
 
+    // How many jobs are simulated: all entries but those that are skipped.
+    fn job_count(&self) -> usize
+        ensures { result ≡ length (jobs_of self.now.log self.now.setting) }
+    {
+        kept_of(self.plan.table().len(), &self.tables.overall().skips)
+    }
+
+    /// The rows of the schedule: one for each job that is simulated, in the order of the log, each made
+    /// when it is asked for. Memory where a growth was refused.
+    pub fn rows(&self) -> Result<Rows<'_, A>, Memory>
+        ensures rows { IfOk result (λ rows. rows ≡ rows_of (plan_of self.now.log self.now.setting)) }
+        ensures each { IfOk result (λ rows. map (λ r. r.number) rows ≡ map (λ j. j.number) (jobs_of self.now.log self.now.setting)) }
+        ensures count { IfOk result (λ rows. length rows ≡ length (jobs_of self.now.log self.now.setting)) }
+    {
+        let starts = Starts::of(self.alloc, self.segments.as_slice())?;
+        let plan = self.plan.view();
+        Ok(Rows::new(starts, plan.jobs(), self.job_count()))
+    }
+
     /// The schedule: a row for each job that is simulated, in the order of the log. Memory where a
     /// growth was refused.
     pub fn schedule(&self) -> Result<Vec<Row, A>, Memory>
@@ -148,9 +169,16 @@ impl<A: Allocator + Copy> Run<A> {
         ensures each { IfOk result (λ rows. map (λ r. r.number) rows.items ≡ map (λ j. j.number) (jobs_of self.now.log self.now.setting)) }
         ensures count { IfOk result (λ rows. length rows.items ≡ length (jobs_of self.now.log self.now.setting)) }
     {
-        let plan = self.plan.view();
-        let starts = starts_in(self.alloc, self.segments.as_slice())?;
-        let rows = rows_of(self.alloc, &plan, starts)?;
-        Ok(rows)
+        let rows = self.rows()?;
+        Ok(listed(self.alloc, rows)?)
     }
+}
+
+// How many of so many entries are left when these are skipped.
+fn kept_of(count: usize, skips: &Skips) -> usize
+    requires { skips.now.size + skips.now.run + skips.now.large + skips.now.long ≤ count }
+    ensures { skips.now.size + skips.now.run + skips.now.large + skips.now.long + result ≡ count }
+{
+    let skipped = skips.size + skips.run + skips.large + skips.long;
+    count - skipped as usize
 }

@@ -5,6 +5,7 @@
 mod days;
 mod entries;
 mod heading;
+mod line;
 mod pieces;
 mod schedule;
 mod side;

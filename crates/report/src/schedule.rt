@@ -4,8 +4,9 @@ ghost use Rattle.std.specs.Prelude.{◌≡◌, ◌++◌, OnOk, IfOk};
 ghost use Rattle.report.specs.Schedule.{row_line, rows_text};
 
 use crate::heading::push_heading;
-use crate::pieces::{push_aligned, push_cell, push_verdict};
-use checkpoints::Row;
+use crate::line::{ROOM, put_cell, put_right};
+use crate::pieces::push_verdict;
+use checkpoints::{Row, Rows};
 use std::alloc::{AllocError, Allocator};
 
 /// Room for the line of a job whose numbers fit their columns.
@@ -15,11 +16,13 @@ const LINE: usize = 56;
 fn push_row<A: Allocator + Copy>(text: &mut Vec<u8, A>, row: &Row) -> Result<(), AllocError>
     ensures { OnOk result (text.new.items ≡ text.old.items ++ row_line row.now) }
 {
-    push_aligned(text, row.number, 8)?;
-    push_cell(text, row.submit, 10)?;
-    push_cell(text, row.start, 10)?;
-    push_cell(text, row.end, 10)?;
-    push_cell(text, row.size, 8)?;
+    let mut line = [b' '; ROOM];
+    let size = put_cell(&mut line, ROOM, row.size, 8);
+    let end = put_cell(&mut line, size, row.end, 10);
+    let start = put_cell(&mut line, end, row.start, 10);
+    let submit = put_cell(&mut line, start, row.submit, 10);
+    let number = put_right(&mut line, submit, row.number, 8);
+    text.extend_from_slice(&line[number..])?;
     push_verdict(text, row.killed)?;
     Ok(())
 }
@@ -29,14 +32,15 @@ pub(crate) fn rows_report<A: Allocator + Copy>(
     alloc: A,
     name: &str,
     version: u64,
-    rows: &[Row],
+    mut rows: Rows<'_, A>,
 ) -> Result<Vec<u8, A>, AllocError>
-    ensures { IfOk result (λ text. text.items ≡ rows_text name.now version rows.now) }
+    ensures { IfOk result (λ text. text.items ≡ rows_text name.now version rows.entry) }
 {
-    let mut text = Vec::with_capacity(alloc, rows.len().saturating_add(2).saturating_mul(LINE))?;
-    push_heading(&mut text, "schedule", name, version, "jobs", rows.len())?;
-    'lines: for row in rows {
-        push_row(&mut text, row)?;
+    let count = rows.left();
+    let mut text = Vec::with_capacity(alloc, count.saturating_add(2).saturating_mul(LINE))?;
+    push_heading(&mut text, "schedule", name, version, "jobs", count)?;
+    'lines: while let Some(row) = rows.next() {
+        push_row(&mut text, &row)?;
     }
     Ok(text)
 }

@@ -27,8 +27,8 @@ pub fn schedule_text<A: Allocator + Copy>(
     ensures text { IfOk result (λ text. text.items ≡ schedule_text name.now version (plan_of run.now.log run.now.setting)) }
     ensures lines { IfOk result (λ text. HasALineForEachJob name.now version (plan_of run.now.log run.now.setting) text.items) }
 {
-    let rows = run.schedule()?;
-    Ok(rows_report(alloc, name, version, rows.as_slice())?)
+    let rows = run.rows()?;
+    Ok(rows_report(alloc, name, version, rows)?)
 }
 
 /// The numbers of a run over all its jobs: how many there are and were killed, how many entries

@@ -3,7 +3,7 @@ use Rattle.std.specs.Option.{option_map}
 use Rattle.std.proofs.lemmas.List.Sorted.{IsPartitionPoint-from_clause, IsPartitionedBy-ltb}
 use Rattle.easy_rule.specs.declared.start.Start.{Start}
 use Rattle.checkpoints.proofs.Searches.{is_less, none-there, other-there, found-there}
-use Rattle.checkpoints.proofs.schedule.start_among.Goals as goal
+use Rattle.checkpoints.proofs.starts.start_among.Goals as goal
 
 abbrev number : Start → ℕ
 number x = x.number

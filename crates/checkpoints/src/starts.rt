@@ -1,0 +1,181 @@
+ghost use Rattle.std.specs.Prelude.{◌≡◌, ◌==◌, if◌then◌else◌, ℕ, ◌∷◌, map, length, [], IfOk, OnOk};
+ghost use Rattle.std.specs.Arc.{arc_value};
+ghost use Rattle.std.specs.Option.{option_or};
+ghost use Rattle.std.specs.List.Sorted.{IsNonDecreasingBy};
+ghost use Rattle.easy_rule.specs.Simulation.{start_of};
+ghost use Rattle.checkpoints.specs.Cut.{all_starts};
+ghost use Rattle.checkpoints.specs.Starts.{known_start, place_count, place_in, start_in};
+
+use crate::segment::Segment;
+use easy_rule::Start;
+use std::alloc::{AllocError, Allocator};
+use std::marker::Model;
+use std::sync::Arc;
+use swf_text::Memory;
+
+/// How many places a start may cost, so that each number from the least to the greatest has one.
+const PLACES: u64 = 4;
+
+/// The starts of some segments, by number. Where the numbers lie dense, each has a place of its own;
+/// otherwise starts are sorted.
+#[derive(Drop)]
+pub(crate) struct Starts<A: Allocator + Copy> {
+    least: u64,
+    places: Vec<Option<u64>, A>,
+    others: Vec<Start, A>,
+}
+
+impl<A: Allocator + Copy> Model for Starts<A> {
+    ghost use Rattle.std.specs.List.Sorted.{IsNonDecreasingBy};
+    ghost use Rattle.checkpoints.specs.Starts.{KnownStarts};
+
+    ghost Value = { KnownStarts };
+
+    ghost view = { λ s. record { least = s.least; places = s.places.items; others = s.others.items } };
+
+    ghost invariant = { λ s. IsNonDecreasingBy (λ x. x.number) s.others.items };
+}
+
+impl<A: Allocator + Copy> Starts<A> {
+    // The starts of these segments.
+    pub(crate) fn of(alloc: A, segments: &[Arc<Segment<A>, A>]) -> Result<Starts<A>, Memory>
+        ensures { IfOk result (λ starts. (n : ℕ) → known_start starts n ≡ start_of (all_starts (map arc_value segments.now)) n) }
+    {
+        let numbers = Numbers::of(segments);
+        let least = numbers.least;
+        let mut places = Vec::new(alloc);
+        places.resize(numbers.places(), None)?;
+        let mut others = Vec::with_capacity(alloc, numbers.without_places())?;
+        for segment in segments {
+            note_all(least, &mut places, &mut others, segment.starts())?;
+        }
+        sort_by_number(&mut others)?;
+        Ok(Starts {
+            least,
+            places,
+            others,
+        })
+    }
+
+    // The second at which a number starts.
+    pub(crate) fn at(&self, number: u64) -> Option<u64>
+        ensures { result ≡ known_start self.now number }
+    {
+        match place_of(self.least, self.places.len(), number) {
+            Some(place) => self.places[place],
+            None => start_among(self.others.as_slice(), number),
+        }
+    }
+}
+
+// Of the numbers of some starts the least and the greatest, and how many starts there are. It
+// decides only how these are kept.
+#[derive(Clone, Copy)]
+struct Numbers {
+    least: u64,
+    greatest: u64,
+    count: usize,
+}
+
+impl Numbers {
+    // Those of the starts of these segments.
+    fn of<A: Allocator + Copy>(segments: &[Arc<Segment<A>, A>]) -> Numbers {
+        let mut numbers = Numbers {
+            least: u64::MAX,
+            greatest: 0,
+            count: 0,
+        };
+        for segment in segments {
+            numbers.add(segment.starts());
+        }
+        numbers
+    }
+
+    // Takes more starts in.
+    fn add(&mut self, starts: &[Start]) {
+        for start in starts {
+            self.least = self.least.min(start.number);
+            self.greatest = self.greatest.max(start.number);
+        }
+        self.count = self.count.saturating_add(starts.len());
+    }
+
+    // How many places the numbers have: one for each from the least to the greatest, or none.
+    fn places(&self) -> usize
+        ensures { result ≡ place_count self.now.least self.now.greatest self.now.count }
+    {
+        let span = self.greatest.saturating_sub(self.least);
+        if span / PLACES < self.count as u64 {
+            return (span as usize).saturating_add(1);
+        }
+        0
+    }
+
+    // How many starts have no place.
+    fn without_places(&self) -> usize
+        ensures { result ≡ (if place_count self.now.least self.now.greatest self.now.count == 0 then self.now.count else 0) }
+    {
+        if self.places() == 0 { self.count } else { 0 }
+    }
+}
+
+// The place of a number among so many, of which the first is that of the least.
+fn place_of(least: u64, len: usize, number: u64) -> Option<usize>
+    ensures { result ≡ place_in least len number }
+{
+    let place = number.checked_sub(least)? as usize;
+    if place < len { Some(place) } else { None }
+}
+
+// Notes a start, unless its number has one.
+fn note<A: Allocator + Copy>(
+    least: u64,
+    places: &mut Vec<Option<u64>, A>,
+    others: &mut Vec<Start, A>,
+    start: Start,
+) -> Result<(), Memory>
+    ensures { OnOk result ((n : ℕ) → start_in least places.new.items others.new.items n ≡ option_or (start_in least places.old.items others.old.items n) (start_of (start ∷ []) n)) }
+{
+    match place_of(least, places.len(), start.number) {
+        Some(place) => places[place] = places[place].or(Some(start.at)),
+        None => others.push(start)?,
+    }
+    Ok(())
+}
+
+// Notes starts, each unless its number has one.
+fn note_all<A: Allocator + Copy>(
+    least: u64,
+    places: &mut Vec<Option<u64>, A>,
+    others: &mut Vec<Start, A>,
+    starts: &[Start],
+) -> Result<(), Memory>
+    ensures { OnOk result ((n : ℕ) → start_in least places.new.items others.new.items n ≡ option_or (start_in least places.old.items others.old.items n) (start_of starts.now n)) }
+{
+    for start in starts {
+        note(least, places, others, *start)?;
+    }
+    Ok(())
+}
+
+// Puts starts in order of their numbers; those of one number stay as they stand.
+fn sort_by_number<A: Allocator + Copy>(starts: &mut Vec<Start, A>) -> Result<(), AllocError>
+    ensures order { OnOk result (IsNonDecreasingBy (λ x. x.number) starts.new.items) }
+    ensures starts { OnOk result ((n : ℕ) → start_of starts.new.items n ≡ start_of starts.old.items n) }
+{
+    starts.sort_by_key(|x| x.number)?;
+    Ok(())
+}
+
+// The second at which a number starts among these, which rise by number.
+fn start_among(starts: &[Start], number: u64) -> Option<u64>
+    requires { IsNonDecreasingBy (λ x. x.number) starts.now }
+    ensures { result ≡ start_of starts.now number }
+{
+    let place = starts.partition_point(|x| x.number < number);
+    let found = starts.get(place)?;
+    if found.number != number {
+        return None;
+    }
+    Some(found.at)
+}

@@ -1,0 +1,39 @@
+//! A line of numbers, put together from its end.
+
+ghost use Rattle.std.specs.Prelude.{◌≡◌, ◌≤◌, ◌+◌, ◌++◌, take, drop, replicate};
+ghost use Rattle.std.specs.Fmt.{decimal};
+ghost use Rattle.report.specs.Pieces.{right, cell};
+
+use itoa::write_digits;
+
+/// Room for five numbers, each of up to 20 digits and behind a blank.
+pub(crate) const ROOM: usize = 105;
+
+// Puts a number, at least so wide, so that it ends here. Answers where it begins.
+pub(crate) fn put_right(line: &mut [u8; ROOM], end: usize, number: u64, width: usize) -> usize
+    requires room { 20 ≤ end }
+    requires within { end ≤ 105 }
+    requires narrow { width ≤ 16 }
+    requires blank { take end line.old ≡ replicate end 32 }
+    ensures least { end ≤ result + 20 }
+    ensures most { result ≤ end }
+    ensures written { drop result line.new ≡ right width (decimal number) ++ drop end line.old }
+    ensures blank { take result line.new ≡ replicate result 32 }
+{
+    let start = write_digits(number, line, end);
+    start.min(end - width)
+}
+
+// Puts a blank, and a number at least so wide, so that it ends here. Answers where the blank is.
+pub(crate) fn put_cell(line: &mut [u8; ROOM], end: usize, number: u64, width: usize) -> usize
+    requires room { 21 ≤ end }
+    requires within { end ≤ 105 }
+    requires narrow { width ≤ 16 }
+    requires blank { take end line.old ≡ replicate end 32 }
+    ensures least { end ≤ result + 21 }
+    ensures most { result ≤ end }
+    ensures written { drop result line.new ≡ cell width number ++ drop end line.old }
+    ensures blank { take result line.new ≡ replicate result 32 }
+{
+    put_right(line, end, number, width) - 1
+}
