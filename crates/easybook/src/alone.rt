@@ -7,6 +7,8 @@ use crate::options::Options;
 use scripts::run_lines;
 use std::alloc::Allocator;
 use std::io::{Read, Write};
+use std::marker::Sync;
+use std::thread::Threads;
 
 /// The most bytes of a script.
 pub(crate) const SCRIPT_LIMIT: u64 = 16_777_216;
@@ -22,7 +24,8 @@ pub(crate) const SCRIPT_LIMIT: u64 = 16_777_216;
 /// where a growth is refused before the first command, while one refused later is an answer of
 /// the command; Write where the writer answers an error or takes no byte. Each but Write comes
 /// before the first byte is written, and on Write what was written is a beginning of a transcript.
-pub fn run_alone<R: Read + Drop, W: Write, A: Allocator + Copy>(
+pub fn run_alone<R: Read + Drop, W: Write, T: Threads + Sync, A: Allocator + Copy>(
+    rt: &T,
     alloc: A,
     script: R,
     writer: &mut W,
@@ -31,7 +34,7 @@ pub fn run_alone<R: Read + Drop, W: Write, A: Allocator + Copy>(
 ) -> Result<(), ProgramFault>
     ensures { RunsAlone A log.now options.procs (R.remaining script) (W.contents writer.old) (W.contents writer.new) result }
 {
-    let OpenedBook { book, comments } = opened_book(alloc, log, options)?;
+    let OpenedBook { book, comments } = opened_book(rt, alloc, log, options)?;
     let script = read_input(alloc, script, SCRIPT_LIMIT)?;
     run_lines(alloc, book, comments.as_slice(), script.as_slice(), writer)?;
     Ok(())

@@ -14,6 +14,8 @@ use commands::Opening;
 use job_table::JobTable;
 use scenarios::{Scenario, ScenarioList};
 use std::alloc::Allocator;
+use std::marker::Sync;
+use std::thread::Threads;
 use swf_text::Memory;
 use version_book::{AddRefusal, Book, BookFault};
 
@@ -76,7 +78,8 @@ fn add_all<A: Allocator + Copy>(
 }
 
 // The book of a log. Memory comes too where a scenario cannot be noted.
-pub(crate) fn opened_book<A: Allocator + Copy>(
+pub(crate) fn opened_book<T: Threads + Sync, A: Allocator + Copy>(
+    rt: &T,
     alloc: A,
     log: &[u8],
     options: Options,
@@ -88,7 +91,7 @@ pub(crate) fn opened_book<A: Allocator + Copy>(
         comments,
         table,
         scenarios,
-    } = opening_of(alloc, log, options.procs)?;
+    } = opening_of(rt, alloc, log, options.procs)?;
     let mut book = new_book(alloc, table, options.spacing)?;
     add_all(&mut book, &scenarios)?;
     Ok(OpenedBook { book, comments })

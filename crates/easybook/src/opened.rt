@@ -4,14 +4,17 @@ ghost use Rattle.easybook.specs.Plain.{IsFaultOf};
 
 use crate::fault::ProgramFault;
 use commands::{Opening, open_text};
+use parallel_reader::read_parallel;
 use std::alloc::Allocator;
-use swf_text::read_swf;
+use std::marker::Sync;
+use std::thread::Threads;
 
 /// The most bytes of a log.
 pub(crate) const LOG_LIMIT: usize = 1_073_741_824;
 
 // Opens a log: its jobs, its scenarios, and its other comments.
-pub(crate) fn opening_of<A: Allocator + Copy>(
+pub(crate) fn opening_of<T: Threads + Sync, A: Allocator + Copy>(
+    rt: &T,
     alloc: A,
     log: &[u8],
     procs: Option<u64>,
@@ -22,7 +25,7 @@ pub(crate) fn opening_of<A: Allocator + Copy>(
     if log.len() > LOG_LIMIT {
         return Err(ProgramFault::TooLong);
     }
-    let text = read_swf(alloc, log)?;
+    let text = read_parallel(rt, alloc, log)?;
     let opening = open_text(alloc, text, procs)?;
     Ok(opening)
 }

@@ -15,7 +15,9 @@ use report::schedule_text;
 use scenarios::Scenario;
 use std::alloc::Allocator;
 use std::io::Write;
+use std::marker::Sync;
 use std::sync::Arc;
+use std::thread::Threads;
 use swf_text::write_bytes;
 
 // The run of a table under a scenario, in segments of up to `spacing` event seconds.
@@ -56,7 +58,8 @@ fn schedule_under<A: Allocator + Copy>(
 }
 
 // The text of the schedule of the log's first scenario.
-fn schedule_of<A: Allocator + Copy>(
+fn schedule_of<T: Threads + Sync, A: Allocator + Copy>(
+    rt: &T,
     alloc: A,
     log: &[u8],
     options: Options,
@@ -67,7 +70,7 @@ fn schedule_of<A: Allocator + Copy>(
         comments: _comments,
         table,
         scenarios,
-    } = opening_of(alloc, log, options.procs)?;
+    } = opening_of(rt, alloc, log, options.procs)?;
     let Some(first) = scenarios.at(0) else {
         unreachable!()
     };
@@ -85,7 +88,8 @@ fn schedule_of<A: Allocator + Copy>(
 /// BadMachine where it has not 1 to 16,777,216; Memory where a growth is refused; Write where the
 /// writer answers an error or takes no byte. Each but Write comes before the first byte is written,
 /// and on Write what was written is a beginning of the schedule.
-pub fn run_plain<W: Write, A: Allocator + Copy>(
+pub fn run_plain<W: Write, T: Threads + Sync, A: Allocator + Copy>(
+    rt: &T,
     alloc: A,
     writer: &mut W,
     log: &[u8],
@@ -93,7 +97,7 @@ pub fn run_plain<W: Write, A: Allocator + Copy>(
 ) -> Result<(), ProgramFault>
     ensures { Answers log.now options.procs (W.contents writer.old) (W.contents writer.new) result }
 {
-    let text = schedule_of(alloc, log, options)?;
+    let text = schedule_of(rt, alloc, log, options)?;
     write_bytes(writer, text.as_slice())?;
     Ok(())
 }

@@ -16,6 +16,7 @@ use crate::words::{Words, read_words};
 use std::alloc::{Allocator, Global};
 use std::fs;
 use std::io::{ErrorKind, Read, Write};
+use std::marker::Sync;
 use std::rt::Files;
 use std::sync::Wait;
 use std::thread::Threads;
@@ -25,7 +26,8 @@ const INPUT_LIMIT: u64 = 1_200_000_000;
 
 // Reads a log, at most one byte past its limit, then a script likewise, and works the script on the
 // log. Read where either cannot be read, whatever the other holds.
-fn run_file<L: Read + Drop, R: Read + Drop, W: Write, A: Allocator + Copy>(
+fn run_file<L: Read + Drop, R: Read + Drop, W: Write, T: Threads + Sync, A: Allocator + Copy>(
+    rt: &T,
     alloc: A,
     log: L,
     script: R,
@@ -36,11 +38,19 @@ fn run_file<L: Read + Drop, R: Read + Drop, W: Write, A: Allocator + Copy>(
 {
     let log = read_front(alloc, log, LOG_LIMIT as u64)?;
     let script = read_front(alloc, script, SCRIPT_LIMIT)?;
-    run_alone(alloc, script.as_slice(), writer, log.as_slice(), options)
+    run_alone(
+        rt,
+        alloc,
+        script.as_slice(),
+        writer,
+        log.as_slice(),
+        options,
+    )
 }
 
 // Runs a log with the script behind it, if there is one.
-fn run_parts<W: Write, A: Allocator + Copy>(
+fn run_parts<W: Write, T: Threads + Sync, A: Allocator + Copy>(
+    rt: &T,
     alloc: A,
     log: &[u8],
     script: Option<&[u8]>,
@@ -50,14 +60,15 @@ fn run_parts<W: Write, A: Allocator + Copy>(
     ensures { RunsParts A log.now (option_map (λ s. s.now) script.entry) options.procs (W.contents writer.old) (W.contents writer.new) result }
 {
     match script {
-        Some(script) => run_alone(alloc, script, writer, log, options),
-        None => run_plain(alloc, writer, log, options),
+        Some(script) => run_alone(rt, alloc, script, writer, log, options),
+        None => run_plain(rt, alloc, writer, log, options),
     }
 }
 
 // Reads an input, at most 1,200,000,000 bytes, and runs the log that it holds, with the script
 // behind it, if there is one.
-fn run_input<R: Read + Drop, W: Write, A: Allocator + Copy>(
+fn run_input<R: Read + Drop, W: Write, T: Threads + Sync, A: Allocator + Copy>(
+    rt: &T,
     alloc: A,
     reader: R,
     writer: &mut W,
@@ -67,7 +78,7 @@ fn run_input<R: Read + Drop, W: Write, A: Allocator + Copy>(
 {
     let input = read_input(alloc, reader, INPUT_LIMIT)?;
     let (log, script) = split_input(input.as_slice());
-    run_parts(alloc, log, script, writer, options)
+    run_parts(rt, alloc, log, script, writer, options)
 }
 
 // Reads the scripts in these files, in their order, each at most one byte past its limit.
@@ -163,8 +174,15 @@ pub fn run_words<F: Files + Threads + Wait + Sync, R: Read + Drop, W: Write>(
         return Ok(());
     }
     match words.log {
-        Some(path) => run_file(alloc, open(files, path)?, reader, writer, words.options)?,
-        None => run_input(alloc, reader, writer, words.options)?,
+        Some(path) => run_file(
+            files,
+            alloc,
+            open(files, path)?,
+            reader,
+            writer,
+            words.options,
+        )?,
+        None => run_input(files, alloc, reader, writer, words.options)?,
     }
     Ok(())
 }

@@ -112,7 +112,7 @@ pub fn run_shared_gated<
     if !are_within(scripts) {
         return Err(ProgramFault::TooLong);
     }
-    let OpenedBook { book, comments } = opened_book(alloc, log, options)?;
+    let OpenedBook { book, comments } = opened_book(rt, alloc, log, options)?;
     let comments = comments.as_slice();
     let texts = run_scripts(rt, alloc, book, comments, scripts, options.workers, gate)?;
     write_all(writer, 1, texts.as_slice())?;

@@ -9,7 +9,9 @@ use std::sync::Wait;
 use std::thread::Threads;
 use std::{env, io};
 
-fn run<R: Env + Files + Input + Print + AllocGlobal + Threads + Wait + Sync>(rt: &R) -> Result<(), Stop> {
+fn run<R: Env + Files + Input + Print + AllocGlobal + Threads + Wait + Sync>(
+    rt: &R,
+) -> Result<(), Stop> {
     let mut args = Vec::new(rt.alloc());
     for arg in env::args(rt)? {
         args.push(arg)?;

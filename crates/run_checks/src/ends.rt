@@ -5,7 +5,11 @@ use easybook::{ProgramFault, Stop, WordsFault, read_input, run_words};
 use refusing::Refusing;
 use std::alloc::Allocator;
 use std::io::Cursor;
+use std::marker::Sync;
+use std::rt::Files;
+use std::sync::Wait;
 use std::test::Fail;
+use std::thread::Threads;
 use swf_text::{FaultKind, SwfFault};
 
 /// The four-job log.
@@ -62,7 +66,13 @@ fn reading_to_a_small_limit_tells_memory(rt: HostRuntime) -> Result<(), Fail> {
 }
 
 // Whether the program ends so, and writes this.
-fn ends(rt: &HostRuntime, words: &[&str], log: &[u8], want: Result<(), Stop>, text: &[u8]) -> bool {
+fn ends<R: AllocGlobal + Files + Threads + Wait + Sync>(
+    rt: &R,
+    words: &[&str],
+    log: &[u8],
+    want: Result<(), Stop>,
+    text: &[u8],
+) -> bool {
     let mut out = Vec::new(rt.alloc());
     let answer = run_words(rt.alloc(), rt, words, Cursor::new(log), &mut out);
     answer == want && out.as_slice() == text

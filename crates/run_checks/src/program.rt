@@ -3,6 +3,8 @@ use easybook::{Options, ProgramFault, read_input, run_alone, run_plain, split_in
 use std::alloc::Global;
 use std::io;
 use std::io::{Cursor, Read, Write};
+use std::marker::Sync;
+use std::thread::Threads;
 
 const SCHEDULE: &[u8] = b"schedule base version 0 jobs 4
        1          0          0        100        6 ok
@@ -21,15 +23,15 @@ pub(crate) fn options(procs: u64) -> Options {
 }
 
 // The fault of a run on so many processors.
-fn fault_on(alloc: Global, procs: u64) -> Option<ProgramFault> {
-    let mut out = Vec::new(alloc);
-    run_plain(alloc, &mut out, FOUR, options(procs)).err()
+fn fault_on<R: AllocGlobal + Threads + Sync>(rt: &R, procs: u64) -> Option<ProgramFault> {
+    let mut out = Vec::new(rt.alloc());
+    run_plain(rt, rt.alloc(), &mut out, FOUR, options(procs)).err()
 }
 
 #[test]
 fn refuses_machines_out_of_limits(rt: HostRuntime) {
-    assert!(rt; fault_on(rt.alloc(), 0) == Some(ProgramFault::BadMachine));
-    assert!(rt; fault_on(rt.alloc(), 16_777_217) == Some(ProgramFault::BadMachine));
+    assert!(rt; fault_on(&rt, 0) == Some(ProgramFault::BadMachine));
+    assert!(rt; fault_on(&rt, 16_777_217) == Some(ProgramFault::BadMachine));
 }
 
 const SHOWN: [(ProgramFault, &str); 6] = [
@@ -94,21 +96,25 @@ fn took(writer: &Failing, calls: u32, answer: Result<(), ProgramFault>) -> bool 
 }
 
 // Whether that holds of a writer that takes so many calls.
-fn writes_a_beginning(alloc: Global, calls: u32, takes_none: bool) -> bool {
+fn writes_a_beginning<R: AllocGlobal + Threads + Sync>(
+    rt: &R,
+    calls: u32,
+    takes_none: bool,
+) -> bool {
     let mut writer = Failing {
-        bytes: Vec::new(alloc),
+        bytes: Vec::new(rt.alloc()),
         left: calls,
         takes_none,
     };
-    let answer = run_plain(alloc, &mut writer, FOUR, options(10));
+    let answer = run_plain(rt, rt.alloc(), &mut writer, FOUR, options(10));
     took(&writer, calls, answer)
 }
 
 #[test]
 fn writes_a_beginning_where_the_writer_fails(rt: HostRuntime) {
     for calls in 0..45u32 {
-        assert!(rt; writes_a_beginning(rt.alloc(), calls, false), "{calls}");
-        assert!(rt; writes_a_beginning(rt.alloc(), calls, true), "{calls}");
+        assert!(rt; writes_a_beginning(&rt, calls, false), "{calls}");
+        assert!(rt; writes_a_beginning(&rt, calls, true), "{calls}");
     }
 }
 
@@ -165,14 +171,14 @@ fn reads_to_the_limit(rt: HostRuntime) {
 const TAKEN: [&[u8]; 4] = [b"", b"version", b"version 0\n", b"version 0\nbye\n"];
 
 // Whether a writer that takes so many calls has this, and all is well only where it is all.
-fn answers_a_beginning(alloc: Global, calls: u32, taken: &[u8]) -> bool {
+fn answers_a_beginning<R: AllocGlobal + Threads + Sync>(rt: &R, calls: u32, taken: &[u8]) -> bool {
     let mut writer = Failing {
-        bytes: Vec::new(alloc),
+        bytes: Vec::new(rt.alloc()),
         left: calls,
         takes_none: false,
     };
     let script = Cursor::new(b"version\nquit\n".as_slice());
-    let answer = run_alone(alloc, script, &mut writer, FOUR, options(10));
+    let answer = run_alone(rt, rt.alloc(), script, &mut writer, FOUR, options(10));
     answer.is_ok() == (calls == 3) && writer.bytes.as_slice() == taken
 }
 
@@ -180,22 +186,33 @@ fn answers_a_beginning(alloc: Global, calls: u32, taken: &[u8]) -> bool {
 fn answers_a_beginning_where_the_writer_fails(rt: HostRuntime) {
     for calls in 0..4u32 {
         assert!(rt;
-            answers_a_beginning(rt.alloc(), calls, TAKEN[calls as usize]),
+            answers_a_beginning(&rt, calls, TAKEN[calls as usize]),
             "{calls}"
         );
     }
 }
 
 // The fault of a session whose script breaks after so many calls, where nothing is written.
-fn fault_of_broken_script(alloc: Global, left: u32) -> Option<ProgramFault> {
-    let mut out = Vec::new(alloc);
-    let fault = run_alone(alloc, Breaking { left }, &mut out, FOUR, options(10)).err()?;
+fn fault_of_broken_script<R: AllocGlobal + Threads + Sync>(
+    rt: &R,
+    left: u32,
+) -> Option<ProgramFault> {
+    let mut out = Vec::new(rt.alloc());
+    let fault = run_alone(
+        rt,
+        rt.alloc(),
+        Breaking { left },
+        &mut out,
+        FOUR,
+        options(10),
+    )
+    .err()?;
     out.is_empty().then_some(fault)
 }
 
 #[test]
 fn tells_a_broken_script(rt: HostRuntime) {
-    assert!(rt; fault_of_broken_script(rt.alloc(), 2) == Some(ProgramFault::Read));
+    assert!(rt; fault_of_broken_script(&rt, 2) == Some(ProgramFault::Read));
 }
 
 // Whether an input is cut so.

@@ -6,8 +6,10 @@ use easybook::{ProgramFault, run_plain};
 use metrics::Part;
 use report::{SideLine, days_text, log_text, schedule_text, side_text, table_text, users_text};
 use scenarios::Scenario;
-use std::alloc::{Allocator, Global};
+use std::alloc::Allocator;
+use std::marker::Sync;
 use std::sync::Arc;
+use std::thread::Threads;
 use swf_text::Memory;
 
 /// The most jobs of a part.
@@ -119,9 +121,12 @@ pub(crate) fn is_put_beside<A: Allocator + Copy>(alloc: A) -> Told {
 }
 
 /// Runs the log and writes its schedule; nothing is written where memory is wanting.
-pub(crate) fn runs_plain<A: Allocator + Copy>(alloc: A, inner: Global) -> Told {
-    let mut out = Vec::new(inner);
-    match run_plain(alloc, &mut out, NOTED, options(10)) {
+pub(crate) fn runs_plain<A: Allocator + Copy, R: AllocGlobal + Threads + Sync>(
+    alloc: A,
+    rt: &R,
+) -> Told {
+    let mut out = Vec::new(rt.alloc());
+    match run_plain(rt, alloc, &mut out, NOTED, options(10)) {
         Ok(()) => Told::right_if(!out.is_empty()),
         Err(fault) => Told::memory_if(fault == ProgramFault::Memory && out.is_empty()),
     }

@@ -6,7 +6,9 @@ use crate::states_told::{keeps_its_state, plans, restores, resumes, steps_to_its
 use crate::tables_told::{Kind, copies_a_table, edits};
 use refusing::Refusing;
 use scenarios::Order;
-use std::alloc::{Allocator, Global};
+use std::alloc::Allocator;
+use std::marker::Sync;
+use std::thread::Threads;
 
 /// What came of a call while one growth was refused.
 #[derive(Clone, Copy, PartialEq, Eq)]
@@ -52,7 +54,11 @@ enum Call {
     RunPlain,
 }
 
-fn answer_of<A: Allocator + Copy>(alloc: A, inner: Global, call: Call) -> Told {
+fn answer_of<A: Allocator + Copy, R: AllocGlobal + Threads + Sync>(
+    alloc: A,
+    rt: &R,
+    call: Call,
+) -> Told {
     match call {
         Call::CopyEntry => copies_an_entry(alloc),
         Call::CopyTable => copies_a_table(alloc),
@@ -69,7 +75,7 @@ fn answer_of<A: Allocator + Copy>(alloc: A, inner: Global, call: Call) -> Told {
         Call::Report => is_reported(alloc),
         Call::Merge => merges(alloc),
         Call::Side => is_put_beside(alloc),
-        Call::RunPlain => runs_plain(alloc, inner),
+        Call::RunPlain => runs_plain(alloc, rt),
     }
 }
 
@@ -78,11 +84,11 @@ pub(crate) const MANY: u64 = 10_000;
 
 // Refuses each growth of a call in turn: whether the call told want of memory at one, never answered
 // otherwise, and answers as it should once none is refused.
-fn tells_memory(alloc: Global, call: Call) -> bool {
+fn tells_memory<R: AllocGlobal + Threads + Sync>(rt: &R, call: Call) -> bool {
     let mut was_told = false;
     for nth in 1..MANY {
-        let heap = Refusing::new(alloc, nth);
-        let told = answer_of(&heap, alloc, call);
+        let heap = Refusing::new(rt.alloc(), nth);
+        let told = answer_of(&heap, rt, call);
         if !heap.refused() {
             return was_told && told == Told::Right;
         }
@@ -96,40 +102,40 @@ fn tells_memory(alloc: Global, call: Call) -> bool {
 
 #[test]
 fn copies_and_edits_tell_memory(rt: HostRuntime) {
-    assert!(rt; tells_memory(rt.alloc(), Call::CopyEntry));
-    assert!(rt; tells_memory(rt.alloc(), Call::CopyTable));
-    assert!(rt; tells_memory(rt.alloc(), Call::Edit(Kind::Insertion)));
-    assert!(rt; tells_memory(rt.alloc(), Call::Edit(Kind::Removal)));
-    assert!(rt; tells_memory(rt.alloc(), Call::Edit(Kind::Change)));
+    assert!(rt; tells_memory(&rt, Call::CopyEntry));
+    assert!(rt; tells_memory(&rt, Call::CopyTable));
+    assert!(rt; tells_memory(&rt, Call::Edit(Kind::Insertion)));
+    assert!(rt; tells_memory(&rt, Call::Edit(Kind::Removal)));
+    assert!(rt; tells_memory(&rt, Call::Edit(Kind::Change)));
 }
 
 #[test]
 fn lists_and_openings_tell_memory(rt: HostRuntime) {
-    assert!(rt; tells_memory(rt.alloc(), Call::AddScenario));
-    assert!(rt; tells_memory(rt.alloc(), Call::OpenAndSave));
+    assert!(rt; tells_memory(&rt, Call::AddScenario));
+    assert!(rt; tells_memory(&rt, Call::OpenAndSave));
 }
 
 #[test]
 fn decisions_tell_memory(rt: HostRuntime) {
-    assert!(rt; tells_memory(rt.alloc(), Call::Plan));
+    assert!(rt; tells_memory(&rt, Call::Plan));
     for order in [Order::Arrival, Order::Shortest] {
-        assert!(rt; tells_memory(rt.alloc(), Call::Decide(order)));
-        assert!(rt; tells_memory(rt.alloc(), Call::DecideBehind(order)));
-        assert!(rt; tells_memory(rt.alloc(), Call::Restore(order)));
+        assert!(rt; tells_memory(&rt, Call::Decide(order)));
+        assert!(rt; tells_memory(&rt, Call::DecideBehind(order)));
+        assert!(rt; tells_memory(&rt, Call::Restore(order)));
     }
 }
 
 #[test]
 fn engines_tell_memory(rt: HostRuntime) {
-    assert!(rt; tells_memory(rt.alloc(), Call::Step));
-    assert!(rt; tells_memory(rt.alloc(), Call::Resume));
+    assert!(rt; tells_memory(&rt, Call::Step));
+    assert!(rt; tells_memory(&rt, Call::Resume));
 }
 
 #[test]
 fn runs_tell_memory(rt: HostRuntime) {
-    assert!(rt; tells_memory(rt.alloc(), Call::Simulate));
-    assert!(rt; tells_memory(rt.alloc(), Call::Report));
-    assert!(rt; tells_memory(rt.alloc(), Call::Merge));
-    assert!(rt; tells_memory(rt.alloc(), Call::Side));
-    assert!(rt; tells_memory(rt.alloc(), Call::RunPlain));
+    assert!(rt; tells_memory(&rt, Call::Simulate));
+    assert!(rt; tells_memory(&rt, Call::Report));
+    assert!(rt; tells_memory(&rt, Call::Merge));
+    assert!(rt; tells_memory(&rt, Call::Side));
+    assert!(rt; tells_memory(&rt, Call::RunPlain));
 }

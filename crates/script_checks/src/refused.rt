@@ -4,6 +4,8 @@ use easybook::{ProgramFault, run_alone};
 use refusing::Refusing;
 use std::alloc::Global;
 use std::io::Cursor;
+use std::marker::Sync;
+use std::thread::Threads;
 
 /// Two refused edits, an insertion, views before and after it is worked, and refusals.
 const SCRIPT: &[u8] = b"remove 98
@@ -105,14 +107,14 @@ fn place_of(text: &[u8]) -> Option<usize> {
 
 // The place of what a session with a script tells behind its first answers; none where that is
 // nothing wanted.
-fn session(
+fn session<R: AllocGlobal + Threads + Sync>(
+    rt: &R,
     heap: &Refusing<Global>,
-    alloc: Global,
     script: &[u8],
     first: &[&[u8]],
 ) -> Option<usize> {
-    let mut out = Vec::new(alloc);
-    match run_alone(heap, Cursor::new(script), &mut out, FOUR, TEN) {
+    let mut out = Vec::new(rt.alloc());
+    match run_alone(rt, heap, Cursor::new(script), &mut out, FOUR, TEN) {
         Ok(()) => place_of(behind(out.as_slice(), first)?),
         Err(ProgramFault::Memory) => out.is_empty().then_some(BEFORE),
         Err(_) => None,
@@ -124,10 +126,15 @@ const MANY: u64 = 10_000;
 
 // Refuses each growth in turn: whether each is told in its place, until none is refused and all is
 // told as it is. Notes the places.
-fn tells_each(alloc: Global, script: &[u8], first: &[&[u8]], met: &mut [bool; 9]) -> bool {
+fn tells_each<R: AllocGlobal + Threads + Sync>(
+    rt: &R,
+    script: &[u8],
+    first: &[&[u8]],
+    met: &mut [bool; 9],
+) -> bool {
     for nth in 1..MANY {
-        let heap = Refusing::new(alloc, nth);
-        let Some(place) = session(&heap, alloc, script, first) else {
+        let heap = Refusing::new(rt.alloc(), nth);
+        let Some(place) = session(rt, &heap, script, first) else {
             return false;
         };
         if let Some(is_met) = met.get_mut(place) {
@@ -145,16 +152,16 @@ fn tells_each(alloc: Global, script: &[u8], first: &[&[u8]], met: &mut [bool; 9]
 
 // Whether that holds of the script with both of its first lines, with one and with none, so that the
 // journal grows in other commands, and each place comes.
-fn tells_memory(alloc: Global) -> bool {
+fn tells_memory<R: AllocGlobal + Threads + Sync>(rt: &R) -> bool {
     let mut met = [false; 9];
     let (one, none) = (&SCRIPT[10..], &SCRIPT[20..]);
-    tells_each(alloc, SCRIPT, &[NO_JOB, NO_JOB], &mut met)
-        && tells_each(alloc, one, &[NO_JOB], &mut met)
-        && tells_each(alloc, none, &[], &mut met)
+    tells_each(rt, SCRIPT, &[NO_JOB, NO_JOB], &mut met)
+        && tells_each(rt, one, &[NO_JOB], &mut met)
+        && tells_each(rt, none, &[], &mut met)
         && met == [true; 9]
 }
 
 #[test]
 fn sessions_tell_memory(rt: HostRuntime) {
-    assert!(rt; tells_memory(rt.alloc()));
+    assert!(rt; tells_memory(&rt));
 }

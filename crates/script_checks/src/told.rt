@@ -1,6 +1,7 @@
 use easybook::{Options, run_alone};
-use std::alloc::Global;
 use std::io::Cursor;
+use std::marker::Sync;
+use std::thread::Threads;
 
 /// Ten processors, and a segment for up to 256 event seconds.
 pub(crate) const TEN: Options = Options {
@@ -17,8 +18,13 @@ pub(crate) const TEN_BY_ONE: Options = Options {
 };
 
 // What is written for a script on a log; none where there is a fault.
-pub(crate) fn told(alloc: Global, log: &[u8], script: &[u8], options: Options) -> Option<Vec<u8>> {
-    let mut out = Vec::new(alloc);
-    run_alone(alloc, Cursor::new(script), &mut out, log, options).ok()?;
+pub(crate) fn told<R: AllocGlobal + Threads + Sync>(
+    rt: &R,
+    log: &[u8],
+    script: &[u8],
+    options: Options,
+) -> Option<Vec<u8>> {
+    let mut out = Vec::new(rt.alloc());
+    run_alone(rt, rt.alloc(), Cursor::new(script), &mut out, log, options).ok()?;
     Some(out)
 }

@@ -102,10 +102,10 @@ fn tells(told: &Option<Vec<u8, Global>>, wanted: &[u8]) -> bool {
 
 #[test]
 fn an_insertion(rt: HostRuntime) {
-    assert!(rt; tells(&told(rt.alloc(), FOUR, INSERT, TEN), INSERTED));
+    assert!(rt; tells(&told(&rt, FOUR, INSERT, TEN), INSERTED));
 }
 
 #[test]
 fn each_command(rt: HostRuntime) {
-    assert!(rt; tells(&told(rt.alloc(), FOUR, ALL, TEN_BY_ONE), ALL_TOLD));
+    assert!(rt; tells(&told(&rt, FOUR, ALL, TEN_BY_ONE), ALL_TOLD));
 }
