@@ -20,8 +20,8 @@ const FIFTH: &[u8] = b"5 4 -1 500 2 -1 -1 2 500 -1 1 8 -1 -1 -1 -1 -1 -1\n";
 /// The starts without job 4 and with job 5, worked by hand.
 pub(crate) const STARTS: &[(u64, u64)] = &[(1, 0), (2, 100), (3, 2), (5, 92)];
 
-// The book of the four jobs.
-fn opened<A: Allocator + Copy>(alloc: A) -> Option<Book<A>> {
+/// The book of the four jobs.
+pub(crate) fn opened<A: Allocator + Copy>(alloc: A) -> Option<Book<A>> {
     let text = read_swf(alloc, FOUR).ok()?;
     let table = JobTable::from_text(alloc, &text).ok()?;
     Book::new(alloc, table, 1).ok()

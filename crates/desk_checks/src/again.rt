@@ -1,14 +1,13 @@
-// Every call of a session, and a scenario that is dropped and added again while a run of it is made.
+// A scenario that is dropped and added again while a run of it is made.
 use crate::crew::{Crew, Script};
-use crate::desks::{crew_of, ten};
+use crate::desks::{opened, ten};
 use crate::flag::Flag;
-use job_table::{Edit, EditFault};
-use scenarios::{AddFault, ScenarioId};
+use scenarios::ScenarioId;
 use std::alloc::Global;
 use std::process::Abort;
 use std::sync::Wait;
 use std::thread::Threads;
-use version_book::{AddRefusal, Book, DropRefusal, EditRefusal, Reply, RetryRefusal, ViewRefusal};
+use version_book::{Book, Reply, ViewRefusal};
 use workers::{Desk, Gate, Session};
 
 /// A scenario is dropped and added again while a worker holds a ticket of it.
@@ -78,20 +77,9 @@ impl Script for AddedAgain {
     }
 }
 
-// A desk without scenarios.
-fn without_scenario<R: Wait>(rt: &R, alloc: Global) -> Option<Crew> {
-    let mut crew = crew_of(rt, alloc, 1, 1)?;
-    let _id = crew
-        .sessions
-        .first_mut()?
-        .drop_scenario(rt, &crew.desk, "base")
-        .ok()?;
-    Some(crew)
-}
-
 // The book after that.
 fn book_after<R: Threads + Wait + Sync>(rt: &R, alloc: Global) -> Option<Book<Global>> {
-    let mut crew = without_scenario(rt, alloc)?;
+    let mut crew = Crew::new(rt, alloc, opened(alloc)?, 1, 1)?;
     let again = AddedAgain {
         is_claimed: Flag::new(),
         is_added: Flag::new(),
@@ -115,59 +103,7 @@ fn is_unknown<R: Threads + Wait + Sync>(rt: &R, alloc: Global) -> Option<bool> {
     Some(has_unknown_ticket(&book_after(rt, alloc)?))
 }
 
-// Whether each refusal of a session's calls comes where it should.
-fn are_refused<R: Wait>(
-    rt: &R,
-    desk: &Desk<Global>,
-    session: &mut Session<Global>,
-) -> Option<bool> {
-    let ten = ten()?;
-    let base = session.find(rt, desk, "base")?;
-    let edit = session.edit(rt, desk, &Edit::Remove(99));
-    let twice = session.add_scenario(rt, desk, "base", ten);
-    let absent = session.drop_scenario(rt, desk, "big");
-    let early = viewed(rt, desk, session, base);
-    let unmarked = session.retry(rt, desk, base);
-    let gone = session.drop_scenario(rt, desk, "base");
-    let late = session.retry(rt, desk, base);
-    Some(
-        edit == Err(EditRefusal::Fault(EditFault::NoSuchJob))
-            && twice == Err(AddRefusal::Fault(AddFault::NameTaken))
-            && absent == Err(DropRefusal::NoSuchScenario)
-            && early == Err(ViewRefusal::NotYet)
-            && unmarked == Ok(())
-            && gone == Ok(base)
-            && late == Err(RetryRefusal::NoSuchScenario),
-    )
-}
-
-// Whether they do, and how many calls a session has listed then.
-fn listed<R: Wait>(rt: &R, alloc: Global) -> Option<(bool, usize)> {
-    let mut crew = crew_of(rt, alloc, 2, 0)?;
-    let refused = are_refused(rt, &crew.desk, crew.sessions.get_mut(1)?)?;
-    let calls = crew.sessions.get(1)?.list().len();
-    let _book = crew.close()?;
-    Some((refused, calls))
-}
-
-// How many sessions a desk opens, and whether it closes with them.
-fn opened<R: Wait>(rt: &R, alloc: Global) -> Option<bool> {
-    let crew = crew_of(rt, alloc, 64, 64)?;
-    let none_more = crew.desk.open_session(rt).is_none() && crew.desk.open_worker(rt).is_none();
-    Some(none_more && crew.close().is_some())
-}
-
 #[test]
 fn a_ticket_of_a_dropped_scenario_is_unknown(rt: HostRuntime) {
     assert!(rt; is_unknown(&rt, rt.alloc()) == Some(true));
-}
-
-#[test]
-fn refusals_are_told_and_listed(rt: HostRuntime) {
-    assert!(rt; listed(&rt, rt.alloc()) == Some((true, 7)));
-}
-
-#[test]
-fn sixty_four_of_each_are_opened(rt: HostRuntime) {
-    assert!(rt; opened(&rt, rt.alloc()) == Some(true));
 }

@@ -1,0 +1,128 @@
+// A desk whose journal has room for one note more.
+use crate::crew::Crew;
+use crate::judge::is_legal;
+use crate::logs::{book_of, ten};
+use crate::wrong::{Wrong, right_if};
+use job_table::Edit;
+use scenarios::ScenarioId;
+use std::alloc::Global;
+use std::sync::Wait;
+use version_book::{AddRefusal, Book, DropRefusal, EditRefusal, RetryRefusal, ViewRefusal};
+use workers::{Desk, NoGate, Session, Settled, WorkerEnd};
+
+/// So many notes a journal has at most.
+const NOTES: u64 = 1_000_000;
+
+// The book with the scenario `base`, and with one note less.
+fn nearly_full(alloc: Global) -> Result<Book<Global>, Wrong> {
+    let mut book = book_of(alloc, 1)?;
+    if book.add_scenario(0, "base", ten()?).is_err() {
+        return Err(Wrong::Input);
+    }
+    for _ in 2..NOTES {
+        let _refused = book.edit(0, &Edit::Remove(99));
+    }
+    Ok(book)
+}
+
+/// A desk with a full journal, as its session sees it.
+#[derive(Drop)]
+struct FullDesk<'a, R> {
+    rt: &'a R,
+    desk: &'a Desk<Global>,
+}
+
+impl<R: Wait> FullDesk<'_, R> {
+    fn is_edit_refused(&self, session: &mut Session<Global>) -> bool {
+        session.edit(self.rt, self.desk, &Edit::Remove(1)) == Err(EditRefusal::JournalFull)
+    }
+
+    fn is_add_refused(&self, session: &mut Session<Global>) -> bool {
+        match ten() {
+            Ok(ten) => {
+                session.add_scenario(self.rt, self.desk, "more", ten)
+                    == Err(AddRefusal::JournalFull)
+            }
+            Err(_) => false,
+        }
+    }
+
+    fn is_drop_refused(&self, session: &mut Session<Global>) -> bool {
+        session.drop_scenario(self.rt, self.desk, "base") == Err(DropRefusal::JournalFull)
+    }
+
+    fn is_retry_refused(&self, session: &mut Session<Global>, base: ScenarioId) -> bool {
+        session.retry(self.rt, self.desk, base) == Err(RetryRefusal::JournalFull)
+    }
+
+    fn is_view_refused(&self, session: &mut Session<Global>, base: ScenarioId) -> bool {
+        matches!(
+            session.view(self.rt, self.desk, base),
+            Err(ViewRefusal::JournalFull)
+        )
+    }
+
+    // Whether each call is refused for the journal.
+    fn are_refused(&self, session: &mut Session<Global>, base: ScenarioId) -> bool {
+        self.is_edit_refused(session)
+            && self.is_add_refused(session)
+            && self.is_drop_refused(session)
+            && self.is_retry_refused(session, base)
+            && self.is_view_refused(session, base)
+    }
+
+    // Whether nothing has changed by that.
+    fn is_unchanged(&self, session: &Session<Global>, base: ScenarioId) -> bool {
+        session.list().is_empty()
+            && session.seen() == 0
+            && session.version(self.rt, self.desk) == 0
+            && session.find(self.rt, self.desk, "base") == Some(base)
+            && session.find(self.rt, self.desk, "more").is_none()
+    }
+
+    // Waits for no run, and is refused each call, by which nothing changes.
+    fn is_refused(&self, session: &mut Session<Global>) -> Result<(), Wrong> {
+        let Some(base) = session.find(self.rt, self.desk, "base") else {
+            return Err(Wrong::Input);
+        };
+        right_if(self.are_refused(session, base), Wrong::Told)?;
+        right_if(self.is_unchanged(session, base), Wrong::Changed)?;
+        right_if(
+            session.settle(self.rt, self.desk) == Settled::Stopped,
+            Wrong::Settled,
+        )
+    }
+}
+
+// The worker claims, which fills the journal, and ends as it hands its run in.
+fn ends_full<R: Wait>(rt: &R, crew: &mut Crew<Global>) -> Result<(), Wrong> {
+    match crew.workers.first_mut() {
+        Some(worker) => right_if(
+            worker.run(rt, &crew.desk, &NoGate) == WorkerEnd::Full,
+            Wrong::Ended,
+        ),
+        None => Err(Wrong::Input),
+    }
+}
+
+// The session is refused each call then.
+fn is_refused<R: Wait>(rt: &R, crew: &mut Crew<Global>) -> Result<(), Wrong> {
+    match crew.sessions.first_mut() {
+        Some(session) => FullDesk {
+            rt,
+            desk: &crew.desk,
+        }
+        .is_refused(session),
+        None => Err(Wrong::Input),
+    }
+}
+
+/// A worker ends at a full journal, a session is refused each call then, and the desk closes.
+pub(crate) fn is_right<R: Wait>(rt: &R, alloc: Global) -> Result<(), Wrong> {
+    let mut crew = Crew::new(rt, alloc, nearly_full(alloc)?, 1, 1)?;
+    ends_full(rt, &mut crew)?;
+    is_refused(rt, &mut crew)?;
+    let book = crew.close()?;
+    right_if(book.journal().len() as u64 == NOTES, Wrong::Listed)?;
+    is_legal(alloc, book.journal())
+}
