@@ -378,12 +378,15 @@ all-later at ends (Some u) t e a n =
     let l : t < u = ⊎_elim (λ (m : t < u). m) (λ (m : u ≤ t). absurd (n m)) (cases_lt t u) in
     All-weaker (λ e. u ≤ at e) (λ e. t < at e) (λ e m. omega arith) ends a
 
-pub ended-later : {E : Type 0} (at : E → ℕ) (ends : List E) (s : State) (t : ℕ) → EndsOf at ends s.running → All (λ e. t < at e) ends → s ≡ ended_until s t
-ended-later at ends s t h a =
-    let more : All (λ e. suc t ≤ at e) ends = All-weaker (λ e. t < at e) (λ e. suc t ≤ at e) (λ e l. omega arith) ends a in
-    let later = none-sooner at ends s.running (suc t) h more in
-    let all : All (λ r. t < real_end r) s.running = All-weaker (λ r. suc t ≤ real_end r) (λ r. t < real_end r) (λ r l. omega arith) s.running later in
-    sym (ap (λ (rs : List Placed). let z : State = record { machine = s.machine; order = s.order; waiting = s.waiting; running = rs } in z) (filter-later t s.running all))
+-- where the next one to end comes after t, nobody has left by then
+pub nobody-ends : (s : State) (next : Option ℕ) (t : ℕ) → (IsNone next → s.running ≡ []) → IfSome next (λ u. All (λ r. u ≤ real_end r) s.running) → (IsSomeAnd next (λ u. u ≤ t) → ⊥) → s ≡ ended_until s t
+nobody-ends s next t none least after = sym (ap (λ (rs : List Placed). let z : State = record { machine = s.machine; order = s.order; waiting = s.waiting; running = rs } in z) (filter-later t s.running (go next none least after)))
+  where
+    go : (next : Option ℕ) → (IsNone next → s.running ≡ []) → IfSome next (λ u. All (λ r. u ≤ real_end r) s.running) → (IsSomeAnd next (λ u. u ≤ t) → ⊥) → All (λ r. t < real_end r) s.running
+    go None none least after = subst (All (λ r. t < real_end r)) (sym (none refl)) (All-nil (λ r. t < real_end r))
+    go (Some u) none least after =
+        let l : t < u = ⊎_elim (λ (m : t < u). m) (λ (m : u ≤ t). absurd (after m)) (cases_lt t u) in
+        All-weaker (λ r. u ≤ real_end r) (λ r. t < real_end r) (λ r m. omega arith) s.running least
 
 -- who starts joins the ends
 pub ends-joined : {E : Type 0} (at : E → ℕ) (ends ends' : List E) (r : Placed) (rs : List Placed) → EndsOf at ends rs → ((f : ℕ → ℕ) → sum_by (λ e. f (at e)) ends' ≡ f (real_end r) + sum_by (λ e. f (at e)) ends) → EndsOf at ends' (placed r rs)

@@ -222,8 +222,3 @@ sum_by-put f j (x ∷ xs) =
 pub sum_by-by_estimate : (f : EffectiveJob → ℕ) (js : List EffectiveJob) → sum_by f (by_estimate js) ≡ sum_by f js
 sum_by-by_estimate f [] = refl
 sum_by-by_estimate f (j ∷ js) = omega (arith, sum_by-put f j (by_estimate js), sum_by-by_estimate f js, sum_by-cons f j js)
-
--- the kept row holds nobody beside the queue
-pub sum_by-row_of : (f : EffectiveJob → ℕ) (o : Order) (js : List EffectiveJob) → sum_by f (row_of o js) ≤ sum_by f js
-sum_by-row_of f Arrival js = omega arith
-sum_by-row_of f Shortest js = omega (arith, sum_by-by_estimate f js)

@@ -1,7 +1,7 @@
 pub mod State
 pub mod Row
 pub mod Ends
+pub mod Rooms
 pub mod Parts
-pub mod Room
 pub mod Snapshot
 pub mod Laws

@@ -3,17 +3,14 @@ ghost use Rattle.std.specs.Option.{option_copied};
 ghost use Rattle.scenarios.specs.Limits.{procs_limit, seconds_end};
 ghost use Rattle.scenarios.specs.declared.order.Order.TheVariants.{Arrival};
 
-use crate::ends::{drop_until, first_end, heap_of_ends, is_by};
-use crate::join::{join, join_all};
+use crate::ends::is_by;
 use crate::lookup::running_in;
-use crate::queue::{find_job, put_job, remove_job, remove_jobs, sizes};
-use crate::running::{drop_ended, held, row_by_end};
+use crate::queue::{Queue, sizes};
+use crate::running_set::RunningSet;
 use crate::snapshot::Snapshot;
 use job_table::JobTable;
 use scenarios::{Job, Order, Placed, PlanRef, Scenario};
 use std::alloc::Allocator;
-use std::cmp::Reverse;
-use std::collections::BinaryHeap;
 use std::marker::Model;
 use swf_text::Memory;
 
@@ -23,13 +20,9 @@ use swf_text::Memory;
 #[derive(Drop)]
 pub struct Cluster<A: Allocator + Copy> {
     procs: u64,
-    order: Order,
     free: u64,
-    waiting: Vec<Job, A>,
-    shortest: Vec<Job, A>,
-    running: Vec<Placed, A>,
-    by_end: Vec<Placed, A>,
-    ends: BinaryHeap<Reverse<u64>, A>,
+    queue: Queue<A>,
+    running: RunningSet<A>,
 }
 
 impl<A: Allocator + Copy> Model for Cluster<A> {
@@ -75,13 +68,9 @@ impl<A: Allocator + Copy> Cluster<A> {
     {
         Cluster {
             procs,
-            order,
             free: procs,
-            waiting: Vec::new(alloc),
-            shortest: Vec::new(alloc),
-            running: Vec::new(alloc),
-            by_end: Vec::new(alloc),
-            ends: BinaryHeap::new(alloc),
+            queue: Queue::new(alloc, order),
+            running: RunningSet::new(alloc),
         }
     }
 
@@ -95,17 +84,12 @@ impl<A: Allocator + Copy> Cluster<A> {
         requires { IsSound (record { machine = procs; order = order; waiting = []; running = running.items }) }
         ensures { IfOk result (λ c. c.state ≡ record { machine = procs; order = order; waiting = []; running = running.items }) }
     {
-        let by_end = row_by_end(alloc, &running)?;
-        let ends = heap_of_ends(alloc, &running)?;
+        let running = RunningSet::of(alloc, running)?;
         Ok(Cluster {
             procs,
-            order,
-            free: procs - held(&running),
-            waiting: Vec::new(alloc),
-            shortest: Vec::new(alloc),
+            free: procs - running.held(),
+            queue: Queue::new(alloc, order),
             running,
-            by_end,
-            ends,
         })
     }
 
@@ -142,7 +126,7 @@ impl<A: Allocator + Copy> Cluster<A> {
     pub fn order(&self) -> Order
         ensures { result ≡ self.now.state.order }
     {
-        self.order
+        self.queue.order()
     }
 
     /// The processors that no running job holds.
@@ -158,7 +142,7 @@ impl<A: Allocator + Copy> Cluster<A> {
         ensures jobs { result.now ≡ self.now.state.waiting }
         ensures sound { IsSound self.now.state }
     {
-        self.waiting.as_slice()
+        self.queue.jobs()
     }
 
     /// The waiting jobs in the order in which they are looked at for a backfill.
@@ -166,10 +150,7 @@ impl<A: Allocator + Copy> Cluster<A> {
         ensures jobs { result.now ≡ in_order self.now.state.order self.now.state.waiting }
         ensures sound { IsSound self.now.state }
     {
-        match self.order {
-            Order::Arrival => self.waiting(),
-            Order::Shortest => self.shortest.as_slice(),
-        }
+        self.queue.row()
     }
 
     /// The running jobs with their starts, rising by number.
@@ -177,14 +158,14 @@ impl<A: Allocator + Copy> Cluster<A> {
         ensures jobs { result.now ≡ self.now.state.running }
         ensures sound { IsSound self.now.state }
     {
-        self.running.as_slice()
+        self.running.jobs()
     }
 
     /// The waiting job at this place of the queue, counted from 0; none past the end.
     pub fn waiting_at(&self, place: usize) -> Option<&Job>
         ensures { option_copied result ≡ slice_get self.now.state.waiting place }
     {
-        self.waiting.get(place)
+        self.queue.jobs().get(place)
     }
 
     /// The running jobs with their starts, rising by the second by which they have surely ended (start
@@ -195,7 +176,7 @@ impl<A: Allocator + Copy> Cluster<A> {
         ensures each { IsPermutation self.now.state.running result.now }
         ensures sound { IsSound self.now.state }
     {
-        self.by_end.as_slice()
+        self.running.by_end()
     }
 
     /// The running job at this place, counted from 0, with the second of its start; none past the
@@ -205,7 +186,7 @@ impl<A: Allocator + Copy> Cluster<A> {
         ensures order { MatchOption result (slice_get (by_end self.now.state.running) place ≡ None)
             (λ p. slice_get (by_end self.now.state.running) place ≡ Some (record { job = p.0.now; start = p.1 })) }
     {
-        match self.by_end.get(place) {
+        match self.running.by_end().get(place) {
             None => None,
             Some(r) => Some((&r.job, r.start)),
         }
@@ -216,7 +197,7 @@ impl<A: Allocator + Copy> Cluster<A> {
     pub fn can_arrive(&self, job: &Job) -> bool
         ensures { IsTrue result ↔ CanArrive self.now.state job.now }
     {
-        is_absent(&self.waiting, &self.running, job.number()) && job.size() <= self.procs
+        is_absent(self.queue.jobs(), self.running.jobs(), job.number()) && job.size() <= self.procs
     }
 
     /// A job joins the queue, at its end.
@@ -229,11 +210,7 @@ impl<A: Allocator + Copy> Cluster<A> {
         ensures err { OnErr result (self.new.state ≡ self.old.state) }
         ensures spare { self.new.spare ≡ self.old.spare }
     {
-        self.waiting.reserve(1)?;
-        put_job(&mut self.shortest, self.order, job)?;
-        let Ok(()) = self.waiting.push(job) else {
-            unreachable!()
-        };
+        self.queue.push(job)?;
         Ok(())
     }
 
@@ -241,10 +218,7 @@ impl<A: Allocator + Copy> Cluster<A> {
     pub fn spare_starts(&self) -> usize
         ensures { result ≡ self.now.spare }
     {
-        let running = self.running.capacity() - self.running.len();
-        let by_end = self.by_end.capacity() - self.by_end.len();
-        let ends = self.ends.capacity() - self.ends.len();
-        running.min(by_end.min(ends))
+        self.running.spare()
     }
 
     /// Makes room for so many starts.
@@ -255,17 +229,14 @@ impl<A: Allocator + Copy> Cluster<A> {
         ensures ok { OnOk result (count ≤ self.new.spare) }
         ensures kept { self.old.spare ≤ self.new.spare }
     {
-        self.running.reserve(count)?;
-        self.by_end.reserve(count)?;
-        self.ends.reserve(count)?;
-        Ok(())
+        self.running.reserve(count)
     }
 
     /// Whether a job of this number waits and fits into the free processors.
     pub fn can_start(&self, number: u64) -> bool
         ensures { IsTrue result ↔ CanStart self.now.state number }
     {
-        match find_job(&self.waiting, number) {
+        match self.queue.find(number) {
             None => false,
             Some(job) => job.size() <= self.free,
         }
@@ -283,16 +254,13 @@ impl<A: Allocator + Copy> Cluster<A> {
         ensures room { 1 ≤ self.old.spare → IsOk result }
         ensures spare { self.old.spare ≤ self.new.spare + 1 }
     {
-        let Some(job) = find_job(&self.waiting, number) else {
+        let Some(job) = self.queue.find(number) else {
             unreachable!()
         };
         self.running.reserve(1)?;
-        self.by_end.reserve(1)?;
-        self.ends.reserve(1)?;
         let r = Placed { job, start: now };
-        join(&mut self.running, &mut self.by_end, &mut self.ends, r);
-        remove_job(&mut self.waiting, number);
-        remove_job(&mut self.shortest, number);
+        self.running.join(r);
+        self.queue.remove(number);
         self.free -= job.size();
         Ok(())
     }
@@ -310,17 +278,8 @@ impl<A: Allocator + Copy> Cluster<A> {
         ensures spare { self.old.spare ≤ self.new.spare + length jobs.now }
     {
         self.running.reserve(jobs.len())?;
-        self.by_end.reserve(jobs.len())?;
-        self.ends.reserve(jobs.len())?;
-        join_all(
-            &mut self.running,
-            &mut self.by_end,
-            &mut self.ends,
-            jobs,
-            now,
-        );
-        remove_jobs(&mut self.waiting, jobs);
-        remove_jobs(&mut self.shortest, jobs);
+        self.running.join_all(jobs, now);
+        self.queue.remove_all(jobs);
         self.free -= sizes(jobs);
         Ok(())
     }
@@ -330,13 +289,11 @@ impl<A: Allocator + Copy> Cluster<A> {
         ensures state { self.new.state ≡ ended_until self.old.state t }
         ensures spare { self.old.spare ≤ self.new.spare }
     {
-        if !is_by(first_end(&self.ends), t) {
+        if !is_by(self.running.next_end(), t) {
             return;
         }
-        drop_until(&mut self.ends, t);
-        drop_ended(&mut self.by_end, t);
-        drop_ended(&mut self.running, t);
-        self.free = self.procs - held(&self.running);
+        self.running.drop_until(t);
+        self.free = self.procs - self.running.held();
     }
 
     /// The second at which the next running job ends; none where no job runs.
@@ -345,14 +302,14 @@ impl<A: Allocator + Copy> Cluster<A> {
         ensures found { IfSome result (λ t. Any (λ r. real_end r ≡ t) self.now.state.running) }
         ensures least { IfSome result (λ t. All (λ r. t ≤ real_end r) self.now.state.running) }
     {
-        first_end(&self.ends)
+        self.running.next_end()
     }
 
     /// The numbers of the jobs that wait and run now; Memory where a growth was refused.
     pub fn snapshot(&self) -> Result<Snapshot<A>, Memory>
         ensures { IfOk result (λ s. s ≡ numbers_of self.now.state) }
     {
-        Snapshot::of(*self.waiting.allocator(), self.waiting(), self.running())
+        Snapshot::of(self.queue.allocator(), self.waiting(), self.running())
     }
 }
 

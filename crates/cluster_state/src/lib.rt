@@ -3,11 +3,11 @@
 
 mod cluster;
 mod ends;
-mod join;
 pub mod laws;
 mod lookup;
 mod queue;
 mod running;
+mod running_set;
 mod snapshot;
 
 pub use cluster::Cluster;

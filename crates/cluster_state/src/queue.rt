@@ -1,15 +1,118 @@
-ghost use Rattle.std.specs.Prelude.{◌≡◌, ◌≤◌, ◌<◌, ◌^◌, ℕ, OnOk, OnErr, nat_eq, nat_lt, find, position, sum_by, count_by};
-ghost use Rattle.std.specs.List.{list_any};
+ghost use Rattle.std.specs.Prelude.{◌≡◌, ◌≤◌, ◌<◌, ◌^◌, ℕ, [], ◌∷◌, ◌++◌, OnOk, OnErr, nat_eq, nat_lt, find, position, sum_by, count_by};
 ghost use Rattle.scenarios.specs.Job.{IsWithinLimits};
 ghost use Rattle.cluster_state.specs.State.{without, without_all};
-ghost use Rattle.cluster_state.specs.Row.{row_with};
+ghost use Rattle.cluster_state.specs.Row.{in_order, row_with};
 
 use scenarios::{Job, Order};
 use std::alloc::Allocator;
+use std::marker::Model;
 use swf_text::Memory;
 
+// The jobs that wait, in order of arrival; and beside them, where the later ones are looked at by
+// estimate, the row in which they are.
+#[derive(Drop)]
+pub(crate) struct Queue<A: Allocator + Copy> {
+    order: Order,
+    jobs: Vec<Job, A>,
+    row: Vec<Job, A>,
+}
+
+impl<A: Allocator + Copy> Model for Queue<A> {
+    ghost use Rattle.cluster_state.specs.Rooms.{QueueView};
+
+    ghost Value = { QueueView };
+
+    ghost use Rattle.cluster_state.specs.Parts.{queue_of, IsQueue};
+
+    ghost view = { queue_of };
+
+    ghost invariant = { IsQueue };
+}
+
+impl<A: Allocator + Copy> Queue<A> {
+    // Nobody waits.
+    pub(crate) fn new(alloc: A, order: Order) -> Queue<A>
+        ensures { result ≡ record { order = order; jobs = [] } }
+    {
+        Queue {
+            order,
+            jobs: Vec::new(alloc),
+            row: Vec::new(alloc),
+        }
+    }
+
+    // The order in which the later jobs are looked at.
+    pub(crate) fn order(&self) -> Order
+        ensures { result ≡ self.now.order }
+    {
+        self.order
+    }
+
+    // The waiting jobs in order of arrival.
+    pub(crate) fn jobs(&self) -> &[Job]
+        ensures { result.now ≡ self.now.jobs }
+    {
+        self.jobs.as_slice()
+    }
+
+    // The waiting jobs in the order in which they are looked at for a backfill.
+    pub(crate) fn row(&self) -> &[Job]
+        ensures { result.now ≡ in_order self.now.order self.now.jobs }
+    {
+        match self.order {
+            Order::Arrival => self.jobs(),
+            Order::Shortest => self.row.as_slice(),
+        }
+    }
+
+    // The waiting job of this number.
+    pub(crate) fn find(&self, number: u64) -> Option<Job>
+        ensures { result ≡ find (λ j. nat_eq j.number number) self.now.jobs }
+    {
+        find_job(&self.jobs, number)
+    }
+
+    // A job joins the queue, at its end. Memory where a growth was refused; the queue is then as it was.
+    pub(crate) fn push(&mut self, job: Job) -> Result<(), Memory>
+        ensures ok { OnOk result (self.new ≡ record { order = self.old.order; jobs = self.old.jobs ++ job ∷ [] }) }
+        ensures err { OnErr result (self.new ≡ self.old) }
+        ensures limits { IsWithinLimits job }
+    {
+        self.jobs.reserve(1)?;
+        put_job(&mut self.row, self.order, job)?;
+        let Ok(()) = self.jobs.push(job) else {
+            unreachable!()
+        };
+        Ok(())
+    }
+
+    // The job of this number leaves.
+    pub(crate) fn remove(&mut self, number: u64)
+        requires { count_by (λ j. nat_eq j.number number) self.old.jobs ≤ 1 }
+        ensures { self.new ≡ record { order = self.old.order; jobs = without number self.old.jobs } }
+    {
+        remove_job(&mut self.jobs, number);
+        remove_job(&mut self.row, number);
+    }
+
+    // These jobs leave.
+    pub(crate) fn remove_all(&mut self, jobs: &[Job])
+        requires { (n : ℕ) → count_by (λ j. nat_eq j.number n) self.old.jobs ≤ 1 }
+        ensures { self.new ≡ record { order = self.old.order; jobs = without_all jobs.now self.old.jobs } }
+    {
+        for job in jobs {
+            self.remove(job.number());
+        }
+    }
+
+    // The allocator that the queue is kept on.
+    pub(crate) fn allocator(&self) -> A {
+        *self.jobs.allocator()
+    }
+}
+
 // The first job of this number.
-pub(crate) fn find_job(jobs: &[Job], number: u64) -> Option<Job>
+fn find_job(jobs: &[Job], number: u64) -> Option<Job>
     ensures { result ≡ find (λ j. nat_eq j.number number) jobs.now }
 {
     jobs.iter().copied().find(|j| j.number() == number)
@@ -23,7 +126,7 @@ fn place_of(jobs: &[Job], number: u64) -> Option<usize>
 }
 
 // Takes the first job of this number out.
-pub(crate) fn remove_job<A: Allocator>(jobs: &mut Vec<Job, A>, number: u64)
+fn remove_job<A: Allocator>(jobs: &mut Vec<Job, A>, number: u64)
     ensures { jobs.new.items ≡ without number jobs.old.items }
 {
     match place_of(jobs, number) {
@@ -31,25 +134,6 @@ pub(crate) fn remove_job<A: Allocator>(jobs: &mut Vec<Job, A>, number: u64)
         Some(place) => {
             jobs.remove(place);
         }
-    }
-}
-
-// Whether one of these jobs has this number.
-fn is_among(jobs: &[Job], number: u64) -> bool
-    ensures { result ≡ list_any (λ j. nat_eq number j.number) jobs.now }
-{
-    jobs.iter().any(|j| number == j.number())
-}
-
-// Takes these jobs out, in one walk.
-pub(crate) fn remove_jobs<A: Allocator>(queue: &mut Vec<Job, A>, jobs: &[Job])
-    requires { (n : ℕ) → count_by (λ j. nat_eq j.number n) queue.old.items ≤ 1 }
-    ensures { queue.new.items ≡ without_all jobs.now queue.old.items }
-{
-    match jobs {
-        [] => {}
-        [job] => remove_job(queue, job.number()),
-        _ => queue.retain(move |j| !is_among(jobs, j.number())),
     }
 }
 
@@ -70,11 +154,7 @@ fn place_by_estimate(row: &[Job], estimate: u64) -> Option<usize>
 
 // Puts a job that arrives into the row that the order asks for, behind those whose estimates are
 // not longer.
-pub(crate) fn put_job<A: Allocator>(
-    row: &mut Vec<Job, A>,
-    order: Order,
-    job: Job,
-) -> Result<(), Memory>
+fn put_job<A: Allocator>(row: &mut Vec<Job, A>, order: Order, job: Job) -> Result<(), Memory>
     ensures ok { OnOk result (row.new.items ≡ row_with order job row.old.items) }
     ensures err { OnErr result (row.new.items ≡ row.old.items) }
     ensures limits { IsWithinLimits job }

@@ -1,0 +1,10 @@
+use Rattle.std.proofs.Common.{◌∙◌, ap}
+use Rattle.cluster_state.specs.Row.{row_with}
+use Rattle.cluster_state.proofs.RowLemmas.{row-arrived}
+use Rattle.cluster_state.proofs.queue.Queue.push.Goals as goal
+
+pub invariant_of-self-2 : goal.invariant_of-self-2
+invariant_of-self-2 g c =
+    let order = c.self.inside.order in
+    rw (c.in-Ok.ensures.items, c.reserve.ensures.items)
+    (c.in_ok-put_job.ensures.ok ∙ ap (row_with order c.args.job) c.self.invariant ∙ row-arrived order c.self.inside.jobs.items c.args.job)

@@ -1,0 +1,20 @@
+-- The two rooms of a cluster, as contracts inside the crate see them: who waits, and who runs.
+use Rattle.std.specs.Prelude.{ℕ, List, fold}
+use Rattle.scenarios.specs.Job.{EffectiveJob}
+use Rattle.scenarios.specs.declared.order.Order.{Order}
+use Rattle.scenarios.specs.declared.placed.Placed.{Placed}
+use Rattle.cluster_state.specs.State.{placed}
+
+-- The waiting jobs in order of arrival, and the order in which the later ones are looked at.
+pub record QueueView : Type 0 where
+  pub order : Order
+  pub jobs : List EffectiveJob
+
+-- The running jobs, with their starts, rising by number, and how many starts surely find room.
+pub record RunningView : Type 0 where
+  pub running : List Placed
+  pub spare : ℕ
+
+-- these jobs run from second `now` on, beside those who run
+abbrev pub all_placed : ℕ → List EffectiveJob → List Placed → List Placed
+all_placed now jobs rs = fold (λ (rs : List Placed) (j : EffectiveJob). placed (record { job = j; start = now }) rs) rs jobs
