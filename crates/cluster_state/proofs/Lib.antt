@@ -4,4 +4,5 @@ mod SnapshotLemmas
 mod LookupLemmas
 mod EndLemmas
 mod StartAllLemmas
+mod LineLemmas
 pub mod Lemmas

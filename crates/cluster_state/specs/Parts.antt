@@ -1,23 +1,32 @@
 -- The fields of a cluster and of its two rooms, as contracts see them.
-use Rattle.std.specs.Prelude.{◌≡◌, ℕ, ◌+◌, ◌-◌, min, sum_by, vec_len, vec_capacity}
+use Rattle.std.specs.Prelude.{◌≡◌, ℕ, ◌+◌, ◌-◌, ◌≤◌, min, drop, sum_by, vec_len, vec_capacity}
 use Rattle.std.specs.BinaryHeap.{heap_items, heap_len, heap_capacity, IsHeap}
 use Rattle.std.specs.Ordering.{nat_cmp}
 use Rattle.scenarios.specs.Placed.{real_end}
 use Rattle.cluster_state.specs.State.{State, ClusterView, IsSound, busy}
 use Rattle.cluster_state.specs.Row.{row_of}
 use Rattle.cluster_state.specs.Ends.{by_end}
-use Rattle.cluster_state.specs.Rooms.{QueueView, RunningView}
+use Rattle.cluster_state.specs.Rooms.{LineView, QueueView, RunningView}
 use Rattle.cluster_state.specs.declared.cluster.Cluster.TheInside.{Inside}
+use Rattle.cluster_state.specs.declared.line.Line.TheInside as line
 use Rattle.cluster_state.specs.declared.queue.Queue.TheInside as queue
 use Rattle.cluster_state.specs.declared.running_set.RunningSet.TheInside as set
 
+-- the jobs behind the gap, and the room that is left
+abbrev pub line_of : {A : Type 0} → line.Inside A → LineView
+line_of l = record { jobs = drop l.gone l.places.items; spare = vec_capacity l.places - vec_len l.places }
+
+-- what the fields of such a row keep: the gap ends within the Vec
+abbrev pub IsLine : {A : Type 0} → line.Inside A → Type 0
+IsLine l = l.gone ≤ vec_len l.places
+
 -- the order, and the waiting jobs
 abbrev pub queue_of : {A : Type 0} → queue.Inside A → QueueView
-queue_of q = record { order = q.order; jobs = q.jobs.items }
+queue_of q = record { order = q.order; jobs = q.jobs.jobs }
 
 -- what the fields of the queue keep: the row is that of the waiting jobs
 abbrev pub IsQueue : {A : Type 0} → queue.Inside A → Type 0
-IsQueue q = q.row.items ≡ row_of q.order q.jobs.items
+IsQueue q = q.row.jobs ≡ row_of q.order q.jobs.jobs
 
 -- the room for running jobs that is left: in the list, in the row by expected ends and in the heap of ends
 abbrev pub spare_of : {A : Type 0} → set.Inside A → ℕ

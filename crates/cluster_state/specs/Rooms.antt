@@ -5,6 +5,11 @@ use Rattle.scenarios.specs.declared.order.Order.{Order}
 use Rattle.scenarios.specs.declared.placed.Placed.{Placed}
 use Rattle.cluster_state.specs.State.{placed}
 
+-- Jobs in a row, and how many more surely find room.
+pub record LineView : Type 0 where
+  pub jobs : List EffectiveJob
+  pub spare : ℕ
+
 -- The waiting jobs in order of arrival, and the order in which the later ones are looked at.
 pub record QueueView : Type 0 where
   pub order : Order

@@ -4,6 +4,7 @@
 mod cluster;
 mod ends;
 pub mod laws;
+mod line;
 mod lookup;
 mod queue;
 mod running;

@@ -3,6 +3,7 @@ ghost use Rattle.scenarios.specs.Job.{IsWithinLimits};
 ghost use Rattle.cluster_state.specs.State.{without, without_all};
 ghost use Rattle.cluster_state.specs.Row.{in_order, row_with};
 
+use crate::line::Line;
 use scenarios::{Job, Order};
 use std::alloc::Allocator;
 use std::marker::Model;
@@ -13,8 +14,8 @@ use swf_text::Memory;
 #[derive(Drop)]
 pub(crate) struct Queue<A: Allocator + Copy> {
     order: Order,
-    jobs: Vec<Job, A>,
-    row: Vec<Job, A>,
+    jobs: Line<A>,
+    row: Line<A>,
 }
 
 impl<A: Allocator + Copy> Model for Queue<A> {
@@ -36,8 +37,8 @@ impl<A: Allocator + Copy> Queue<A> {
     {
         Queue {
             order,
-            jobs: Vec::new(alloc),
-            row: Vec::new(alloc),
+            jobs: Line::new(alloc),
+            row: Line::new(alloc),
         }
     }
 
@@ -52,7 +53,7 @@ impl<A: Allocator + Copy> Queue<A> {
     pub(crate) fn jobs(&self) -> &[Job]
         ensures { result.now ≡ self.now.jobs }
     {
-        self.jobs.as_slice()
+        self.jobs.jobs()
     }
 
     // The waiting jobs in the order in which they are looked at for a backfill.
@@ -61,7 +62,7 @@ impl<A: Allocator + Copy> Queue<A> {
     {
         match self.order {
             Order::Arrival => self.jobs(),
-            Order::Shortest => self.row.as_slice(),
+            Order::Shortest => self.row.jobs(),
         }
     }
 
@@ -69,7 +70,7 @@ impl<A: Allocator + Copy> Queue<A> {
     pub(crate) fn find(&self, number: u64) -> Option<Job>
         ensures { result ≡ find (λ j. nat_eq j.number number) self.now.jobs }
     {
-        find_job(&self.jobs, number)
+        find_job(self.jobs.jobs(), number)
     }
 
     // A job joins the queue, at its end. Memory where a growth was refused; the queue is then as it was.
@@ -80,9 +81,7 @@ impl<A: Allocator + Copy> Queue<A> {
     {
         self.jobs.reserve(1)?;
         put_job(&mut self.row, self.order, job)?;
-        let Ok(()) = self.jobs.push(job) else {
-            unreachable!()
-        };
+        self.jobs.push(job);
         Ok(())
     }
 
@@ -107,7 +106,7 @@ impl<A: Allocator + Copy> Queue<A> {
 
     // The allocator that the queue is kept on.
     pub(crate) fn allocator(&self) -> A {
-        *self.jobs.allocator()
+        self.jobs.allocator()
     }
 }
 
@@ -126,14 +125,12 @@ fn place_of(jobs: &[Job], number: u64) -> Option<usize>
 }
 
 // Takes the first job of this number out.
-fn remove_job<A: Allocator>(jobs: &mut Vec<Job, A>, number: u64)
-    ensures { jobs.new.items ≡ without number jobs.old.items }
+fn remove_job<A: Allocator + Copy>(line: &mut Line<A>, number: u64)
+    ensures { line.new.jobs ≡ without number line.old.jobs }
 {
-    match place_of(jobs, number) {
+    match place_of(line.jobs(), number) {
         None => {}
-        Some(place) => {
-            jobs.remove(place);
-        }
+        Some(place) => line.remove(place),
     }
 }
 
@@ -154,16 +151,17 @@ fn place_by_estimate(row: &[Job], estimate: u64) -> Option<usize>
 
 // Puts a job that arrives into the row that the order asks for, behind those whose estimates are
 // not longer.
-fn put_job<A: Allocator>(row: &mut Vec<Job, A>, order: Order, job: Job) -> Result<(), Memory>
-    ensures ok { OnOk result (row.new.items ≡ row_with order job row.old.items) }
-    ensures err { OnErr result (row.new.items ≡ row.old.items) }
+fn put_job<A: Allocator + Copy>(row: &mut Line<A>, order: Order, job: Job) -> Result<(), Memory>
+    ensures ok { OnOk result (row.new.jobs ≡ row_with order job row.old.jobs) }
+    ensures err { OnErr result (row.new.jobs ≡ row.old.jobs) }
     ensures limits { IsWithinLimits job }
 {
     let estimate = job.estimate();
     match order {
         Order::Arrival => {}
         Order::Shortest => {
-            let place = place_by_estimate(row, estimate).unwrap_or(row.len());
+            let jobs = row.jobs();
+            let place = place_by_estimate(jobs, estimate).unwrap_or(jobs.len());
             row.insert(place, job)?;
         }
     }

@@ -4,4 +4,4 @@ use Rattle.cluster_state.proofs.queue.put_job.Goals as goal
 
 pub returns-in_ok-insert-in-Shortest-clause-ok : goal.returns-in_ok-insert-in-Shortest-clause-ok
 returns-in_ok-insert-in-Shortest-clause-ok g c =
-    rw (c.in-Shortest.is, c.in_ok-insert-in-Shortest.ensures.items, c.unwrap_or-place.ensures, c.place_by_estimate.ensures, c.estimate-estimate.ensures.value, c.len.ensures, ← c.deref.ensures.len, c.deref.ensures.value) (sym (put_last-position c.args.job c.args.row.now.items))
+    rw (c.in-Shortest.is, c.in_ok-insert-in-Shortest.ensures.ok, c.unwrap_or-place.ensures, c.place_by_estimate.ensures, c.estimate-estimate.ensures.value, c.jobs-jobs.ensures) (sym (put_last-position c.args.job c.args.row.now.jobs))

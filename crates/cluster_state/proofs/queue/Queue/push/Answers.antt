@@ -6,5 +6,5 @@ use Rattle.cluster_state.proofs.queue.Queue.push.Goals as goal
 pub invariant_of-self-2 : goal.invariant_of-self-2
 invariant_of-self-2 g c =
     let order = c.self.inside.order in
-    rw (c.in-Ok.ensures.items, c.reserve.ensures.items)
-    (c.in_ok-put_job.ensures.ok ∙ ap (row_with order c.args.job) c.self.invariant ∙ row-arrived order c.self.inside.jobs.items c.args.job)
+    rw (c.push.ensures, c.reserve.ensures.jobs)
+    (c.in_ok-put_job.ensures.ok ∙ ap (row_with order c.args.job) c.self.invariant ∙ row-arrived order c.self.inside.jobs.jobs c.args.job)

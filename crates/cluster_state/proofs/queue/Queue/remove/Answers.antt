@@ -6,4 +6,4 @@ use Rattle.cluster_state.proofs.queue.Queue.remove.Goals as goal
 pub invariant_of-self : goal.invariant_of-self
 invariant_of-self g c =
     rw (c.remove_job.ensures, c.remove_job-2.ensures)
-    (ap (without c.args.number) c.self.invariant ∙ row-started c.self.inside.order c.args.number c.self.inside.jobs.items (rw (← c.self.view_is) at c.requires))
+    (ap (without c.args.number) c.self.invariant ∙ row-started c.self.inside.order c.args.number c.self.inside.jobs.jobs (rw (← c.self.view_is) at c.requires))
