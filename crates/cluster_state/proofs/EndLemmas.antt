@@ -1,19 +1,19 @@
 -- Running jobs in the order in which they are expected to end.
-use Rattle.std.proofs.Common.{◌≡◌, ◌≢◌, ℕ, suc, ◌+◌, ◌≤◌, ◌<◌, Bool, true, false, cond, ◌||◌, ◌&&◌, ◌==◌, nat_eq, nat_lt, not, List, [], ◌∷◌, All, Any, get_or, take, filter, sum_by, count_by, length, insert, position, unwrap_or, one-add, Option, Some, None, IfSome, IsNone, IsSomeAnd, slice_get, refl, sym, ◌∙◌, ap, arith, subst, inl, inr, ⊎_elim, ◌⊎◌}
+use Rattle.std.proofs.Common.{◌≡◌, ◌≢◌, ℕ, zero, suc, ◌+◌, ◌≤◌, ◌<◌, Bool, true, false, cond, ◌||◌, ◌&&◌, ◌==◌, nat_eq, nat_lt, not, List, [], ◌∷◌, All, Any, get_or, take, filter, sum_by, count_by, length, insert, one-add, Option, Some, None, IfSome, IsNone, IsSomeAnd, slice_get, refl, sym, ◌∙◌, ap, arith, subst, inl, inr, ⊎_elim, ◌⊎◌}
 use Rattle.std.specs.List.{position_or_len}
 use Rattle.std.specs.Option.{option_map}
 use Rattle.std.proofs.lemmas.List.Sums.{sum_by-cons, sum_by_more, get_or-le-sum_by}
-use Rattle.std.specs.List.Sorted.{IsPermutation}
+use Rattle.std.specs.List.Sorted.{IsPermutation, IsPartitionedBy}
 use Rattle.std.proofs.lemmas.List.{nil_from_length}
 use Rattle.std.proofs.lemmas.List.Sorted.{sum_by_popped, sum_by_pushed, IsPermutation-refl, IsPermutation-cons, IsPermutation-trans, IsPermutation-insert}
-use Rattle.std.proofs.lemmas.List.Elements.{All-cons, All-head, All-tail, All-nil, All-weaker, All-filter}
+use Rattle.std.proofs.lemmas.List.Elements.{All-cons, All-head, All-tail, All-nil, All-weaker, All-filter, All-get_or}
 use Rattle.std.proofs.lemmas.Bool.{cond_both, cond-true, cond-false, cases_Bool, cases_lt, lt-ltb, ltb-true, ltb-false, le-ltb, eq-eqb, eqb-true, and_from, and_parts, or_left, or_right, true≢false}
 use Rattle.scenarios.specs.Job.{EffectiveJob}
 use Rattle.scenarios.specs.declared.placed.Placed.{Placed}
 use Rattle.scenarios.specs.Placed.{expected_end, real_end}
 use Rattle.cluster_state.specs.State.{State, IsSound, placed, waiting_job, ended_until}
 use Rattle.cluster_state.specs.Ends.{is_sooner, entered, by_end, EndsSooner, RisesByEnd}
-use Rattle.cluster_state.proofs.StateLemmas.{position-is, sum_by-placed, sum_by-without}
+use Rattle.cluster_state.proofs.StateLemmas.{sum_by-placed, sum_by-without}
 
 -- ---- the order
 abbrev pub Sooner : Placed → Placed → Type 0
@@ -222,7 +222,7 @@ by_end-filter p (r ∷ rs) =
     ∙ sym (filter-entered p r (by_end rs) (rises-by_end rs))
 
 -- ---- the code's place
-entered-at : (r : Placed) (rs : List Placed) → entered r rs ≡ insert rs (position_or_len (λ (x : Placed). is_sooner r x) rs) r
+pub entered-at : (r : Placed) (rs : List Placed) → entered r rs ≡ insert rs (position_or_len (λ (x : Placed). is_sooner r x) rs) r
 entered-at r [] = refl
 entered-at r (x ∷ rs) =
     elim (is_sooner r x) as (λ b. cond b (r ∷ x ∷ rs) (x ∷ entered r rs) ≡ insert (x ∷ rs) (cond (not b) (1 + position_or_len (λ (x : Placed). is_sooner r x) rs) 0) r) [
@@ -230,8 +230,22 @@ entered-at r (x ∷ rs) =
       | false ↦ rw one-add (ap (λ l. x ∷ l) (entered-at r rs))
     ]
 
-pub entered-position : (r : Placed) (rs : List Placed) → entered r rs ≡ insert rs (unwrap_or (position (λ (x : Placed). is_sooner r x) rs) (length rs)) r
-entered-position r rs = entered-at r rs ∙ ap (λ i. insert rs i r) (sym (position-is (λ (x : Placed). is_sooner r x) rs))
+-- those before which a job comes stand behind the others
+sooner-parts : (r : Placed) (xs : List Placed) → NoneEndsSooner xs → IsPartitionedBy (λ (x : Placed). not (is_sooner r x)) xs
+sooner-parts r [] h i j d le lt t = absurd (omega arith)
+sooner-parts r (x ∷ xs) h zero zero d le lt t = t
+sooner-parts r (x ∷ xs) h zero (suc j) d le lt t =
+    let y = get_or xs j d in
+    let later : NotLater x y = All-get_or (NotLater x) xs j d (omega arith) h.0 in
+    ⊎_elim
+    (λ (s : is_sooner r x ≡ true). absurd (true≢false (sym t ∙ ap not (is-sooner r y (sooner-than r x y (sooner-is r x s) later)))))
+    (λ (n : is_sooner r x ≡ false). ap not n)
+    (cases_Bool (is_sooner r x))
+sooner-parts r (x ∷ xs) h (suc i) zero d le lt t = absurd (omega arith)
+sooner-parts r (x ∷ xs) h (suc i) (suc j) d le lt t = sooner-parts r xs h.1 i j d (omega arith) (omega arith) t
+
+pub parted-by_end : (r : Placed) (row rs : List Placed) → row ≡ by_end rs → IsPartitionedBy (λ (x : Placed). not (is_sooner r x)) row
+parted-by_end r row rs e = sooner-parts r row (subst NoneEndsSooner (sym e) (rises-by_end rs))
 
 -- ---- the seconds at which they end
 -- what is added up only where the test passes

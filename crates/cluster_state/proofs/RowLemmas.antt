@@ -1,15 +1,15 @@
 -- The order in which later jobs are looked at.
-use Rattle.std.proofs.Common.{◌≡◌, ℕ, ◌+◌, ◌≤◌, ◌<◌, Bool, true, false, cond, nat_eq, nat_lt, nat_le, List, [], ◌∷◌, ◌++◌, Some, None, All, find, sum_by, count_by, insert, position, unwrap_or, length, one-add, not, refl, sym, ◌∙◌, ap, arith, subst, ⊎_elim}
+use Rattle.std.proofs.Common.{◌≡◌, ℕ, zero, suc, ◌+◌, ◌≤◌, ◌<◌, Bool, true, false, cond, nat_eq, nat_lt, nat_le, List, [], ◌∷◌, ◌++◌, Some, None, All, find, sum_by, count_by, insert, one-add, not, refl, sym, ◌∙◌, ap, arith, subst, ⊎_elim}
 use Rattle.std.specs.List.{position_or_len}
+use Rattle.std.specs.List.Sorted.{IsNonDecreasingBy}
 use Rattle.std.proofs.lemmas.List.Sums.{sum_by-cons}
-use Rattle.std.proofs.lemmas.List.Elements.{All-cons, All-head, All-tail, All-nil, All-weaker}
+use Rattle.std.proofs.lemmas.List.Elements.{All-cons, All-head, All-tail, All-nil, All-weaker, All-get_or}
 use Rattle.std.proofs.lemmas.Bool.{cond_both, cond-true, cond-false, cases_Bool, le-leb, lt-leb, lt-ltb, le-ltb, cases_lt}
 use Rattle.scenarios.specs.Job.{EffectiveJob}
 use Rattle.scenarios.specs.declared.order.Order.{Order}
 use Rattle.scenarios.specs.declared.order.Order.TheVariants.{Arrival, Shortest}
 use Rattle.cluster_state.specs.State.{without}
 use Rattle.cluster_state.specs.Row.{put, by_estimate, in_order, row_of, row_with, put_last}
-use Rattle.cluster_state.proofs.StateLemmas.{position-is}
 
 -- the two cases of `put`
 pub put-before : (j x : EffectiveJob) (xs : List EffectiveJob) → j.estimate ≤ x.estimate → put j (x ∷ xs) ≡ j ∷ x ∷ xs
@@ -57,6 +57,18 @@ rises-put j (x ∷ xs) r =
 pub rises-by_estimate : (js : List EffectiveJob) → RisesByEstimate (by_estimate js)
 rises-by_estimate [] = tt
 rises-by_estimate (j ∷ js) = rises-put j (by_estimate js) (rises-by_estimate js)
+
+-- the same by places
+rising-places : (xs : List EffectiveJob) → RisesByEstimate xs → IsNonDecreasingBy (λ (x : EffectiveJob). x.estimate) xs
+rising-places [] r i j d le lt = absurd (omega arith)
+rising-places (x ∷ xs) r zero zero d le lt = omega arith
+rising-places (x ∷ xs) r zero (suc j) d le lt = All-get_or (λ y. x.estimate ≤ y.estimate) xs j d (omega arith) r.0
+rising-places (x ∷ xs) r (suc i) zero d le lt = absurd (omega arith)
+rising-places (x ∷ xs) r (suc i) (suc j) d le lt = rising-places xs r.1 i j d (omega arith) (omega arith)
+
+pub rises-row_of : (o : Order) (js : List EffectiveJob) → IsNonDecreasingBy (λ (x : EffectiveJob). x.estimate) (row_of o js)
+rises-row_of Arrival js = rising-places [] tt
+rises-row_of Shortest js = rising-places (by_estimate js) (rises-by_estimate js)
 
 pub All-by_estimate : (P : EffectiveJob → Type 0) (js : List EffectiveJob) → All P js → All P (by_estimate js)
 All-by_estimate P [] a = a
@@ -179,16 +191,13 @@ pub by_estimate-arrived : (js : List EffectiveJob) (job : EffectiveJob) → by_e
 by_estimate-arrived [] job = refl
 by_estimate-arrived (j ∷ js) job = ap (put j) (by_estimate-arrived js job) ∙ put-put_last j job (by_estimate js)
 
-put_last-at : (j : EffectiveJob) (js : List EffectiveJob) → put_last j js ≡ insert js (position_or_len (λ (x : EffectiveJob). nat_lt j.estimate x.estimate) js) j
+pub put_last-at : (j : EffectiveJob) (js : List EffectiveJob) → put_last j js ≡ insert js (position_or_len (λ (x : EffectiveJob). nat_lt j.estimate x.estimate) js) j
 put_last-at j [] = refl
 put_last-at j (x ∷ xs) =
     elim (nat_lt j.estimate x.estimate) as (λ b. cond b (j ∷ x ∷ xs) (x ∷ put_last j xs) ≡ insert (x ∷ xs) (cond (not b) (1 + position_or_len (λ (x : EffectiveJob). nat_lt j.estimate x.estimate) xs) 0) j) [
       | true ↦ refl
       | false ↦ rw one-add (ap (λ l. x ∷ l) (put_last-at j xs))
     ]
-
-pub put_last-position : (j : EffectiveJob) (js : List EffectiveJob) → put_last j js ≡ insert js (unwrap_or (position (λ (x : EffectiveJob). nat_lt j.estimate x.estimate) js) (length js)) j
-put_last-position j js = put_last-at j js ∙ ap (λ i. insert js i j) (sym (position-is (λ (x : EffectiveJob). nat_lt j.estimate x.estimate) js))
 
 -- whom the test refuses may as well not stand there
 pub find-put : (q : EffectiveJob → Bool) (j : EffectiveJob) (xs : List EffectiveJob) → q j ≡ false → find q (put j xs) ≡ find q xs

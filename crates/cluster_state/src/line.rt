@@ -5,8 +5,8 @@ use std::alloc::Allocator;
 use std::marker::Model;
 use swf_text::Memory;
 
-// Jobs in a row, behind a gap: so many places at the front of the Vec are free. So a job leaves at the
-// cost of the jobs on its shorter side, and the first at no cost.
+// Jobs in a row, kept behind a gap: the first `gone` of the places are free. So a job can leave at the
+// cost of the jobs on its shorter side alone.
 #[derive(Drop)]
 pub(crate) struct Line<A: Allocator + Copy> {
     gone: usize,
@@ -72,7 +72,7 @@ impl<A: Allocator + Copy> Line<A> {
         Ok(())
     }
 
-    // The job at this place leaves.
+    // The job at this place leaves. The gap is closed where it is more than half of the places.
     pub(crate) fn remove(&mut self, place: usize)
         requires { place < length self.old.jobs }
         ensures { self.new.jobs ≡ remove self.old.jobs place }
@@ -83,7 +83,7 @@ impl<A: Allocator + Copy> Line<A> {
         }
     }
 
-    // The job at this place leaves, and those on its shorter side move up.
+    // The same, with a gap that may be wide.
     fn take_out(&mut self, place: usize)
         requires { place < length self.old.jobs }
         ensures { self.new.jobs ≡ remove self.old.jobs place }
@@ -97,7 +97,7 @@ impl<A: Allocator + Copy> Line<A> {
         }
     }
 
-    // No place is free any more: all jobs move to the front.
+    // All jobs move to the front, where no place is free any more.
     fn close_the_gap(&mut self)
         ensures { self.new.jobs ≡ self.old.jobs }
     {

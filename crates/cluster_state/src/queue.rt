@@ -1,4 +1,6 @@
-ghost use Rattle.std.specs.Prelude.{◌≡◌, ◌≤◌, ◌<◌, ◌^◌, ℕ, [], ◌∷◌, ◌++◌, OnOk, OnErr, nat_eq, nat_lt, find, position, sum_by, count_by};
+ghost use Rattle.std.specs.Prelude.{◌≡◌, ◌≤◌, ◌<◌, ◌^◌, ℕ, [], ◌∷◌, ◌++◌, OnOk, OnErr, length, nat_eq, nat_lt, find, position, sum_by, count_by};
+ghost use Rattle.std.specs.List.{position_or_len};
+ghost use Rattle.std.specs.List.Sorted.{IsNonDecreasingBy};
 ghost use Rattle.scenarios.specs.Job.{IsWithinLimits};
 ghost use Rattle.cluster_state.specs.State.{without, without_all};
 ghost use Rattle.cluster_state.specs.Row.{in_order, row_with};
@@ -94,7 +96,7 @@ impl<A: Allocator + Copy> Queue<A> {
         remove_job(&mut self.row, number);
     }
 
-    // These jobs leave.
+    // The jobs of these numbers leave, one after another.
     pub(crate) fn remove_all(&mut self, jobs: &[Job])
         requires { (n : ℕ) → count_by (λ j. nat_eq j.number n) self.old.jobs ≤ 1 }
         ensures { self.new ≡ record { order = self.old.order; jobs = without_all jobs.now self.old.jobs } }
@@ -142,16 +144,19 @@ pub(crate) fn sizes(jobs: &[Job]) -> u64
     jobs.iter().map(|j| j.size()).sum()
 }
 
-// The place of the first with a longer estimate.
-fn place_by_estimate(row: &[Job], estimate: u64) -> Option<usize>
-    ensures { result ≡ position (λ x. nat_lt estimate x.estimate) row.now }
+// The place behind those whose estimates are not longer, in a row in which estimates rise.
+fn place_by_estimate(row: &[Job], estimate: u64) -> usize
+    requires { IsNonDecreasingBy (λ x. x.estimate) row.now }
+    ensures within { result ≤ length row.now }
+    ensures place { result ≡ position_or_len (λ x. nat_lt estimate x.estimate) row.now }
 {
-    row.iter().position(|x| estimate < x.estimate())
+    row.partition_point(|x| x.estimate() <= estimate)
 }
 
 // Puts a job that arrives into the row that the order asks for, behind those whose estimates are
 // not longer.
 fn put_job<A: Allocator + Copy>(row: &mut Line<A>, order: Order, job: Job) -> Result<(), Memory>
+    requires { IsNonDecreasingBy (λ x. x.estimate) row.old.jobs }
     ensures ok { OnOk result (row.new.jobs ≡ row_with order job row.old.jobs) }
     ensures err { OnErr result (row.new.jobs ≡ row.old.jobs) }
     ensures limits { IsWithinLimits job }
@@ -160,8 +165,7 @@ fn put_job<A: Allocator + Copy>(row: &mut Line<A>, order: Order, job: Job) -> Re
     match order {
         Order::Arrival => {}
         Order::Shortest => {
-            let jobs = row.jobs();
-            let place = place_by_estimate(jobs, estimate).unwrap_or(jobs.len());
+            let place = place_by_estimate(row.jobs(), estimate);
             row.insert(place, job)?;
         }
     }

@@ -1,4 +1,6 @@
-ghost use Rattle.std.specs.Prelude.{◌≡◌, ◌+◌, ◌-◌, ◌<◌, ◌≤◌, ◌^◌, ◌↔◌, [], OnOk, OnErr, IfOk, IsOk, All, nat_lt, position, filter, vec_len, vec_capacity};
+ghost use Rattle.std.specs.Prelude.{◌≡◌, ◌+◌, ◌-◌, ◌<◌, ◌≤◌, ◌^◌, ◌↔◌, [], OnOk, OnErr, IfOk, IsOk, length, not, nat_lt, position, filter, vec_len, vec_capacity};
+ghost use Rattle.std.specs.List.{position_or_len};
+ghost use Rattle.std.specs.List.Sorted.{IsPartitionedBy};
 ghost use Rattle.scenarios.specs.Placed.{expected_end, real_end};
 ghost use Rattle.cluster_state.specs.State.{busy, placed};
 ghost use Rattle.cluster_state.specs.Ends.{by_end, entered, is_sooner};
@@ -63,15 +65,18 @@ fn is_sooner(a: &Placed, b: &Placed) -> bool
     end < other || end == other && a.job.number() < b.job.number()
 }
 
-// The place of the first that a running job is sooner than.
-fn place_by_end(row: &[Placed], r: &Placed) -> Option<usize>
-    ensures { result ≡ position (λ x. is_sooner r.now x) row.now }
+// The place of the first that a running job is sooner than, where those behind it are so too.
+fn place_by_end(row: &[Placed], r: &Placed) -> usize
+    requires { IsPartitionedBy (λ x. not (is_sooner r.now x)) row.now }
+    ensures within { result ≤ length row.now }
+    ensures place { result ≡ position_or_len (λ x. is_sooner r.now x) row.now }
 {
-    row.iter().position(|x| is_sooner(r, x))
+    row.partition_point(|x| !is_sooner(r, x))
 }
 
 // Puts a running job in its place by (start + estimate, number).
 pub(crate) fn enter<A: Allocator>(row: &mut Vec<Placed, A>, r: Placed) -> Result<(), Memory>
+    requires { IsPartitionedBy (λ x. not (is_sooner r x)) row.old.items }
     ensures ok { OnOk result (row.new.items ≡ entered r row.old.items) }
     ensures err { OnErr result (row.new.items ≡ row.old.items) }
     ensures len { OnOk result (vec_len row.new ≡ vec_len row.old + 1) }
@@ -79,7 +84,7 @@ pub(crate) fn enter<A: Allocator>(row: &mut Vec<Placed, A>, r: Placed) -> Result
     ensures capacity { vec_capacity row.old ≤ vec_capacity row.new }
     ensures room { vec_len row.old < vec_capacity row.old → IsOk result }
 {
-    let place = place_by_end(row, &r).unwrap_or(row.len());
+    let place = place_by_end(row, &r);
     row.insert(place, r)?;
     Ok(())
 }

@@ -1,7 +1,10 @@
 use Rattle.std.proofs.Common.{◌∙◌, ap}
 use Rattle.cluster_state.specs.Row.{row_with}
-use Rattle.cluster_state.proofs.RowLemmas.{row-arrived}
+use Rattle.cluster_state.proofs.RowLemmas.{row-arrived, rises-row_of}
 use Rattle.cluster_state.proofs.queue.Queue.push.Goals as goal
+
+pub put_job-requires : goal.put_job-requires
+put_job-requires g c = rw c.self.invariant (rises-row_of c.self.inside.order c.self.inside.jobs.jobs)
 
 pub invariant_of-self-2 : goal.invariant_of-self-2
 invariant_of-self-2 g c =

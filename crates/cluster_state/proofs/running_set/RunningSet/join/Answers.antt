@@ -1,8 +1,11 @@
 use Rattle.std.proofs.Common.{◌≡◌, ℕ, ◌+◌, sym, sum_by}
 use Rattle.std.specs.BinaryHeap.{heap_items}
 use Rattle.scenarios.specs.Placed.{real_end}
-use Rattle.cluster_state.proofs.EndLemmas.{by_end-placed, pushed, ends-joined}
+use Rattle.cluster_state.proofs.EndLemmas.{by_end-placed, parted-by_end, pushed, ends-joined}
 use Rattle.cluster_state.proofs.running_set.RunningSet.join.Goals as goal
+
+pub enter-requires : goal.enter-requires
+enter-requires g c = parted-by_end c.args.r c.self.inside.by_end.items c.self.inside.running.items c.self.invariant.kept_by_end
 
 pub invariant_of-self : goal.invariant_of-self
 invariant_of-self g c =
