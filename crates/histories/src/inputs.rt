@@ -52,7 +52,7 @@ fn log(alloc: Global, words: &mut Words) -> Result<String, Wrong> {
 }
 
 // The table of a log.
-fn table_of(alloc: Global, log: &[u8]) -> Result<JobTable<Global>, Wrong> {
+pub(crate) fn table_of(alloc: Global, log: &[u8]) -> Result<JobTable<Global>, Wrong> {
     match read_swf(alloc, log) {
         Ok(text) => Ok(JobTable::from_text(alloc, &text)?),
         Err(_) => Err(Wrong::Input),

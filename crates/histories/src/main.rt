@@ -1,6 +1,7 @@
 //! Plays lists of calls that are made up on a book, valid ones and others, by several sessions and
-//! workers, and judges each answer, each note and the end of each list by the plain program. It
-//! prints how many lists and calls were played; at the first difference it tells on standard error
+//! workers, and judges each answer, each note and the end of each list by the plain program. Then it
+//! hands in runs of logs that are equal to a ticket's in all but one field, which are all to be
+//! refused. It prints how many lists and calls were played; at the first difference it tells on standard error
 //! the list and how many calls were made, and its status is 1.
 #![tactic(auto)]
 
@@ -8,6 +9,7 @@ mod answers;
 mod ending;
 mod inputs;
 mod lists;
+mod nearly;
 mod player;
 mod session_calls;
 mod tally;
@@ -88,6 +90,11 @@ fn run<R: AllocGlobal + Print + Eprint>(rt: &R) -> Result<bool> {
         return Ok(false);
     }
     println!(rt; "{KINDS} kinds of replies, each {FEWEST} times or more")?;
+    if let Err(wrong) = nearly::are_refused(rt.alloc()) {
+        eprintln!(rt; "histories: a log with another field: {}", wrong.text())?;
+        return Ok(false);
+    }
+    println!(rt; "runs of logs with one other field: strangers, each of 17")?;
     Ok(true)
 }
 
