@@ -1,9 +1,11 @@
 // Readers and writers that move one byte a call, and fail at one of their calls.
+use crate::sharing;
 use easybook::{Options, ProgramFault, run_alone};
 use std::alloc::Global;
 use std::io;
 use std::io::{Cursor, ErrorKind, Read, Write};
 use std::marker::Sync;
+use std::sync::Wait;
 use std::thread::Threads;
 
 const LOG: &[u8] =
@@ -156,11 +158,22 @@ fn is_written<R: AllocGlobal + Threads + Sync>(rt: &R, room: usize, takes_none: 
     took(&writer, room, answer, TOLD)
 }
 
+// The same of two sessions side by side.
+fn are_both_written<R: AllocGlobal + Threads + Wait + Sync>(
+    rt: &R,
+    room: usize,
+    takes_none: bool,
+) -> bool {
+    let mut writer = with_room(rt.alloc(), room, takes_none);
+    let answer = sharing::work(rt, rt.alloc(), &mut writer);
+    took(&writer, room, answer, sharing::TOLD)
+}
+
 // Whether that holds of writers with room for no byte to more than all.
-fn are_written<R: AllocGlobal + Threads + Sync>(rt: &R) -> bool {
-    for room in 0..TOLD.len() + 2 {
+fn are_written<R: AllocGlobal + Threads + Wait + Sync>(rt: &R) -> bool {
+    for room in 0..TOLD.len().max(sharing::TOLD.len()) + 2 {
         for takes_none in [false, true] {
-            if !is_written(rt, room, takes_none) {
+            if !is_written(rt, room, takes_none) || !are_both_written(rt, room, takes_none) {
                 return false;
             }
         }
@@ -170,6 +183,6 @@ fn are_written<R: AllocGlobal + Threads + Sync>(rt: &R) -> bool {
 
 /// Whether scripts are read and answered as they should be where a reader or a writer moves one byte a
 /// call, and fails at one of its calls.
-pub(crate) fn is_right<R: AllocGlobal + Threads + Sync>(rt: &R) -> bool {
+pub(crate) fn is_right<R: AllocGlobal + Threads + Wait + Sync>(rt: &R) -> bool {
     are_read(rt) && are_written(rt)
 }

@@ -1,14 +1,15 @@
 //! Changes logs and scripts at random, gives them to the reader and to the call that works a script,
 //! and counts the answers. Its word is how many logs and how many scripts. Without it they are
-//! 10,000 each, and each beginning of a log is read too, and readers and writers fail at each of their
-//! calls. The status is 1 where an answer is not one of those that
-//! are stated, where a log is read otherwise once it was written, and where a kind of answers that
-//! may come does not.
+//! 10,000 each, and each beginning of a log is read too, readers and writers fail at each of their
+//! calls, and two scripts are worked side by side where each growth is refused in turn. The status is
+//! 1 where an answer is not one of those that are stated, where a log is read otherwise once it was
+//! written, and where a kind of answers that may come does not.
 #![tactic(auto)]
 
 mod devices;
 mod mutation;
 mod reading;
+mod sharing;
 mod words;
 mod working;
 
@@ -22,6 +23,7 @@ use std::env;
 use std::marker::Sync;
 use std::process::ExitCode;
 use std::rt::Env;
+use std::sync::Wait;
 use std::thread::Threads;
 
 /// How many logs are changed, and how many scripts, where no word says so.
@@ -34,6 +36,8 @@ const CUT: &str = "each beginning of four jobs: read, or its first fault";
 
 const DEVICES: &str =
     "a reader and a writer of one byte a call, each call failing in turn: told, and nothing invented";
+
+const SHARED: &str = "two scripts side by side, each growth refused in turn: told, and all ends";
 
 /// The logs that are changed: four jobs; partial lines, fractions and comments; a scenario's line.
 const LOGS: [&[u8]; 3] = [
@@ -135,12 +139,13 @@ fn tell_of<R: Print + Eprint>(rt: &R, is_right: bool, what: &str) -> Result<bool
 }
 
 // What is done without a word: whether all is right.
-fn run_short<R: AllocGlobal + Print + Eprint + Threads + Sync>(rt: &R) -> Result<bool> {
+fn run_short<R: AllocGlobal + Print + Eprint + Threads + Wait + Sync>(rt: &R) -> Result<bool> {
     let counts = counts_of(rt, ROUNDS)?;
     Ok(
         tell_of(rt, are_as_stated(&counts), CHANGED)?
             && tell_of(rt, are_cut_as_stated(rt.alloc()), CUT)?
-            && tell_of(rt, devices::is_right(rt), DEVICES)?,
+            && tell_of(rt, devices::is_right(rt), DEVICES)?
+            && tell_of(rt, sharing::is_right(rt, rt.alloc()), SHARED)?,
     )
 }
 
@@ -152,7 +157,7 @@ fn run_long<R: AllocGlobal + Print + Threads + Sync>(rt: &R, rounds: u64) -> Res
     Ok(are_as_stated(&counts))
 }
 
-fn run<R: AllocGlobal + Env + Print + Eprint + Threads + Sync>(rt: &R) -> Result<bool> {
+fn run<R: AllocGlobal + Env + Print + Eprint + Threads + Wait + Sync>(rt: &R) -> Result<bool> {
     let mut words = env::args(rt)?.skip(1);
     match words.next() {
         None => run_short(rt),
