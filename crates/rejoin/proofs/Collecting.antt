@@ -128,7 +128,7 @@ submits-all p q ns ts those is = record {
 
 -- a loop over the edits
 module _ {X : Type 0} (f : X → LogEdit) where
-  front-more : (xs : List X) (i : ℕ) (d : X) → i < length xs → map f (take (i + 1) xs) ≡ map f (take i xs) ++ f (get_or xs i d) ∷ []
+  pub front-more : (xs : List X) (i : ℕ) (d : X) → i < length xs → map f (take (i + 1) xs) ≡ map f (take i xs) ++ f (get_or xs i d) ∷ []
   front-more xs i d l = ap (map f) (take_more xs i d l) ∙ map-append f (take i xs) (get_or xs i d ∷ [])
 
   pub touched-more : (p q : Plan) (xs : List X) (i : ℕ) (d : X) (m : ℕ) (ns ms : List ℕ) → i < length xs → m ≡ named (f (get_or xs i d)) → IsTouched p q m → ms ≡ ns ++ m ∷ [] → Collected p q (map f (take i xs)) ns → Collected p q (map f (take (i + 1) xs)) ms

@@ -13,7 +13,7 @@ use std::alloc::Allocator;
 use swf_text::Memory;
 
 // The job number of an edit.
-fn number_of<A: Allocator + Copy>(edit: &Edit<A>) -> u64
+pub(crate) fn number_of<A: Allocator + Copy>(edit: &Edit<A>) -> u64
     ensures { result ≡ named (edit_of edit.now) }
 {
     match edit {
