@@ -3,6 +3,7 @@ mod RowLemmas
 mod SnapshotLemmas
 mod LookupLemmas
 mod EndLemmas
+mod LeavingLemmas
 mod StartAllLemmas
 mod LineLemmas
 pub mod Lemmas

@@ -292,8 +292,8 @@ impl<A: Allocator + Copy> Cluster<A> {
         if !is_by(self.running.next_end(), t) {
             return;
         }
-        self.running.drop_until(t);
-        self.free = self.procs - self.running.held();
+        let freed = self.running.drop_until(t);
+        self.free += freed;
     }
 
     /// The second at which the next running job ends; none where no job runs.

@@ -1,4 +1,4 @@
-ghost use Rattle.std.specs.Prelude.{◌≡◌, ◌+◌, ◌-◌, ◌<◌, ◌≤◌, ◌^◌, ◌↔◌, [], OnOk, OnErr, IfOk, IsOk, length, not, nat_lt, position, filter, vec_len, vec_capacity};
+ghost use Rattle.std.specs.Prelude.{◌≡◌, ◌+◌, ◌-◌, ◌<◌, ◌≤◌, ◌^◌, ◌↔◌, [], OnOk, OnErr, IfOk, IsOk, length, not, nat_lt, position, filter, if◌then◌else◌, sum_by, vec_len, vec_capacity};
 ghost use Rattle.std.specs.List.{position_or_len};
 ghost use Rattle.std.specs.List.Sorted.{IsPartitionedBy};
 ghost use Rattle.scenarios.specs.Placed.{expected_end, real_end};
@@ -104,11 +104,60 @@ pub(crate) fn row_by_end<A: Allocator>(
     Ok(row)
 }
 
-// Drops those that end by second t.
-pub(crate) fn drop_ended<A: Allocator>(running: &mut Vec<Placed, A>, t: u64)
+// The place of the first that ends by second t.
+fn first_ended(running: &[Placed], t: u64) -> Option<usize>
+    ensures { result ≡ position (λ r. not (nat_lt t (real_end r))) running.now }
+{
+    running.iter().position(|r| !outlasts(r, t))
+}
+
+// The processors that it gives back by second t.
+fn given_back(r: &Placed, t: u64) -> u64
+    ensures { result ≡ (if nat_lt t (real_end r.now) then 0 else r.now.job.size) }
+{
+    if outlasts(r, t) {
+        return 0;
+    }
+    r.job.size()
+}
+
+// The processors that these give back by second t.
+fn given_back_by_all(running: &[Placed], t: u64) -> u64
+    requires { sum_by (λ r. if nat_lt t (real_end r) then 0 else r.job.size) running.now < 2 ^ 64 }
+    ensures { result ≡ sum_by (λ r. if nat_lt t (real_end r) then 0 else r.job.size) running.now }
+{
+    running.iter().map(|r| given_back(r, t)).sum()
+}
+
+// The processors that those hold who end by second t: there are `count` of them. Where it is one,
+// nobody behind it is looked at.
+pub(crate) fn held_by_ended(running: &[Placed], t: u64, count: usize) -> u64
+    requires count { count + length (filter (λ r. nat_lt t (real_end r)) running.now) ≡ length running.now }
+    requires sizes { busy running.now < 2 ^ 64 }
+    ensures { result + busy (filter (λ r. nat_lt t (real_end r)) running.now) ≡ busy running.now }
+{
+    if count > 1 {
+        return given_back_by_all(running, t);
+    }
+    match first_ended(running, t) {
+        None => 0,
+        Some(place) => running[place].job.size(),
+    }
+}
+
+// Drops those that end by second t: there are `count` of them. Where it is one, nobody behind it is
+// looked at.
+pub(crate) fn drop_ended<A: Allocator>(running: &mut Vec<Placed, A>, t: u64, count: usize)
+    requires { count + length (filter (λ r. nat_lt t (real_end r)) running.old.items) ≡ length running.old.items }
     ensures kept { running.new.items ≡ filter (λ r. nat_lt t (real_end r)) running.old.items }
     ensures len { vec_len running.new ≤ vec_len running.old }
     ensures capacity { vec_capacity running.new ≡ vec_capacity running.old }
 {
-    running.retain(move |r| outlasts(r, t));
+    if count > 1 {
+        running.retain(move |r| outlasts(r, t));
+        return;
+    }
+    if let Some(place) = first_ended(running, t) {
+        running.remove(place);
+    }
 }
