@@ -2,6 +2,7 @@ mod StateLemmas
 mod RowLemmas
 mod SnapshotLemmas
 mod LookupLemmas
+mod RiseLemmas
 mod EndLemmas
 mod LeavingLemmas
 mod StartAllLemmas

@@ -1,6 +1,6 @@
 ghost use Rattle.std.specs.Prelude.{◌≡◌, ◌+◌, ◌-◌, ◌<◌, ◌≤◌, ◌^◌, ◌↔◌, [], OnOk, OnErr, IfOk, IsOk, length, not, nat_lt, position, filter, if◌then◌else◌, sum_by, vec_len, vec_capacity};
 ghost use Rattle.std.specs.List.{position_or_len};
-ghost use Rattle.std.specs.List.Sorted.{IsPartitionedBy};
+ghost use Rattle.std.specs.List.Sorted.{IsNonDecreasingBy, IsPartitionedBy};
 ghost use Rattle.scenarios.specs.Placed.{expected_end, real_end};
 ghost use Rattle.cluster_state.specs.State.{busy, placed};
 ghost use Rattle.cluster_state.specs.Ends.{by_end, entered, is_sooner};
@@ -24,11 +24,13 @@ pub(crate) fn held(running: &[Placed]) -> u64
     running.iter().map(|r| r.job.size()).sum()
 }
 
-// The place of the first with a greater number.
-fn place_after(running: &[Placed], number: u64) -> Option<usize>
-    ensures { result ≡ position (λ r. nat_lt number r.job.number) running.now }
+// The place of the first with a greater number, in a list in which numbers rise.
+fn place_by_number(running: &[Placed], number: u64) -> usize
+    requires { IsNonDecreasingBy (λ r. r.job.number) running.now }
+    ensures within { result ≤ length running.now }
+    ensures place { result ≡ position_or_len (λ r. nat_lt number r.job.number) running.now }
 {
-    running.iter().position(|r| number < r.job.number())
+    running.partition_point(|r| r.job.number() <= number)
 }
 
 // Puts a running job in its place by number.
@@ -36,6 +38,7 @@ pub(crate) fn put_by_number<A: Allocator>(
     running: &mut Vec<Placed, A>,
     r: Placed,
 ) -> Result<(), Memory>
+    requires { IsNonDecreasingBy (λ r. r.job.number) running.old.items }
     ensures ok { OnOk result (running.new.items ≡ placed r running.old.items) }
     ensures err { OnErr result (running.new.items ≡ running.old.items) }
     ensures len { OnOk result (vec_len running.new ≡ vec_len running.old + 1) }
@@ -43,7 +46,7 @@ pub(crate) fn put_by_number<A: Allocator>(
     ensures capacity { vec_capacity running.old ≤ vec_capacity running.new }
     ensures room { vec_len running.old < vec_capacity running.old → IsOk result }
 {
-    let place = place_after(running, r.job.number()).unwrap_or(running.len());
+    let place = place_by_number(running, r.job.number());
     running.insert(place, r)?;
     Ok(())
 }

@@ -1,7 +1,7 @@
 ghost use Rattle.std.specs.Prelude.{◌≡◌, ◌+◌, ◌<◌, ◌≤◌, ◌^◌, ◌↔◌, ℕ, [], OnOk, IfOk, IfSome, IsNone, IsOk, All, Any, length, filter, count_by, nat_eq, nat_lt};
 ghost use Rattle.scenarios.specs.Limits.{seconds_end};
 ghost use Rattle.scenarios.specs.Placed.{real_end};
-ghost use Rattle.cluster_state.specs.State.{busy, placed};
+ghost use Rattle.cluster_state.specs.State.{busy, placed, RisesByNumber};
 ghost use Rattle.cluster_state.specs.Ends.{by_end};
 ghost use Rattle.cluster_state.specs.Rooms.{all_placed};
 
@@ -49,7 +49,8 @@ impl<A: Allocator + Copy> RunningSet<A> {
 
     // These jobs run.
     pub(crate) fn of(alloc: A, running: Vec<Placed, A>) -> Result<RunningSet<A>, Memory>
-        requires { All (λ r. r.start < seconds_end) running.items }
+        requires starts { All (λ r. r.start < seconds_end) running.items }
+        requires rises { RisesByNumber running.items }
         ensures { IfOk result (λ s. s.running ≡ running.items) }
     {
         let by_end = row_by_end(alloc, &running)?;
@@ -63,7 +64,8 @@ impl<A: Allocator + Copy> RunningSet<A> {
 
     // The running jobs, rising by number.
     pub(crate) fn jobs(&self) -> &[Placed]
-        ensures { result.now ≡ self.now.running }
+        ensures jobs { result.now ≡ self.now.running }
+        ensures rises { RisesByNumber self.now.running }
     {
         self.running.as_slice()
     }
