@@ -2,12 +2,14 @@
 use Rattle.std.specs.Prelude.{◌≡◌, List}
 use Rattle.swf_text.specs.Entry.{LogEntry}
 use Rattle.scenarios.specs.Scenario.{Setting}
+use Rattle.scenarios.specs.Job.{EffectiveJob}
 use Rattle.scenarios.specs.Plan.{Plan, plan_of}
 use Rattle.scenarios.specs.Skips.{skips_of}
 use Rattle.easy_rule.specs.Simulation.{sim}
 use Rattle.scenarios.specs.declared.placed.Placed.{Placed}
 use Rattle.metrics.specs.Part.{PartSums, IsPartOf}
 use Rattle.metrics.specs.Tables.{TableRows, tables_of}
+use Rattle.checkpoints.specs.Segment.{SegmentView}
 use Rattle.checkpoints.specs.Cut.{placed_of}
 
 -- the jobs of a plan with the seconds at which they start in its simulation, second by second, in order of starting
@@ -19,3 +21,7 @@ all_placed plan = placed_of plan.jobs (sim plan)
 abbrev pub IsTablesOf : List LogEntry → Setting → TableRows → Type 0
 IsTablesOf log setting tables =
     (part : PartSums) × IsPartOf (all_placed (plan_of log setting)) part × (tables ≡ tables_of setting.procs (skips_of log setting) part)
+
+-- the segment has the sums over the jobs of its own starts
+abbrev pub HasOwnPart : List EffectiveJob → SegmentView → Type 0
+HasOwnPart jobs s = IsPartOf (placed_of jobs s.starts) s.part

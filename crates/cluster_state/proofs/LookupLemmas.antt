@@ -48,7 +48,7 @@ pub All-more : {X : Type 0} (P : X → Type 0) (xs : List X) (i : ℕ) (d : X) �
 All-more P xs i d l a p = subst (λ ys. All P ys) (sym (take_more xs i d l)) (All-push P (take i xs) (get_or xs i d) a p)
 
 -- what is looked up by a number has it
-job-number : (jobs : List EffectiveJob) (n : ℕ) (job : EffectiveJob) → job_numbered jobs n ≡ Some job → job.number ≡ n
+pub job-number : (jobs : List EffectiveJob) (n : ℕ) (job : EffectiveJob) → job_numbered jobs n ≡ Some job → job.number ≡ n
 job-number jobs n job e = eqb-true job.number n (test-find (λ (j : EffectiveJob). nat_eq j.number n) jobs job e)
 
 waiting-counts : (jobs : List EffectiveJob) (m : ℕ) (ns : List ℕ) → count_by (λ (j : EffectiveJob). nat_eq j.number m) (filter_map (job_numbered jobs) ns) ≤ count_by (λ n. nat_eq n m) ns

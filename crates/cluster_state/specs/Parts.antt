@@ -3,7 +3,7 @@ use Rattle.std.specs.Prelude.{◌≡◌, ℕ, ◌+◌, ◌-◌, ◌≤◌, min, 
 use Rattle.std.specs.BinaryHeap.{heap_items, heap_len, heap_capacity, IsHeap}
 use Rattle.std.specs.Ordering.{nat_cmp}
 use Rattle.scenarios.specs.Placed.{real_end}
-use Rattle.cluster_state.specs.State.{State, ClusterView, IsSound, busy}
+use Rattle.cluster_state.specs.State.{State, ClusterView, IsSound, busy, RisesByNumber}
 use Rattle.cluster_state.specs.Row.{row_of}
 use Rattle.cluster_state.specs.Ends.{by_end}
 use Rattle.cluster_state.specs.Rooms.{LineView, QueueView, RunningView}
@@ -36,9 +36,10 @@ spare_of s = min (vec_capacity s.running - vec_len s.running) (min (vec_capacity
 abbrev pub running_of : {A : Type 0} → set.Inside A → RunningView
 running_of s = record { running = s.running.items; spare = spare_of s }
 
--- what the fields of the running jobs keep: they stand once more by their expected ends, and a heap holds the seconds at
+-- what the fields of the running jobs keep: they rise by number, and stand once more by their expected ends, and a heap holds the seconds at
 -- which they end: whatever is added up over these is added up over the running jobs
 pub record IsRunningSet {A : Type 0} (s : set.Inside A) : Type 0 where
+  pub rises : RisesByNumber s.running.items
   pub kept_by_end : s.by_end.items ≡ by_end s.running.items
   pub heap : IsHeap (λ x y. nat_cmp y.0 x.0) (heap_items s.ends)
   pub kept_ends : (f : ℕ → ℕ) → sum_by (λ e. f e.0) (heap_items s.ends) ≡ sum_by (λ r. f (real_end r)) s.running.items

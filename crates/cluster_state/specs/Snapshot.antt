@@ -1,5 +1,5 @@
 -- A state as a log can tell it again: the numbers of its jobs, apart from their sizes and lengths.
-use Rattle.std.specs.Prelude.{◌≡◌, ℕ, ◌+◌, ◌≤◌, ◌<◌, nat_eq, List, Option, IsSome, Some, map, find, count_by, All}
+use Rattle.std.specs.Prelude.{◌≡◌, ℕ, ◌+◌, ◌≤◌, ◌<◌, nat_eq, List, [], ◌∷◌, Option, IsSome, Some, map, find, count_by, All}
 use Rattle.std.specs.List.{filter_map}
 use Rattle.std.specs.Option.{option_map}
 use Rattle.scenarios.specs.Limits.{seconds_end}
@@ -26,9 +26,15 @@ numbers_of s = record { waiting = map (λ (j : EffectiveJob). j.number) s.waitin
 abbrev pub standing : Numbers → ℕ → ℕ
 standing p n = count_by (λ m. nat_eq m n) p.waiting + count_by (λ r. nat_eq r.number n) p.running
 
--- what is true of the numbers of each cluster: none stands twice, and starts are seconds
+-- these numbers do not fall
+abbrev pub NumbersRise : List RunningNumber → Type 0
+NumbersRise [] = Unit {0}
+NumbersRise (r ∷ rs) = All (λ x. r.number ≤ x.number) rs × NumbersRise rs
+
+-- what is true of the numbers of each cluster: none stands twice, those of running jobs rise, and starts are seconds
 pub record IsSnapshot (p : Numbers) : Type 0 where
   pub once : (n : ℕ) → standing p n ≤ 1
+  pub rising : NumbersRise p.running
   pub started : All (λ r. r.start < seconds_end) p.running
 
 -- the first of these jobs that has the number

@@ -82,6 +82,11 @@ abbrev pub placed : Placed → List Placed → List Placed
 placed r [] = r ∷ []
 placed r (x ∷ xs) = if nat_lt r.job.number x.job.number then r ∷ x ∷ xs else x ∷ placed r xs
 
+-- the numbers of these running jobs do not fall
+abbrev pub RisesByNumber : List Placed → Type 0
+RisesByNumber [] = Unit {0}
+RisesByNumber (r ∷ rs) = All (λ x. r.job.number ≤ x.job.number) rs × RisesByNumber rs
+
 -- a waiting job leaves the queue and runs from second `now` on
 abbrev pub started : State → EffectiveJob → ℕ → State
 started s job now = record { machine = s.machine; order = s.order; waiting = without job.number s.waiting; running = placed (record { job = job; start = now }) s.running }

@@ -40,7 +40,7 @@ impl<A: Allocator + Copy> Model for Cluster<A> {
 impl<A: Allocator + Copy> Cluster<A> {
     ghost use Rattle.scenarios.specs.Placed.{real_end};
     ghost use Rattle.cluster_state.specs.State.{empty, free, arrived, after_start, all_started};
-    ghost use Rattle.cluster_state.specs.State.{ended_until, holders, CanArrive, CanStart, CanStartAll, IsSound};
+    ghost use Rattle.cluster_state.specs.State.{ended_until, holders, CanArrive, CanStart, CanStartAll, IsSound, RisesByNumber};
     ghost use Rattle.cluster_state.specs.Row.{in_order};
     ghost use Rattle.cluster_state.specs.Ends.{by_end, RisesByEnd};
     ghost use Rattle.scenarios.specs.Plan.{plan_of};
@@ -81,7 +81,8 @@ impl<A: Allocator + Copy> Cluster<A> {
         order: Order,
         running: Vec<Placed, A>,
     ) -> Result<Cluster<A>, Memory>
-        requires { IsSound (record { machine = procs; order = order; waiting = []; running = running.items }) }
+        requires sound { IsSound (record { machine = procs; order = order; waiting = []; running = running.items }) }
+        requires rises { RisesByNumber running.items }
         ensures { IfOk result (λ c. c.state ≡ record { machine = procs; order = order; waiting = []; running = running.items }) }
     {
         let running = RunningSet::of(alloc, running)?;
@@ -292,8 +293,8 @@ impl<A: Allocator + Copy> Cluster<A> {
         if !is_by(self.running.next_end(), t) {
             return;
         }
-        self.running.drop_until(t);
-        self.free = self.procs - self.running.held();
+        let freed = self.running.drop_until(t);
+        self.free += freed;
     }
 
     /// The second at which the next running job ends; none where no job runs.
@@ -309,7 +310,7 @@ impl<A: Allocator + Copy> Cluster<A> {
     pub fn snapshot(&self) -> Result<Snapshot<A>, Memory>
         ensures { IfOk result (λ s. s ≡ numbers_of self.now.state) }
     {
-        Snapshot::of(self.queue.allocator(), self.waiting(), self.running())
+        Snapshot::of(self.queue.allocator(), self.waiting(), self.running.jobs())
     }
 }
 

@@ -1,6 +1,6 @@
-ghost use Rattle.std.specs.Prelude.{◌≡◌, ◌+◌, ◌-◌, ◌<◌, ◌≤◌, ◌^◌, ◌↔◌, [], OnOk, OnErr, IfOk, IsOk, length, not, nat_lt, position, filter, vec_len, vec_capacity};
+ghost use Rattle.std.specs.Prelude.{◌≡◌, ◌+◌, ◌-◌, ◌<◌, ◌≤◌, ◌^◌, ◌↔◌, [], OnOk, OnErr, IfOk, IsOk, length, not, nat_lt, position, filter, if◌then◌else◌, sum_by, vec_len, vec_capacity};
 ghost use Rattle.std.specs.List.{position_or_len};
-ghost use Rattle.std.specs.List.Sorted.{IsPartitionedBy};
+ghost use Rattle.std.specs.List.Sorted.{IsNonDecreasingBy, IsPartitionedBy};
 ghost use Rattle.scenarios.specs.Placed.{expected_end, real_end};
 ghost use Rattle.cluster_state.specs.State.{busy, placed};
 ghost use Rattle.cluster_state.specs.Ends.{by_end, entered, is_sooner};
@@ -24,11 +24,13 @@ pub(crate) fn held(running: &[Placed]) -> u64
     running.iter().map(|r| r.job.size()).sum()
 }
 
-// The place of the first with a greater number.
-fn place_after(running: &[Placed], number: u64) -> Option<usize>
-    ensures { result ≡ position (λ r. nat_lt number r.job.number) running.now }
+// The place of the first with a greater number, in a list in which numbers rise.
+fn place_by_number(running: &[Placed], number: u64) -> usize
+    requires { IsNonDecreasingBy (λ r. r.job.number) running.now }
+    ensures within { result ≤ length running.now }
+    ensures place { result ≡ position_or_len (λ r. nat_lt number r.job.number) running.now }
 {
-    running.iter().position(|r| number < r.job.number())
+    running.partition_point(|r| r.job.number() <= number)
 }
 
 // Puts a running job in its place by number.
@@ -36,6 +38,7 @@ pub(crate) fn put_by_number<A: Allocator>(
     running: &mut Vec<Placed, A>,
     r: Placed,
 ) -> Result<(), Memory>
+    requires { IsNonDecreasingBy (λ r. r.job.number) running.old.items }
     ensures ok { OnOk result (running.new.items ≡ placed r running.old.items) }
     ensures err { OnErr result (running.new.items ≡ running.old.items) }
     ensures len { OnOk result (vec_len running.new ≡ vec_len running.old + 1) }
@@ -43,7 +46,7 @@ pub(crate) fn put_by_number<A: Allocator>(
     ensures capacity { vec_capacity running.old ≤ vec_capacity running.new }
     ensures room { vec_len running.old < vec_capacity running.old → IsOk result }
 {
-    let place = place_after(running, r.job.number()).unwrap_or(running.len());
+    let place = place_by_number(running, r.job.number());
     running.insert(place, r)?;
     Ok(())
 }
@@ -104,11 +107,60 @@ pub(crate) fn row_by_end<A: Allocator>(
     Ok(row)
 }
 
-// Drops those that end by second t.
-pub(crate) fn drop_ended<A: Allocator>(running: &mut Vec<Placed, A>, t: u64)
+// The place of the first that ends by second t.
+fn first_ended(running: &[Placed], t: u64) -> Option<usize>
+    ensures { result ≡ position (λ r. not (nat_lt t (real_end r))) running.now }
+{
+    running.iter().position(|r| !outlasts(r, t))
+}
+
+// The processors that it gives back by second t.
+fn given_back(r: &Placed, t: u64) -> u64
+    ensures { result ≡ (if nat_lt t (real_end r.now) then 0 else r.now.job.size) }
+{
+    if outlasts(r, t) {
+        return 0;
+    }
+    r.job.size()
+}
+
+// The processors that these give back by second t.
+fn given_back_by_all(running: &[Placed], t: u64) -> u64
+    requires { sum_by (λ r. if nat_lt t (real_end r) then 0 else r.job.size) running.now < 2 ^ 64 }
+    ensures { result ≡ sum_by (λ r. if nat_lt t (real_end r) then 0 else r.job.size) running.now }
+{
+    running.iter().map(|r| given_back(r, t)).sum()
+}
+
+// The processors that those hold who end by second t: there are `count` of them. Where it is one,
+// nobody behind it is looked at.
+pub(crate) fn held_by_ended(running: &[Placed], t: u64, count: usize) -> u64
+    requires count { count + length (filter (λ r. nat_lt t (real_end r)) running.now) ≡ length running.now }
+    requires sizes { busy running.now < 2 ^ 64 }
+    ensures { result + busy (filter (λ r. nat_lt t (real_end r)) running.now) ≡ busy running.now }
+{
+    if count > 1 {
+        return given_back_by_all(running, t);
+    }
+    match first_ended(running, t) {
+        None => 0,
+        Some(place) => running[place].job.size(),
+    }
+}
+
+// Drops those that end by second t: there are `count` of them. Where it is one, nobody behind it is
+// looked at.
+pub(crate) fn drop_ended<A: Allocator>(running: &mut Vec<Placed, A>, t: u64, count: usize)
+    requires { count + length (filter (λ r. nat_lt t (real_end r)) running.old.items) ≡ length running.old.items }
     ensures kept { running.new.items ≡ filter (λ r. nat_lt t (real_end r)) running.old.items }
     ensures len { vec_len running.new ≤ vec_len running.old }
     ensures capacity { vec_capacity running.new ≡ vec_capacity running.old }
 {
-    running.retain(move |r| outlasts(r, t));
+    if count > 1 {
+        running.retain(move |r| outlasts(r, t));
+        return;
+    }
+    if let Some(place) = first_ended(running, t) {
+        running.remove(place);
+    }
 }

@@ -1,12 +1,12 @@
 ghost use Rattle.std.specs.Prelude.{◌≡◌, ◌+◌, ◌<◌, ◌≤◌, ◌^◌, ◌↔◌, ℕ, [], OnOk, IfOk, IfSome, IsNone, IsOk, All, Any, length, filter, count_by, nat_eq, nat_lt};
 ghost use Rattle.scenarios.specs.Limits.{seconds_end};
 ghost use Rattle.scenarios.specs.Placed.{real_end};
-ghost use Rattle.cluster_state.specs.State.{busy, placed};
+ghost use Rattle.cluster_state.specs.State.{busy, placed, RisesByNumber};
 ghost use Rattle.cluster_state.specs.Ends.{by_end};
 ghost use Rattle.cluster_state.specs.Rooms.{all_placed};
 
 use crate::ends::{drop_until, first_end, heap_of_ends};
-use crate::running::{drop_ended, enter, held, put_by_number, row_by_end};
+use crate::running::{drop_ended, enter, held, held_by_ended, put_by_number, row_by_end};
 use scenarios::{Job, Placed};
 use std::alloc::Allocator;
 use std::cmp::Reverse;
@@ -49,7 +49,8 @@ impl<A: Allocator + Copy> RunningSet<A> {
 
     // These jobs run.
     pub(crate) fn of(alloc: A, running: Vec<Placed, A>) -> Result<RunningSet<A>, Memory>
-        requires { All (λ r. r.start < seconds_end) running.items }
+        requires starts { All (λ r. r.start < seconds_end) running.items }
+        requires rises { RisesByNumber running.items }
         ensures { IfOk result (λ s. s.running ≡ running.items) }
     {
         let by_end = row_by_end(alloc, &running)?;
@@ -63,7 +64,8 @@ impl<A: Allocator + Copy> RunningSet<A> {
 
     // The running jobs, rising by number.
     pub(crate) fn jobs(&self) -> &[Placed]
-        ensures { result.now ≡ self.now.running }
+        ensures jobs { result.now ≡ self.now.running }
+        ensures rises { RisesByNumber self.now.running }
     {
         self.running.as_slice()
     }
@@ -144,14 +146,21 @@ impl<A: Allocator + Copy> RunningSet<A> {
         }
     }
 
-    // The jobs that end by second t leave.
-    pub(crate) fn drop_until(&mut self, t: u64)
+    // The jobs that end by second t leave: the processors that they give back. Of those expected to
+    // end soonest one is found soonest.
+    pub(crate) fn drop_until(&mut self, t: u64) -> u64
+        requires { busy self.old.running < 2 ^ 64 }
         ensures running { self.new.running ≡ filter (λ r. nat_lt t (real_end r)) self.old.running }
+        ensures freed { result + busy self.new.running ≡ busy self.old.running }
         ensures spare { self.old.spare ≤ self.new.spare }
     {
+        let before = self.ends.len();
         drop_until(&mut self.ends, t);
-        drop_ended(&mut self.by_end, t);
-        drop_ended(&mut self.running, t);
+        let count = before - self.ends.len();
+        let freed = held_by_ended(&self.by_end, t, count);
+        drop_ended(&mut self.by_end, t, count);
+        drop_ended(&mut self.running, t, count);
+        freed
     }
 
     // The second at which the next one ends; none where nobody runs.

@@ -1,16 +1,23 @@
 -- Sums as the code keeps them, and a part's entries.
-use Rattle.std.proofs.Common.{◌≡◌, ℕ, ◌==◌, Bool, true, false, cond, List, [], ◌∷◌, filter, length, refl, ap, sym, ◌∙◌, arith, subst, Option, Some, None, unwrap_or}
+use Rattle.std.proofs.Common.{◌≡◌, ℕ, ℤ, ◌<◌, ◌==◌, get_or, Bool, true, false, cond, List, [], ◌∷◌, filter, length, refl, ap, sym, ◌∙◌, arith, subst, Option, Some, None, unwrap_or}
 use Rattle.std.specs.Ordering.{int_cmp, nat_cmp}
 use Rattle.std.specs.BTreeMap.{is_at}
-use Rattle.std.specs.Map.{lookup, keys_of}
+use Rattle.std.specs.Map.{lookup}
+use Rattle.std.proofs.lemmas.Cmp.{int_cmp_total, nat_cmp_total}
 use Rattle.std.specs.List.Sorted.{IsStrictlySortedBy}
+use Rattle.std.proofs.lemmas.List.Elements.{All-nil}
 use Rattle.std.proofs.lemmas.Grind.{common_steps}
 use Rattle.scenarios.specs.declared.placed.Placed.{Placed}
 use Rattle.metrics.specs.declared.users.UserSums.{UserSums}
+use Rattle.metrics.specs.Placed.{IsPlaced}
+use Rattle.metrics.specs.Totals.{no_totals}
 use Rattle.metrics.specs.Users.{no_sums, sums, sums_of, sums_entry, is_of}
 use Rattle.metrics.specs.Days.{busy_on, busy_entry}
 use Rattle.metrics.specs.Part.{PartSums, IsPartOf, IsPart}
 use Rattle.metrics.specs.Sums.{IsTallyOf, IsTally}
+use Rattle.metrics.proofs.RisingLists.{some_is_none, found}
+use Rattle.metrics.proofs.UserLists.{user_total_is, user_filled}
+use Rattle.metrics.proofs.DayLists.{day_total_is, day_filled}
 
 -- sums with no entry that says nothing are those of their entry
 sums_kept : (o : Option UserSums) (s : UserSums) → unwrap_or o no_sums ≡ s → ((unwrap_or o no_sums).count ≡ 0 → o ≡ None) → o ≡ sums_entry s
@@ -47,13 +54,6 @@ entry_sums s f = go (s.count == 0) refl
     go true t = sym (f (grind (arith, common_steps, t)))
     go false t = refl
 
-entry_filled : (s : UserSums) → (unwrap_or (sums_entry s) no_sums).count ≡ 0 → sums_entry s ≡ None
-entry_filled s = go (s.count == 0) refl
-  where
-    go : (b : Bool) → (s.count == 0) ≡ b → (unwrap_or (cond b None (Some s)) no_sums).count ≡ 0 → cond b None (Some s) ≡ None
-    go true t h = refl
-    go false t h = absurd (grind (arith, common_steps, t, h))
-
 entry_busy : (n : ℕ) → unwrap_or (busy_entry n) 0 ≡ n
 entry_busy n = go (n == 0) refl
   where
@@ -61,35 +61,54 @@ entry_busy n = go (n == 0) refl
     go true t = grind (arith, common_steps, t)
     go false t = refl
 
-busy_filled : (n : ℕ) → unwrap_or (busy_entry n) 0 ≡ 0 → busy_entry n ≡ None
-busy_filled n = go (n == 0) refl
-  where
-    go : (b : Bool) → (n == 0) ≡ b → unwrap_or (cond b None (Some n)) 0 ≡ 0 → cond b None (Some n) ≡ None
-    go true t h = refl
-    go false t h = absurd (grind (arith, common_steps, t, h))
-
--- sums whose keys rise make a part
-pub part_from : (ps : List Placed) (v : PartSums) → IsTallyOf ps v → IsStrictlySortedBy int_cmp (keys_of v.users) → IsStrictlySortedBy nat_cmp (keys_of v.days) → IsPartOf ps v
-part_from ps v h u d = record {
+-- sums of jobs are their part
+pub part_from : (ps : List Placed) (v : PartSums) → IsTallyOf ps v → IsPartOf ps v
+part_from ps v h = record {
   totals = h.totals;
-  users_rise = u;
-  users = λ q. sums_kept (lookup (is_at (int_cmp q)) v.users) (sums_of q ps) (h.users q) (h.users_filled q);
-  days_rise = d;
-  days = λ q. busy_kept (lookup (is_at (nat_cmp q)) v.days) (busy_on q ps) (h.days q) (h.days_filled q);
+  users_rise = h.user_list.rise;
+  users = λ q. sums_kept (lookup (is_at (int_cmp q)) v.users) (sums_of q ps) (sym (user_total_is q v.users h.user_list.rise) ∙ h.users q) (user_filled q v.users h.user_list.some);
+  days_rise = h.day_list.rise;
+  days = λ q. busy_kept (lookup (is_at (nat_cmp q)) v.days) (busy_on q ps) (sym (day_total_is q v.days h.day_list.rise) ∙ h.days q) (day_filled q v.days h.day_list.some);
 }
+
+-- what stands for some sums is over a job
+entry_some : (o : Option UserSums) (s x : UserSums) → o ≡ sums_entry s → o ≡ Some x → 0 < x.count
+entry_some o s x e f = go (s.count == 0) refl (sym e ∙ f)
+  where
+    go : (b : Bool) → (s.count == 0) ≡ b → cond b None (Some s) ≡ Some x → 0 < x.count
+    go true t h = absurd (some_is_none x (sym h))
+    go false t h = let c = ap (λ w. (unwrap_or w s).count) h in grind (arith, common_steps, t, c)
+
+entry_above : (o : Option ℕ) (n x : ℕ) → o ≡ busy_entry n → o ≡ Some x → 0 < x
+entry_above o n x e f = go (n == 0) refl (sym e ∙ f)
+  where
+    go : (b : Bool) → (n == 0) ≡ b → cond b None (Some n) ≡ Some x → 0 < x
+    go true t h = absurd (some_is_none x (sym h))
+    go false t h = let c = ap (λ w. unwrap_or w n) h in grind (arith, common_steps, t, c)
 
 -- a part's entries are sums
 pub tally_from : (ps : List Placed) (v : PartSums) → IsPartOf ps v → IsTallyOf ps v
 tally_from ps v h = record {
   totals = h.totals;
-  users = λ q. ap (λ o. unwrap_or o no_sums) (h.users q) ∙ entry_sums (sums_of q ps) (none_of_nobody (filter (is_of q) ps));
-  users_filled = λ q e. h.users q ∙ entry_filled (sums_of q ps) (ap (λ o. (unwrap_or o no_sums).count) (sym (h.users q)) ∙ e);
-  days = λ q. ap (λ o. unwrap_or o 0) (h.days q) ∙ entry_busy (busy_on q ps);
-  days_filled = λ q e. h.days q ∙ busy_filled (busy_on q ps) (ap (λ o. unwrap_or o 0) (sym (h.days q)) ∙ e);
+  user_list = record { rise = h.users_rise; some = λ k d l. let e : ℤ × UserSums = get_or v.users k d in entry_some (lookup (is_at (int_cmp e.0)) v.users) (sums_of e.0 ps) e.1 (h.users e.0) (found int_cmp_total v.users h.users_rise k d l) };
+  users = λ q. user_total_is q v.users h.users_rise ∙ ap (λ o. unwrap_or o no_sums) (h.users q) ∙ entry_sums (sums_of q ps) (none_of_nobody (filter (is_of q) ps));
+  day_list = record { rise = h.days_rise; some = λ k d l. let e : ℕ × ℕ = get_or v.days k d in entry_above (lookup (is_at (nat_cmp e.0)) v.days) (busy_on e.0 ps) e.1 (h.days e.0) (found nat_cmp_total v.days h.days_rise k d l) };
+  days = λ q. day_total_is q v.days h.days_rise ∙ ap (λ o. unwrap_or o 0) (h.days q) ∙ entry_busy (busy_on q ps);
 }
 
 pub is_tally_from : (v : PartSums) → IsPart v → IsTally v
 is_tally_from v h = record { jobs = h.jobs; limited = h.limited; same = tally_from h.jobs v h.same }
 
-pub is_part_from : (v : PartSums) → IsTally v → IsStrictlySortedBy int_cmp (keys_of v.users) → IsStrictlySortedBy nat_cmp (keys_of v.days) → IsPart v
-is_part_from v h u d = record { jobs = h.jobs; limited = h.limited; same = part_from h.jobs v h.same u d }
+pub is_part_from : (v : PartSums) → IsTally v → IsPart v
+is_part_from v h = record { jobs = h.jobs; limited = h.limited; same = part_from h.jobs v h.same }
+
+no_tally : IsTallyOf [] (record { totals = no_totals; users = []; days = [] })
+unfolding IsStrictlySortedBy
+no_tally = record { totals = refl; user_list = record { rise = tt; some = All-nil (λ (e : ℤ × UserSums). 0 < e.1.count) }; users = λ u. refl; day_list = record { rise = tt; some = All-nil (λ (e : ℕ × ℕ). 0 < e.1) }; days = λ d. refl }
+
+-- the sums over no job
+pub empty_tally : (v : PartSums) → v.totals ≡ no_totals → v.users ≡ [] → v.days ≡ [] → IsTallyOf [] v
+empty_tally v t u d = subst (IsTallyOf []) (λ i. record { totals = sym t i; users = sym u i; days = sym d i }) no_tally
+
+pub empty_part : (v : PartSums) → IsTallyOf [] v → IsPart v
+empty_part v h = record { jobs = []; limited = record { each = All-nil IsPlaced; few = omega arith }; same = part_from [] v h }

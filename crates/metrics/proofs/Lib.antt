@@ -1,9 +1,10 @@
 mod Overlaps
 mod Bounds
 mod Joins
-mod Entries
+mod RisingLists
+mod UserLists
+mod DayLists
 mod Tallies
 mod Forms
 mod Unique
-mod RowLists
 pub mod Lemmas

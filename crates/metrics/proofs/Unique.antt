@@ -13,7 +13,7 @@ use Rattle.std.proofs.lemmas.Map.Keys.{IsDistinct-from_sorted, sorted_tail}
 use Rattle.std.proofs.lemmas.Map.Lookups.{CmpEqualImpliesEq, exact_signed, exact_unsigned}
 use Rattle.scenarios.specs.declared.placed.Placed.{Placed}
 use Rattle.metrics.specs.Part.{PartSums, IsPartOf}
-use Rattle.metrics.proofs.Entries.{some_is_none}
+use Rattle.metrics.proofs.RisingLists.{some_is_none}
 
 -- a list has its first entry at its key
 first_found : {K X : Type 0} {R : K → K → Ordering} → IsTotalOrder R → (e : K × X) (es : List (K × X)) → lookup (is_at (R e.0)) (e ∷ es) ≡ Some e.1

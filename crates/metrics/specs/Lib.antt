@@ -1,6 +1,7 @@
 pub mod Measures
 pub mod Placed
 pub mod Totals
+pub mod Entries
 pub mod Users
 pub mod Days
 pub mod Part

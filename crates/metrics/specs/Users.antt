@@ -1,10 +1,12 @@
 -- Sums by user.
-use Rattle.std.specs.Prelude.{◌≡◌, ℤ, ◌+◌, ◌^◌, ◌<◌, ◌==◌, Bool, List, filter, length, sum_by, unwrap_or, Option, Some, None, [], ◌∷◌, if◌then◌else◌}
+use Rattle.std.specs.Prelude.{ℤ, ◌+◌, ◌^◌, ◌<◌, ◌==◌, Bool, List, All, filter, length, sum_by, Option, Some, None, if◌then◌else◌}
 use Rattle.std.specs.Ordering.{int_cmp, int_eq}
-use Rattle.std.specs.BTreeMap.{get, BTreeMap}
+use Rattle.std.specs.Map.{keys_of}
+use Rattle.std.specs.List.Sorted.{IsStrictlySortedBy}
 use Rattle.scenarios.specs.declared.placed.Placed.{Placed}
 use Rattle.metrics.specs.declared.users.UserSums.{UserSums}
 use Rattle.metrics.specs.Measures.{wait, slowdown, busy}
+use Rattle.metrics.specs.Entries.{total_at}
 
 abbrev pub no_sums : UserSums
 no_sums = record { count = 0; wait = 0; slowdown = 0; busy = 0 }
@@ -40,15 +42,11 @@ pub record CanAdd (a b : UserSums) : Type 0 where
   pub slowdown : a.slowdown + b.slowdown < 2 ^ 128
   pub busy : a.busy + b.busy < 2 ^ 128
 
--- what the map has of a user
-abbrev pub user_at : BTreeMap ℤ UserSums → ℤ → UserSums
-user_at m u = unwrap_or (get int_cmp m u) no_sums
-
--- the map has no user without a job
-abbrev pub UsersFilled : BTreeMap ℤ UserSums → Type 0
-UsersFilled m = (u : ℤ) → (user_at m u).count ≡ 0 → get int_cmp m u ≡ None
-
--- what a list adds up to for a user
+-- what a list of entries adds up to for a user
 abbrev pub user_total : ℤ → List (ℤ × UserSums) → UserSums
-user_total q [] = no_sums
-user_total q (e ∷ es) = plus (if int_eq q e.0 then e.1 else no_sums) (user_total q es)
+user_total u es = record { count = total_at (int_eq u) (λ s. s.count) es; wait = total_at (int_eq u) (λ s. s.wait) es; slowdown = total_at (int_eq u) (λ s. s.slowdown) es; busy = total_at (int_eq u) (λ s. s.busy) es }
+
+-- entries by rising user, each with a job
+pub record IsUserList (es : List (ℤ × UserSums)) : Type 0 where
+  pub rise : IsStrictlySortedBy int_cmp (keys_of es)
+  pub some : All (λ e. 0 < e.1.count) es

@@ -1,33 +1,39 @@
 //! Processor-seconds by day.
 
-ghost use Rattle.std.specs.Prelude.{◌≡◌, ℕ, ◌+◌, ◌-◌, ◌*◌, ◌/◌, ◌^◌, ◌<◌, ◌≤◌, OnOk, nat_eq, if◌then◌else◌};
-ghost use Rattle.metrics.specs.Days.{day_at, DaysFilled};
+ghost use Rattle.std.specs.Prelude.{◌≡◌, ℕ, ◌+◌, ◌-◌, ◌*◌, ◌/◌, ◌^◌, ◌<◌, ◌≤◌, All, OnOk, IfOk, if◌then◌else◌};
+ghost use Rattle.std.specs.Ordering.{nat_cmp};
+ghost use Rattle.std.specs.BTreeMap.{is_at};
+ghost use Rattle.metrics.specs.Days.{busy_on, day_total, IsDayList};
 ghost use Rattle.scenarios.specs.Placed.{real_end};
 ghost use Rattle.metrics.specs.Measures.{busy_in};
 ghost use Rattle.metrics.specs.Placed.{IsPlaced};
+ghost use Rattle.metrics.specs.Part.{AreJobs};
 
+use crate::entries::{find, is_left_first};
 use scenarios::Placed;
 use std::alloc::{AllocError, Allocator};
-use std::collections::BTreeMap;
 
-// Processor-seconds by day.
-pub(crate) type Days<A> = BTreeMap<u64, u128, A>;
+// A day, and its processor-seconds.
+pub(crate) type DayEntry = (u64, u128);
+
+// Processor-seconds by day, by rising day.
+pub(crate) type Days<A> = Vec<DayEntry, A>;
 
 // The seconds of a day.
 pub(crate) const DAY: u64 = 86400;
 
 // More processor-seconds of one day.
-pub(crate) fn add_day<A: Allocator + Copy>(
-    days: &mut Days<A>,
-    day: u64,
-    busy: u128,
-) -> Result<(), AllocError>
-    requires fits { day_at days.old day + busy < 2 ^ 128 }
+fn add_day<A: Allocator + Copy>(days: &mut Days<A>, day: u64, busy: u128) -> Result<(), AllocError>
+    requires list { IsDayList days.old.items }
+    requires fits { day_total day days.old.items + busy < 2 ^ 128 }
     requires some { 0 < busy }
-    ensures sums { OnOk result ((q : ℕ) → day_at days.new q ≡ day_at days.old q + (if nat_eq day q then busy else 0)) }
-    ensures filled { OnOk result (DaysFilled days.old → DaysFilled days.new) }
+    ensures list { OnOk result (IsDayList days.new.items) }
+    ensures sums { OnOk result ((q : ℕ) → day_total q days.new.items ≡ day_total q days.old.items + (if is_at (nat_cmp q) day then busy else 0)) }
 {
-    *days.entry(day)?.or_insert(0) += busy;
+    match find(days, day) {
+        Ok(place) => days[place].1 += busy,
+        Err(place) => days.insert(place, (day, busy))?,
+    }
     Ok(())
 }
 
@@ -43,14 +49,12 @@ fn busy_in(placed: &Placed, day: u64) -> u64
 }
 
 // The processor-seconds of one more job, in each day of which it takes some.
-pub(crate) fn add_job<A: Allocator + Copy>(
-    days: &mut Days<A>,
-    placed: &Placed,
-) -> Result<(), AllocError>
+fn add_job<A: Allocator + Copy>(days: &mut Days<A>, placed: &Placed) -> Result<(), AllocError>
     requires placed { IsPlaced placed.now }
-    requires fits { (q : ℕ) → day_at days.old q + busy_in q placed.now < 2 ^ 128 }
-    ensures sums { OnOk result ((q : ℕ) → day_at days.new q ≡ day_at days.old q + busy_in q placed.now) }
-    ensures filled { OnOk result (DaysFilled days.old → DaysFilled days.new) }
+    requires list { IsDayList days.old.items }
+    requires fits { (q : ℕ) → day_total q days.old.items + busy_in q placed.now < 2 ^ 128 }
+    ensures list { OnOk result (IsDayList days.new.items) }
+    ensures sums { OnOk result ((q : ℕ) → day_total q days.new.items ≡ day_total q days.old.items + busy_in q placed.now) }
 {
     let first = placed.start / DAY;
     let last = (placed.end() - 1) / DAY;
@@ -60,18 +64,46 @@ pub(crate) fn add_job<A: Allocator + Copy>(
     Ok(())
 }
 
-// The processor-seconds of another map more.
-pub(crate) fn add_days<A: Allocator + Copy>(
-    days: &mut Days<A>,
-    others: &Days<A>,
-) -> Result<(), AllocError>
-    requires fits { (q : ℕ) → day_at days.old q + day_at others.now q < 2 ^ 128 }
-    requires some { DaysFilled others.now }
-    ensures sums { OnOk result ((q : ℕ) → day_at days.new q ≡ day_at days.old q + day_at others.now q) }
-    ensures filled { OnOk result (DaysFilled days.old → DaysFilled days.new) }
+// The processor-seconds of some jobs.
+pub(crate) fn of_jobs<A: Allocator + Copy>(
+    alloc: A,
+    placed: &[Placed],
+) -> Result<Days<A>, AllocError>
+    requires { AreJobs placed.now }
+    ensures list { IfOk result (λ days. IsDayList days.items) }
+    ensures sums { IfOk result (λ days. (q : ℕ) → day_total q days.items ≡ busy_on q placed.now) }
 {
-    for (day, busy) in others {
-        add_day(days, *day, *busy)?;
+    let mut days = Vec::new(alloc);
+    for each in placed {
+        add_job(&mut days, each)?;
     }
-    Ok(())
+    Ok(days)
+}
+
+// The processor-seconds of both lists.
+pub(crate) fn merge<A: Allocator + Copy>(
+    alloc: A,
+    left: &[DayEntry],
+    right: &[DayEntry],
+) -> Result<Days<A>, AllocError>
+    requires fits { (q : ℕ) → day_total q left.now + day_total q right.now < 2 ^ 128 }
+    requires left { All (λ e. 0 < e.1) left.now }
+    requires right { All (λ e. 0 < e.1) right.now }
+    ensures list { IfOk result (λ days. IsDayList days.items) }
+    ensures sums { IfOk result (λ days. (q : ℕ) → day_total q days.items ≡ day_total q left.now + day_total q right.now) }
+{
+    let count = left.len() + right.len();
+    let mut days = Vec::with_capacity(alloc, count)?;
+    let mut i = 0;
+    let mut j = 0;
+    'entries: for _ in 0..count {
+        if is_left_first(left, i, right, j) {
+            add_day(&mut days, left[i].0, left[i].1)?;
+            i += 1;
+        } else {
+            add_day(&mut days, right[j].0, right[j].1)?;
+            j += 1;
+        }
+    }
+    Ok(days)
 }

@@ -2,12 +2,12 @@
 #![tactic(auto)]
 
 mod days;
+mod entries;
 mod laws;
 mod measures;
 mod part;
 mod rows;
 mod tables;
-mod tally;
 mod totals;
 mod users;
 

@@ -5,8 +5,9 @@ ghost use Rattle.swf_text.specs.Limits.{entry_limit};
 ghost use Rattle.metrics.specs.Part.{IsPartOf, IsPart};
 ghost use Rattle.metrics.specs.Placed.{CanSum};
 
-use crate::tally::Tally;
+use crate::days::{self, Days};
 use crate::totals::Totals;
+use crate::users::{self, Users};
 use scenarios::Placed;
 use std::alloc::Allocator;
 use std::marker::Model;
@@ -17,7 +18,10 @@ use swf_text::Memory;
 /// It is that of some jobs, at most 4,194,304, each with a start that it may have.
 #[derive(Drop)]
 pub struct Part<A: Allocator + Copy> {
-    pub(crate) tally: Tally<A>,
+    pub(crate) totals: Totals,
+    pub(crate) users: Users<A>,
+    pub(crate) days: Days<A>,
+    pub(crate) alloc: A,
 }
 
 impl<A: Allocator + Copy> Model for Part<A> {
@@ -25,9 +29,9 @@ impl<A: Allocator + Copy> Model for Part<A> {
 
     ghost Value = { PartSums };
 
-    ghost view = { λ p. record { totals = p.tally.totals; users = p.tally.users.entries; days = p.tally.days.entries } };
+    ghost view = { λ p. record { totals = p.totals; users = p.users.items; days = p.days.items } };
 
-    ghost invariant = { λ p. IsPart (record { totals = p.tally.totals; users = p.tally.users.entries; days = p.tally.days.entries }) };
+    ghost invariant = { λ p. IsPart (record { totals = p.totals; users = p.users.items; days = p.days.items }) };
 }
 
 impl<A: Allocator + Copy> Part<A> {
@@ -35,9 +39,12 @@ impl<A: Allocator + Copy> Part<A> {
     pub fn empty(alloc: A) -> Part<A>
         ensures { IsPartOf [] result }
     {
-        let tally = Tally::empty(alloc);
-        tally.stands_in_order();
-        Part { tally }
+        Part {
+            totals: Totals::none(),
+            users: Vec::new(alloc),
+            days: Vec::new(alloc),
+            alloc,
+        }
     }
 
     /// The part of the jobs.
@@ -45,12 +52,15 @@ impl<A: Allocator + Copy> Part<A> {
         requires { CanSum placed.now }
         ensures { IfOk result (λ part. IsPartOf placed.now part) }
     {
-        let mut tally = Tally::empty(alloc);
-        for each in placed {
-            tally.add(each)?;
-        }
-        tally.stands_in_order();
-        Ok(Part { tally })
+        let totals = Totals::of_jobs(placed);
+        let users = users::of_jobs(alloc, placed)?;
+        let days = days::of_jobs(alloc, placed)?;
+        Ok(Part {
+            totals,
+            users,
+            days,
+            alloc,
+        })
     }
 
     /// The part of the jobs of both.
@@ -58,22 +68,23 @@ impl<A: Allocator + Copy> Part<A> {
         requires { self.now.totals.count + other.now.totals.count ≤ entry_limit }
         ensures { IfOk result (λ part. (xs ys : List Placed) → IsPartOf xs self.now → IsPartOf ys other.now → IsPartOf (xs ++ ys) part) }
     {
-        let mut tally = Tally::empty(self.tally.alloc);
-        tally.absorb(&self.tally)?;
-        tally.absorb(&other.tally)?;
-        tally.stands_in_order();
-        Ok(Part { tally })
+        let totals = self.totals.plus(&other.totals);
+        let users = users::merge(self.alloc, self.users.as_slice(), other.users.as_slice())?;
+        let days = days::merge(self.alloc, self.days.as_slice(), other.days.as_slice())?;
+        Ok(Part {
+            totals,
+            users,
+            days,
+            alloc: self.alloc,
+        })
     }
 
-    /// The part of the jobs of both, made of this one with no copy.
+    /// The part of the jobs of both, made of this one.
     pub fn absorb(self, other: &Part<A>) -> Result<Part<A>, Memory>
         requires { self.totals.count + other.now.totals.count ≤ entry_limit }
         ensures { IfOk result (λ part. (xs ys : List Placed) → IsPartOf xs self → IsPartOf ys other.now → IsPartOf (xs ++ ys) part) }
     {
-        let mut tally = self.tally;
-        tally.absorb(&other.tally)?;
-        tally.stands_in_order();
-        Ok(Part { tally })
+        self.merge(other)
     }
 
     /// The sums over all jobs.
@@ -81,6 +92,6 @@ impl<A: Allocator + Copy> Part<A> {
         ensures value { result ≡ self.now.totals }
         ensures part { IsPart self.now }
     {
-        self.tally.totals
+        self.totals
     }
 }

@@ -3,10 +3,10 @@
 ghost use Rattle.std.specs.Prelude.{◌≡◌, ℕ, ◌≤◌, ◌<◌, ◌^◌, map, IfOk, All};
 ghost use Rattle.metrics.specs.Tables.{user_row_of, day_row_of, tables_of};
 
-use crate::days::Days;
+use crate::days::DayEntry;
 use crate::part::Part;
 use crate::rows::{DayRow, Overall, UserRow, day_row, over_all, user_row};
-use crate::users::Users;
+use crate::users::UserEntry;
 use scenarios::Skips;
 use std::alloc::{AllocError, Allocator};
 use std::marker::Model;
@@ -52,8 +52,11 @@ impl<A: Allocator + Copy> Tables<A> {
 }
 
 // A row a user.
-fn user_rows<A: Allocator + Copy>(alloc: A, users: &Users<A>) -> Result<Vec<UserRow, A>, AllocError>
-    ensures { IfOk result (λ rows. rows.items ≡ map user_row_of users.now.entries) }
+fn user_rows<A: Allocator + Copy>(
+    alloc: A,
+    users: &[UserEntry],
+) -> Result<Vec<UserRow, A>, AllocError>
+    ensures { IfOk result (λ rows. rows.items ≡ map user_row_of users.now) }
 {
     let mut rows = Vec::with_capacity(alloc, users.len())?;
     'users: for (user, sums) in users {
@@ -66,10 +69,10 @@ fn user_rows<A: Allocator + Copy>(alloc: A, users: &Users<A>) -> Result<Vec<User
 fn day_rows<A: Allocator + Copy>(
     alloc: A,
     procs: u64,
-    days: &Days<A>,
+    days: &[DayEntry],
 ) -> Result<Vec<DayRow, A>, AllocError>
-    requires { All (λ e. e.1 < 2 ^ 100) days.now.entries }
-    ensures { IfOk result (λ rows. rows.items ≡ map (day_row_of procs) days.now.entries) }
+    requires { All (λ e. e.1 < 2 ^ 100) days.now }
+    ensures { IfOk result (λ rows. rows.items ≡ map (day_row_of procs) days.now) }
 {
     let mut rows = Vec::with_capacity(alloc, days.len())?;
     'days: for (day, busy) in days {
@@ -84,12 +87,10 @@ impl<A: Allocator + Copy> Part<A> {
     pub fn tables(&self, procs: u64, skips: Skips) -> Result<Tables<A>, Memory>
         ensures { IfOk result (λ tables. tables ≡ tables_of procs skips self.now) }
     {
-        self.tally.stands_in_order();
-        let alloc = self.tally.alloc;
-        let users = user_rows(alloc, &self.tally.users)?;
-        let days = day_rows(alloc, procs, &self.tally.days)?;
+        let users = user_rows(self.alloc, self.users.as_slice())?;
+        let days = day_rows(self.alloc, procs, self.days.as_slice())?;
         Ok(Tables {
-            overall: over_all(procs, skips, &self.tally.totals),
+            overall: over_all(procs, skips, &self.totals),
             users,
             days,
         })

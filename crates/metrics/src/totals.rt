@@ -1,8 +1,9 @@
 //! Sums over all jobs.
 
 ghost use Rattle.std.specs.Prelude.{◌≡◌, ℕ, ◌+◌, ◌^◌, ◌<◌, ◌≤◌};
-ghost use Rattle.metrics.specs.Totals.{earlier_of, later_of, no_totals, totals_alone, joined, FitsJoined};
-ghost use Rattle.metrics.specs.Placed.{CanStart, IsPlaced};
+ghost use Rattle.metrics.specs.Totals.{earlier_of, later_of, no_totals, totals, totals_alone, joined, FitsJoined};
+ghost use Rattle.metrics.specs.Placed.{CanStart, CanSum, IsPlaced};
+ghost use Rattle.metrics.specs.Part.{AreJobs};
 
 use crate::measures;
 use scenarios::Placed;
@@ -61,8 +62,21 @@ impl Totals {
         }
     }
 
+    // The sums over some jobs.
+    pub(crate) fn of_jobs(placed: &[Placed]) -> Totals
+        requires { CanSum placed.now }
+        ensures value { result ≡ totals placed.now }
+        ensures limits { AreJobs placed.now }
+    {
+        let mut sums = Totals::none();
+        for each in placed {
+            sums = sums.plus(&Totals::of_job(each));
+        }
+        sums
+    }
+
     // The sums over one job.
-    pub(crate) fn of_job(placed: &Placed) -> Totals
+    fn of_job(placed: &Placed) -> Totals
         requires { CanStart placed.now }
         ensures value { result ≡ totals_alone placed.now }
         ensures limits { IsPlaced placed.now }

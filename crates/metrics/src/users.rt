@@ -1,14 +1,16 @@
 //! Sums by user.
 
-ghost use Rattle.std.specs.Prelude.{◌≡◌, ℕ, ℤ, ◌+◌, ◌^◌, ◌<◌, ◌≤◌, OnOk, if◌then◌else◌};
+ghost use Rattle.std.specs.Prelude.{◌≡◌, ℕ, ℤ, ◌+◌, ◌^◌, ◌<◌, ◌≤◌, All, map, OnOk, IfOk, if◌then◌else◌};
 ghost use Rattle.std.specs.Ordering.{int_eq};
-ghost use Rattle.metrics.specs.Users.{plus, CanAdd, UsersFilled, user_at, alone};
+ghost use Rattle.std.specs.List.Sorted.{IsPermutation};
+ghost use Rattle.metrics.specs.Users.{plus, CanAdd, alone, no_sums, sums_of, user_total, IsUserList};
 ghost use Rattle.metrics.specs.Placed.{CanStart};
+ghost use Rattle.metrics.specs.Part.{AreJobs};
 
+use crate::entries::{find, is_left_first};
 use crate::measures;
 use scenarios::Placed;
 use std::alloc::{AllocError, Allocator};
-use std::collections::BTreeMap;
 
 /// The sums over the jobs of one user: seconds of waiting, slowdowns in thousandths,
 /// processor-seconds.
@@ -48,43 +50,90 @@ impl UserSums {
     }
 }
 
-// Sums by user.
-pub(crate) type Users<A> = BTreeMap<i64, UserSums, A>;
+// A user, and the sums over its jobs.
+pub(crate) type UserEntry = (i64, UserSums);
+
+// Sums by user, by rising user.
+pub(crate) type Users<A> = Vec<UserEntry, A>;
 
 // More sums of one user.
-pub(crate) fn add_user<A: Allocator + Copy>(
+fn add_user<A: Allocator + Copy>(
     users: &mut Users<A>,
     user: i64,
     sums: &UserSums,
 ) -> Result<(), AllocError>
-    requires fits { CanAdd (user_at users.old user) sums.now }
+    requires list { IsUserList users.old.items }
+    requires fits { CanAdd (user_total user users.old.items) sums.now }
     requires some { 0 < sums.now.count }
-    ensures sums { OnOk result ((q : ℤ) → user_at users.new q ≡ (if int_eq q user then plus (user_at users.old q) sums.now else user_at users.old q)) }
-    ensures filled { OnOk result (UsersFilled users.old → UsersFilled users.new) }
+    ensures list { OnOk result (IsUserList users.new.items) }
+    ensures sums { OnOk result ((q : ℤ) → user_total q users.new.items ≡ plus (user_total q users.old.items) (if int_eq q user then sums.now else no_sums)) }
 {
-    let none = UserSums {
-        count: 0,
-        wait: 0,
-        slowdown: 0,
-        busy: 0,
-    };
-    let entry = users.entry(user)?.or_insert(none);
-    *entry = entry.plus(sums);
+    match find(users, user) {
+        Ok(place) => users[place].1 = users[place].1.plus(sums),
+        Err(place) => users.insert(place, (user, *sums))?,
+    }
     Ok(())
 }
 
-// The sums of another map more.
-pub(crate) fn add_users<A: Allocator + Copy>(
-    users: &mut Users<A>,
-    others: &Users<A>,
-) -> Result<(), AllocError>
-    requires fits { (q : ℤ) → CanAdd (user_at users.old q) (user_at others.now q) }
-    requires some { UsersFilled others.now }
-    ensures sums { OnOk result ((q : ℤ) → user_at users.new q ≡ plus (user_at users.old q) (user_at others.now q)) }
-    ensures filled { OnOk result (UsersFilled users.old → UsersFilled users.new) }
+// The jobs, those of a user behind one another.
+fn by_user<A: Allocator + Copy>(alloc: A, placed: &[Placed]) -> Result<Vec<&Placed, A>, AllocError>
+    ensures { IfOk result (λ jobs. IsPermutation placed.now (map (λ job. job.now) jobs.items)) }
 {
-    for (user, sums) in others {
-        add_user(users, *user, sums)?;
+    let mut jobs = Vec::with_capacity(alloc, placed.len())?;
+    for each in placed {
+        jobs.push(each)?;
     }
-    Ok(())
+    jobs.sort_by_key(|each| each.job.user())?;
+    Ok(jobs)
+}
+
+// How many users the jobs have, where those of a user stand behind one another. It decides only how
+// much room is reserved.
+fn count_users(jobs: &[&Placed]) -> usize {
+    jobs.chunk_by(|a, b| a.job.user() == b.job.user()).count()
+}
+
+// The sums of some jobs.
+pub(crate) fn of_jobs<A: Allocator + Copy>(
+    alloc: A,
+    placed: &[Placed],
+) -> Result<Users<A>, AllocError>
+    requires { AreJobs placed.now }
+    ensures list { IfOk result (λ users. IsUserList users.items) }
+    ensures sums { IfOk result (λ users. (q : ℤ) → user_total q users.items ≡ sums_of q placed.now) }
+{
+    let jobs = by_user(alloc, placed)?;
+    let mut users = Vec::with_capacity(alloc, count_users(jobs.as_slice()))?;
+    for each in jobs.as_slice() {
+        add_user(&mut users, each.job.user(), &UserSums::of_job(each))?;
+    }
+    Ok(users)
+}
+
+// The sums of both lists.
+pub(crate) fn merge<A: Allocator + Copy>(
+    alloc: A,
+    left: &[UserEntry],
+    right: &[UserEntry],
+) -> Result<Users<A>, AllocError>
+    requires fits { (q : ℤ) → CanAdd (user_total q left.now) (user_total q right.now) }
+    requires left { All (λ e. 0 < e.1.count) left.now }
+    requires right { All (λ e. 0 < e.1.count) right.now }
+    ensures list { IfOk result (λ users. IsUserList users.items) }
+    ensures sums { IfOk result (λ users. (q : ℤ) → user_total q users.items ≡ plus (user_total q left.now) (user_total q right.now)) }
+{
+    let count = left.len() + right.len();
+    let mut users = Vec::with_capacity(alloc, count)?;
+    let mut i = 0;
+    let mut j = 0;
+    'entries: for _ in 0..count {
+        if is_left_first(left, i, right, j) {
+            add_user(&mut users, left[i].0, &left[i].1)?;
+            i += 1;
+        } else {
+            add_user(&mut users, right[j].0, &right[j].1)?;
+            j += 1;
+        }
+    }
+    Ok(users)
 }

@@ -10,20 +10,13 @@ returns-then-not-is_by-clause-state g c =
     rw (← c.self.view_is)
     (nobody-ends (state_of c.self.inside) c.next_end.result c.args.t c.next_end.ensures.none.0 c.next_end.ensures.least (λ h. false≢true (sym c.if-not-is_by.true ∙ c.is_by.ensures.1 h)))
 
-pub held-requires : goal.held-requires
-held-requires g c =
-    let s = sound-ended (state_of c.self.inside) c.args.t c.self.invariant.sound in
-    rw c.drop_until.ensures.running (omega (arith, s.fits, s.limited))
-
-pub overflow_sub-self : goal.overflow_sub-self
-overflow_sub-self g c =
-    let s = sound-ended (state_of c.self.inside) c.args.t c.self.invariant.sound in
-    rw (c.held.ensures, c.drop_until.ensures.running) s.fits
+pub drop_until-freed-requires : goal.drop_until-freed-requires
+drop_until-freed-requires g c = (let s = c.self.invariant.sound in omega (arith, s.fits, s.limited))
 
 pub invariant_of-self : goal.invariant_of-self
 invariant_of-self g c =
     let s = sound-ended (state_of c.self.inside) c.args.t c.self.invariant.sound in
     record {
-      accounted = rw (c.held.ensures, c.drop_until.ensures.running) (omega (arith, s.fits));
-      sound = rw c.drop_until.ensures.running s;
+      accounted = omega (arith, c.self.invariant.accounted, c.drop_until-freed.ensures.freed);
+      sound = rw c.drop_until-freed.ensures.running s;
     }

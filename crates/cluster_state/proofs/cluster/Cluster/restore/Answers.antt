@@ -2,14 +2,20 @@ use Rattle.std.proofs.Common.{◌≡◌, ◌<◌, ◌∙◌, sym, ap, append-nil
 use Rattle.std.specs.List.{filter_map}
 use Rattle.scenarios.specs.Plan.{Plan, plan_of, job_numbered}
 use Rattle.scenarios.specs.PlanView.{PlanView, plan_in}
-use Rattle.cluster_state.specs.State.{State, holders, arrived}
+use Rattle.cluster_state.specs.State.{State, RisesByNumber, holders, arrived}
 use Rattle.cluster_state.specs.Snapshot.{Numbers, running_numbered}
+use Rattle.cluster_state.proofs.RiseLemmas.{jobs-rise}
 use Rattle.cluster_state.proofs.LookupLemmas.{sound-running, absent-next, restored-more}
 use Rattle.cluster_state.proofs.cluster.Cluster.restore.Goals.{in-Some+in_ok-arrive, in_default}
 use Rattle.cluster_state.proofs.cluster.Cluster.restore.Goals as goal
 
-pub with_running-requires : goal.with_running-requires
-with_running-requires g c =
+pub with_running-requires-clause-rises : goal.with_running-requires-clause-rises
+with_running-requires-clause-rises g c =
+    let numbers = rw c.running.ensures.numbers at c.in_ok-running.ensures.jobs in
+    subst RisesByNumber (sym numbers) (jobs-rise (plan_in c.of-plan.result).jobs c.args.snapshot.now.running c.running.ensures.sound.rising)
+
+pub with_running-requires-clause-sound : goal.with_running-requires-clause-sound
+with_running-requires-clause-sound g c =
     let p : Numbers = c.args.snapshot.now in
     let plan : Plan = plan_of c.args.table.now c.args.scenario.now in
     let small = c.procs.ensures.setting.procs_fit in

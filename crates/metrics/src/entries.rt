@@ -1,0 +1,43 @@
+//! Lists of entries, each with a key, by rising key.
+
+ghost use Rattle.std.specs.Prelude.{◌≡◌, ◌+◌, ◌<◌, ◌≤◌, length, IsTrue, IsFalse};
+ghost use Rattle.std.specs.List.Sorted.{IsStrictlySortedBy};
+ghost use Rattle.std.specs.Map.{keys_of};
+ghost use Rattle.metrics.specs.Entries.{IsFound};
+
+use std::cmp::Ordering;
+
+// Where a key stands, or where it belongs. Keys that come in their order are found at the end, with
+// no search.
+pub(crate) fn find<K: Ord + Copy, V>(entries: &[(K, V)], key: K) -> Result<usize, usize>
+    requires { IsStrictlySortedBy K.cmp (keys_of entries.now) }
+    ensures { IsFound K.cmp key entries.now result }
+{
+    let Some(last) = entries.last() else {
+        return Err(0);
+    };
+    match last.0.cmp(&key) {
+        Ordering::Less => Err(entries.len()),
+        Ordering::Equal => Ok(entries.len() - 1),
+        Ordering::Greater => entries.binary_search_by_key(&key, |entry| entry.0),
+    }
+}
+
+// Whether of what is left of two lists, from these places on, the left one's first entry comes
+// first. It decides only the order in which they are gone over.
+pub(crate) fn is_left_first<K: Ord, V>(
+    left: &[(K, V)],
+    i: usize,
+    right: &[(K, V)],
+    j: usize,
+) -> bool
+    requires some { i + j < length left.now + length right.now }
+    requires within { j ≤ length right.now }
+    ensures left { IsTrue result → i < length left.now }
+    ensures right { IsFalse result → j < length right.now }
+{
+    if j == right.len() {
+        return true;
+    }
+    i < left.len() && left[i].0 <= right[j].0
+}
