@@ -43,6 +43,7 @@ impl<A: Allocator + Copy> Run<A> {
     ghost use Rattle.scenarios.specs.Plan.{jobs_of, plan_of};
     ghost use Rattle.scenarios.specs.PlanView.{plan_in};
     ghost use Rattle.scenarios.specs.Scenario.{IsSetting};
+    ghost use Rattle.scenarios.specs.Skips.{skips_of};
     ghost use Rattle.job_table.specs.Table.{IsTable};
     ghost use Rattle.easy_rule.specs.Simulation.{sim, start_of};
     ghost use Rattle.checkpoints.specs.Cut.{IsCut};
@@ -65,23 +66,48 @@ impl<A: Allocator + Copy> Run<A> {
         ensures segments { IfOk result (λ run. run.segments ≡ map arc_value segments.items) }
         ensures sound { IfOk result IsRun }
     {
-        let run = Run::of_plan(alloc, Plan::new(table, scenario), segments)?;
+        let plan = Plan::new(table, scenario);
+        let skips = plan.view().skips();
+        let run = Run::of_plan(alloc, plan, skips, segments)?;
         Ok(run)
     }
 
-    // The run of these segments, which are those of the plan's simulation.
+    /// As `of_segments`, where the counts of skipped entries are known: those of the table under the
+    /// scenario. It looks at no entry of the table.
+    pub fn of_counted(
+        alloc: A,
+        table: Arc<JobTable<A>, A>,
+        scenario: Scenario,
+        skips: Skips,
+        segments: Vec<Arc<Segment<A>, A>, A>,
+    ) -> Result<Run<A>, Memory>
+        requires cut { IsCut (plan_of (arc_value table) scenario) (map arc_value segments.items) }
+        requires skips { skips ≡ skips_of (arc_value table) scenario }
+        ensures log { IfOk result (λ run. run.log ≡ arc_value table) }
+        ensures setting { IfOk result (λ run. run.setting ≡ scenario) }
+        ensures segments { IfOk result (λ run. run.segments ≡ map arc_value segments.items) }
+        ensures sound { IfOk result IsRun }
+    {
+        let run = Run::of_plan(alloc, Plan::new(table, scenario), skips, segments)?;
+        Ok(run)
+    }
+
+    // The run of these segments, which are those of the plan's simulation, and of the plan's counts of
+    // skipped entries.
     pub(crate) fn of_plan(
         alloc: A,
         plan: Plan<A>,
+        skips: Skips,
         segments: Vec<Arc<Segment<A>, A>, A>,
     ) -> Result<Run<A>, Memory>
-        requires { IsCut (plan_in plan) (map arc_value segments.items) }
+        requires cut { IsCut (plan_in plan) (map arc_value segments.items) }
+        requires skips { skips ≡ skips_of plan.log plan.setting }
         ensures log { IfOk result (λ run. run.log ≡ plan.log) }
         ensures setting { IfOk result (λ run. run.setting ≡ plan.setting) }
         ensures segments { IfOk result (λ run. run.segments ≡ map arc_value segments.items) }
         ensures sound { IfOk result IsRun }
     {
-        let tables = tables_of(alloc, &plan.view(), segments.as_slice())?;
+        let tables = tables_of(alloc, &plan.view(), skips, segments.as_slice())?;
         Ok(Run {
             alloc,
             plan,

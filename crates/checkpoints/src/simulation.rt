@@ -61,6 +61,7 @@ pub fn simulate<A: Allocator + Copy>(
     }
     let plan = Plan::new(table, scenario);
     let segments = segments_of(alloc, &plan, spacing)?;
-    let run = Run::of_plan(alloc, plan, segments)?;
+    let skips = plan.view().skips();
+    let run = Run::of_plan(alloc, plan, skips, segments)?;
     Ok(run)
 }

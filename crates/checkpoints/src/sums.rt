@@ -2,6 +2,7 @@ ghost use Rattle.std.specs.Prelude.{◌≡◌, ◌≤◌, map, length, All, IfOk
 ghost use Rattle.std.specs.Arc.{arc_value};
 ghost use Rattle.swf_text.specs.Limits.{entry_limit};
 ghost use Rattle.scenarios.specs.PlanView.{plan_in};
+ghost use Rattle.scenarios.specs.Skips.{skips_of};
 ghost use Rattle.scenarios.specs.SoundPlan.{IsPlan};
 ghost use Rattle.metrics.specs.Part.{IsPartOf};
 ghost use Rattle.checkpoints.specs.Cut.{IsCut, all_starts, placed_of};
@@ -9,7 +10,7 @@ ghost use Rattle.checkpoints.specs.Sums.{IsTablesOf, HasOwnPart};
 
 use crate::segment::Segment;
 use metrics::{Part, Tables};
-use scenarios::PlanRef;
+use scenarios::{PlanRef, Skips};
 use std::alloc::Allocator;
 use std::sync::Arc;
 use swf_text::Memory;
@@ -50,17 +51,19 @@ fn total_of<A: Allocator + Copy>(
     sums_of(alloc, plan, segments)
 }
 
-// The tables of a plan, from the segments of its simulation.
+// The tables of a plan, from the segments of its simulation and its counts of skipped entries.
 pub(crate) fn tables_of<A: Allocator + Copy>(
     alloc: A,
     plan: &PlanRef<'_, A>,
+    skips: Skips,
     segments: &[Arc<Segment<A>, A>],
 ) -> Result<Tables<A>, Memory>
-    requires { IsCut (plan_in plan.now) (map arc_value segments.now) }
+    requires cut { IsCut (plan_in plan.now) (map arc_value segments.now) }
+    requires skips { skips ≡ skips_of plan.now.log plan.now.setting }
     ensures { IfOk result (λ tables. IsTablesOf plan.now.log plan.now.setting tables) }
 {
     let procs = plan.scenario().procs();
     let total = total_of(alloc, plan, segments)?;
-    let tables = total.tables(procs, plan.skips())?;
+    let tables = total.tables(procs, skips)?;
     Ok(tables)
 }

@@ -110,9 +110,9 @@ inserted f e log t k = go (entry_of (number_of_entry e) log) refl (nat_le 419430
     go None p true k = cc
     go None p false k =
         let there : entry_of (number_of_entry e) (applied (Insert e) log) ≡ Some e =
-            ap (entry_of (number_of_entry e)) (sym (log-more e log t))
-            ∙ found-placed submit_of number_of_entry (number_of_entry e) e log (Lacks-from_none submit_of number_of_entry (number_of_entry e) log p)
-            ∙ cond-true (number_of_entry e == number_of_entry e) (Some e) (entry_of (number_of_entry e) log) (eq-eqb (number_of_entry e) (number_of_entry e) refl) in
+        ap (entry_of (number_of_entry e)) (sym (log-more e log t))
+        ∙ found-placed submit_of number_of_entry (number_of_entry e) e log (Lacks-from_none submit_of number_of_entry (number_of_entry e) log p)
+        ∙ cond-true (number_of_entry e == number_of_entry e) (Some e) (entry_of (number_of_entry e) log) (eq-eqb (number_of_entry e) (number_of_entry e) refl) in
         let a = ap (at f) there in
         let b = ap (at f) p in
         omega (arith, a, b, log-sum f (e ∷ log), sum_by-cons f e log)
@@ -120,7 +120,7 @@ inserted f e log t k = go (entry_of (number_of_entry e) log) refl (nat_le 419430
 removed : (f : LogEntry → ℕ) (m : ℕ) (log : List LogEntry) → IsTable log → Moves f (Remove m) log
 removed f m log t =
     let gone : entry_of m (applied (Remove m) log) ≡ None =
-        ap (entry_of m) (sym (log-less m log t)) ∙ found-without submit_of number_of_entry m m log ∙ cond-true (m == m) None (entry_of m log) (eq-eqb m m refl) in
+    ap (entry_of m) (sym (log-less m log t)) ∙ found-without submit_of number_of_entry m m log ∙ cond-true (m == m) None (entry_of m log) (eq-eqb m m refl) in
     let a = ap (at f) gone in
     omega (arith, a, log-sum f (without m log), without-sum f m log (distinct log t m))
 
@@ -134,9 +134,9 @@ turned f m place value log t k = go (entry_of m log) refl k
         let low = change-places place value k in
         let stays : number_of_entry now ≡ m = number-stays m place value log was now low p refl in
         let there : entry_of m (applied (Change m place value) log) ≡ Some now =
-            ap (entry_of m) (sym (log-changed m place value log was now low t p refl))
-            ∙ found-placed submit_of number_of_entry m now (without m log) (subst (λ x. Lacks submit_of number_of_entry x (without m log)) (sym stays) (Lacks-itself submit_of number_of_entry m log))
-            ∙ cond-true (number_of_entry now == m) (Some now) (entry_of m (without m log)) (eq-eqb (number_of_entry now) m stays) in
+        ap (entry_of m) (sym (log-changed m place value log was now low t p refl))
+        ∙ found-placed submit_of number_of_entry m now (without m log) (subst (λ x. Lacks submit_of number_of_entry x (without m log)) (sym stays) (Lacks-itself submit_of number_of_entry m log))
+        ∙ cond-true (number_of_entry now == m) (Some now) (entry_of m (without m log)) (eq-eqb (number_of_entry now) m stays) in
         let a = ap (at f) there in
         let b = ap (λ o. at f (option_map (with_field place value) o)) p in
         omega (arith, a, b, log-sum f (changed m place value log), changed-sum f m place value log (distinct log t m))
@@ -212,7 +212,7 @@ sum-within f [] es o d = omega arith
 sum-within f (n ∷ ns) es o d =
     let rest = sum-within f ns (without n es) o.1 (λ m. let l = has-less n m es in let k = d m in omega (arith, l, k)) in
     let same = sum-off (λ m. at f (entry_of m es)) (λ m. at f (entry_of m (without n es))) n ns o.0
-        (λ m ne. ap (at f) (sym (found-without submit_of number_of_entry m n es ∙ cond-false (n == m) None (entry_of m es) (ne_eqb n m ne)))) in
+    (λ m ne. ap (at f) (sym (found-without submit_of number_of_entry m n es ∙ cond-false (n == m) None (entry_of m es) (ne_eqb n m ne)))) in
     omega (arith, rest, same, without-sum f n es (d n), sum_by-cons (λ m. at f (entry_of m es)) n ns)
 
 -- ---- reasons
@@ -306,6 +306,7 @@ among-more m k (n ∷ ns) i = go (nat_cmp k n) i (among-more m k ns)
     deeper : IsAmong m (n ∷ ns) → (IsAmong m ns → IsAmong m (insert_key nat_cmp ns k)) → IsAmong m (n ∷ insert_key nat_cmp ns k)
     deeper (inl e) r = inl e
     deeper (inr j) r = inr (r j)
+
     go : (o : Ordering) → IsAmong m (n ∷ ns) → (IsAmong m ns → IsAmong m (insert_key nat_cmp ns k)) → IsAmong m (match_ordering o (k ∷ n ∷ ns) (n ∷ ns) (n ∷ insert_key nat_cmp ns k))
     go Less i r = inr i
     go Equal i r = i
@@ -316,11 +317,11 @@ pub named-more : {X : Type 0} (f : X → LogEdit) (xs : List X) (i : ℕ) (d : X
 named-more f xs i d m ns ms l is put rise all = record {
   rising = rise;
   each =
-    let P : LogEdit → Type 0 = λ edit. IsAmong (named edit) (insert_key nat_cmp ns m) in
-    let these = All-weaker (λ (edit : LogEdit). IsAmong (named edit) ns) P (λ edit a. among-more (named edit) m ns a) (map f (take i xs)) all.each in
-    let this : P (f (get_or xs i d)) = subst (λ n. IsAmong n (insert_key nat_cmp ns m)) is (among-itself m ns) in
-    subst (λ ks. All (λ edit. IsAmong (named edit) ks) (map f (take (i + 1) xs))) (sym put)
-    (subst (All P) (sym (front-more f xs i d l)) (All-push P (map f (take i xs)) (f (get_or xs i d)) these this));
+      let P : LogEdit → Type 0 = λ edit. IsAmong (named edit) (insert_key nat_cmp ns m) in
+      let these = All-weaker (λ (edit : LogEdit). IsAmong (named edit) ns) P (λ edit a. among-more (named edit) m ns a) (map f (take i xs)) all.each in
+      let this : P (f (get_or xs i d)) = subst (λ n. IsAmong n (insert_key nat_cmp ns m)) is (among-itself m ns) in
+      subst (λ ks. All (λ edit. IsAmong (named edit) ks) (map f (take (i + 1) xs))) (sym put)
+      (subst (All P) (sym (front-more f xs i d l)) (All-push P (map f (take i xs)) (f (get_or xs i d)) these this));
 }
 
 pub named-all : {X : Type 0} (f : X → LogEdit) (xs : List X) (i : ℕ) (ns : List ℕ) → length xs ≤ i → AreNumbersOf (map f (take i xs)) ns → AreNumbersOf (map f xs) ns

@@ -10,6 +10,7 @@ ghost use Rattle.rejoin.specs.Touched.{NothingTouched};
 
 use crate::change::Change;
 use crate::patch::rejoined;
+use crate::skips::skips_after;
 use checkpoints::{MAX_SPACING, Run, RunFault};
 use job_table::{Edit, JobTable};
 use std::alloc::Allocator;
@@ -59,6 +60,15 @@ pub fn rerun<A: Allocator + Copy>(
         handled: patch.handled,
         reused: patch.reused,
     };
-    let again = Run::of_segments(alloc, table.clone()?, run.scenario(), patch.segments)?;
+    let scenario = run.scenario();
+    let skips = skips_after(
+        alloc,
+        run.tables().overall().skips,
+        run.table(),
+        edits,
+        &table,
+        &scenario,
+    )?;
+    let again = Run::of_counted(alloc, table.clone()?, scenario, skips, patch.segments)?;
     Ok((again, work))
 }

@@ -2,7 +2,6 @@
 ghost use Rattle.std.specs.Prelude.{◌≡◌, ◌+◌, ◌<◌, ◌≤◌, ◌^◌, map, IfOk};
 ghost use Rattle.job_table.specs.Accepted.{AreAccepted};
 ghost use Rattle.job_table.specs.Edit.{edit_of, log_after};
-ghost use Rattle.job_table.specs.Table.{IsTable};
 ghost use Rattle.scenarios.specs.Skips.{skips_of};
 ghost use Rattle.scenarios.specs.declared.skip.Skip.{Skip};
 ghost use Rattle.scenarios.specs.declared.skip.Skip.TheVariants as reasons;
@@ -13,7 +12,7 @@ use job_table::{Edit, JobTable};
 use scenarios::{Scenario, Skip, Skips, effective};
 use std::alloc::Allocator;
 use std::collections::BTreeSet;
-use swf_text::Memory;
+use swf_text::{ENTRY_LIMIT, Memory};
 
 // Why the entry of this number is skipped, where there is one and it is.
 fn skip_of<A: Allocator + Copy>(
@@ -102,10 +101,7 @@ fn without_all<A: Allocator + Copy>(
 }
 
 // The numbers of these edits.
-fn numbers_of<A: Allocator + Copy>(
-    alloc: A,
-    edits: &[Edit<A>],
-) -> Result<BTreeSet<u64, A>, Memory>
+fn numbers_of<A: Allocator + Copy>(alloc: A, edits: &[Edit<A>]) -> Result<BTreeSet<u64, A>, Memory>
     ensures { IfOk result (λ numbers. AreNumbersOf (map edit_of edits.now) numbers.keys) }
 {
     let mut numbers = BTreeSet::new(alloc);
@@ -126,11 +122,11 @@ pub(crate) fn skips_after<A: Allocator + Copy>(
     scenario: &Scenario,
 ) -> Result<Skips, Memory>
     requires counts { skips ≡ skips_of old.now scenario.now }
-    requires table { IsTable old.now }
     requires accepted { AreAccepted old.now (map edit_of edits.now) }
     requires edited { new.now ≡ log_after old.now (map edit_of edits.now) }
     ensures { IfOk result (λ after. after ≡ skips_of new.now scenario.now) }
 {
+    prove!(old.len() <= ENTRY_LIMIT);
     let numbers = numbers_of(alloc, edits)?;
     let more = with_all(skips, &numbers, new, scenario);
     Ok(without_all(more, &numbers, old, scenario))

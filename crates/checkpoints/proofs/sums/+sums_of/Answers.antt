@@ -1,4 +1,4 @@
-use Rattle.std.proofs.Common.{◌+◌, ◌/◌, ◌<◌, [], map, length, ap, ◌∙◌, arith, rules}
+use Rattle.std.proofs.Common.{◌/◌, [], map, length, ap, ◌∙◌, arith, rules}
 use Rattle.std.specs.Arc.{arc_value}
 use Rattle.std.proofs.lemmas.Result.{IfOk-weaker}
 use Rattle.scenarios.specs.PlanView.{plan_in}
