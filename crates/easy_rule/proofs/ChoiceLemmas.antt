@@ -9,7 +9,7 @@ use Rattle.cluster_state.specs.State.{State, IsSound, free, started, all_started
 use Rattle.cluster_state.proofs.Lemmas.{sum_by-placed, sound-started, All-find}
 use Rattle.easy_rule.specs.declared.shadow_time.Shadow.{Shadow}
 use Rattle.easy_rule.specs.Rule.{next, next_of, may_backfill, shadow_of, shadow_for, shadow_at, state_after, starts_at}
-use Rattle.easy_rule.specs.Pass.{most_starts, less, picked, left_after, fitting, start_at, row, IsFirstPlace, IsPass}
+use Rattle.easy_rule.specs.Pass.{most_starts, less, picked, left_after, fitting, start_at, row, AreStarted, IsFirstPlace, IsPass}
 use Rattle.easy_rule.proofs.NextLemmas.{found-member, next-found, next-fits, too-large, length-without}
 use Rattle.easy_rule.proofs.PassLemmas.{ways, state_after-started, starts_at-started, state_after-done, starts_at-done, pass-next, pass-done, pass-started, row-started}
 
@@ -49,6 +49,27 @@ fewer-all (j ∷ js) s now early h can =
 free-started : (s : State) (now : ℕ) (job : EffectiveJob) → free (started s job now) ≡ free s - job.size
 free-started s now job = omega (arith, sum_by-placed (λ (r : Placed). r.job.size) (record { job = job; start = now }) s.running)
 
+-- ---- who has started, one after another
+can-append : (xs js : List EffectiveJob) (s : State) (now : ℕ) → CanStartAll s xs now → CanStartAll (all_started s xs now) js now → CanStartAll s (xs ++ js) now
+can-append [] js s now h k = k
+can-append (x ∷ xs) js s now h k = (h.0, h.1, can-append xs js (started s x now) now h.2 k)
+
+all-append : (xs js : List EffectiveJob) (s : State) (now : ℕ) → all_started s (xs ++ js) now ≡ all_started (all_started s xs now) js now
+all-append [] js s now = refl
+all-append (x ∷ xs) js s now = all-append xs js (started s x now) now
+
+pub nobody-started : (s : State) (now : ℕ) (xs : List EffectiveJob) → xs ≡ [] → AreStarted s now xs s
+nobody-started s now xs e = subst (λ l. AreStarted s now l s) (sym e) (record { can = tt; state = refl })
+
+pub started-on : (s r t : State) (now : ℕ) (xs js zs : List EffectiveJob) → CanStartAll r js now → t ≡ all_started r js now → zs ≡ xs ++ js → AreStarted s now xs r → AreStarted s now zs t
+started-on s r t now xs js zs can state is h =
+    let can' : CanStartAll (all_started s xs now) js now = subst (λ (z : State). CanStartAll z js now) h.state can in
+    subst (λ l. AreStarted s now l t) (sym is)
+    (record {
+      can = can-append xs js s now h.can can';
+      state = state ∙ ap (λ (z : State). all_started z js now) h.state ∙ sym (all-append xs js s now);
+    })
+
 -- ---- the first waiting jobs
 pub record Heads (s : State) (now : ℕ) (js : List EffectiveJob) : Type 0 where
   pub first : StartNext s now js
@@ -86,7 +107,7 @@ pub record Picks (s : State) (now : ℕ) (js : List EffectiveJob) (left : Shadow
   pub done : next (all_started s js now) now ≡ None
   pub shadow : shadow_of (all_started s js now) ≡ Some left
 
-pass-shadow : (s : State) (now : ℕ) (w : Shadow) (place : ℕ) → IsPass s now w place → shadow_of s ≡ Some w
+pub pass-shadow : (s : State) (now : ℕ) (w : Shadow) (place : ℕ) → IsPass s now w place → shadow_of s ≡ Some w
 pass-shadow s now w place p =
     ap (shadow_for s) p.queue ∙ cond-false (nat_le p.head.size (free s)) None (Some (shadow_at s p.head.size)) (lt-leb p.head.size (free s) p.waits) ∙ ap Some (sym p.shadow)
 

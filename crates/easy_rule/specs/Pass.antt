@@ -1,7 +1,7 @@
 -- One pass over the waiting jobs, with what is left at each step of it.
 use Rattle.std.specs.Prelude.{◌≡◌, ℕ, ◌+◌, ◌-◌, ◌<◌, min, Bool, true, false, nat_le, if◌then◌else◌, List, [], ◌∷◌, length, take, All, slice_index_or}
 use Rattle.scenarios.specs.Job.{EffectiveJob}
-use Rattle.cluster_state.specs.State.{State, free}
+use Rattle.cluster_state.specs.State.{State, free, all_started, CanStartAll}
 use Rattle.cluster_state.specs.Row.{in_order}
 use Rattle.easy_rule.specs.declared.shadow_time.Shadow.{Shadow}
 use Rattle.easy_rule.specs.declared.start.Start.{Start}
@@ -33,6 +33,11 @@ fitting room (j ∷ js) = if nat_le j.size room then j ∷ fitting (room - j.siz
 -- a job's start
 abbrev pub start_at : ℕ → EffectiveJob → Start
 start_at now job = record { number = job.number; at = now }
+
+-- from state s these jobs may start at second `now`, one after another, and they leave t
+pub record AreStarted (s : State) (now : ℕ) (jobs : List EffectiveJob) (t : State) : Type 0 where
+  pub can : CanStartAll s jobs now
+  pub state : t ≡ all_started s jobs now
 
 -- the waiting jobs in the order in which they are looked at, the head among them
 abbrev pub row : State → List EffectiveJob

@@ -1,14 +1,15 @@
-ghost use Rattle.std.specs.Prelude.{◌≡◌, ◌+◌, ◌<◌, ◌≤◌, OnOk, OnErr, IsOk, IfOk, IfSome, IsSome, None, Some, length};
+ghost use Rattle.std.specs.Prelude.{◌≡◌, ◌+◌, ◌<◌, ◌≤◌, [], OnOk, OnErr, IsOk, IfOk, IfSome, IsSome, None, Some, map, length};
 ghost use Rattle.scenarios.specs.Limits.{seconds_end};
 ghost use Rattle.cluster_state.specs.State.{free};
 ghost use Rattle.easy_rule.specs.Rule.{next, shadow_of, state_after, starts_at};
+ghost use Rattle.easy_rule.specs.Pass.{start_at, AreStarted};
 
-use crate::backfill::first_place;
-use crate::pass::{pass_on, room_for_starts, start_heads, start_later, with_starts};
+use crate::first::{FirstStart, first_start, start_from};
+use crate::pass::{most_starts, room_for_starts};
 use crate::shadow_time::Shadow;
-use crate::shadow_walk::shadow_for;
-use crate::start::Start;
+use crate::start::{Start, add_starts};
 use cluster_state::Cluster;
+use scenarios::Job;
 use std::alloc::Allocator;
 use swf_text::Memory;
 
@@ -36,46 +37,48 @@ pub fn decide<A: Allocator + Copy>(
     ensures err { OnErr result (cluster.new.state ≡ cluster.old.state) }
     ensures spare { OnErr result (cluster.old.spare ≤ cluster.new.spare) }
 {
-    let (starts, _) = decide_with_shadow(alloc, cluster, now)?;
+    let first = first_start(cluster, now);
+    if let FirstStart::Nobody(_) = first {
+        return Ok(Vec::new(alloc));
+    }
+    let mut chosen = Vec::new(alloc);
+    room_for_starts(cluster, &mut chosen)?;
+    let mut starts = Vec::with_capacity(alloc, most_starts(cluster))?;
+    let _left = start_from(cluster, &mut chosen, first, now);
+    let Ok(()) = add_starts(&mut starts, &chosen, now) else {
+        unreachable!()
+    };
     Ok(starts)
 }
 
-/// As `decide`, with the shadow of the state that it leaves, where it came to know it. It does where
+/// As `decide`, and leaves the jobs that start, in order, in a lent list; what was in it before is
+/// forgotten. Answers the shadow of the state that it leaves, where it came to know it. It does where
 /// there is one and a processor is free.
-pub fn decide_with_shadow<A: Allocator + Copy>(
-    alloc: A,
+///
+/// It takes memory only where the list or the cluster has no room for as many starts as there can be
+/// at once. Memory where a growth was refused; no job has started then, and the list is empty.
+pub fn decide_into<A: Allocator + Copy>(
     cluster: &mut Cluster<A>,
+    chosen: &mut Vec<Job, A>,
     now: u64,
-) -> Result<(Vec<Start, A>, Option<Shadow>), Memory>
+) -> Result<Option<Shadow>, Memory>
     requires { now < seconds_end }
     ensures state { OnOk result (cluster.new.state ≡ state_after cluster.old.state now) }
-    ensures starts { IfOk result (λ decision. decision.0.items ≡ starts_at cluster.old.state now) }
-    ensures room { IfOk result (λ decision. cluster.old.spare ≤ cluster.new.spare + length decision.0.items) }
-    ensures shadow { IfOk result (λ decision. IfSome decision.1 (λ w. shadow_of cluster.new.state ≡ Some w)) }
-    ensures told { IfOk result (λ decision. 0 < free cluster.new.state → IsSome (shadow_of cluster.new.state) → IsSome decision.1) }
+    ensures starts { OnOk result (map (start_at now) chosen.new.items ≡ starts_at cluster.old.state now) }
+    ensures jobs { OnOk result (AreStarted cluster.old.state now chosen.new.items cluster.new.state) }
+    ensures room { OnOk result (cluster.old.spare ≤ cluster.new.spare + length chosen.new.items) }
+    ensures shadow { IfOk result (λ left. IfSome left (λ w. shadow_of cluster.new.state ≡ Some w)) }
+    ensures told { IfOk result (λ left. 0 < free cluster.new.state → IsSome (shadow_of cluster.new.state) → IsSome left) }
     ensures settled { next cluster.old.state now ≡ None → IsOk result }
     ensures err { OnErr result (cluster.new.state ≡ cluster.old.state) }
+    ensures empty { OnErr result (chosen.new.items ≡ []) }
     ensures spare { OnErr result (cluster.old.spare ≤ cluster.new.spare) }
 {
-    let free = cluster.free();
-    let [head, ..] = cluster.waiting() else {
-        return Ok((Vec::new(alloc), None));
-    };
-    if free == 0 {
-        return Ok((Vec::new(alloc), None));
+    chosen.clear();
+    let first = first_start(cluster, now);
+    if let FirstStart::Nobody(left) = first {
+        return Ok(left);
     }
-    let need = head.size();
-    if need <= free {
-        let (mut chosen, starts) = room_for_starts(alloc, cluster)?;
-        start_heads(cluster, &mut chosen, now);
-        let left = start_later(cluster, &mut chosen, now);
-        return Ok((with_starts(starts, &chosen, now), left));
-    }
-    let shadow = shadow_for(cluster, need);
-    let Some(place) = first_place(cluster.row(), 0, now, free, shadow) else {
-        return Ok((Vec::new(alloc), Some(shadow)));
-    };
-    let (mut chosen, starts) = room_for_starts(alloc, cluster)?;
-    let left = pass_on(cluster, &mut chosen, shadow, place, now);
-    Ok((with_starts(starts, &chosen, now), Some(left)))
+    room_for_starts(cluster, chosen)?;
+    Ok(start_from(cluster, chosen, first, now))
 }

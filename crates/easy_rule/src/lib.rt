@@ -6,6 +6,7 @@ mod behind;
 mod choice;
 mod decision;
 pub mod examples;
+mod first;
 pub mod laws;
 mod pass;
 mod shadow_time;
@@ -13,7 +14,7 @@ mod shadow_walk;
 mod start;
 
 pub use behind::decide_behind;
-pub use decision::{decide, decide_with_shadow};
+pub use decision::{decide, decide_into};
 pub use shadow_time::Shadow;
 pub use shadow_walk::{shadow, shadow_counted};
-pub use start::Start;
+pub use start::{Start, add_starts};

@@ -1,18 +1,20 @@
 -- Who waits or runs is the plan's job of its number.
-use Rattle.std.proofs.Common.{◌≡◌, ℕ, zero, suc, not, nat_eq, List, [], ◌∷◌, length, Some, All, refl, sym, subst, inl, inr, ⊎_elim}
+use Rattle.std.proofs.Common.{◌≡◌, ℕ, zero, suc, not, nat_eq, List, [], ◌∷◌, length, Some, All, map, refl, sym, ◌∙◌, ap, subst, inl, inr, ⊎_elim}
 use Rattle.std.proofs.lemmas.List.Elements.{All-head, All-tail, All-nil, All-cons, All-append, All-filter}
 use Rattle.scenarios.specs.Job.{EffectiveJob}
 use Rattle.scenarios.specs.Plan.{Plan, job_numbered}
 use Rattle.scenarios.specs.declared.placed.Placed.{Placed}
 use Rattle.scenarios.specs.Placed.{real_end}
-use Rattle.cluster_state.specs.State.{State, started}
+use Rattle.cluster_state.specs.State.{State, started, CanStartAll}
 use Rattle.cluster_state.specs.Snapshot.{Numbers, numbers_of, restored, Fits, IsOfPlan}
-use Rattle.cluster_state.proofs.Lemmas.{All-placed, All-without, numbers-give-the-state-back}
-use Rattle.easy_rule.specs.Rule.{next}
+use Rattle.cluster_state.proofs.Lemmas.{All-placed, All-without, All-find, numbers-give-the-state-back}
+use Rattle.easy_rule.specs.Rule.{next, starts_at}
+use Rattle.easy_rule.specs.Pass.{start_at, AreStarted}
 use Rattle.easy_rule.specs.Simulation.{before, ready, submitted}
 use Rattle.easy_rule.proofs.Lemmas.{Member, find-member, next-facts, decided-keeps}
 use Rattle.scenarios.specs.SoundPlan.{IsPlan}
 use Rattle.timeline.proofs.Lemmas.{each-state-is-sound}
+use Rattle.event_loop.specs.Stepped.{StartIn}
 
 member-holds : (P : EffectiveJob → Type 0) (js : List EffectiveJob) (job : EffectiveJob) → Member js job → All P js → P job
 member-holds P [] job m a = absurd m
@@ -57,6 +59,21 @@ before-of-plan plan zero p = record {
 }
 before-of-plan plan (suc t) p =
     decided-keeps (λ z. IsOfPlan z plan) t (of-plan-started plan t) (length (ready plan (before plan t) t).waiting) (ready plan (before plan t) t) (of-plan-ready plan (before plan t) t p (before-of-plan plan t p))
+
+-- what holds of all who wait holds of those who start
+started-hold : (P : EffectiveJob → Type 0) (js : List EffectiveJob) (s : State) (now : ℕ) → CanStartAll s js now → All P s.waiting → All P js
+started-hold P [] s now can a = All-nil P
+started-hold P (j ∷ js) s now can a =
+    All-cons P j js (All-find P (λ (k : EffectiveJob). nat_eq k.number j.number) s.waiting j can.0 a) (started-hold P js (started s j now) now can.2 (All-without P j.number s.waiting a))
+
+-- who starts at a second is the plan's job of its number, too
+pub start-in : (plan : Plan) (s s' : State) (t : ℕ) (js : List EffectiveJob) → IsPlan plan → s ≡ ready plan (before plan t) t → AreStarted s t js s' → map (start_at t) js ≡ starts_at s t → StartIn plan t js
+start-in plan s s' t js p is h e =
+    let waiting : All (Own plan) s.waiting = subst (λ (z : State). All (Own plan) z.waiting) (sym is) (of-plan-ready plan (before plan t) t p (before-of-plan plan t p)).waiting in
+    record {
+      starts = e ∙ ap (λ (z : State). starts_at z t) is;
+      own = started-hold (Own plan) js s t h.can waiting;
+    }
 
 -- the snapshot of the state before a second fits, and gives that state back
 pub before-fits : (plan : Plan) (t : ℕ) (p : Numbers) → IsPlan plan → p ≡ numbers_of (before plan t) → Fits p plan × (restored p plan ≡ before plan t)

@@ -1,4 +1,4 @@
-ghost use Rattle.std.specs.Prelude.{◌≡◌, ◌+◌, ◌++◌, ◌≤◌, ◌<◌, [], Some, None, IfOk, OnOk, OnErr, IfSome, IfErr, IfNone, true, false};
+ghost use Rattle.std.specs.Prelude.{◌≡◌, ◌+◌, ◌++◌, ◌≤◌, ◌<◌, [], Some, None, IfOk, OnOk, OnErr, IfSome, IfErr, IfNone, MatchOption, true, false};
 ghost use Rattle.event_loop.specs.Events.{earlier};
 
 use crate::coming::Coming;
@@ -6,9 +6,9 @@ use crate::fault::EngineFault;
 use crate::known::{decide_knowing, standing_at};
 use crate::stepped::Stepped;
 use cluster_state::{Cluster, Snapshot};
-use easy_rule::{Shadow, Start};
+use easy_rule::{Shadow, Start, add_starts};
 use job_table::JobTable;
-use scenarios::{Placed, Plan, Scenario};
+use scenarios::{Job, Placed, Plan, Scenario};
 use std::alloc::Allocator;
 use std::marker::Model;
 use std::sync::Arc;
@@ -50,6 +50,7 @@ impl<A: Allocator + Copy> Engine<A> {
     ghost use Rattle.timeline.specs.Laws.{IsQuiet};
     ghost use Rattle.event_loop.specs.Events.{Progress, IsNextEvent, begun};
     ghost use Rattle.event_loop.specs.Going.{IsStepFault, IsRunFault, IsRunOn, IsLast};
+    ghost use Rattle.event_loop.specs.Stepped.{StartIn};
 
     /// An engine before second 0.
     pub fn new(alloc: A, table: Arc<JobTable<A>, A>, scenario: Scenario) -> Engine<A>
@@ -160,14 +161,43 @@ impl<A: Allocator + Copy> Engine<A> {
         ensures some { IfOk result (λ o. IfSome o (λ s. (self.old.failed ≡ false) × IsNextEvent self.old.plan self.old.position (Some s.second) × (s.starts ≡ starts_in self.old.plan s.second) × (self.new ≡ record self.old { position = s.second + 1; handled = self.old.handled + 1 }))) }
         ensures fault { IfErr result (λ f. IsStepFault self.old self.new f) }
     {
+        let (position, handled) = (self.position, self.handled);
+        let mut started = Vec::new(self.alloc);
+        let Some(second) = self.step_into(&mut started)? else {
+            return Ok(None);
+        };
+        let mut starts = Vec::new(self.alloc);
+        let Ok(()) = add_starts(&mut starts, started.as_slice(), second) else {
+            self.fail_at(position, handled);
+            return Err(EngineFault::Memory);
+        };
+        Ok(Some(Stepped::new(second, starts)))
+    }
+
+    /// Works the next event second, where there is one, as `step` does, and answers it. The jobs that
+    /// start at it are left, in order, in a lent list; what was in it before is forgotten, and it is
+    /// empty where no second was worked.
+    ///
+    /// Of the list, it takes memory only where there is no room for as many jobs as can start at once.
+    /// Failed in an engine that has failed. Memory where a growth was refused; the engine has failed
+    /// then, with that second not worked.
+    pub fn step_into(&mut self, started: &mut Vec<Job, A>) -> Result<Option<u64>, EngineFault>
+        ensures none { IfOk result (λ o. IfNone o ((self.old.failed ≡ false) × IsNextEvent self.old.plan self.old.position None × (self.new ≡ self.old))) }
+        ensures some { IfOk result (λ o. IfSome o (λ t. (self.old.failed ≡ false) × IsNextEvent self.old.plan self.old.position (Some t) × (self.new ≡ record self.old { position = t + 1; handled = self.old.handled + 1 }))) }
+        ensures plan { IsPlan self.old.plan }
+        ensures started { IfOk result (λ o. MatchOption o (started.new.items ≡ []) (λ t. StartIn self.old.plan t started.new.items)) }
+        ensures fault { IfErr result (λ f. IsStepFault self.old self.new f) }
+        ensures empty { OnErr result (started.new.items ≡ []) }
+    {
+        started.clear();
         if self.failed {
             return Err(EngineFault::Failed);
         }
         let Some(second) = self.next_event() else {
             return Ok(None);
         };
-        let starts = self.work(second)?;
-        Ok(Some(Stepped::new(second, starts)))
+        self.work(second, started)?;
+        Ok(Some(second))
     }
 
     /// Works each event second before `second`, and answers the starts in order.
@@ -216,9 +246,10 @@ impl<A: Allocator + Copy> Engine<A> {
             return Err(EngineFault::Failed);
         }
         let mut all = Vec::new(self.alloc);
+        let mut started = Vec::new(self.alloc);
         'events: while let Some(second) = self.event_before(end) {
-            let starts = self.work(second)?;
-            let Ok(()) = all.extend_from_slice(starts.as_slice()) else {
+            self.work(second, &mut started)?;
+            let Ok(()) = add_starts(&mut all, started.as_slice(), second) else {
                 self.failed = true;
                 return Err(EngineFault::Memory);
             };
@@ -241,13 +272,15 @@ impl<A: Allocator + Copy> Engine<A> {
         Some(second)
     }
 
-    // Works the event second that comes next.
-    fn work(&mut self, second: u64) -> Result<Vec<Start, A>, EngineFault>
+    // Works the event second that comes next, and leaves the jobs that start at it in a lent list; what
+    // was in it before is forgotten.
+    fn work(&mut self, second: u64, started: &mut Vec<Job, A>) -> Result<(), EngineFault>
         requires going { self.old.failed ≡ false }
         requires next { IsNextEvent self.old.plan self.old.position (Some second) }
-        ensures starts { IfOk result (λ starts. starts.items ≡ starts_in self.old.plan second) }
+        ensures started { OnOk result (StartIn self.old.plan second started.new.items) }
         ensures ok { OnOk result (self.new ≡ record self.old { position = second + 1; handled = self.old.handled + 1 }) }
         ensures err { OnErr result (self.new ≡ record self.old { failed = true }) }
+        ensures empty { OnErr result (started.old.items ≡ [] → started.new.items ≡ []) }
         ensures memory { IfErr result (λ f. f ≡ EngineFault.Memory) }
     {
         self.failed = true;
@@ -256,18 +289,22 @@ impl<A: Allocator + Copy> Engine<A> {
         self.cluster.finish_until(second);
         self.coming
             .arrive(&mut self.cluster, &self.plan.view(), second)?;
-        let (starts, known) = decide_knowing(
-            self.alloc,
-            &mut self.cluster,
-            known,
-            settled,
-            second,
-        )?;
+        let left = decide_knowing(&mut self.cluster, started, known, settled, second)?;
         self.failed = false;
-        self.known = known;
+        self.known = left;
         self.position = second + 1;
         self.handled += 1;
-        Ok(starts)
+        Ok(())
+    }
+
+    // Fails, and stands before an earlier second: what was worked since then can't be told.
+    fn fail_at(&mut self, position: u64, handled: u64)
+        requires { handled ≤ position }
+        ensures { self.new ≡ record self.old { position = position; handled = handled; failed = true } }
+    {
+        self.position = position;
+        self.handled = handled;
+        self.failed = true;
     }
 }
 

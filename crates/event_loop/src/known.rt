@@ -1,11 +1,12 @@
-ghost use Rattle.std.specs.Prelude.{◌≡◌, ◌≤◌, ◌<◌, OnOk, IfOk, IfSome, None, Some, length, All};
+ghost use Rattle.std.specs.Prelude.{◌≡◌, ◌≤◌, ◌<◌, [], OnOk, OnErr, IfOk, IfSome, None, Some, map, length, All};
 ghost use Rattle.scenarios.specs.Limits.{seconds_end};
 ghost use Rattle.scenarios.specs.Placed.{real_end};
 ghost use Rattle.easy_rule.specs.Rule.{next, shadow_of, state_after, starts_at};
-ghost use Rattle.easy_rule.specs.Pass.{front};
+ghost use Rattle.easy_rule.specs.Pass.{front, start_at, AreStarted};
 
 use cluster_state::Cluster;
-use easy_rule::{Shadow, Start, decide_behind, decide_with_shadow};
+use easy_rule::{Shadow, decide_behind, decide_into};
+use scenarios::Job;
 use std::alloc::Allocator;
 use swf_text::Memory;
 
@@ -25,29 +26,31 @@ pub(crate) fn standing_at<A: Allocator + Copy>(
     known
 }
 
-// Starts the jobs that start at second `now`, and answers these starts in order, with the shadow of
-// the state that it leaves, where it came to know it.
+// Starts the jobs that start at second `now`, and leaves them, in order, in a lent list; what was in it
+// before is forgotten. Answers the shadow of the state that it leaves, where it came to know it.
 //
 // Where the shadow of the state is known, nobody of the first `settled` waiting jobs may start, and
 // only those behind them are looked at.
 pub(crate) fn decide_knowing<A: Allocator + Copy>(
-    alloc: A,
     cluster: &mut Cluster<A>,
+    started: &mut Vec<Job, A>,
     known: Option<Shadow>,
     settled: usize,
     now: u64,
-) -> Result<(Vec<Start, A>, Option<Shadow>), Memory>
+) -> Result<Option<Shadow>, Memory>
     requires now { now < seconds_end }
     requires within { settled ≤ length cluster.old.state.waiting }
     requires settled { IfSome known (λ _. next (front cluster.old.state settled) now ≡ None) }
     requires known { IfSome known (λ w. shadow_of cluster.old.state ≡ Some w) }
     ensures state { OnOk result (cluster.new.state ≡ state_after cluster.old.state now) }
-    ensures starts { IfOk result (λ decision. decision.0.items ≡ starts_at cluster.old.state now) }
-    ensures shadow { IfOk result (λ decision. IfSome decision.1 (λ w. shadow_of cluster.new.state ≡ Some w)) }
+    ensures starts { OnOk result (map (start_at now) started.new.items ≡ starts_at cluster.old.state now) }
+    ensures jobs { OnOk result (AreStarted cluster.old.state now started.new.items cluster.new.state) }
+    ensures shadow { IfOk result (λ left. IfSome left (λ w. shadow_of cluster.new.state ≡ Some w)) }
+    ensures empty { OnErr result (started.new.items ≡ []) }
 {
     let Some(shadow) = known else {
-        return decide_with_shadow(alloc, cluster, now);
+        return decide_into(cluster, started, now);
     };
-    let (starts, left) = decide_behind(alloc, cluster, settled, shadow, now)?;
-    Ok((starts, Some(left)))
+    let left = decide_behind(cluster, started, settled, shadow, now)?;
+    Ok(Some(left))
 }

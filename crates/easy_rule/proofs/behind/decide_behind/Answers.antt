@@ -1,16 +1,17 @@
-use Rattle.std.proofs.Common.{◌≡◌, ◌-◌, ◌∙◌, sym, arith, None, length, take, drop}
+use Rattle.std.proofs.Common.{◌≡◌, ◌-◌, ◌∙◌, sym, ap, arith, None, map, length, take, drop}
 use Rattle.std.specs.List.{list_any}
 use Rattle.std.proofs.lemmas.Bool.{true≢false}
 use Rattle.std.proofs.lemmas.List.{take_all, length-drop}
 use Rattle.cluster_state.specs.State.{State, free}
 use Rattle.easy_rule.specs.Rule.{next, may_backfill}
+use Rattle.easy_rule.specs.Pass.{start_at}
 use Rattle.easy_rule.proofs.PassLemmas.{state_after-done, starts_at-done}
 use Rattle.easy_rule.proofs.BehindLemmas.{behind-is, behind-done, behind-none, behind-first, behind-pass}
 use Rattle.easy_rule.proofs.behind.decide_behind.Given.{Over}
-use Rattle.easy_rule.proofs.behind.decide_behind.Goals as goal
 use Rattle.easy_rule.proofs.behind.decide_behind.Goals.{in-Arrival, in-Shortest}
+use Rattle.easy_rule.proofs.behind.decide_behind.Goals as goal
 
-nobody : (g : Over) (c : goal.After-new g) → next c.args.cluster.now.state c.args.now ≡ None
+nobody : (g : Over) (c : goal.Then-not-may_any g) → next c.args.cluster.now.state c.args.now ≡ None
 nobody g c =
     let s : State = c.args.cluster.now.state in
     let n = c.args.settled in
@@ -22,10 +23,10 @@ pub returns-then-not-may_any-clause-state : goal.returns-then-not-may_any-clause
 returns-then-not-may_any-clause-state g c = sym (state_after-done c.args.cluster.now.state c.args.now (nobody g c))
 
 pub returns-then-not-may_any-clause-starts : goal.returns-then-not-may_any-clause-starts
-returns-then-not-may_any-clause-starts g c = c.new.ensures.items ∙ sym (starts_at-done c.args.cluster.now.state c.args.now (nobody g c))
+returns-then-not-may_any-clause-starts g c = ap (map (start_at c.args.now)) c.clear.ensures.items ∙ sym (starts_at-done c.args.cluster.now.state c.args.now (nobody g c))
 
-pub returns-in_err-chosen-clause-settled : goal.returns-in_err-chosen-clause-settled
-returns-in_err-chosen-clause-settled g c = λ none.
+pub returns-in_err-room_for_starts-clause-settled : goal.returns-in_err-room_for_starts-clause-settled
+returns-in_err-room_for_starts-clause-settled g c = λ none.
     let s : State = c.args.cluster.now.state in
     let n = c.args.settled in
     let whole : take (length s.waiting - n) (drop n s.waiting) ≡ drop n s.waiting = take_all (length s.waiting - n) (drop n s.waiting) (omega (arith, length-drop n s.waiting)) in
@@ -33,8 +34,8 @@ returns-in_err-chosen-clause-settled g c = λ none.
     let never = behind-none s c.args.now n c.args.shadow (behind-is s c.args.now n c.args.shadow c.requires.shadow c.requires.settled) none in
     absurd (true≢false (sym c.if-not-may_any.false ∙ any ∙ never))
 
-pub pass_on-left-requires-clause-pass : goal.pass_on-left-requires-clause-pass
-pass_on-left-requires-clause-pass g c =
+pub pass_on-requires-clause-pass : goal.pass_on-requires-clause-pass
+pass_on-requires-clause-pass g c =
     let s : State = c.args.cluster.now.state in
     let n = c.args.settled in
     let behind = behind-is s c.args.now n c.args.shadow c.requires.shadow c.requires.settled in

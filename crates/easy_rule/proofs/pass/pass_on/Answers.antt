@@ -5,7 +5,7 @@ use Rattle.cluster_state.specs.State.{State, all_started}
 use Rattle.easy_rule.specs.Rule.{shadow_of}
 use Rattle.easy_rule.specs.Pass.{most_starts, start_at}
 use Rattle.easy_rule.proofs.PassLemmas.{All-in_order, length-row}
-use Rattle.easy_rule.proofs.ChoiceLemmas.{Picks, later-of, picks-all}
+use Rattle.easy_rule.proofs.ChoiceLemmas.{Picks, later-of, picks-all, started-on}
 use Rattle.easy_rule.proofs.pass.pass_on.Given.{Over}
 use Rattle.easy_rule.proofs.pass.pass_on.Goals as goal
 
@@ -66,3 +66,9 @@ returns-clause-left g c =
     let told = ap length c.deref.ensures.value in
     let spare = c.start_all.ensures.spare in
     omega (arith, all, told, spare, length-append c.args.chosen.now.items js)
+
+pub returns-clause-jobs : goal.returns-clause-jobs
+returns-clause-jobs g c = λ s.
+    let k = facts g c in
+    let js = take (length c.deref.result.now - c.len-before.result) (drop c.len-before.result c.deref.result.now) in
+    started-on s c.args.cluster.now.state _ c.args.now c.args.chosen.now.items js _ k.0.first.can c.in-Ok.ensures.ok (sym c.deref.ensures.value ∙ k.1)

@@ -1,6 +1,6 @@
-use Rattle.std.proofs.Common.{◌≡◌, ◌<◌, ◌≤◌, ◌+◌, ◌∙◌, sym, ap, arith, subst, false, true, length, slice_get, IfSome}
+use Rattle.std.proofs.Common.{◌≡◌, ◌<◌, ◌≤◌, ◌+◌, ◌∙◌, sym, ap, arith, subst, false, true, List, length, slice_get, IfSome}
 use Rattle.scenarios.specs.Job.{EffectiveJob}
-use Rattle.cluster_state.specs.State.{State, free, all_started}
+use Rattle.cluster_state.specs.State.{State, free, all_started, CanStartAll}
 use Rattle.easy_rule.specs.Rule.{state_after}
 use Rattle.easy_rule.specs.Pass.{most_starts}
 use Rattle.easy_rule.proofs.ChoiceLemmas.{Heads, heads-of}
@@ -52,3 +52,9 @@ returns-clause-left g c =
     let told = ap length c.deref.ensures.value in
     let spare = c.start_all.ensures.spare in
     omega (arith, told, spare)
+
+pub returns-clause-jobs : goal.returns-clause-jobs
+returns-clause-jobs g c = record {
+  can = subst (λ (l : List EffectiveJob). CanStartAll c.args.cluster.now.state l c.args.now) c.deref.ensures.value (facts g c).0.first.can;
+  state = c.in-Ok.ensures.ok ∙ ap (λ (l : List EffectiveJob). all_started c.args.cluster.now.state l c.args.now) c.deref.ensures.value;
+}

@@ -1,13 +1,14 @@
-use Rattle.std.proofs.Common.{◌≡◌, ◌∙◌, ap, sym, arith, false, List, length}
+use Rattle.std.proofs.Common.{◌≡◌, ◌∙◌, ap, sym, arith, subst, false, List, length}
 use Rattle.std.proofs.lemmas.Bool.{true≢false}
 use Rattle.scenarios.specs.Job.{EffectiveJob}
 use Rattle.scenarios.specs.Plan.{Plan}
 use Rattle.scenarios.specs.PlanView.{plan_in}
 use Rattle.cluster_state.specs.State.{State}
-use Rattle.easy_rule.specs.Rule.{state_after, starts_at}
-use Rattle.easy_rule.specs.Simulation.{starts_in}
+use Rattle.easy_rule.specs.Rule.{state_after}
 use Rattle.timeline.proofs.Lemmas.{second-is, before-more}
 use Rattle.event_loop.specs.Events.{Progress}
+use Rattle.event_loop.specs.Stepped.{StartIn}
+use Rattle.event_loop.proofs.Kept.{start-in}
 use Rattle.event_loop.proofs.EventLemmas.{ready-at, sound-ready, known-settled, known-stands}
 use Rattle.event_loop.proofs.engine.Engine.work.Goals as goal
 
@@ -49,8 +50,8 @@ decide_knowing-requires-clause-known g c =
     let going : c.self.inside.failed ≡ false = ap (λ (p : Progress). p.failed) c.self.view_is ∙ c.requires.going in
     known-stands plan c.self.inside.cluster.state c.arrive.new.cluster.state t c.self.inside.known c.standing_at-known.result r.is ready-is (c.self.invariant.known_is going) c.standing_at-known.ensures.known c.standing_at-known.ensures.stands
 
-pub invariant_of-self-in_err-starts : goal.invariant_of-self-in_err-starts
-invariant_of-self-in_err-starts g c = record {
+pub invariant_of-self-in_err-left : goal.invariant_of-self-in_err-left
+invariant_of-self-in_err-left g c = record {
   is_plan = c.self.invariant.is_plan;
   counted = c.self.invariant.counted;
   state_is = λ e. absurd (true≢false e);
@@ -86,16 +87,17 @@ invariant_of-self-2 g c =
     record {
       is_plan = c.self.invariant.is_plan;
       counted = omega (arith, f, k);
-      state_is = λ _. c.in_ok-starts.ensures.state ∙ ap (λ (s : State). state_after s t) ready-is ∙ sym (before-more plan t);
+      state_is = λ _. c.in_ok-left.ensures.state ∙ ap (λ (s : State). state_after s t) ready-is ∙ sym (before-more plan t);
       coming_is = λ _. rw c.view.ensures.same at c.in_ok-arrive.ensures.coming;
-      known_is = λ _. c.in_ok-starts.ensures.shadow;
+      known_is = λ _. c.in_ok-left.ensures.shadow;
     }
 
-pub returns-clause-starts : goal.returns-clause-starts
-returns-clause-starts g c =
+pub returns-clause-started : goal.returns-clause-started
+returns-clause-started g c =
     let plan : Plan = plan_in c.self.inside.plan in
     let t = c.args.second in
     let r = ready-at c.args.self.now plan c.self.inside.cluster.state c.self.inside.coming c.self.inside.known c.self.inside.position c.self.inside.handled t c.self.inside.failed c.self.view_is c.self.invariant c.requires.going c.requires.next in
     let l = r.small in
     let ready-is = second-is plan c.self.inside.cluster.state c.finish_until.new.self.state c.arrive.new.cluster.state t (omega (arith, l)) c.self.invariant.is_plan r.is c.finish_until.ensures.state (rw c.view.ensures.same at c.in_ok-arrive.ensures.state) in
-    c.in_ok-starts.ensures.starts ∙ ap (λ (s : State). starts_at s t) ready-is ∙ ap (λ (p : Progress). starts_in p.plan t) c.self.view_is
+    subst (λ (p : Progress). StartIn p.plan t c.decide_knowing.new.started.items) c.self.view_is
+    (start-in plan c.arrive.new.cluster.state _ t c.decide_knowing.new.started.items c.self.invariant.is_plan ready-is c.in_ok-left.ensures.jobs c.in_ok-left.ensures.starts)

@@ -1,0 +1,10 @@
+use Rattle.std.proofs.Common.{◌∙◌, sym, ap, map}
+use Rattle.easy_rule.specs.Pass.{start_at}
+use Rattle.easy_rule.proofs.PassLemmas.{state_after-done, starts_at-done}
+use Rattle.easy_rule.proofs.decision.decide_into.Goals as goal
+
+pub returns-in-Nobody-clause-state : goal.returns-in-Nobody-clause-state
+returns-in-Nobody-clause-state g c = sym (state_after-done c.args.cluster.now.state c.args.now c.in-Nobody.ensures.0)
+
+pub returns-in-Nobody-clause-starts : goal.returns-in-Nobody-clause-starts
+returns-in-Nobody-clause-starts g c = ap (map (start_at c.args.now)) c.clear.ensures.items ∙ sym (starts_at-done c.args.cluster.now.state c.args.now c.in-Nobody.ensures.0)
