@@ -1,26 +1,24 @@
--- Who has just started runs, and stands among the running jobs by number.
-use Rattle.std.proofs.Common.{◌≡◌, ℕ, zero, suc, ◌+◌, ◌-◌, ◌≤◌, Bool, true, false, cond, not, nat_eq, nat_lt, List, [], ◌∷◌, map, length, get_or, Option, Some, None, All, count_by, filter, find, refl, sym, ◌∙◌, ap, arith, subst, ⊎_elim}
+-- Who has just started runs, and is the plan's job of its number.
+use Rattle.std.proofs.Common.{◌≡◌, ℕ, zero, suc, ◌+◌, ◌-◌, ◌≤◌, true, false, cond, nat_eq, List, [], ◌∷◌, map, length, get_or, Option, Some, None, All, count_by, refl, sym, ◌∙◌, ap, arith, ⊎_elim}
 use Rattle.std.specs.List.{cons_option}
-use Rattle.std.specs.List.Sorted.{IsNonDecreasingBy}
 use Rattle.std.specs.Option.{option_map}
-use Rattle.std.proofs.lemmas.Bool.{cases_Bool, cond-true, cond-false, cond_both, eqb-true, eq-eqb, ltb-true, ltb-false}
+use Rattle.std.proofs.lemmas.Bool.{cases_Bool, cond-true, cond-false, eqb-true, eq-eqb}
 use Rattle.std.proofs.lemmas.List.Sums.{sum_by-cons, get_or-le-sum_by}
-use Rattle.std.proofs.lemmas.List.Elements.{All-nil, All-cons, All-head, All-tail, All-weaker, All-filter}
+use Rattle.std.proofs.lemmas.List.Elements.{All-head, All-tail}
 use Rattle.scenarios.specs.Job.{EffectiveJob}
 use Rattle.scenarios.specs.Plan.{Plan, job_numbered}
 use Rattle.scenarios.specs.declared.placed.Placed.{Placed}
-use Rattle.scenarios.specs.Placed.{real_end}
-use Rattle.cluster_state.specs.State.{State, placed, started}
-use Rattle.cluster_state.proofs.Lemmas.{sum_by-placed, All-placed}
+use Rattle.cluster_state.specs.State.{State, started}
+use Rattle.cluster_state.proofs.Lemmas.{sum_by-placed}
 use Rattle.easy_rule.specs.declared.start.Start.{Start}
+use Rattle.easy_rule.specs.Pass.{start_at}
 use Rattle.easy_rule.specs.Rule.{next, decided, decisions}
 use Rattle.easy_rule.specs.Simulation.{before, ready, starts_in}
-use Rattle.easy_rule.proofs.Lemmas.{decided-start, decided-stop, decisions-start, decisions-stop, cases_option, decided-keeps}
+use Rattle.easy_rule.proofs.Lemmas.{decided-start, decided-stop, decisions-start, decisions-stop, cases_option}
 use Rattle.scenarios.specs.SoundPlan.{IsPlan}
 use Rattle.timeline.proofs.Lemmas.{before-more}
 use Rattle.event_loop.proofs.Lemmas.{before-of-plan}
 use Rattle.checkpoints.specs.Cut.{placed_at, placed_of}
-use Rattle.checkpoints.proofs.Searches.{has}
 
 -- how many of these starts have the number, and how many of these running jobs
 abbrev starts_of : ℕ → List Start → ℕ
@@ -97,59 +95,13 @@ starts-placed plan t p =
     let more = starts-run plan t n in
     found-own plan (before plan (t + 1)).running n (before-of-plan plan (t + 1) p).running (omega (arith, one, yes', more)))
 
--- ---- the order of the running jobs
-abbrev Onward : Placed → Placed → Type 0
-Onward r x = r.job.number ≤ x.job.number
+-- a job with its second
+abbrev pub placed_from : ℕ → EffectiveJob → Placed
+placed_from t job = record { job = job; start = t }
 
-abbrev Rises : List Placed → Type 0
-Rises [] = Unit {0}
-Rises (r ∷ rs) = All (Onward r) rs × Rises rs
-
-rises-placed : (r : Placed) (rs : List Placed) → Rises rs → Rises (placed r rs)
-rises-placed r [] h = (All-nil (Onward r), tt)
-rises-placed r (x ∷ xs) h =
-    ⊎_elim
-    (λ (less : nat_lt r.job.number x.job.number ≡ true).
-    let l = ltb-true r.job.number x.job.number less in
-    subst Rises (sym (cond-true (nat_lt r.job.number x.job.number) (r ∷ x ∷ xs) (x ∷ placed r xs) less))
-    (All-cons (Onward r) x xs (omega (arith, l)) (All-weaker (Onward x) (Onward r) (λ y m. omega (arith, l, m)) xs h.0), h))
-    (λ (more : nat_lt r.job.number x.job.number ≡ false).
-    let l = ltb-false r.job.number x.job.number more in
-    subst Rises (sym (cond-false (nat_lt r.job.number x.job.number) (r ∷ x ∷ xs) (x ∷ placed r xs) more))
-    (All-placed (Onward x) r xs (omega (arith, l)) h.0, rises-placed r xs h.1))
-    (cases_Bool (nat_lt r.job.number x.job.number))
-
-rises-filter : (keeps : Placed → Bool) (rs : List Placed) → Rises rs → Rises (filter keeps rs)
-rises-filter keeps [] h = tt
-rises-filter keeps (r ∷ rs) h =
-    cond_both (keeps r) (r ∷ filter keeps rs) (filter keeps rs) Rises
-    (λ _. (All-filter keeps (Onward r) rs h.0, rises-filter keeps rs h.1))
-    (λ _. rises-filter keeps rs h.1)
-
-rises-before : (plan : Plan) (t : ℕ) → Rises (before plan t).running
-unfolding before
-rises-before plan zero = tt
-rises-before plan (suc t) =
-    let s = ready plan (before plan t) t in
-    decided-keeps (λ z. Rises z.running) t (λ z job e h. rises-placed (record { job = job; start = t }) z.running h) (length s.waiting) s
-    (rises-filter (λ (r : Placed). not (nat_eq (real_end r) t)) (before plan t).running (rises-before plan t))
-
-rises-all : (rs : List Placed) → Rises rs → IsNonDecreasingBy (λ (r : Placed). r.job.number) rs
-rises-all [] h i j d le l = absurd (omega arith)
-rises-all (r ∷ rs) h zero zero d le l = omega arith
-rises-all (r ∷ rs) h zero (suc j) d le l = h.0 j d (omega arith)
-rises-all (r ∷ rs) h (suc i) zero d le l = absurd (omega arith)
-rises-all (r ∷ rs) h (suc i) (suc j) d le l = rises-all rs h.1 i j d (omega arith) (omega arith)
-
--- the running jobs before each second rise by number
-pub numbers-rise : (plan : Plan) (t : ℕ) → IsNonDecreasingBy (λ (r : Placed). r.job.number) (before plan t).running
-numbers-rise plan t = rises-all (before plan t).running (rises-before plan t)
-
--- the job of a number, from the running one
-pub job-of : (rs : List Placed) (n : ℕ) → job_numbered (jobs_running rs) n ≡ option_map (λ (r : Placed). r.job) (find (has (λ (r : Placed). r.job.number) n) rs)
-job-of [] n = refl
-job-of (r ∷ rs) n = go (nat_eq r.job.number n) (job-of rs n) where
-  go : (b : Bool) → job_numbered (jobs_running rs) n ≡ option_map (λ (x : Placed). x.job) (find (has (λ (x : Placed). x.job.number) n) rs)
-      → cond b (Some r.job) (job_numbered (jobs_running rs) n) ≡ option_map (λ (x : Placed). x.job) (cond b (Some r) (find (has (λ (x : Placed). x.job.number) n) rs))
-  go true i = refl
-  go false i = i
+-- jobs that are the plan's of their numbers, found by their starts
+pub placed-own : (js ks : List EffectiveJob) (t : ℕ) → All (λ (j : EffectiveJob). job_numbered js j.number ≡ Some j) ks → placed_of js (map (start_at t) ks) ≡ map (placed_from t) ks
+placed-own js [] t h = refl
+placed-own js (k ∷ ks) t h =
+    let Mine : EffectiveJob → Type 0 = λ j. job_numbered js j.number ≡ Some j in
+    ap (λ o. cons_option (option_map (placed_from t) o) (placed_of js (map (start_at t) ks))) (All-head Mine k ks h) ∙ ap (λ l. placed_from t k ∷ l) (placed-own js ks t (All-tail Mine k ks h))

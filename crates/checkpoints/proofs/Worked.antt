@@ -1,17 +1,19 @@
 -- An engine that works some event seconds.
-use Rattle.std.proofs.Common.{◌≡◌, ℕ, ◌+◌, ◌-◌, ◌≤◌, ◌<◌, false, List, [], ◌∷◌, ◌++◌, map, Some, None, sym, ◌∙◌, ap, arith, subst}
+use Rattle.std.proofs.Common.{◌≡◌, ℕ, ◌+◌, ◌-◌, ◌≤◌, ◌<◌, false, List, [], ◌∷◌, ◌++◌, map, All, Some, None, sym, ◌∙◌, ap, arith, subst}
 use Rattle.std.proofs.lemmas.List.{map-append}
 use Rattle.std.proofs.lemmas.List.Elements.{filter_map-append}
-use Rattle.std.specs.List.Sorted.{IsNonDecreasingBy}
-use Rattle.scenarios.specs.Plan.{Plan}
+use Rattle.scenarios.specs.Job.{EffectiveJob}
+use Rattle.scenarios.specs.Plan.{Plan, job_numbered}
 use Rattle.scenarios.specs.declared.placed.Placed.{Placed}
 use Rattle.cluster_state.specs.Snapshot.{Numbers, numbers_of}
 use Rattle.easy_rule.specs.declared.start.Start.{Start}
-use Rattle.easy_rule.specs.Simulation.{IsEvent, before, starts_in, bound}
+use Rattle.easy_rule.specs.Pass.{start_at}
+use Rattle.easy_rule.specs.Simulation.{IsEvent, before, bound}
 use Rattle.scenarios.specs.SoundPlan.{IsPlan}
 use Rattle.timeline.proofs.Lemmas.{events-end-by-the-bound}
 use Rattle.event_loop.specs.Events.{Progress, IsNextEvent, begun, events_before}
 use Rattle.event_loop.specs.Going.{IsRunOn}
+use Rattle.event_loop.specs.Stepped.{StartIn}
 use Rattle.event_loop.proofs.Lemmas.{run-on-step}
 use Rattle.metrics.specs.Part.{PartSums, IsPartOf}
 use Rattle.metrics.specs.Placed.{CanSum}
@@ -19,7 +21,7 @@ use Rattle.checkpoints.specs.Segment.{SegmentView}
 use Rattle.checkpoints.specs.Cut.{placed_at, placed_of, EndsWithEvent, Spans, ShortChain, IsShortCut}
 use Rattle.checkpoints.proofs.Chains.{chain-push, span-bounded}
 use Rattle.checkpoints.proofs.Late.{can-sum}
-use Rattle.checkpoints.proofs.Placing.{jobs_running, starts-placed, numbers-rise}
+use Rattle.checkpoints.proofs.Placing.{placed_from, placed-own}
 
 -- so many event seconds were worked, with these starts and their jobs, and where some were, the last one ends the stretch
 pub record Working (old now : Progress) (starts : List Start) (placed : List Placed) (count : ℕ) : Type 0 where
@@ -31,38 +33,29 @@ pub record Working (old now : Progress) (starts : List Start) (placed : List Pla
   pub plan : 0 < count → IsPlan old.plan
 
 -- the jobs of one second more
-jobs-more : (plan now new : Plan) (t position : ℕ) (xs ys zs : List Start) (ps qs : List Placed) (rs : List Placed) → IsPlan plan → now ≡ plan → new ≡ now → position ≡ t + 1 → ps ≡ placed_of plan.jobs xs → ys ≡ starts_in now t → zs ≡ xs ++ ys → rs ≡ (before new position).running → qs ≡ ps ++ placed_of (jobs_running rs) ys
-    → qs ≡ placed_of plan.jobs zs
-jobs-more plan now new t position xs ys zs ps qs rs p same still at had told put running more =
-    let here : ys ≡ starts_in plan t = told ∙ ap (λ (q : Plan). starts_in q t) same in
-    let they : rs ≡ (before plan (t + 1)).running = running ∙ ap (λ (q : Plan). (before q position).running) (still ∙ same) ∙ ap (λ m. (before plan m).running) at in
-    let those : placed_of (jobs_running rs) ys ≡ placed_of plan.jobs ys =
-    ap (λ l. placed_of (jobs_running l) ys) they ∙ ap (placed_of (jobs_running (before plan (t + 1)).running)) here ∙ starts-placed plan t p ∙ ap (placed_of plan.jobs) (sym here) in
-    more ∙ ap (λ l. l ++ placed_of (jobs_running rs) ys) had ∙ ap (λ l. placed_of plan.jobs xs ++ l) those
-    ∙ sym (filter_map-append (placed_at plan.jobs) xs ys) ∙ ap (placed_of plan.jobs) (sym put)
+jobs-more : (plan now : Plan) (t : ℕ) (xs zs : List Start) (ps qs : List Placed) (js : List EffectiveJob) → now ≡ plan → StartIn now t js → ps ≡ placed_of plan.jobs xs → zs ≡ xs ++ map (start_at t) js → qs ≡ ps ++ map (placed_from t) js → qs ≡ placed_of plan.jobs zs
+jobs-more plan now t xs zs ps qs js same told had put more =
+    let own : All (λ (j : EffectiveJob). job_numbered plan.jobs j.number ≡ Some j) js = subst (λ (q : Plan). All (λ (j : EffectiveJob). job_numbered q.jobs j.number ≡ Some j) js) same told.own in
+    let those : map (placed_from t) js ≡ placed_of plan.jobs (map (start_at t) js) = sym (placed-own plan.jobs js t own) in
+    more ∙ ap (λ l. l ++ map (placed_from t) js) had ∙ ap (λ l. placed_of plan.jobs xs ++ l) those
+    ∙ sym (filter_map-append (placed_at plan.jobs) xs (map (start_at t) js)) ∙ ap (placed_of plan.jobs) (sym put)
 
-pub working-more : (old now new : Progress) (xs ys zs : List Start) (ps qs : List Placed) (rs : List Placed) (t count : ℕ) → Working old now xs ps count → now.failed ≡ false → IsNextEvent now.plan now.position (Some t) → ys ≡ starts_in now.plan t → new ≡ record now { position = t + 1; handled = now.handled + 1 } → zs ≡ xs ++ ys
-    → IsPlan new.plan → (new.failed ≡ false → rs ≡ (before new.plan new.position).running) → qs ≡ ps ++ placed_of (jobs_running rs) ys → Working old new zs qs (count + 1)
-working-more old now new xs ys zs ps qs rs t count h going next is e put p running more =
+pub working-more : (old now new : Progress) (xs zs : List Start) (ps qs : List Placed) (js : List EffectiveJob) (t count : ℕ) → Working old now xs ps count → IsPlan now.plan → IsNextEvent now.plan now.position (Some t) → new ≡ record now { position = t + 1; handled = now.handled + 1 } → StartIn now.plan t js
+    → zs ≡ xs ++ map (start_at t) js → qs ≡ ps ++ map (placed_from t) js → Working old new zs qs (count + 1)
+working-more old now new xs zs ps qs js t count h p next e told put more =
     let pos : new.position ≡ t + 1 = ap (λ (p : Progress). p.position) e in
     let hand : new.handled ≡ now.handled + 1 = ap (λ (p : Progress). p.handled) e in
-    let same : new.plan ≡ now.plan = ap (λ (p : Progress). p.plan) e in
-    let sound : IsPlan old.plan = subst IsPlan (same ∙ h.run.further.plan) p in
+    let sound : IsPlan old.plan = subst IsPlan h.run.further.plan p in
     let onward = h.run.further.first in
     let low = next.0 in
     record {
-      run = subst (IsRunOn old new) (sym put) (run-on-step old now new xs ys t h.run next is e);
-      jobs = jobs-more old.plan now.plan new.plan t new.position xs ys zs ps qs rs sound h.run.further.plan same pos h.jobs is put (running (ap (λ (p : Progress). p.failed) e ∙ going)) more;
+      run = subst (IsRunOn old new) (sym put) (run-on-step old now new xs (map (start_at t) js) t h.run next told.starts e);
+      jobs = jobs-more old.plan now.plan t xs zs ps qs js h.run.further.plan told h.jobs put more;
       counted = let k = h.counted in omega (arith, k, hand);
       none = λ z. absurd (omega (arith, z));
       some = λ l. (t, omega (arith, onward, low), pos, subst (λ (p : Plan). IsEvent p t) h.run.further.plan next.1);
       plan = λ l. sound;
     }
-
--- who runs after a step stands by number
-pub working-rises : (now new : Progress) (rs : List Placed) (t : ℕ) → now.failed ≡ false → new ≡ record now { position = t + 1; handled = now.handled + 1 } → (new.failed ≡ false → rs ≡ (before new.plan new.position).running) → IsNonDecreasingBy (λ (r : Placed). r.job.number) rs
-working-rises now new rs t going e running =
-    subst (IsNonDecreasingBy (λ (r : Placed). r.job.number)) (sym (running (ap (λ (p : Progress). p.failed) e ∙ going))) (numbers-rise new.plan new.position)
 
 -- where an event second comes, and up to n of them were worked, at least one was
 pub working-ends : (old now : Progress) (starts : List Start) (placed : List Placed) (count : ℕ) → Working old now starts placed count → (count ≡ 0 → ⊥) → EndsWithEvent old.plan old.position now.position

@@ -8,7 +8,7 @@ ghost use Rattle.checkpoints.specs.Cut.{EndsWithEvent, Spans, placed_of};
 use crate::fault::RunFault;
 use crate::parts::add_placed;
 use crate::segment::Segment;
-use easy_rule::Start;
+use easy_rule::{Start, add_starts};
 use event_loop::Engine;
 use metrics::{Part, Placed};
 use std::alloc::Allocator;
@@ -54,15 +54,16 @@ fn work<A: Allocator + Copy>(
 {
     let mut starts = Vec::new(alloc);
     let mut placed = Vec::new(alloc);
+    let mut started = Vec::new(alloc);
     for _ in 0..spacing {
         if !comes_before(engine, end) {
             return Ok(Worked { starts, placed });
         }
-        let Some(stepped) = engine.step()? else {
+        let Some(second) = engine.step_into(&mut started)? else {
             return Ok(Worked { starts, placed });
         };
-        add_placed(&mut placed, stepped.starts(), engine.running())?;
-        starts.extend_from_slice(stepped.starts())?;
+        add_placed(&mut placed, started.as_slice(), second)?;
+        add_starts(&mut starts, started.as_slice(), second)?;
     }
     Ok(Worked { starts, placed })
 }
