@@ -1,7 +1,7 @@
 use crate::told::Told;
 use cluster_state::Cluster;
 use easy_rule::laws::{arrivals_unsettle_nobody, easy_is_a_rule};
-use easy_rule::{Shadow, Start, decide_behind, decide_with_shadow};
+use easy_rule::{Shadow, Start, add_starts, decide_behind, decide_into};
 use scenarios::{Job, Order, Scenario, effective};
 use std::alloc::Allocator;
 use swf_text::{Entry, Memory, read_swf};
@@ -42,11 +42,14 @@ fn begins_alone<A: Allocator + Copy>(
         return Ok(false);
     }
     cluster.arrive(job)?;
-    Ok(decide_with_shadow(alloc, cluster, 0)?.0.len() == 1)
+    let mut chosen = Vec::new(alloc);
+    decide_into(cluster, &mut chosen, 0)?;
+    Ok(chosen.len() == 1)
 }
 
 // Decides second 1, at which the second job comes, and second 2, at which the two last come, behind
 // those that are known to wait; answers the starts of second 2 and what the second job leaves then.
+// The jobs of both seconds are left in one list.
 fn decide_two_seconds<A: Allocator + Copy>(
     alloc: A,
     cluster: &mut Cluster<A>,
@@ -58,7 +61,8 @@ fn decide_two_seconds<A: Allocator + Copy>(
         return Ok(None);
     }
     cluster.arrive(second)?;
-    let (_, Some(shadow)) = decide_with_shadow(alloc, cluster, 1)? else {
+    let mut chosen = Vec::new(alloc);
+    let Some(shadow) = decide_into(cluster, &mut chosen, 1)? else {
         return Ok(None);
     };
     easy_is_a_rule();
@@ -72,7 +76,10 @@ fn decide_two_seconds<A: Allocator + Copy>(
     }
     cluster.arrive(fourth)?;
     arrivals_unsettle_nobody();
-    Ok(Some(decide_behind(alloc, cluster, settled, shadow, 2)?))
+    let left = decide_behind(cluster, &mut chosen, settled, shadow, 2)?;
+    let mut starts = Vec::new(alloc);
+    add_starts(&mut starts, &chosen, 2)?;
+    Ok(Some((starts, left)))
 }
 
 // Whether these jobs start at second 2, in their order.

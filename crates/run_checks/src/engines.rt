@@ -3,7 +3,7 @@ use crate::logs::{add_line, shared_table};
 use easy_rule::Start;
 use event_loop::{Engine, EngineFault};
 use job_table::JobTable;
-use scenarios::Scenario;
+use scenarios::{Job, Scenario};
 use std::alloc::{Allocator, Global};
 use std::sync::Arc;
 
@@ -138,6 +138,43 @@ fn works_step_by_step(alloc: Global) -> Option<bool> {
 #[test]
 fn four_jobs_step_by_step(rt: HostRuntime) {
     assert!(rt; works_step_by_step(rt.alloc()) == Some(true));
+}
+
+// Whether the next step works this second, and leaves so many jobs in the list.
+fn leaves(
+    engine: &mut Engine<Global>,
+    started: &mut Vec<Job, Global>,
+    second: u64,
+    count: usize,
+) -> bool {
+    match engine.step_into(started) {
+        Ok(Some(worked)) => worked == second && started.len() == count,
+        _ => false,
+    }
+}
+
+// Whether there is no step more, which leaves no job.
+fn leaves_none(engine: &mut Engine<Global>, started: &mut Vec<Job, Global>) -> bool {
+    match engine.step_into(started) {
+        Ok(None) => engine.handled() == 8 && started.is_empty(),
+        _ => false,
+    }
+}
+
+fn works_into_a_list(alloc: Global) -> Option<bool> {
+    let mut engine = engine_of(alloc, FIVE, 10)?;
+    let mut started = Vec::new(alloc);
+    for (second, count) in &STEPS {
+        if !leaves(&mut engine, &mut started, *second, *count) {
+            return None;
+        }
+    }
+    Some(leaves_none(&mut engine, &mut started))
+}
+
+#[test]
+fn four_jobs_into_one_list(rt: HostRuntime) {
+    assert!(rt; works_into_a_list(rt.alloc()) == Some(true));
 }
 
 fn skips_quiet_seconds(alloc: Global) -> Option<bool> {

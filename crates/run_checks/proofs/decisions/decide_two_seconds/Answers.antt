@@ -15,7 +15,7 @@ both-join s a b j k e f =
 
 pub decide_behind-requires-clause-settled : goal.decide_behind-requires-clause-settled
 decide_behind-requires-clause-settled g c =
-    let s : State = c.decide_with_shadow.new.cluster.state in
+    let s : State = c.decide_into.new.cluster.state in
     let js : List EffectiveJob = c.args.third ∷ c.args.fourth ∷ [] in
     let join = both-join s c.arrive-2.new.self.state c.arrive-3.new.self.state c.args.third c.args.fourth c.in_ok-arrive-2.ensures.ok c.in_ok-arrive-3.ensures.ok in
     let settled : next s 1 ≡ None = subst (λ (z : State). next z 1 ≡ None) (sym c.in_ok-shadow.ensures.state) (c.easy_is_a_rule.ensures.settles.after_decision c.arrive.new.self.state 1) in
@@ -25,10 +25,10 @@ decide_behind-requires-clause-settled g c =
 
 pub decide_behind-requires-clause-shadow : goal.decide_behind-requires-clause-shadow
 decide_behind-requires-clause-shadow g c =
-    let s : State = c.decide_with_shadow.new.cluster.state in
+    let s : State = c.decide_into.new.cluster.state in
     let js : List EffectiveJob = c.args.third ∷ c.args.fourth ∷ [] in
     let join = both-join s c.arrive-2.new.self.state c.arrive-3.new.self.state c.args.third c.args.fourth c.in_ok-arrive-2.ensures.ok c.in_ok-arrive-3.ensures.ok in
     let settled : next s 1 ≡ None = subst (λ (z : State). next z 1 ≡ None) (sym c.in_ok-shadow.ensures.state) (c.easy_is_a_rule.ensures.settles.after_decision c.arrive.new.self.state 1) in
     let law = c.arrivals_unsettle_nobody.ensures s js 2 (c.easy_is_a_rule.ensures.settles.at_later_second s 1 2 (omega arith) settled) in
-    let known : shadow_of s ≡ Some c.in_default-Some.shadow = rw c.in_default-Some.is-1 at c.in_ok-shadow.ensures.shadow in
-    subst (λ (z : State). shadow_of z ≡ Some c.in_default-Some.shadow) (sym join) (law.1 c.in_default-Some.shadow known)
+    let known : shadow_of s ≡ Some c.in-Some.shadow = rw c.in-Some.is at c.in_ok-shadow.ensures.shadow in
+    subst (λ (z : State). shadow_of z ≡ Some c.in-Some.shadow) (sym join) (law.1 c.in-Some.shadow known)
