@@ -37,7 +37,7 @@ reasons-counted (r ∷ rs) =
     go TooLarge i a b c d = omega (arith, i, a, b, c, d)
     go TooLong i a b c d = omega (arith, i, a, b, c, d)
 
-jobs-or-skips : (s : Setting) (es : List LogEntry) → length (reasons_of es s) + length (jobs_of es s) ≡ length es
+pub jobs-or-skips : (s : Setting) (es : List LogEntry) → length (reasons_of es s) + length (jobs_of es s) ≡ length es
 jobs-or-skips s [] = refl
 jobs-or-skips s (e ∷ es) = go (effective e s) (jobs-or-skips s es)
   where

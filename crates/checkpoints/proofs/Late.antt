@@ -176,11 +176,11 @@ module _ {X Y : Type 0} (f : X → ℕ) (g : Y → ℕ) where
       omega (arith, one, fewer)
 
 -- as many start as there are jobs at most
+pub sim-fewer : (plan : Plan) → IsPlan plan → length (sim plan) ≤ length plan.jobs
+sim-fewer plan p = no-more (λ (x : Start). x.number) (λ (j : EffectiveJob). j.number) (sim plan) plan.jobs (λ n. let e = each-job-starts-once plan n p in omega (arith, e))
+
 pub sim-few : (plan : Plan) → IsPlan plan → length (sim plan) ≤ 4194304
-sim-few plan p =
-    let l = no-more (λ (x : Start). x.number) (λ (j : EffectiveJob). j.number) (sim plan) plan.jobs (λ n. let e = each-job-starts-once plan n p in omega (arith, e)) in
-    let few = p.few in
-    omega (arith, l, few)
+sim-few plan p = let l = sim-fewer plan p in let few = p.few in omega (arith, l, few)
 
 All-first : {X : Type 0} (P : X → Type 0) (xs ys : List X) → All P (xs ++ ys) → All P xs
 All-first P [] ys h = All-nil P

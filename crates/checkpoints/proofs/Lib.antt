@@ -1,5 +1,8 @@
 mod Chains
 mod Late
+mod Merging
+mod Grouping
+mod TakenOver
 mod Totals
 mod Lookups
 mod Searches

@@ -8,3 +8,6 @@ pub mod Spacing
 pub mod RunView
 pub mod Names
 pub mod Alike
+pub mod Merged
+pub mod Groups
+pub mod Regrouping

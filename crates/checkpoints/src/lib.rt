@@ -4,8 +4,11 @@
 
 mod cutting;
 mod fault;
+mod groups;
 pub mod laws;
+mod merged;
 mod parts;
+mod regrouping;
 mod row;
 mod rows;
 mod run;

@@ -1,12 +1,14 @@
 ghost use Rattle.std.specs.Prelude.{◌≡◌, ◌≤◌, ◌+◌, map, length, IfOk};
 ghost use Rattle.std.specs.Arc.{arc_value};
 
+use crate::groups::{Group, groups_of};
+use crate::regrouping::regrouped;
 use crate::row::Row;
 use crate::rows::Rows;
 use crate::schedule::{listed, start_in};
 use crate::segment::Segment;
 use crate::starts::Starts;
-use crate::sums::tables_of;
+use crate::sums::{tables_anew, tables_of};
 use job_table::JobTable;
 use metrics::Tables;
 use scenarios::{Plan, Scenario, Skips};
@@ -24,6 +26,7 @@ pub struct Run<A: Allocator + Copy> {
     alloc: A,
     plan: Plan<A>,
     segments: Vec<Arc<Segment<A>, A>, A>,
+    groups: Vec<Group<A>, A>,
     tables: Tables<A>,
 }
 
@@ -31,12 +34,13 @@ impl<A: Allocator + Copy> Model for Run<A> {
     ghost use Rattle.std.specs.Prelude.{map};
     ghost use Rattle.std.specs.Arc.{arc_value};
     ghost use Rattle.checkpoints.specs.RunView.{RunView, IsRun};
+    ghost use Rattle.checkpoints.specs.Groups.{AreGroupsOf, parts_of};
 
     ghost Value = { RunView };
 
     ghost view = { λ r. record { log = r.plan.log; setting = r.plan.setting; segments = map arc_value r.segments.items; tables = r.tables } };
 
-    ghost invariant = { λ r. IsRun (record { log = r.plan.log; setting = r.plan.setting; segments = map arc_value r.segments.items; tables = r.tables }) };
+    ghost invariant = { λ r. IsRun (record { log = r.plan.log; setting = r.plan.setting; segments = map arc_value r.segments.items; tables = r.tables }) × AreGroupsOf (parts_of (map arc_value r.segments.items)) r.groups.items };
 }
 
 impl<A: Allocator + Copy> Run<A> {
@@ -50,6 +54,7 @@ impl<A: Allocator + Copy> Run<A> {
     ghost use Rattle.checkpoints.specs.Sums.{IsTablesOf};
     ghost use Rattle.checkpoints.specs.Schedule.{rows_of};
     ghost use Rattle.checkpoints.specs.RunView.{IsRun};
+    ghost use Rattle.checkpoints.specs.Groups.{AreFrom};
 
     /// The run of these segments, which are those of the table's simulation under the scenario.
     /// Its tables and its counts of skipped entries are made anew. Memory where a growth was
@@ -66,52 +71,65 @@ impl<A: Allocator + Copy> Run<A> {
         ensures segments { IfOk result (λ run. run.segments ≡ map arc_value segments.items) }
         ensures sound { IfOk result IsRun }
     {
-        let plan = Plan::new(table, scenario);
-        let skips = plan.view().skips();
-        let run = Run::of_plan(alloc, plan, skips, segments)?;
+        let run = Run::of_plan(alloc, Plan::new(table, scenario), segments)?;
         Ok(run)
     }
 
-    /// As `of_segments`, where the counts of skipped entries are known: those of the table under the
-    /// scenario. It looks at no entry of the table.
-    pub fn of_counted(
+    /// The run of these segments, which are those of the table's simulation under an old run's scenario,
+    /// and of these counts of skipped entries, which are the table's. A segment with a place is the old
+    /// run's at that place.
+    ///
+    /// It looks at no entry of the table. The old run keeps its segments in groups, each with the sums
+    /// of its segments: groups whose segments all are taken over, side by side, are not merged again.
+    /// Memory where a growth was refused.
+    pub fn of_taken_over(
         alloc: A,
+        old: &Run<A>,
         table: Arc<JobTable<A>, A>,
-        scenario: Scenario,
         skips: Skips,
         segments: Vec<Arc<Segment<A>, A>, A>,
+        places: &[Option<usize>],
     ) -> Result<Run<A>, Memory>
-        requires cut { IsCut (plan_of (arc_value table) scenario) (map arc_value segments.items) }
-        requires skips { skips ≡ skips_of (arc_value table) scenario }
+        requires cut { IsCut (plan_of (arc_value table) old.now.setting) (map arc_value segments.items) }
+        requires skips { skips ≡ skips_of (arc_value table) old.now.setting }
+        requires places { AreFrom old.now.segments (map arc_value segments.items) places.now }
         ensures log { IfOk result (λ run. run.log ≡ arc_value table) }
-        ensures setting { IfOk result (λ run. run.setting ≡ scenario) }
+        ensures setting { IfOk result (λ run. run.setting ≡ old.now.setting) }
         ensures segments { IfOk result (λ run. run.segments ≡ map arc_value segments.items) }
         ensures sound { IfOk result IsRun }
     {
-        let run = Run::of_plan(alloc, Plan::new(table, scenario), skips, segments)?;
-        Ok(run)
+        let plan = Plan::new(table, old.plan.scenario());
+        let groups = regrouped(alloc, old.groups.as_slice(), segments.as_slice(), places)?;
+        let tables = tables_of(alloc, &plan, skips, groups.as_slice())?;
+        Ok(Run {
+            alloc,
+            plan,
+            segments,
+            groups,
+            tables,
+        })
     }
 
-    // The run of these segments, which are those of the plan's simulation, and of the plan's counts of
-    // skipped entries.
+    // The run of these segments, which are those of the plan's simulation.
     pub(crate) fn of_plan(
         alloc: A,
         plan: Plan<A>,
-        skips: Skips,
         segments: Vec<Arc<Segment<A>, A>, A>,
     ) -> Result<Run<A>, Memory>
-        requires cut { IsCut (plan_in plan) (map arc_value segments.items) }
-        requires skips { skips ≡ skips_of plan.log plan.setting }
+        requires { IsCut (plan_in plan) (map arc_value segments.items) }
         ensures log { IfOk result (λ run. run.log ≡ plan.log) }
         ensures setting { IfOk result (λ run. run.setting ≡ plan.setting) }
         ensures segments { IfOk result (λ run. run.segments ≡ map arc_value segments.items) }
         ensures sound { IfOk result IsRun }
     {
-        let tables = tables_of(alloc, &plan.view(), skips, segments.as_slice())?;
+        prove!(plan.scenario().procs() >= 1);
+        let groups = groups_of(alloc, segments.as_slice())?;
+        let tables = tables_anew(alloc, &plan, groups.as_slice())?;
         Ok(Run {
             alloc,
             plan,
             segments,
+            groups,
             tables,
         })
     }

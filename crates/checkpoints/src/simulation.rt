@@ -61,7 +61,6 @@ pub fn simulate<A: Allocator + Copy>(
     }
     let plan = Plan::new(table, scenario);
     let segments = segments_of(alloc, &plan, spacing)?;
-    let skips = plan.view().skips();
-    let run = Run::of_plan(alloc, plan, skips, segments)?;
+    let run = Run::of_plan(alloc, plan, segments)?;
     Ok(run)
 }

@@ -1,69 +1,77 @@
-ghost use Rattle.std.specs.Prelude.{◌≡◌, ◌≤◌, map, length, All, IfOk};
-ghost use Rattle.std.specs.Arc.{arc_value};
-ghost use Rattle.swf_text.specs.Limits.{entry_limit};
+ghost use Rattle.std.specs.Prelude.{◌≡◌, ◌≤◌, List, IfOk};
+ghost use Rattle.scenarios.specs.Plan.{plan_of};
 ghost use Rattle.scenarios.specs.PlanView.{plan_in};
 ghost use Rattle.scenarios.specs.Skips.{skips_of};
-ghost use Rattle.scenarios.specs.SoundPlan.{IsPlan};
 ghost use Rattle.metrics.specs.Part.{IsPartOf};
-ghost use Rattle.checkpoints.specs.Cut.{IsCut, all_starts, placed_of};
-ghost use Rattle.checkpoints.specs.Sums.{IsTablesOf, HasOwnPart};
+ghost use Rattle.checkpoints.specs.Segment.{SegmentView};
+ghost use Rattle.checkpoints.specs.Cut.{IsCut};
+ghost use Rattle.checkpoints.specs.Groups.{AreGroupsOf, parts_of};
+ghost use Rattle.checkpoints.specs.Sums.{IsTablesOf, all_placed};
 
-use crate::segment::Segment;
+use crate::groups::{Group, total_of};
 use metrics::{Part, Tables};
-use scenarios::{PlanRef, Skips};
+use scenarios::{Plan, Skips};
 use std::alloc::Allocator;
-use std::sync::Arc;
 use swf_text::Memory;
 
-// The sums over all jobs that start in some segments, each of which has those of its own. Each half
-// is summed by itself, so that an entry is copied as often as the segments can be halved.
+// The sums over all jobs of a plan, from the groups of its simulation's segments.
 fn sums_of<A: Allocator + Copy>(
     alloc: A,
-    plan: &PlanRef<'_, A>,
-    segments: &[Arc<Segment<A>, A>],
+    plan: &Plan<A>,
+    groups: &[Group<A>],
 ) -> Result<Part<A>, Memory>
-    requires parts { All (λ s. HasOwnPart (plan_in plan.now).jobs (arc_value s)) segments.now }
-    requires few { length (all_starts (map arc_value segments.now)) ≤ entry_limit }
-    ensures { IfOk result (λ part. IsPartOf (placed_of (plan_in plan.now).jobs (all_starts (map arc_value segments.now))) part) }
+    requires { (ss : List SegmentView) × IsCut (plan_in plan.now) ss × AreGroupsOf (parts_of ss) groups.now }
+    ensures { IfOk result (IsPartOf (all_placed (plan_in plan.now))) }
 {
-    let Some(first) = segments.first() else {
-        return Ok(Part::empty(alloc));
-    };
-    if segments.len() == 1 {
-        return Part::empty(alloc).absorb(first.part());
-    }
-    let (front, back) = segments.split_at(segments.len() / 2);
-    let total = sums_of(alloc, plan, front)?;
-    let others = sums_of(alloc, plan, back)?;
-    total.absorb(&others)
+    prove!(plan.scenario().procs() >= 1);
+    total_of(alloc, groups)
 }
 
-// The sums over all jobs that start in these segments.
-fn total_of<A: Allocator + Copy>(
-    alloc: A,
-    plan: &PlanRef<'_, A>,
-    segments: &[Arc<Segment<A>, A>],
-) -> Result<Part<A>, Memory>
-    requires plan { IsPlan (plan_in plan.now) }
-    requires cut { IsCut (plan_in plan.now) (map arc_value segments.now) }
-    ensures { IfOk result (λ part. IsPartOf (placed_of (plan_in plan.now).jobs (all_starts (map arc_value segments.now))) part) }
-{
-    sums_of(alloc, plan, segments)
-}
-
-// The tables of a plan, from the segments of its simulation and its counts of skipped entries.
+// The tables of a plan, from the groups of its simulation's segments and its counts of skipped entries.
 pub(crate) fn tables_of<A: Allocator + Copy>(
     alloc: A,
-    plan: &PlanRef<'_, A>,
+    plan: &Plan<A>,
     skips: Skips,
-    segments: &[Arc<Segment<A>, A>],
+    groups: &[Group<A>],
 ) -> Result<Tables<A>, Memory>
-    requires cut { IsCut (plan_in plan.now) (map arc_value segments.now) }
+    requires cut { (ss : List SegmentView) × IsCut (plan_in plan.now) ss × AreGroupsOf (parts_of ss) groups.now }
     requires skips { skips ≡ skips_of plan.now.log plan.now.setting }
     ensures { IfOk result (λ tables. IsTablesOf plan.now.log plan.now.setting tables) }
 {
+    let total = sums_of(alloc, plan, groups)?;
+    let tables = total.tables(plan.scenario().procs(), skips)?;
+    Ok(tables)
+}
+
+// The counts of a plan's skipped entries, of whose jobs these are the sums. Where each entry is a job,
+// none is looked at again.
+fn skips_beside<A: Allocator + Copy>(plan: &Plan<A>, total: &Part<A>) -> Skips
+    requires { IsPartOf (all_placed (plan_in plan.now)) total.now }
+    ensures { result ≡ skips_of plan.now.log plan.now.setting }
+{
+    if total.totals().count == plan.table().len() as u64 {
+        return Skips {
+            size: 0,
+            run: 0,
+            large: 0,
+            long: 0,
+        };
+    }
+    plan.view().skips()
+}
+
+// As `tables_of`, with the counts of skipped entries made anew.
+pub(crate) fn tables_anew<A: Allocator + Copy>(
+    alloc: A,
+    plan: &Plan<A>,
+    groups: &[Group<A>],
+) -> Result<Tables<A>, Memory>
+    requires { (ss : List SegmentView) × IsCut (plan_in plan.now) ss × AreGroupsOf (parts_of ss) groups.now }
+    ensures { IfOk result (λ tables. IsTablesOf plan.now.log plan.now.setting tables) }
+{
+    let total = sums_of(alloc, plan, groups)?;
+    let skips = skips_beside(plan, &total);
     let procs = plan.scenario().procs();
-    let total = total_of(alloc, plan, segments)?;
     let tables = total.tables(procs, skips)?;
     Ok(tables)
 }

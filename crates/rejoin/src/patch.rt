@@ -1,6 +1,7 @@
-ghost use Rattle.std.specs.Prelude.{◌≡◌, ℕ, ◌≤◌, ◌<◌, ◌+◌, ◌^◌, ◌∷◌, ◌++◌, [], true, false, drop, map, length, IfOk, IfErr, OnOk};
+ghost use Rattle.std.specs.Prelude.{◌≡◌, ℕ, ◌≤◌, ◌<◌, ◌+◌, ◌^◌, ◌∷◌, ◌++◌, [], Some, true, false, drop, map, length, IfOk, IfErr, OnOk};
 ghost use Rattle.std.specs.Arc.{arc_value};
 ghost use Rattle.checkpoints.specs.Coming.{NoneComes};
+ghost use Rattle.checkpoints.specs.Groups.{AreFrom};
 ghost use Rattle.rejoin.specs.Kept.{next_first};
 ghost use Rattle.rejoin.specs.Patch.{IsRejoined};
 ghost use Rattle.rejoin.specs.Rejoining.{Stands};
@@ -18,6 +19,8 @@ pub(crate) struct Patch<A: Allocator + Copy> {
     // Whether the last new segment is an old one: the engine has stayed behind then.
     kept: bool,
     pub(crate) segments: Vec<Arc<Segment<A>, A>, A>,
+    // The place of each among the old segments, where it was taken over.
+    pub(crate) places: Vec<Option<usize>, A>,
     // The event seconds that were worked, but for those of an engine that is still at work.
     pub(crate) handled: u64,
     pub(crate) reused: u64,
@@ -33,7 +36,9 @@ fn work_to<A: Allocator + Copy>(
 ) -> Result<(), RunFault>
     requires spacing { 1 ≤ spacing }
     requires stands { Stands change.now spacing at false patch.old.engine (map arc_value patch.old.segments.items) patch.old.handled patch.old.reused }
+    requires places { AreFrom change.now.old (map arc_value patch.old.segments.items) patch.old.places.items }
     ensures stands { OnOk result (Stands change.now spacing at false patch.new.engine (map arc_value patch.new.segments.items) patch.new.handled patch.new.reused) }
+    ensures places { OnOk result (AreFrom change.now.old (map arc_value patch.new.segments.items) patch.new.places.items) }
     ensures reached { OnOk result (NoneComes patch.new.engine (next_first (drop at change.now.old))) }
     ensures kept { OnOk result (patch.new.kept ≡ patch.old.kept) }
     ensures reused { OnOk result (patch.new.reused ≡ patch.old.reused) }
@@ -43,17 +48,20 @@ fn work_to<A: Allocator + Copy>(
     'segments: while comes_before(&patch.engine, end) {
         let segment = next_segment(alloc, &mut patch.engine, spacing, end)?;
         patch.segments.push(Arc::new(alloc, segment)?)?;
+        patch.places.push(None)?;
     }
     Ok(())
 }
 
-// Takes over an old segment.
+// Takes over the old segment at this place.
 fn take<A: Allocator + Copy>(
     segment: &Arc<Segment<A>, A>,
+    at: usize,
     patch: &mut Patch<A>,
 ) -> Result<(), RunFault>
     requires few { patch.old.reused + 1 < 2 ^ 64 }
     ensures segments { OnOk result (map arc_value patch.new.segments.items ≡ map arc_value patch.old.segments.items ++ arc_value segment.now ∷ []) }
+    ensures places { OnOk result (patch.new.places.items ≡ patch.old.places.items ++ Some at ∷ []) }
     ensures reused { OnOk result (patch.new.reused ≡ patch.old.reused + 1) }
     ensures handled { OnOk result (patch.new.handled ≡ patch.old.handled) }
     ensures kept { OnOk result (patch.new.kept ≡ true) }
@@ -61,6 +69,7 @@ fn take<A: Allocator + Copy>(
 {
     let segment = segment.clone()?;
     patch.segments.push(segment)?;
+    patch.places.push(Some(at))?;
     patch.reused += 1;
     patch.kept = true;
     Ok(())
@@ -79,7 +88,9 @@ fn reach<A: Allocator + Copy>(
     requires few { patch.old.reused ≤ at }
     requires behind { patch.old.kept ≡ false }
     requires stands { Stands change.now spacing at false patch.old.engine (map arc_value patch.old.segments.items) patch.old.handled patch.old.reused }
+    requires places { AreFrom change.now.old (map arc_value patch.old.segments.items) patch.old.places.items }
     ensures stands { OnOk result (Stands change.now spacing (at + 1) patch.new.kept patch.new.engine (map arc_value patch.new.segments.items) patch.new.handled patch.new.reused) }
+    ensures places { OnOk result (AreFrom change.now.old (map arc_value patch.new.segments.items) patch.new.places.items) }
     ensures few { OnOk result (patch.new.reused ≤ at + 1) }
     ensures fault { IfErr result (λ f. f ≡ RunFault.Memory) }
 {
@@ -92,7 +103,7 @@ fn reach<A: Allocator + Copy>(
         return Ok(());
     }
     patch.handled += patch.engine.handled();
-    take(segment, patch)?;
+    take(segment, at, patch)?;
     Ok(())
 }
 
@@ -107,14 +118,16 @@ fn follow<A: Allocator + Copy>(
     requires within { at < length change.now.old }
     requires few { patch.old.reused ≤ at }
     requires stands { (n : ℕ) × Stands change.now n at true patch.old.engine (map arc_value patch.old.segments.items) patch.old.handled patch.old.reused }
+    requires places { AreFrom change.now.old (map arc_value patch.old.segments.items) patch.old.places.items }
     ensures stands { OnOk result ((n : ℕ) → Stands change.now n at true patch.old.engine (map arc_value patch.old.segments.items) patch.old.handled patch.old.reused
         → Stands change.now n (at + 1) patch.new.kept patch.new.engine (map arc_value patch.new.segments.items) patch.new.handled patch.new.reused) }
+    ensures places { OnOk result (AreFrom change.now.old (map arc_value patch.new.segments.items) patch.new.places.items) }
     ensures few { OnOk result (patch.new.reused ≤ at + 1) }
     ensures fault { IfErr result (λ f. f ≡ RunFault.Memory) }
 {
     let segment = change.segment(at);
     if change.is_clear(at) {
-        take(segment, patch)?;
+        take(segment, at, patch)?;
         return Ok(());
     }
     patch.engine = change.resume(alloc, at)?;
@@ -131,6 +144,8 @@ fn finish<A: Allocator + Copy>(
 ) -> Result<(), RunFault>
     requires spacing { 1 ≤ spacing }
     requires stands { Stands change.now spacing (length change.now.old) patch.old.kept patch.old.engine (map arc_value patch.old.segments.items) patch.old.handled patch.old.reused }
+    requires places { AreFrom change.now.old (map arc_value patch.old.segments.items) patch.old.places.items }
+    ensures places { OnOk result (AreFrom change.now.old (map arc_value patch.new.segments.items) patch.new.places.items) }
     ensures done { OnOk result (IsRejoined change.now.was change.now.is change.now.old spacing (map arc_value patch.new.segments.items) patch.new.handled patch.new.reused) }
     ensures fault { IfErr result (λ f. f ≡ RunFault.Memory) }
 {
@@ -151,6 +166,7 @@ pub(crate) fn rejoined<A: Allocator + Copy>(
     spacing: u32,
 ) -> Result<Patch<A>, RunFault>
     requires { 1 ≤ spacing }
+    ensures places { IfOk result (λ p. AreFrom change.now.old (map arc_value p.segments.items) p.places.items) }
     ensures rejoined { IfOk result (λ p. IsRejoined change.now.was change.now.is change.now.old spacing (map arc_value p.segments.items) p.handled p.reused) }
     ensures fault { IfErr result (λ f. f ≡ RunFault.Memory) }
 {
@@ -158,6 +174,7 @@ pub(crate) fn rejoined<A: Allocator + Copy>(
         engine: change.begin(alloc)?,
         kept: false,
         segments: Vec::new(alloc),
+        places: Vec::new(alloc),
         handled: 0,
         reused: 0,
     };

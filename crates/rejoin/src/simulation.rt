@@ -60,15 +60,21 @@ pub fn rerun<A: Allocator + Copy>(
         handled: patch.handled,
         reused: patch.reused,
     };
-    let scenario = run.scenario();
     let skips = skips_after(
         alloc,
         run.tables().overall().skips,
         run.table(),
         edits,
         &table,
-        &scenario,
+        &run.scenario(),
     )?;
-    let again = Run::of_counted(alloc, table.clone()?, scenario, skips, patch.segments)?;
+    let again = Run::of_taken_over(
+        alloc,
+        run,
+        table.clone()?,
+        skips,
+        patch.segments,
+        patch.places.as_slice(),
+    )?;
     Ok((again, work))
 }

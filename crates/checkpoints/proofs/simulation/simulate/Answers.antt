@@ -7,8 +7,8 @@ use Rattle.checkpoints.specs.Segment.{SegmentView}
 use Rattle.checkpoints.proofs.Chains.{short-cut}
 use Rattle.checkpoints.proofs.simulation.simulate.Goals as goal
 
-pub of_plan-requires-clause-cut : goal.of_plan-requires-clause-cut
-of_plan-requires-clause-cut g c = short-cut (plan_in c.new-plan.result) c.args.spacing (map arc_value c.in_ok-segments.segments.items) c.in_ok-segments.ensures.cut
+pub of_plan-requires : goal.of_plan-requires
+of_plan-requires g c = short-cut (plan_in c.new-plan.result) c.args.spacing (map arc_value c.in_ok-segments.segments.items) c.in_ok-segments.ensures.cut
 
 pub returns-clause-cut : goal.returns-clause-cut
 returns-clause-cut g c =

@@ -5,6 +5,7 @@ use Rattle.cluster_state.specs.Snapshot.{numbers_of}
 use Rattle.easy_rule.specs.Simulation.{before}
 use Rattle.checkpoints.specs.Segment.{SegmentView}
 use Rattle.rejoin.proofs.Deciding.{heads}
+use Rattle.rejoin.proofs.Placed.{from-taken}
 use Rattle.rejoin.proofs.Turns.{keep-behind, behind-snapshot, resumed-behind, stands-taken}
 use Rattle.rejoin.proofs.patch.follow.Goals as goal
 
@@ -37,3 +38,8 @@ returns-clause-stands g c n stands =
     let here = c.segment-segment.ensures.here in
     resumed-behind change c.segment-segment.ensures.sound n c.args.at s here c.args.patch.now.engine c.in_ok-patch.field-0 (map arc_value c.args.patch.now.segments.items) c.args.patch.now.handled c.args.patch.now.reused stands
     (λ clear. false≢true (sym c.if-is_clear.false ∙ (c.is_clear.ensures s rest here).1 clear)) (c.in_ok-patch.ensures.ok s rest here)
+
+pub returns-then-is_clear-clause-places : goal.returns-then-is_clear-clause-places
+returns-then-is_clear-clause-places g c =
+    let p = c.args.patch.now in
+    from-taken c.args.change.now.old (map arc_value p.segments.items) _ p.places.items _ (arc_value c.segment-segment.result.now) c.args.at (drop (c.args.at + 1) c.args.change.now.old) c.requires.places c.segment-segment.ensures.here c.in_ok-take.ensures.segments c.in_ok-take.ensures.places

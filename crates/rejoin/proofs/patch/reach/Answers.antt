@@ -2,6 +2,7 @@ use Rattle.std.proofs.Common.{rules, ◌≡◌, ◌∙◌, ◌+◌, ◌∷◌, �
 use Rattle.std.specs.Arc.{arc_value}
 use Rattle.std.proofs.lemmas.Bool.{false≢true}
 use Rattle.checkpoints.specs.Segment.{SegmentView}
+use Rattle.rejoin.proofs.Placed.{from-taken}
 use Rattle.rejoin.proofs.Turns.{pass-missed, pass-refused, keep-reached, stands-begins, stands-short, stands-passed, stands-taken}
 use Rattle.rejoin.proofs.patch.reach.Goals as goal
 
@@ -52,3 +53,8 @@ returns-clause-stands g c =
     stands-taken change c.args.spacing (c.args.at + 1) c.take.new.patch.kept c.take.new.patch.engine (map arc_value c.take.new.patch.segments.items) (ss ++ s ∷ []) c.take.new.patch.handled (p.handled + p.engine.handled) c.take.new.patch.reused (p.reused + 1)
     c.in_ok-take.ensures.kept c.in_ok-take.ensures.segments (c.in_ok-take.ensures.handled ∙ ap (λ n. p.handled + n) c.handled.ensures) c.in_ok-take.ensures.reused
     (keep-reached change c.segment-segment.ensures.sound c.args.spacing c.args.at s here p.engine c.take.new.patch.engine ss p.handled p.reused c.in_ok-work_to.ensures.stands reached ((c.in_ok-keeps.ensures.kept s rest here).0 holds))
+
+pub returns-clause-places : goal.returns-clause-places
+returns-clause-places g c =
+    let p = c.work_to.new.patch in
+    from-taken c.args.change.now.old (map arc_value p.segments.items) _ p.places.items _ (arc_value c.segment-segment.result.now) c.args.at (drop (c.args.at + 1) c.args.change.now.old) c.in_ok-work_to.ensures.places c.segment-segment.ensures.here c.in_ok-take.ensures.segments c.in_ok-take.ensures.places

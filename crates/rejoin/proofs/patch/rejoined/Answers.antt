@@ -1,10 +1,12 @@
 use Rattle.std.proofs.Common.{map, ap, arith}
 use Rattle.std.specs.Arc.{arc_value}
+use Rattle.rejoin.proofs.Placed.{from-none}
 use Rattle.rejoin.proofs.Turns.{stands-begun}
 use Rattle.rejoin.proofs.patch.rejoined.Goals as goal
 
 pub loop-at-init : goal.loop-at-init
 loop-at-init g c = record {
   stands = stands-begun c.args.change.now c.len-at-end.ensures.sound c.args.spacing _ _ c.in_ok-begin.ensures.ok (ap (map arc_value) c.new.ensures.items);
+  places = from-none c.args.change.now.old _ _ (ap (map arc_value) c.new.ensures.items) c.new-2.ensures.items;
   few = omega arith;
 }

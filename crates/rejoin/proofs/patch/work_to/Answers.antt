@@ -3,6 +3,7 @@ use Rattle.std.specs.Arc.{arc_value}
 use Rattle.checkpoints.specs.Segment.{SegmentView}
 use Rattle.checkpoints.proofs.Lemmas.{push-seen}
 use Rattle.rejoin.specs.Rejoining.{Stands}
+use Rattle.rejoin.proofs.Placed.{from-worked}
 use Rattle.rejoin.proofs.Turns.{stands-worked, work-down}
 use Rattle.rejoin.proofs.patch.work_to.Goals as goal
 
@@ -17,6 +18,7 @@ segments-preserved g c =
     record {
       stands = subst (λ (ss : List SegmentView). Stands c.args.change.now c.args.spacing c.args.at false new ss c.segments.patch.handled c.segments.patch.reused)
           (sym (push-seen arc_value c.segments.patch.segments.items c.push.new.self.items c.in_ok-new.field-0 s c.in_ok-push.ensures.items c.in_ok-new.ensures.ok)) more;
+      places = from-worked c.args.change.now.old before' _ c.segments.patch.places.items _ s c.segments.invariant.places (push-seen arc_value c.segments.patch.segments.items c.push.new.self.items c.in_ok-new.field-0 s c.in_ok-push.ensures.items c.in_ok-new.ensures.ok) c.in_ok-push-2.ensures.items;
       kept = c.segments.invariant.kept;
       reused = c.segments.invariant.reused;
     }

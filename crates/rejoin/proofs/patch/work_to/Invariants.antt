@@ -1,12 +1,14 @@
 use Rattle.std.proofs.Common.{◌≡◌, ◌+◌, ◌-◌, false, map}
 use Rattle.std.specs.Arc.{arc_value}
 use Rattle.easy_rule.specs.Simulation.{bound}
+use Rattle.checkpoints.specs.Groups.{AreFrom}
 use Rattle.rejoin.specs.Rejoining.{Stands}
 use Rattle.rejoin.proofs.patch.work_to.Given as goal
 
 abbrev pub invariant-segments : goal.invariant-segments
 invariant-segments g l = record {
   stands : Stands l.change l.spacing l.at false l.patch.engine (map arc_value l.patch.segments.items) l.patch.handled l.patch.reused;
+  places : AreFrom l.change.old (map arc_value l.patch.segments.items) l.patch.places.items;
   kept : l.patch.kept ≡ l.fn.patch.kept;
   reused : l.patch.reused ≡ l.fn.patch.reused;
 }

@@ -5,12 +5,12 @@ use Rattle.rejoin.proofs.Turns.{rejoined-cut}
 use Rattle.rejoin.proofs.Untouched.{taken-over-all}
 use Rattle.rejoin.proofs.simulation.rerun.Goals as goal
 
-pub of_counted-requires-clause-cut : goal.of_counted-requires-clause-cut
-of_counted-requires-clause-cut g c =
+pub of_taken_over-requires-clause-cut : goal.of_taken_over-requires-clause-cut
+of_taken_over-requires-clause-cut g c =
     let change = c.in_ok-change.change in
     let patch = c.in_ok-patch.patch in
-    let plan : change.is ≡ plan_of (arc_value c.in_ok-clone.field-0) c.scenario-scenario.result = search rules in
-    rejoined-cut change.was change.is (plan_of (arc_value c.in_ok-clone.field-0) c.scenario-scenario.result) change.old c.args.spacing (map arc_value patch.segments.items) patch.handled patch.reused c.in_ok-patch.ensures.rejoined plan
+    let plan : change.is ≡ plan_of (arc_value c.in_ok-clone.field-0) c.args.run.now.setting = search rules in
+    rejoined-cut change.was change.is (plan_of (arc_value c.in_ok-clone.field-0) c.args.run.now.setting) change.old c.args.spacing (map arc_value patch.segments.items) patch.handled patch.reused c.in_ok-patch.ensures.rejoined plan
 
 pub returns-clause-untouched : goal.returns-clause-untouched
 returns-clause-untouched g c =

@@ -1,13 +1,20 @@
+use Rattle.std.proofs.Common.{map}
+use Rattle.std.specs.Arc.{arc_value}
+use Rattle.scenarios.specs.PlanView.{plan_in}
+use Rattle.checkpoints.specs.Groups.{parts_of, AreGroupsOf}
+use Rattle.checkpoints.proofs.Totals.{cut-few}
 use Rattle.checkpoints.proofs.run.Run.of_plan.Goals as goal
 
-pub tables_of-requires-clause-cut : goal.tables_of-requires-clause-cut
-tables_of-requires-clause-cut g c = rw (c.view.ensures.same, c.as_slice.ensures.value) c.requires.cut
+pub groups_of-requires : goal.groups_of-requires
+groups_of-requires g c = rw c.as_slice.ensures.value (cut-few (plan_in c.args.plan) (map arc_value c.args.segments.items) c.scenario.ensures.sound c.requires)
 
-pub tables_of-requires-clause-skips : goal.tables_of-requires-clause-skips
-tables_of-requires-clause-skips g c = rw c.view.ensures.same c.requires.skips
+pub tables_anew-requires : goal.tables_anew-requires
+tables_anew-requires g c =
+    let groups : AreGroupsOf (parts_of (map arc_value c.args.segments.items)) c.in_ok-groups.groups.items = rw c.as_slice.ensures.value at c.in_ok-groups.ensures in
+    (map arc_value c.args.segments.items, c.requires, rw c.as_slice-2.ensures.value groups)
 
 pub invariant_of-result : goal.invariant_of-result
-invariant_of-result g c = record { cut = c.requires.cut; tables = rw c.view.ensures.same at c.in_ok-tables.ensures }
+invariant_of-result g c = (record { cut = c.requires; tables = c.in_ok-tables.ensures }, rw c.as_slice.ensures.value at c.in_ok-groups.ensures)
 
 pub returns-clause-sound : goal.returns-clause-sound
-returns-clause-sound g c = record { cut = c.requires.cut; tables = rw c.view.ensures.same at c.in_ok-tables.ensures }
+returns-clause-sound g c = record { cut = c.requires; tables = c.in_ok-tables.ensures }

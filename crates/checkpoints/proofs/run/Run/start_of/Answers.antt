@@ -25,7 +25,7 @@ returns g c =
     let job = c.in_ok-job.job in
     let found : job_numbered plan.jobs c.args.number ≡ Some job = sym (rw c.view.ensures.same at c.in_ok-job.ensures.job) in
     let submit = c.submit-submit.ensures.value in
-    let cut : IsCut plan (map arc_value c.deref.result.now) = rw c.deref.ensures.value c.self.invariant.cut in
+    let cut : IsCut plan (map arc_value c.deref.result.now) = rw c.deref.ensures.value c.self.invariant.0.cut in
     let point = IsPartitionPoint-from_clause (begins-by arc_value c.submit-submit.result) c.deref.result.now c.partition_point-later.result c.partition_point-later.ensures.partitioned (parted arc_value plan c.deref.result.now c.submit-submit.result cut) (λ a r q k. search rules) in
     c.start_in.ensures
     ∙ ap (λ ss. start_of (all_starts (map arc_value ss)) c.args.number) (rest-is c.saturating_sub.result c.as_slice.result.now)

@@ -1,0 +1,30 @@
+-- Segments in groups, and where the segments of a run come from.
+use Rattle.std.specs.Prelude.{◌≡◌, ℕ, ◌+◌, List, [], ◌∷◌, ◌++◌, map, length, slice_get, Option, Some, IfSome}
+use Rattle.std.specs.List.{AllZip}
+use Rattle.metrics.specs.Part.{PartSums}
+use Rattle.checkpoints.specs.Merged.{IsMerged}
+use Rattle.checkpoints.specs.Segment.{SegmentView}
+
+-- Segments that stand side by side: how many they are, and the sums over all jobs that start in them.
+pub record GroupView : Type 0 where
+  pub count : ℕ
+  pub part : PartSums
+
+-- the parts of segments
+abbrev pub parts_of : List SegmentView → List PartSums
+parts_of ss = map (λ s. s.part) ss
+
+-- the groups of segments with these parts, one after another: each has the number of its segments and their merged part
+abbrev pub AreGroupsOf : List PartSums → List GroupView → Type 0
+AreGroupsOf vs [] = vs ≡ []
+AreGroupsOf vs (g ∷ gs) =
+    (front : List PartSums) × (back : List PartSums) × (vs ≡ front ++ back) × (length front ≡ g.count) × IsMerged front g.part × AreGroupsOf back gs
+
+-- where each of some segments comes from: it is the old one at that place, or a new one
+abbrev pub AreFrom : List SegmentView → List SegmentView → List (Option ℕ) → Type 0
+AreFrom old ss places = AllZip (λ s place. IfSome place (λ k. slice_get old k ≡ Some s)) ss places
+
+-- they come from places that follow one another, from this one on
+abbrev pub AreInRow : ℕ → List (Option ℕ) → Type 0
+AreInRow k [] = Unit {0}
+AreInRow k (place ∷ places) = (place ≡ Some k) × AreInRow (k + 1) places
