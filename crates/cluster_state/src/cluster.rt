@@ -1,11 +1,10 @@
-ghost use Rattle.std.specs.Prelude.{◌≡◌, ◌-◌, ◌<◌, ◌≤◌, ◌+◌, ◌↔◌, [], OnOk, OnErr, IfOk, IfSome, IsNone, IsOk, IsTrue, MatchOption, All, Any, length, slice_get, count_by, nat_eq, IsPermutation};
+ghost use Rattle.std.specs.Prelude.{◌≡◌, ◌≤◌, ◌↔◌, [], IfOk, IfSome, IsNone, MatchOption, All, Any, slice_get, IsPermutation};
 ghost use Rattle.std.specs.Option.{option_copied};
-ghost use Rattle.scenarios.specs.Limits.{procs_limit, seconds_end};
+ghost use Rattle.scenarios.specs.Limits.{procs_limit};
 ghost use Rattle.scenarios.specs.declared.order.Order.TheVariants.{Arrival};
 
-use crate::ends::is_by;
 use crate::lookup::running_in;
-use crate::queue::{Queue, sizes};
+use crate::queue::Queue;
 use crate::running_set::RunningSet;
 use crate::snapshot::Snapshot;
 use job_table::JobTable;
@@ -19,10 +18,10 @@ use swf_text::Memory;
 /// Seconds stay below 2^49, and a machine has at most 16,777,216 processors.
 #[derive(Drop)]
 pub struct Cluster<A: Allocator + Copy> {
-    procs: u64,
-    free: u64,
-    queue: Queue<A>,
-    running: RunningSet<A>,
+    pub(crate) procs: u64,
+    pub(crate) free: u64,
+    pub(crate) queue: Queue<A>,
+    pub(crate) running: RunningSet<A>,
 }
 
 impl<A: Allocator + Copy> Model for Cluster<A> {
@@ -39,8 +38,7 @@ impl<A: Allocator + Copy> Model for Cluster<A> {
 
 impl<A: Allocator + Copy> Cluster<A> {
     ghost use Rattle.scenarios.specs.Placed.{real_end};
-    ghost use Rattle.cluster_state.specs.State.{empty, free, arrived, after_start, all_started};
-    ghost use Rattle.cluster_state.specs.State.{ended_until, holders, CanArrive, CanStart, CanStartAll, IsSound, RisesByNumber};
+    ghost use Rattle.cluster_state.specs.State.{empty, free, IsSound, RisesByNumber};
     ghost use Rattle.cluster_state.specs.Row.{in_order};
     ghost use Rattle.cluster_state.specs.Ends.{by_end, RisesByEnd};
     ghost use Rattle.scenarios.specs.Plan.{plan_of};
@@ -193,110 +191,6 @@ impl<A: Allocator + Copy> Cluster<A> {
         }
     }
 
-    /// Whether a job may join the queue: no job of its number waits or runs, and it is not larger
-    /// than the machine.
-    pub fn can_arrive(&self, job: &Job) -> bool
-        ensures { IsTrue result ↔ CanArrive self.now.state job.now }
-    {
-        is_absent(self.queue.jobs(), self.running.jobs(), job.number()) && job.size() <= self.procs
-    }
-
-    /// A job joins the queue, at its end.
-    ///
-    /// Memory where a growth was refused; the state is then as it was.
-    pub fn arrive(&mut self, job: Job) -> Result<(), Memory>
-        requires absent { holders self.old.state job.number ≡ 0 }
-        requires fits { job.size ≤ self.old.state.machine }
-        ensures ok { OnOk result (self.new.state ≡ arrived self.old.state job) }
-        ensures err { OnErr result (self.new.state ≡ self.old.state) }
-        ensures spare { self.new.spare ≡ self.old.spare }
-    {
-        self.queue.push(job)?;
-        Ok(())
-    }
-
-    /// How many starts surely find room. Each start takes up one at most, and nothing else takes any.
-    pub fn spare_starts(&self) -> usize
-        ensures { result ≡ self.now.spare }
-    {
-        self.running.spare()
-    }
-
-    /// Makes room for so many starts.
-    ///
-    /// Memory where a growth was refused; the room may then be greater than it was, too.
-    pub fn reserve_starts(&mut self, count: usize) -> Result<(), Memory>
-        ensures state { self.new.state ≡ self.old.state }
-        ensures ok { OnOk result (count ≤ self.new.spare) }
-        ensures kept { self.old.spare ≤ self.new.spare }
-    {
-        self.running.reserve(count)
-    }
-
-    /// Whether a job of this number waits and fits into the free processors.
-    pub fn can_start(&self, number: u64) -> bool
-        ensures { IsTrue result ↔ CanStart self.now.state number }
-    {
-        match self.queue.find(number) {
-            None => false,
-            Some(job) => job.size() <= self.free,
-        }
-    }
-
-    /// The waiting job of this number starts at second `now`.
-    ///
-    /// With room for a start it takes no memory. Memory where a growth was refused; the state is then
-    /// as it was.
-    pub fn start(&mut self, number: u64, now: u64) -> Result<(), Memory>
-        requires fits { CanStart self.old.state number }
-        requires now { now < seconds_end }
-        ensures ok { OnOk result (self.new.state ≡ after_start self.old.state number now) }
-        ensures err { OnErr result (self.new.state ≡ self.old.state) }
-        ensures room { 1 ≤ self.old.spare → IsOk result }
-        ensures spare { self.old.spare ≤ self.new.spare + 1 }
-    {
-        let Some(job) = self.queue.find(number) else {
-            unreachable!()
-        };
-        self.running.reserve(1)?;
-        let r = Placed { job, start: now };
-        self.running.join(r);
-        self.queue.remove(number);
-        self.free -= job.size();
-        Ok(())
-    }
-
-    /// These waiting jobs start at second `now`, one after another.
-    ///
-    /// With room for so many starts it takes no memory. Memory where a growth was refused; the state is
-    /// then as it was.
-    pub fn start_all(&mut self, jobs: &[Job], now: u64) -> Result<(), Memory>
-        requires fits { CanStartAll self.old.state jobs.now now }
-        requires now { now < seconds_end }
-        ensures ok { OnOk result (self.new.state ≡ all_started self.old.state jobs.now now) }
-        ensures err { OnErr result (self.new.state ≡ self.old.state) }
-        ensures room { length jobs.now ≤ self.old.spare → IsOk result }
-        ensures spare { self.old.spare ≤ self.new.spare + length jobs.now }
-    {
-        self.running.reserve(jobs.len())?;
-        self.running.join_all(jobs, now);
-        self.queue.remove_all(jobs);
-        self.free -= sizes(jobs);
-        Ok(())
-    }
-
-    /// The jobs that end by second `t` leave.
-    pub fn finish_until(&mut self, t: u64)
-        ensures state { self.new.state ≡ ended_until self.old.state t }
-        ensures spare { self.old.spare ≤ self.new.spare }
-    {
-        if !is_by(self.running.next_end(), t) {
-            return;
-        }
-        let freed = self.running.drop_until(t);
-        self.free += freed;
-    }
-
     /// The second at which the next running job ends; none where no job runs.
     pub fn next_end(&self) -> Option<u64>
         ensures none { IsNone result ↔ (self.now.state.running ≡ []) }
@@ -312,15 +206,4 @@ impl<A: Allocator + Copy> Cluster<A> {
     {
         Snapshot::of(self.queue.allocator(), self.waiting(), self.running.jobs())
     }
-}
-
-// Whether no job of this number waits or runs.
-fn is_absent(waiting: &[Job], running: &[Placed], number: u64) -> bool
-    ensures { IsTrue result
-        ↔ (count_by (λ j. nat_eq j.number number) waiting.now
-        + count_by (λ r. nat_eq r.job.number number) running.now ≡ 0) }
-{
-    let waits = waiting.iter().filter(|j| j.number() == number).count();
-    let runs = running.iter().filter(|r| r.job.number() == number).count();
-    waits == 0 && runs == 0
 }

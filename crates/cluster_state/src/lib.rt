@@ -1,6 +1,7 @@
 //! The state of a simulated machine: who waits, who runs.
 #![tactic(auto)]
 
+mod changes;
 mod cluster;
 mod ends;
 pub mod laws;

@@ -7,6 +7,7 @@ mod engine;
 mod fault;
 mod known;
 mod stepped;
+mod stepping;
 
 pub use engine::Engine;
 pub use fault::EngineFault;

@@ -1,4 +1,4 @@
-use Rattle.std.proofs.Common.{◌≡◌, rules, arith, nat_lt, sym, ◌∙◌, ap, List, Some, None, not, position}
+use Rattle.std.proofs.Common.{◌≡◌, rules, arith, nat_lt, sym, ◌∙◌, ap, Some, None, not, position}
 use Rattle.std.proofs.lemmas.Fn.{filter_same}
 use Rattle.scenarios.specs.declared.placed.Placed.{Placed}
 use Rattle.scenarios.specs.Placed.{real_end}

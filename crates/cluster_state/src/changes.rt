@@ -1,0 +1,130 @@
+//! How a cluster changes: jobs arrive, start and end.
+ghost use Rattle.std.specs.Prelude.{◌≡◌, ◌<◌, ◌≤◌, ◌+◌, ◌↔◌, OnOk, OnErr, IsOk, IsTrue, length, count_by, nat_eq};
+ghost use Rattle.scenarios.specs.Limits.{seconds_end};
+
+use crate::cluster::Cluster;
+use crate::ends::is_by;
+use crate::queue::sizes;
+use scenarios::{Job, Placed};
+use std::alloc::Allocator;
+use swf_text::Memory;
+
+impl<A: Allocator + Copy> Cluster<A> {
+    ghost use Rattle.cluster_state.specs.State.{arrived, after_start, all_started};
+    ghost use Rattle.cluster_state.specs.State.{ended_until, holders, CanArrive, CanStart, CanStartAll};
+
+    /// Whether a job may join the queue: no job of its number waits or runs, and it is not larger
+    /// than the machine.
+    pub fn can_arrive(&self, job: &Job) -> bool
+        ensures { IsTrue result ↔ CanArrive self.now.state job.now }
+    {
+        is_absent(self.queue.jobs(), self.running.jobs(), job.number()) && job.size() <= self.procs
+    }
+
+    /// A job joins the queue, at its end.
+    ///
+    /// Memory where a growth was refused; the state is then as it was.
+    pub fn arrive(&mut self, job: Job) -> Result<(), Memory>
+        requires absent { holders self.old.state job.number ≡ 0 }
+        requires fits { job.size ≤ self.old.state.machine }
+        ensures ok { OnOk result (self.new.state ≡ arrived self.old.state job) }
+        ensures err { OnErr result (self.new.state ≡ self.old.state) }
+        ensures spare { self.new.spare ≡ self.old.spare }
+    {
+        self.queue.push(job)?;
+        Ok(())
+    }
+
+    /// How many starts surely find room. Each start takes up one at most, and nothing else takes any.
+    pub fn spare_starts(&self) -> usize
+        ensures { result ≡ self.now.spare }
+    {
+        self.running.spare()
+    }
+
+    /// Makes room for so many starts.
+    ///
+    /// Memory where a growth was refused; the room may then be greater than it was, too.
+    pub fn reserve_starts(&mut self, count: usize) -> Result<(), Memory>
+        ensures state { self.new.state ≡ self.old.state }
+        ensures ok { OnOk result (count ≤ self.new.spare) }
+        ensures kept { self.old.spare ≤ self.new.spare }
+    {
+        self.running.reserve(count)
+    }
+
+    /// Whether a job of this number waits and fits into the free processors.
+    pub fn can_start(&self, number: u64) -> bool
+        ensures { IsTrue result ↔ CanStart self.now.state number }
+    {
+        match self.queue.find(number) {
+            None => false,
+            Some(job) => job.size() <= self.free,
+        }
+    }
+
+    /// The waiting job of this number starts at second `now`.
+    ///
+    /// With room for a start it takes no memory. Memory where a growth was refused; the state is then
+    /// as it was.
+    pub fn start(&mut self, number: u64, now: u64) -> Result<(), Memory>
+        requires fits { CanStart self.old.state number }
+        requires now { now < seconds_end }
+        ensures ok { OnOk result (self.new.state ≡ after_start self.old.state number now) }
+        ensures err { OnErr result (self.new.state ≡ self.old.state) }
+        ensures room { 1 ≤ self.old.spare → IsOk result }
+        ensures spare { self.old.spare ≤ self.new.spare + 1 }
+    {
+        let Some(job) = self.queue.find(number) else {
+            unreachable!()
+        };
+        self.running.reserve(1)?;
+        let r = Placed { job, start: now };
+        self.running.join(r);
+        self.queue.remove(number);
+        self.free -= job.size();
+        Ok(())
+    }
+
+    /// These waiting jobs start at second `now`, one after another.
+    ///
+    /// With room for so many starts it takes no memory. Memory where a growth was refused; the state is
+    /// then as it was.
+    pub fn start_all(&mut self, jobs: &[Job], now: u64) -> Result<(), Memory>
+        requires fits { CanStartAll self.old.state jobs.now now }
+        requires now { now < seconds_end }
+        ensures ok { OnOk result (self.new.state ≡ all_started self.old.state jobs.now now) }
+        ensures err { OnErr result (self.new.state ≡ self.old.state) }
+        ensures room { length jobs.now ≤ self.old.spare → IsOk result }
+        ensures spare { self.old.spare ≤ self.new.spare + length jobs.now }
+    {
+        self.running.reserve(jobs.len())?;
+        self.running.join_all(jobs, now);
+        self.queue.remove_all(jobs);
+        self.free -= sizes(jobs);
+        Ok(())
+    }
+
+    /// The jobs that end by second `t` leave.
+    pub fn finish_until(&mut self, t: u64)
+        ensures state { self.new.state ≡ ended_until self.old.state t }
+        ensures spare { self.old.spare ≤ self.new.spare }
+    {
+        if !is_by(self.running.next_end(), t) {
+            return;
+        }
+        let freed = self.running.drop_until(t);
+        self.free += freed;
+    }
+}
+
+// Whether no job of this number waits or runs.
+fn is_absent(waiting: &[Job], running: &[Placed], number: u64) -> bool
+    ensures { IsTrue result
+        ↔ (count_by (λ j. nat_eq j.number number) waiting.now
+        + count_by (λ r. nat_eq r.job.number number) running.now ≡ 0) }
+{
+    let waits = waiting.iter().filter(|j| j.number() == number).count();
+    let runs = running.iter().filter(|r| r.job.number() == number).count();
+    waits == 0 && runs == 0
+}
