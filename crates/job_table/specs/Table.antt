@@ -1,8 +1,8 @@
 -- A job table: a log in its order, and an index of its jobs.
-use Rattle.std.specs.Prelude.{◌≡◌, ℕ, ◌<◌, ◌==◌, nat_le, List, [], ◌∷◌, length, filter, find, Option, option_map}
+use Rattle.std.specs.Prelude.{◌≡◌, ℕ, ◌<◌, ◌==◌, nat_le, Bool, IsTrue, List, [], ◌∷◌, length, filter, find, Option, option_map}
 use Rattle.chunks.specs.declared.numbered.Numbered.{Numbered}
 use Rattle.swf_text.specs.Entry.{LogEntry, number_of_entry, submit_of}
-use Rattle.swf_text.specs.Log.{IsLog, IsRising}
+use Rattle.swf_text.specs.Log.{IsLog, IsRising, submits_before}
 use Rattle.job_table.specs.Edit.{entry_of}
 
 -- a log whose entries stand by submit second, and of one second by job number
@@ -24,6 +24,16 @@ second_in pair = pair.submit
 -- the pair of an entry
 abbrev pub pair_of : LogEntry → Numbered
 pair_of entry = record { number = number_of_entry entry; submit = submit_of entry }
+
+-- the job of the one pair stands before the other's in submit order
+abbrev pub pair_before : Numbered → Numbered → Bool
+pair_before one other = submits_before one.submit one.number other.submit other.number
+
+-- each of these pairs stands before the next so
+abbrev pub AreInOrder : List Numbered → Type 0
+AreInOrder [] = Unit {0}
+AreInOrder (pair ∷ []) = Unit {0}
+AreInOrder (pair ∷ next ∷ pairs) = IsTrue (pair_before pair next) × AreInOrder (next ∷ pairs)
 
 -- the submit second that pairs give a job number, if any
 abbrev pub second_of : List Numbered → ℕ → Option ℕ

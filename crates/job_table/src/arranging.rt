@@ -1,30 +1,36 @@
-ghost use Rattle.std.specs.Prelude.{◌≡◌, ◌↔◌, IsTrue, OnOk};
-ghost use Rattle.swf_text.specs.Log.{IsLog, IsRising, comes_before, log_of};
+ghost use Rattle.std.specs.Prelude.{◌≡◌, ◌↔◌, IsTrue, OnOk, map};
+ghost use Rattle.swf_text.specs.Log.{IsLog, log_of};
+ghost use Rattle.job_table.specs.Table.{AreInOrder, pair_before, pair_of};
 
+use chunks::Numbered;
 use std::alloc::Allocator;
 use swf_text::{Entry, Memory};
 
-// Whether the one entry stands before the other in submit order.
-fn comes_before<A: Allocator + Copy>(one: &Entry<A>, other: &Entry<A>) -> bool
-    ensures { result ≡ comes_before one.now other.now }
+// Whether the job of the one pair stands before the other's in submit order.
+fn comes_before(one: &Numbered, other: &Numbered) -> bool
+    ensures { result ≡ pair_before one.now other.now }
 {
-    let (submit, later) = (one.submit(), other.submit());
-    submit < later || (submit == later && one.number() < other.number())
+    one.submit < other.submit || (one.submit == other.submit && one.number < other.number)
 }
 
-// Whether each of these entries stands before the next in submit order.
-fn are_in_order<A: Allocator + Copy>(entries: &[Entry<A>]) -> bool
-    ensures { IsTrue result ↔ IsRising entries.now }
+// Whether each of these pairs stands before the next in submit order.
+fn are_in_order(pairs: &[Numbered]) -> bool
+    ensures { IsTrue result ↔ AreInOrder pairs.now }
 {
-    entries.is_sorted_by(|one, next| comes_before(one, next))
+    pairs.is_sorted_by(|one, next| comes_before(one, next))
 }
 
-// Puts the entries of a log in submit order. Those that stand so are left, and no memory is taken.
-pub(crate) fn arrange<A: Allocator + Copy>(entries: &mut Vec<Entry<A>, A>) -> Result<(), Memory>
-    requires { IsLog entries.old.items }
+// Puts the entries of a log, of which these are the pairs, in submit order. Those that stand so are
+// not looked at, and no memory is taken.
+pub(crate) fn arrange<A: Allocator + Copy>(
+    entries: &mut Vec<Entry<A>, A>,
+    pairs: &[Numbered],
+) -> Result<(), Memory>
+    requires log { IsLog entries.old.items }
+    requires pairs { pairs.now ≡ map pair_of entries.old.items }
     ensures { OnOk result (entries.new.items ≡ log_of entries.old.items) }
 {
-    if are_in_order(entries.as_slice()) {
+    if are_in_order(pairs) {
         return Ok(());
     }
     entries.sort_by_key(|entry| (entry.submit(), entry.number()))?;

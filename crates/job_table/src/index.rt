@@ -12,7 +12,10 @@ use swf_text::{Entry, Memory};
 pub(crate) type Index<A> = Chunks<Numbered, A>;
 
 // The number and the submit second of each of these entries.
-fn pairs_of<A: Allocator + Copy>(alloc: A, rows: &[Entry<A>]) -> Result<Vec<Numbered, A>, Memory>
+pub(crate) fn pairs_of<A: Allocator + Copy>(
+    alloc: A,
+    rows: &[Entry<A>],
+) -> Result<Vec<Numbered, A>, Memory>
     ensures { IfOk result (λ pairs. pairs.items ≡ map pair_of rows.now) }
 {
     let mut pairs = Vec::with_capacity(alloc, rows.len())?;
@@ -41,12 +44,14 @@ fn sort_pairs<A: Allocator + Copy>(pairs: &mut Vec<Numbered, A>) -> Result<(), M
     Ok(())
 }
 
-// The index of these entries.
-pub(crate) fn index_of<A: Allocator + Copy>(alloc: A, rows: &[Entry<A>]) -> Result<Index<A>, Memory>
-    requires { IsDistinct rows.now }
-    ensures { IfOk result (λ index. IsIndex (flat index) rows.now) }
+// The index of these pairs.
+pub(crate) fn index_of<A: Allocator + Copy>(
+    alloc: A,
+    mut pairs: Vec<Numbered, A>,
+) -> Result<Index<A>, Memory>
+    ensures same { IfOk result (λ index. IsPermutation pairs.items (flat index)) }
+    ensures order { IfOk result (λ index. IsNonDecreasingBy number_in (flat index)) }
 {
-    let mut pairs = pairs_of(alloc, rows)?;
     sort_pairs(&mut pairs)?;
     Ok(Chunks::of(alloc, pairs)?)
 }

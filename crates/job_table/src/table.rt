@@ -12,7 +12,9 @@ use crate::arranging::arrange;
 use crate::cursor::Cursor;
 use crate::edit::Edit;
 use crate::fault::EditFault;
-use crate::index::{Index, has_number, index_of, second, with_number, with_second, without_number};
+use crate::index::{
+    Index, has_number, index_of, pairs_of, second, with_number, with_second, without_number,
+};
 use crate::rows::{
     Rows, are_same, changed_entry, copy_of, copy_rest, entry_at, rest_from, with_exchanged,
     with_moved, with_one, without_one,
@@ -79,8 +81,9 @@ impl<A: Allocator + Copy> JobTable<A> {
         requires { IsLog entries.items }
         ensures { IfOk result (λ table. table ≡ log_of entries.items) }
     {
-        arrange(&mut entries)?;
-        let index = index_of(alloc, entries.as_slice())?;
+        let pairs = pairs_of(alloc, entries.as_slice())?;
+        arrange(&mut entries, pairs.as_slice())?;
+        let index = index_of(alloc, pairs)?;
         let len = entries.len();
         let rows = Chunks::of(alloc, entries)?;
         Ok(JobTable { rows, index, len })

@@ -1,13 +1,11 @@
-use Rattle.std.proofs.Common.{List, map, subst, sym}
-use Rattle.std.specs.List.Sorted.{IsPermutation}
+use Rattle.std.proofs.Common.{List, subst, sym}
+use Rattle.std.specs.List.Sorted.{IsNonDecreasingBy, IsPermutation}
 use Rattle.chunks.specs.declared.numbered.Numbered.{Numbered}
-use Rattle.job_table.specs.Table.{IsIndex, pair_of}
-use Rattle.job_table.proofs.Indexed.{index-sorted}
+use Rattle.job_table.specs.Table.{number_in}
 use Rattle.job_table.proofs.index.index_of.Goals as goal
 
-pub returns : goal.returns
-returns g c =
-    let rows = c.args.rows.now in
-    let sorted = c.sort_pairs.new.pairs.items in
-    let permutes : IsPermutation (map pair_of rows) sorted = subst (λ (xs : List Numbered). IsPermutation xs sorted) c.in_ok-pairs.ensures c.in_ok-sort_pairs.ensures.same in
-    subst (λ (l : List Numbered). IsIndex l rows) (sym c.in_ok-of.ensures.list) (index-sorted rows sorted c.requires permutes c.in_ok-sort_pairs.ensures.order)
+pub returns-clause-same : goal.returns-clause-same
+returns-clause-same g c = subst (λ (l : List Numbered). IsPermutation c.args.pairs.items l) (sym c.in_ok-of.ensures.list) c.in_ok-sort_pairs.ensures.same
+
+pub returns-clause-order : goal.returns-clause-order
+returns-clause-order g c = subst (λ (l : List Numbered). IsNonDecreasingBy number_in l) (sym c.in_ok-of.ensures.list) c.in_ok-sort_pairs.ensures.order
