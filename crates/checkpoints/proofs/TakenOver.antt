@@ -116,7 +116,7 @@ pub taken-over : (news : List SegmentView) (places : List (Option ℕ)) (left gs
 taken-over news places left gs hs all g count place first to end h l e m row more is =
     let o = h.old in
     let part = λ (s : SegmentView). s.part in
-    let long = zip-long (From h.olds) news places h.from in
+    let passed = passed-over news places left gs g count place first end h (omega (arith, l, e)) m in
     let c = h.count_within in
     let between : count ≤ to = omega (arith, c, l) in
     let same : take g.count (drop to news) ≡ take g.count (drop first h.olds) = row-taken h.olds news places to first g.count h.from row (omega (arith, e, m)) in
@@ -125,14 +125,14 @@ taken-over news places left gs hs all g count place first to end h l e m row mor
     ap (λ x. (take count (parts_of news) ++ parts_of (slice_range news count to)) ++ x) (sym front) ∙ parts-between news count to g.count between ∙ ap (λ k. take k (parts_of news)) (sym e) in
     let grouped : AreGroupsOf ((take count (parts_of news) ++ parts_of (slice_range news count to)) ++ o.0) (hs ++ g ∷ []) = groups-last (take count (parts_of news) ++ parts_of (slice_range news count to)) o.0 hs g (more (take count (parts_of news)) h.groups) o.3 o.4 in
     record {
-      olds = h.olds;
-      from = h.from;
-      old = subst (λ vs. AreGroupsOf vs left) (sym (parts-behind h.olds first o.0 o.1 g.count o.2 o.3)) o.5;
-      first_within = parts-within h.olds first o.0 o.1 g.count o.2 o.3 h.first_within;
-      few = h.few;
+      olds = passed.olds;
+      from = passed.from;
+      old = passed.old;
+      first_within = passed.first_within;
+      few = passed.few;
       groups = subst (λ vs. AreGroupsOf vs all) parts (subst (λ gs'. AreGroupsOf ((take count (parts_of news) ++ parts_of (slice_range news count to)) ++ o.0) gs') (sym is) grouped);
       count_within = omega arith;
-      place_within = omega (arith, long, m);
+      place_within = passed.place_within;
     }
 
 -- what is left when all old groups are passed
