@@ -1,6 +1,6 @@
 -- What an edit of one chunk makes of a row.
-use Rattle.std.proofs.Common.{◌≡◌, ℕ, zero, suc, ◌+◌, ◌-◌, ◌<◌, ◌≤◌, List, [], ◌∷◌, ◌++◌, length, take, drop, get_or, set, insert, remove, refl, ap, sym, subst, ◌∙◌, append_assoc, arith}
-use Rattle.std.proofs.lemmas.List.{set-append_left, set-append_right}
+use Rattle.std.proofs.Common.{◌≡◌, ℕ, zero, suc, ◌+◌, ◌-◌, ◌<◌, ◌≤◌, List, [], ◌∷◌, ◌++◌, length, take, drop, get_or, set, insert, remove, refl, ap, sym, subst, ◌∙◌, append_assoc, arith, take-append-drop}
+use Rattle.std.proofs.lemmas.List.{append-nil, set-append_left, set-append_right}
 use Rattle.std.proofs.lemmas.List.Concat.{flat_map-append}
 use Rattle.std.proofs.lemmas.List.Edits.{insert-append_left, insert-append_right, remove-append_left, remove-append_right}
 use Rattle.chunks.specs.Chunks.{flat, start, AreSized}
@@ -17,6 +17,16 @@ module _ {X : Type 0} where
   flat_parts new front pieces back items e f =
       ap flat e ∙ flat_map-append (λ (c : List X). c) (front ++ pieces) back
       ∙ ap (λ (x : List X). x ++ flat back) (flat_map-append (λ (c : List X). c) front pieces ∙ ap (λ (x : List X). flat front ++ x) f)
+
+  -- a row with other chunks around some of its own
+  pub around_is : (new front mid tail pieces back : List (List X)) → new ≡ front ++ mid ++ tail → mid ≡ pieces → tail ≡ back → new ≡ front ++ pieces ++ back
+  around_is new front mid tail pieces back e f g = e ∙ ap (λ (r : List (List X)). front ++ mid ++ r) g ∙ ap (λ (r : List (List X)). front ++ r ++ back) f
+
+  -- two chunks
+  pub flat_two : (none one two : List (List X)) (a b items : List X) (n : ℕ) → none ≡ [] → one ≡ none ++ a ∷ [] → two ≡ one ++ b ∷ [] → a ≡ take n items → b ≡ drop n items → flat two ≡ items
+  flat_two none one two a b items n e f g h k =
+      let all : two ≡ a ∷ b ∷ [] = g ∙ ap (λ (r : List (List X)). r ++ b ∷ []) (f ∙ ap (λ (r : List (List X)). r ++ a ∷ []) e) in
+      ap flat all ∙ ap (λ (x : List X). a ++ x) (append-nil b) ∙ ap (λ (x : List X). x ++ b) h ∙ ap (λ (x : List X). take n items ++ x) k ∙ take-append-drop n items
 
   -- ---- sizes
   pub sized-append : (a b : List (List X)) → AreSized a → AreSized b → AreSized (a ++ b)

@@ -1,4 +1,3 @@
-mod Rows
 mod Changes
 mod Places
 mod Grouped

@@ -1,10 +1,9 @@
 -- A list in chunks, read as one list.
-use Rattle.std.proofs.Common.{◌≡◌, ℕ, zero, suc, ◌+◌, ◌-◌, ◌%◌, ◌<◌, ◌≤◌, List, [], ◌∷◌, ◌++◌, length, length-drop, take, drop, reverse, get_or, slice_get, refl, ap, sym, subst, ◌∙◌, arith, append_assoc, take-append-drop}
+use Rattle.std.proofs.Common.{◌≡◌, ℕ, zero, suc, ◌+◌, ◌-◌, ◌<◌, ◌≤◌, min, List, [], ◌∷◌, ◌++◌, length, length-drop, take, drop, get_or, slice_get, refl, ap, sym, subst, ◌∙◌, arith}
 use Rattle.std.specs.List.Sorted.{IsPartitionedBy}
-use Rattle.std.proofs.Math.Seq.{drop-append-add}
-use Rattle.std.proofs.lemmas.List.{append-nil, drop-append-le, length-take-le, reverse-append, take_all}
-use Rattle.std.specs.declared.sync.Arc.{Arc}
-use Rattle.std.specs.declared.vec.Vec.{Vec}
+use Rattle.std.proofs.Math.Seq.{drop-append-add, take-add}
+use Rattle.std.proofs.lemmas.List.{append-nil, drop-append-le, drop-drop, drop-take, length-take, length-take-le, take-take, take_all}
+use Rattle.std.proofs.lemmas.List.Concat.{flat_map-append}
 use Rattle.chunks.specs.Chunks.{flat, start, stands, place_in, touched, joining, moved, AreSized, AreFull}
 use Rattle.chunks.specs.Groups.{chunks_in}
 use Rattle.chunks.proofs.Changes.{flat_at}
@@ -13,37 +12,15 @@ add_parts : (a b c : ℕ) → a + b + c ≡ a + (b + c)
 add_parts a b c = omega arith
 
 module _ {X : Type 0} where
-  -- ---- chunks cut off from the end of a list, the last of them first
-  pub record AreCutOff (left all : List X) (cut : List (List X)) : Type 0 where
-    pub rest : left ++ flat (reverse cut) ≡ all
-    pub sized : AreSized (reverse cut)
-    pub full : AreFull (reverse cut)
-    pub whole : 1 ≤ length (reverse cut) → length left % 256 ≡ 0
-
-  pub cut_none : (left all : List X) (cut : List (List X)) → left ≡ all → cut ≡ [] → AreCutOff left all cut
-  cut_none left all cut e f = subst (AreCutOff left all) (sym f) (record { rest = append-nil left ∙ e; sized = tt; full = tt; whole = λ low. absurd (omega (arith, low)) })
-
-  full_more : (chunk : List X) (cs : List (List X)) → (1 ≤ length cs → length chunk ≡ 256) → AreFull cs → AreFull (chunk ∷ cs)
-  full_more chunk [] e f = tt
-  full_more chunk (c ∷ cs) e f = (e (omega arith), f)
-
-  pub cut_more : (left all kept chunk : List X) (cut new : List (List X)) (n : ℕ) → AreCutOff left all cut → new ≡ cut ++ chunk ∷ [] → kept ≡ take n left → chunk ≡ drop n left
-      → n < length left → length left ≤ n + 256 → n % 256 ≡ 0 → AreCutOff kept all new
-  cut_more left all kept chunk cut new n before push keep off low high whole =
-      let back : reverse new ≡ chunk ∷ reverse cut = ap reverse push ∙ reverse-append cut (chunk ∷ []) in
-      let long : length chunk ≡ length left - n = ap length off ∙ length-drop n left in
-      let short : length kept ≡ n = ap length keep ∙ length-take-le n left (omega arith) in
-      record {
-        rest = ap (λ (cs : List (List X)). kept ++ flat cs) back ∙ sym (append_assoc kept chunk (flat (reverse cut)))
-            ∙ ap (λ (x : List X). x ++ flat (reverse cut)) (ap (λ (x : List X). x ++ chunk) keep ∙ ap (λ (x : List X). take n left ++ x) off ∙ take-append-drop n left) ∙ before.rest;
-        sized = subst AreSized (sym back) (record { low = omega (arith, long); high = omega (arith, long) }, before.sized);
-        full = subst AreFull (sym back) (full_more chunk (reverse cut) (λ some. let e = before.whole some in omega (arith, long, e)) before.full);
-        whole = λ some. omega (arith, short);
-      }
-
-  -- and all of them, once nothing is left
-  pub cut_all : (left all : List X) (cut : List (List X)) → AreCutOff left all cut → left ≡ [] → flat (reverse cut) ≡ all
-  cut_all left all cut before none = sym (ap (λ (x : List X). x ++ flat (reverse cut)) none) ∙ before.rest
+  -- ---- a part of a range of a list
+  pub part_is : (n f m k : ℕ) (xs part shared : List X) → take m (drop k xs) ≡ part → f + n ≤ length part → shared ≡ xs → take n (drop (k + f) shared) ≡ take n (drop f part)
+  part_is n f m k xs part shared e le same =
+      let within : f + n ≤ m = omega (arith, ap length e, length-take m (drop k xs)) in
+      let rest = m - f in
+      let whole : m ≡ f + rest = omega arith in
+      ap (λ (ys : List X). take n (drop (k + f) ys)) same
+      ∙ sym (ap (λ (j : ℕ). take n (drop f (take j (drop k xs)))) whole ∙ ap (take n) (drop-take f rest (drop k xs)) ∙ take-take n rest (drop f (drop k xs)) (omega arith) ∙ ap (take n) (drop-drop f k xs))
+      ∙ ap (λ (ys : List X). take n (drop f ys)) e
 
   -- ---- one chunk more at the end
   pub sized_push : (cs : List (List X)) (c : List X) → AreSized cs → 1 ≤ length c → length c ≤ 256 → AreSized (cs ++ c ∷ [])
@@ -52,6 +29,39 @@ module _ {X : Type 0} where
 
   pub sized_full : (cs ds : List (List X)) (c : List X) → ds ≡ cs ++ c ∷ [] → AreSized cs → 1 ≤ length c → length c ≤ 256 → AreSized ds
   sized_full cs ds c e s low high = subst AreSized (sym e) (sized_push cs c s low high)
+
+  -- ---- chunks cut off from the front of a list
+  -- each of these has 256 elements
+  abbrev AreWhole : List (List X) → Type 0
+  AreWhole [] = Unit {0}
+  AreWhole (c ∷ cs) = (length c ≡ 256) × AreWhole cs
+
+  pub record AreCut (n : ℕ) (all : List X) (cut : List (List X)) : Type 0 where
+    pub front : flat cut ≡ take n all
+    pub sized : AreSized cut
+    pub full : AreFull cut
+    pub whole : n < length all → AreWhole cut
+
+  full_push : (cs : List (List X)) (c : List X) → AreWhole cs → AreFull (cs ++ c ∷ [])
+  full_push [] c w = tt
+  full_push (d ∷ []) c w = (w.0, tt)
+  full_push (d ∷ e ∷ cs) c w = (w.0, full_push (e ∷ cs) c w.1)
+
+  whole_push : (cs : List (List X)) (c : List X) → AreWhole cs → length c ≡ 256 → AreWhole (cs ++ c ∷ [])
+  whole_push [] c w e = (e, tt)
+  whole_push (d ∷ cs) c w e = (w.0, whole_push cs c w.1 e)
+
+  pub cut_more : (n more : ℕ) (all chunk : List X) (cut new : List (List X)) → AreCut n all cut → n < length all → more ≡ min 256 (length all - n) → chunk ≡ take more (drop n all) → new ≡ cut ++ chunk ∷ []
+      → AreCut (n + more) all new
+  cut_more n more all chunk cut new before lt next e push =
+      let long : length chunk ≡ more = ap length e ∙ length-take-le more (drop n all) (omega (arith, length-drop n all)) in
+      record {
+        front = ap flat push ∙ flat_map-append (λ (c : List X). c) cut (chunk ∷ []) ∙ ap (λ (x : List X). flat cut ++ x) (append-nil chunk) ∙ ap (λ (x : List X). x ++ chunk) before.front
+            ∙ ap (λ (x : List X). take n all ++ x) e ∙ sym (take-add n more all);
+        sized = sized_full cut new chunk push before.sized (omega arith) (omega arith);
+        full = subst AreFull (sym push) (full_push cut chunk (before.whole lt));
+        whole = λ some. subst AreWhole (sym push) (whole_push cut chunk (before.whole lt) (omega arith));
+      }
 
   -- ---- the element at a place
   pub slice_get-drop : (n : ℕ) (xs : List X) → slice_get (drop n xs) 0 ≡ slice_get xs n
@@ -71,7 +81,7 @@ module _ {X : Type 0} where
       ∙ sym (ap (drop (start k cs + at)) (flat_at k cs) ∙ drop-append-add (flat (take k cs)) (get_or cs k [] ++ flat (drop (suc k) cs)) at)
 
   -- ---- what a search wants and gives
-  module _ {A : Type 0} (first second : X → ℕ) (a b p q : ℕ) (rows inside : List (Arc (Vec (Arc (Vec X A) A) A) A)) (cs : List (List X)) (same : rows ≡ inside) (view : chunks_in inside ≡ cs) (one : a ≡ p) (two : b ≡ q) where
+  module _ (first second : X → ℕ) (a b p q : ℕ) (rows inside : List (List (List X))) (cs : List (List X)) (same : rows ≡ inside) (view : chunks_in inside ≡ cs) (one : a ≡ p) (two : b ≡ q) where
     seen : chunks_in rows ≡ cs
     seen = ap chunks_in same ∙ view
 

@@ -3,13 +3,10 @@ use Rattle.std.proofs.Common.{◌≡◌, ℕ, zero, suc, ◌+◌, ◌-◌, ◌<�
 use Rattle.std.specs.List.{position_or_len}
 use Rattle.std.specs.List.Sorted.{IsPartitionedBy, IsPartitionPoint}
 use Rattle.std.proofs.lemmas.Bool.Decides.{nat_tests}
-use Rattle.std.proofs.lemmas.List.{get_or-map, get_or-append-add, get_or_append_left, get_or_past, length-map}
+use Rattle.std.proofs.lemmas.List.{get_or-append-add, get_or_append_left, get_or_past}
 use Rattle.std.proofs.lemmas.List.Sums.{position_or_len_is}
 use Rattle.std.proofs.lemmas.Option.{slice_get-get_or}
-use Rattle.std.specs.declared.sync.Arc.{Arc}
-use Rattle.std.specs.declared.vec.Vec.{Vec}
-use Rattle.chunks.specs.Chunks.{flat, contents, start, ends_by, passes, touched, joining, AreSized}
-use Rattle.chunks.proofs.Rows.{items_of}
+use Rattle.chunks.specs.Chunks.{flat, start, ends_by, passes, touched, joining, AreSized}
 use Rattle.chunks.proofs.Changes.{flat_at}
 
 one_more : (k : ℕ) → 1 + k ≡ suc k
@@ -148,22 +145,6 @@ module _ {X : Type 0} (test : X → Bool) where
   there_by cs k at found s e f h =
       let first = subst (λ (n : ℕ). n < length cs → place (get_or cs n []) < length (get_or cs n [])) (sym e) (there_is cs s) in
       subst (λ (n : ℕ). k < length cs → n < length (get_or cs k [])) (sym (h ∙ ap place f)) first
-
-  -- ---- a search over the shared chunks
-  pub parted-row : {A : Type 0} (row : List (Arc (Vec X A) A)) → AreSized (contents row) → IsPartitionedBy test (flat (contents row)) → IsPartitionedBy (λ chunk. ends_by test (items_of chunk)) row
-  parted-row row s p i j d le lt t =
-      let n : length (contents row) ≡ length row = length-map row items_of in
-      let there : get_or (contents row) j [] ≡ items_of (get_or row j d) = get_or-map items_of row j d [] lt in
-      let here : get_or (contents row) i [] ≡ items_of (get_or row i d) = get_or-map items_of row i d [] (omega arith) in
-      sym (ap (ends_by test) here) ∙ parted-ends (contents row) s p i j [] le (omega arith) (ap (ends_by test) there ∙ t)
-
-  pub point_at : {A : Type 0} (row : List (Arc (Vec X A) A)) (i : ℕ) → i ≤ length row → IsPartitionPoint (λ chunk. ends_by test (items_of chunk) ≡ true) (λ chunk. ends_by test (items_of chunk) ≡ false) row i → i ≡ chunks_before (contents row)
-  point_at [] i le h = omega arith
-  point_at (x ∷ row) i le h =
-      let n : length (contents (x ∷ row)) ≡ length (x ∷ row) = length-map (x ∷ row) items_of in
-      sym (position_or_len_is (λ c. not (ends_by test c)) (contents (x ∷ row)) i [] (omega arith)
-      (λ k lt. ap not (ap (ends_by test) (get_or-map items_of (x ∷ row) k x [] (omega arith)) ∙ h.0 k x (omega arith) lt))
-      (λ lt. ap not (ap (ends_by test) (get_or-map items_of (x ∷ row) i x [] (omega arith)) ∙ h.1 i x (omega arith) (omega arith))))
 
   pub placed_at : (xs : List X) (i : ℕ) → i ≤ length xs → IsPartitionPoint (λ x. test x ≡ true) (λ x. test x ≡ false) xs i → i ≡ place xs
   placed_at [] i le h = omega arith

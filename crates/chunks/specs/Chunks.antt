@@ -1,8 +1,6 @@
 -- A long list in chunks.
-use Rattle.std.specs.Prelude.{◌≡◌, ℕ, ◌≤◌, ◌+◌, ◌-◌, ◌==◌, ◌&&◌, ◌||◌, nat_lt, nat_le, not, Bool, false, Option, Some, None, if◌then◌else◌, List, [], ◌∷◌, length, map, take, slice_get, slice_index_or}
+use Rattle.std.specs.Prelude.{◌≡◌, ℕ, ◌≤◌, ◌+◌, ◌-◌, ◌==◌, ◌&&◌, ◌||◌, nat_lt, nat_le, not, Bool, false, Option, Some, None, if◌then◌else◌, List, [], ◌∷◌, length, take, slice_get, slice_index_or}
 use Rattle.std.specs.List.{flat_map, position_or_len}
-use Rattle.std.specs.declared.sync.Arc.{Arc}
-use Rattle.std.specs.declared.vec.Vec.{Vec}
 
 module _ {X : Type 0} where
   -- the elements of all chunks, one chunk after another
@@ -69,7 +67,3 @@ moved n = if nat_le n 256 then 0 else n - 128
 -- how many elements are copied or moved to another chunk when one joins at this place
 abbrev pub joining : {X : Type 0} → ℕ → List (List X) → ℕ
 joining place chunks = touched place chunks + moved (touched place chunks + 1)
-
--- the elements of shared chunks
-abbrev pub contents : {X A : Type 0} → List (Arc (Vec X A) A) → List (List X)
-contents row = map (λ chunk. chunk.value.items) row

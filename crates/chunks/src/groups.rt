@@ -1,7 +1,7 @@
 ghost use Rattle.std.specs.Prelude.{◌≡◌, ◌≤◌, length};
 ghost use Rattle.chunks.specs.Groups.{AreGrouped, IsSpot, chunk_at};
 
-use crate::pieces::Chunk;
+use crate::chunk::Chunk;
 use crate::row::elements;
 use std::alloc::Allocator;
 

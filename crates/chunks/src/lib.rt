@@ -1,6 +1,7 @@
 //! A long list in groups of shared chunks, so that a copy shares all but what an edit touches.
 #![tactic(auto)]
 
+mod chunk;
 mod copied;
 mod edits;
 mod groups;

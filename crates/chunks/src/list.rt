@@ -16,8 +16,9 @@ use swf_text::Memory;
 
 /// A list in chunks of 1 to 256 elements, which stand in groups of 1 to 256 chunks. A copy shares
 /// all groups. A list made from this one by an edit shares all groups but the one that the edit
-/// touches, and all chunks of that one but the touched one. Contracts see the chunks, each with
-/// its elements; how they are grouped is not told.
+/// touches, and all chunks of that one but the touched one. The chunks of a list that `of` made are
+/// ranges of the one list that it was given, whose memory stays as long as any chunk of it does.
+/// Contracts see the chunks, each with its elements; how they are grouped is not told.
 #[derive(Drop)]
 pub struct Chunks<T: Keyed, A: Allocator + Copy> {
     groups: Vec<Group<T, A>, A>,
@@ -35,8 +36,9 @@ impl<T: Keyed, A: Allocator + Copy> Model for Chunks<T, A> {
 }
 
 impl<T: Keyed, A: Allocator + Copy> Chunks<T, A> {
-    /// The list of these elements; each chunk but the last has 256 of them. Memory where a growth
-    /// was refused.
+    /// The list of these elements, none of which moves: each chunk but the last is a range of 256
+    /// of them, and the memory of all stays as long as any of these chunks does. Memory where a
+    /// growth was refused.
     pub fn of(alloc: A, items: Vec<T, A>) -> Result<Chunks<T, A>, Memory>
         ensures list { IfOk result (λ list. flat list ≡ items.items) }
         ensures full { IfOk result (λ list. AreFull list) }

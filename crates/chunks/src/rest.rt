@@ -1,10 +1,10 @@
 ghost use Rattle.std.specs.Prelude.{◌≡◌, ◌≤◌, ◌++◌, length, option_copied, slice_get, drop};
 ghost use Rattle.std.specs.Iterator.{YieldsFirstRef, item_count};
-ghost use Rattle.chunks.specs.Chunks.{AreSized, chunk_of, contents, flat};
+ghost use Rattle.chunks.specs.Chunks.{AreSized, chunk_of, flat};
 ghost use Rattle.chunks.specs.Groups.{AreGrouped, IsSpot, chunk_at, chunks_in, place_at};
 
+use crate::chunk::Chunk;
 use crate::groups::{Group, Place};
-use crate::pieces::Chunk;
 use crate::row_rest::RowRest;
 use std::alloc::Allocator;
 use std::marker::Model;
@@ -19,22 +19,22 @@ pub struct Rest<'a, T: Drop, A: Allocator + Copy> {
 
 impl<'a, T: Drop, A: Allocator + Copy> Model for Rest<'a, T, A> {
     ghost use Rattle.std.specs.Prelude.{List, ◌++◌};
-    ghost use Rattle.chunks.specs.Chunks.{AreSized, IsFront, contents, flat};
+    ghost use Rattle.chunks.specs.Chunks.{AreSized, IsFront, flat};
 
     ghost Value = { List T };
 
-    ghost view = { λ r. r.items.now ++ flat (contents r.later) };
+    ghost view = { λ r. r.items.now ++ flat r.later };
 
-    ghost invariant = { λ r. AreSized (contents r.later) × IsFront r.items.now (contents r.later) };
+    ghost invariant = { λ r. AreSized r.later × IsFront r.items.now r.later };
 }
 
 // The elements of the next chunk; none where no chunk is to come.
 fn next_elements<'a, T: Drop, A: Allocator + Copy>(
     later: &mut RowRest<'a, Chunk<T, A>, A>,
 ) -> &'a [T]
-    requires { AreSized (contents later.old) }
-    ensures value { result.now ≡ chunk_of (contents later.old) 0 }
-    ensures later { contents later.new ≡ drop 1 (contents later.old) }
+    requires { AreSized later.old }
+    ensures value { result.now ≡ chunk_of later.old 0 }
+    ensures later { later.new ≡ drop 1 later.old }
 {
     match later.next() {
         Some(chunk) => chunk.as_slice(),
@@ -47,8 +47,8 @@ pub(crate) fn rest_of<'a, T: Drop, A: Allocator + Copy>(
     items: &'a [T],
     mut later: RowRest<'a, Chunk<T, A>, A>,
 ) -> Rest<'a, T, A>
-    requires { AreSized (contents later) }
-    ensures { result ≡ items.now ++ flat (contents later.entry) }
+    requires { AreSized later }
+    ensures { result ≡ items.now ++ flat later.entry }
 {
     if !items.is_empty() {
         return Rest { items, later };

@@ -1,15 +1,16 @@
 ghost use Rattle.std.specs.Prelude.{◌≡◌, ◌≤◌, ◌<◌, ◌+◌, ◌++◌, IfOk, OnOk, length, take, drop, vec_len};
-ghost use Rattle.chunks.specs.Chunks.{AreSized, chunk_of, contents, flat, moved};
+ghost use Rattle.chunks.specs.Chunks.{AreSized, chunk_of, flat, moved};
 
-use crate::pieces::{Chunk, joined, pieces_of};
+use crate::chunk::Chunk;
+use crate::pieces::{joined, pieces_of};
 use std::alloc::Allocator;
 use swf_text::Memory;
 
 // The elements of a chunk; none past the last one.
 pub(crate) fn elements<T: Drop, A: Allocator + Copy>(row: &[Chunk<T, A>], chunk: usize) -> &[T]
-    requires { AreSized (contents row.now) }
-    ensures value { result.now ≡ chunk_of (contents row.now) chunk }
-    ensures len { length result.now ≡ length (chunk_of (contents row.now) chunk) }
+    requires { AreSized row.now }
+    ensures value { result.now ≡ chunk_of row.now chunk }
+    ensures len { length result.now ≡ length (chunk_of row.now chunk) }
     ensures most { length result.now ≤ 256 }
 {
     if chunk < row.len() {
@@ -24,7 +25,7 @@ pub(crate) fn after<T: Drop, A: Allocator + Copy>(
     row: &[Chunk<T, A>],
     chunk: usize,
 ) -> &[Chunk<T, A>]
-    ensures { contents result.now ≡ drop (chunk + 1) (contents row.now) }
+    ensures { result.now ≡ drop (chunk + 1) row.now }
 {
     if chunk < row.len() {
         &row[chunk + 1..]
@@ -44,9 +45,9 @@ pub(crate) fn with_chunk<T: Drop, A: Allocator + Copy>(
     requires within { chunk ≤ length row.now }
     requires most { vec_len items ≤ 257 }
     requires room { count.old ≤ 1024 }
-    requires sized { AreSized (contents row.now) }
-    ensures flat { IfOk result (λ new. flat (contents new.items) ≡ flat (take chunk (contents row.now)) ++ items.items ++ flat (drop (chunk + 1) (contents row.now))) }
-    ensures sized { IfOk result (λ new. AreSized (contents new.items)) }
+    requires sized { AreSized row.now }
+    ensures flat { IfOk result (λ new. flat new.items ≡ flat (take chunk row.now) ++ items.items ++ flat (drop (chunk + 1) row.now)) }
+    ensures sized { IfOk result (λ new. AreSized new.items) }
     ensures count { OnOk result (count.new ≡ count.old + moved (vec_len items)) }
     ensures most { chunk < 256 → length row.now ≤ 256 → IfOk result (λ new. vec_len new ≤ 257) }
 {

@@ -1,8 +1,8 @@
 ghost use Rattle.std.specs.Prelude.{◌≡◌, ◌≤◌, ◌+◌, ◌++◌, length, drop};
 ghost use Rattle.std.specs.Iterator.{YieldsFirstRef, item_count};
-ghost use Rattle.chunks.specs.Chunks.{AreSized, chunk_of, contents, flat, start};
+ghost use Rattle.chunks.specs.Chunks.{AreSized, chunk_of, flat, start};
 
-use crate::pieces::Chunk;
+use crate::chunk::Chunk;
 use crate::row::{after, elements};
 use std::alloc::Allocator;
 use std::marker::Model;
@@ -17,13 +17,13 @@ pub(crate) struct RowRest<'a, T: Drop, A: Allocator + Copy> {
 
 impl<'a, T: Drop, A: Allocator + Copy> Model for RowRest<'a, T, A> {
     ghost use Rattle.std.specs.Prelude.{List, ◌++◌};
-    ghost use Rattle.chunks.specs.Chunks.{AreSized, IsFront, contents, flat};
+    ghost use Rattle.chunks.specs.Chunks.{AreSized, IsFront, flat};
 
     ghost Value = { List T };
 
-    ghost view = { λ r. r.items.now ++ flat (contents r.later.now) };
+    ghost view = { λ r. r.items.now ++ flat r.later.now };
 
-    ghost invariant = { λ r. AreSized (contents r.later.now) × IsFront r.items.now (contents r.later.now) };
+    ghost invariant = { λ r. AreSized r.later.now × IsFront r.items.now r.later.now };
 }
 
 // These elements and then those of these chunks.
@@ -31,8 +31,8 @@ pub(crate) fn row_rest_of<'a, T: Drop, A: Allocator + Copy>(
     items: &'a [T],
     later: &'a [Chunk<T, A>],
 ) -> RowRest<'a, T, A>
-    requires { AreSized (contents later.now) }
-    ensures { result ≡ items.now ++ flat (contents later.now) }
+    requires { AreSized later.now }
+    ensures { result ≡ items.now ++ flat later.now }
 {
     if !items.is_empty() {
         return RowRest { items, later };
@@ -46,9 +46,9 @@ pub(crate) fn row_rest_of<'a, T: Drop, A: Allocator + Copy>(
 impl<'a, T: Drop, A: Allocator + Copy> RowRest<'a, T, A> {
     // The elements from a place of a chunk on.
     pub(crate) fn new(row: &'a [Chunk<T, A>], chunk: usize, at: usize) -> RowRest<'a, T, A>
-        requires sized { AreSized (contents row.now) }
-        requires within { at ≤ length (chunk_of (contents row.now) chunk) }
-        ensures { result ≡ drop (start chunk (contents row.now) + at) (flat (contents row.now)) }
+        requires sized { AreSized row.now }
+        requires within { at ≤ length (chunk_of row.now chunk) }
+        ensures { result ≡ drop (start chunk row.now + at) (flat row.now) }
     {
         let items = elements(row, chunk);
         row_rest_of(&items[at..], after(row, chunk))

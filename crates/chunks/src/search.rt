@@ -1,12 +1,12 @@
 ghost use Rattle.std.specs.Prelude.{◌≡◌, ◌≤◌, ◌<◌, ◌+◌, length, not};
 ghost use Rattle.std.specs.List.{position_or_len};
 ghost use Rattle.std.specs.List.Sorted.{IsPartitionedBy};
-ghost use Rattle.chunks.specs.Chunks.{AreSized, contents, ends_by, flat, place_in, stands, touched};
-ghost use Rattle.chunks.specs.Groups.{AreGrouped, IsSpot, chunk_at, chunk_number, chunks_in, ends, place_at};
+ghost use Rattle.chunks.specs.Chunks.{AreSized, ends_by, flat, place_in, stands, touched};
+ghost use Rattle.chunks.specs.Groups.{AreGrouped, IsSpot, chunk_at, chunk_number, chunks_in, place_at};
 
+use crate::chunk::Chunk;
 use crate::copied::Keyed;
 use crate::groups::{Group, Place};
-use crate::pieces::Chunk;
 use crate::row::elements;
 use std::alloc::Allocator;
 
@@ -34,7 +34,7 @@ fn last_ends_before<T: Keyed, A: Allocator + Copy>(
     major: u64,
     minor: u64,
 ) -> bool
-    ensures { result ≡ ends_by (ends (stands T.major T.minor major minor)) chunks.now }
+    ensures { result ≡ ends_by (ends_by (stands T.major T.minor major minor)) chunks.now }
 {
     match chunks.last() {
         Some(chunk) => ends_before(chunk.as_slice(), major, minor),
@@ -44,14 +44,14 @@ fn last_ends_before<T: Keyed, A: Allocator + Copy>(
 
 // How many chunks end before an element with these two numbers.
 fn chunk_before<T: Keyed, A: Allocator + Copy>(row: &[Chunk<T, A>], major: u64, minor: u64) -> usize
-    requires sized { AreSized (contents row.now) }
-    requires parted { IsPartitionedBy (stands T.major T.minor major minor) (flat (contents row.now)) }
+    requires sized { AreSized row.now }
+    requires parted { IsPartitionedBy (stands T.major T.minor major minor) (flat row.now) }
     ensures within { result ≤ length row.now }
-    ensures place { result ≡ position_or_len (λ chunk. not (ends_by (stands T.major T.minor major minor) chunk)) (contents row.now) }
+    ensures place { result ≡ position_or_len (λ chunk. not (ends_by (stands T.major T.minor major minor) chunk)) row.now }
 {
     row.partition_point(
         |chunk: &Chunk<T, A>| -> bool
-            ensures { result ≡ ends_by (stands T.major T.minor major minor) chunk.now.value.items }
+            ensures { result ≡ ends_by (stands T.major T.minor major minor) chunk.now }
         { ends_before(chunk.as_slice(), major, minor) },
     )
 }
@@ -65,11 +65,11 @@ fn group_before<T: Keyed, A: Allocator + Copy>(
     requires sized { AreGrouped groups.now }
     requires parted { IsPartitionedBy (stands T.major T.minor major minor) (flat (chunks_in groups.now)) }
     ensures within { result ≤ length groups.now }
-    ensures place { result ≡ position_or_len (λ chunks. not (ends_by (ends (stands T.major T.minor major minor)) chunks)) (contents groups.now) }
+    ensures place { result ≡ position_or_len (λ chunks. not (ends_by (ends_by (stands T.major T.minor major minor)) chunks)) groups.now }
 {
     groups.partition_point(
         |group: &Group<T, A>| -> bool
-            ensures { result ≡ ends_by (ends (stands T.major T.minor major minor)) group.now.value.items }
+            ensures { result ≡ ends_by (ends_by (stands T.major T.minor major minor)) group.now }
         { last_ends_before(group.as_slice(), major, minor) },
     )
 }

@@ -1,6 +1,6 @@
 use Rattle.std.proofs.Common.{◌≤◌, length, subst, sym}
 use Rattle.std.specs.List.Sorted.{IsPartitionedBy}
-use Rattle.chunks.specs.Chunks.{contents, stands}
+use Rattle.chunks.specs.Chunks.{stands}
 use Rattle.chunks.proofs.Places.{parted-at}
 use Rattle.chunks.proofs.Grouped.{found_within, group_inside, group_place, group_there, parted_group, place_there, sized_group}
 use Rattle.chunks.proofs.search.place_of.Goals as goal
@@ -19,7 +19,7 @@ pub before-at-requires : goal.before-at-requires
 before-at-requires g c =
     let test = stands g.T.Keyed.major g.T.Keyed.minor c.args.major c.args.minor in
     let parted = parted_group test c.args.groups.now c.group_before-group.result c.elements-chunks.result.now c.requires.parted c.elements-chunks.ensures.value in
-    subst (IsPartitionedBy test) (sym c.elements.ensures.value) (parted-at test c.chunk_before-chunk.result (contents c.elements-chunks.result.now) parted)
+    subst (IsPartitionedBy test) (sym c.elements.ensures.value) (parted-at test c.chunk_before-chunk.result c.elements-chunks.result.now parted)
 
 pub returns-clause-spot : goal.returns-clause-spot
 returns-clause-spot g c =
