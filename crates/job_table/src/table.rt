@@ -74,9 +74,10 @@ impl<A: Allocator + Copy> JobTable<A> {
         Ok(JobTable::of_entries(alloc, entries)?)
     }
 
-    /// The table of these entries, which it takes over: each moves once, into its chunk. Those in
-    /// order are not sorted. Its condition is what holds of every log: job numbers are distinct, and
-    /// there are at most 4,194,304 entries. Memory where a growth was refused.
+    /// The table of these entries, which it takes over where they stand: none moves, and each is
+    /// looked at once. Those out of order are sorted first. Its condition is what holds of every log:
+    /// job numbers are distinct, and there are at most 4,194,304 entries. Memory where a growth was
+    /// refused.
     pub fn of_entries(alloc: A, mut entries: Vec<Entry<A>, A>) -> Result<JobTable<A>, Memory>
         requires { IsLog entries.items }
         ensures { IfOk result (λ table. table ≡ log_of entries.items) }
