@@ -1,5 +1,7 @@
 -- What tests of equality say of entries.
-use Rattle.std.proofs.Common.{◌≡◌, List, [], ◌∷◌, Bool, true, false, Decides, IsTrue, map, ℤ, refl, ap, sym, ◌∙◌}
+use Rattle.std.proofs.Common.{◌≡◌, ℕ, zero, suc, ◌+◌, ◌<◌, ◌≤◌, ◌↔◌, List, [], ◌∷◌, length, take, slice_index_or, Bool, false, ◌&&◌, Decides, IsTrue, map, ℤ, refl, ap, sym, arith, ◌∙◌}
+use Rattle.std.proofs.Math.Bool.{and-true, and_assoc}
+use Rattle.std.proofs.lemmas.List.{take_all}
 use Rattle.std.specs.Ordering.{int_eq}
 use Rattle.std.specs.Cmp.Lexicographic.{pointwise}
 use Rattle.std.proofs.lemmas.Bool.{true≢false}
@@ -20,6 +22,32 @@ line-Decides a b =
     let d = slice_eq-Decides Decides-int_eq a.0 b.0 (same_line a b) refl in
     ((λ t. line-from a b (d.0 t)), (λ e. d.1 (ap values e)))
 
+-- the test of two lists up to a place, with the next two
+equal-next : (k : ℕ) (xs ys : List ℤ) (x y : ℤ) → k < length xs → k < length ys → pointwise int_eq (take (suc k) xs) (take (suc k) ys) ≡ (pointwise int_eq (take k xs) (take k ys) && int_eq (slice_index_or xs k x) (slice_index_or ys k y))
+equal-next k [] ys x y l m = absurd (omega (arith, l))
+equal-next k (a ∷ xs) [] x y l m = absurd (omega (arith, m))
+equal-next zero (a ∷ xs) (b ∷ ys) x y l m = and-true (int_eq a b)
+equal-next (suc k) (a ∷ xs) (b ∷ ys) x y l m =
+    ap (λ (t : Bool). int_eq a b && t) (equal-next k xs ys x y (omega (arith, l)) (omega (arith, m)))
+    ∙ sym (and_assoc (int_eq a b) (pointwise int_eq (take k xs) (take k ys)) (int_eq (slice_index_or xs k x) (slice_index_or ys k y)))
+
+pub equal-more : (k : ℕ) (xs ys : List ℤ) (x y : ℤ) (same next : Bool) → k < length xs → length xs ≡ length ys → same ≡ pointwise int_eq (take k xs) (take k ys) → x ≡ slice_index_or xs k x → y ≡ slice_index_or ys k y → next ≡ int_eq x y
+    → (same && next) ≡ pointwise int_eq (take (k + 1) xs) (take (k + 1) ys)
+equal-more k xs ys x y same next l m e p q f =
+    let after : k + 1 ≡ suc k = omega arith in
+    let pair : next ≡ int_eq (slice_index_or xs k x) (slice_index_or ys k y) = f ∙ ap (λ (z : ℤ). int_eq z y) p ∙ ap (int_eq (slice_index_or xs k x)) q in
+    ap (λ (t : Bool). t && next) e ∙ ap (λ (t : Bool). pointwise int_eq (take k xs) (take k ys) && t) pair ∙ sym (equal-next k xs ys x y l (omega (arith, l, m))) ∙ ap (λ (n : ℕ). pointwise int_eq (take n xs) (take n ys)) (sym after)
+
+-- once all are tested
+pub equal-all : (k : ℕ) (xs ys : List ℤ) (same : Bool) → length xs ≤ k → length xs ≡ length ys → same ≡ pointwise int_eq (take k xs) (take k ys) → IsTrue same ↔ (xs ≡ ys)
+equal-all k xs ys same l m e =
+    let whole : same ≡ pointwise int_eq xs ys = e ∙ ap (λ (zs : List ℤ). pointwise int_eq zs (take k ys)) (take_all k xs l) ∙ ap (pointwise int_eq xs) (take_all k ys (omega (arith, l, m))) in
+    slice_eq-Decides Decides-int_eq xs ys same whole
+
+-- of other lengths they differ
+pub other-lengths : (xs ys : List ℤ) → (length xs ≡ length ys → ⊥) → IsTrue false ↔ (xs ≡ ys)
+other-lengths xs ys n = ((λ f. absurd (true≢false (sym f))), (λ e. absurd (n (ap length e))))
+
 lines-from : (ps qs : List Fields) → map values ps ≡ map values qs → ps ≡ qs
 lines-from [] [] e = refl
 lines-from [] (q ∷ qs) e = cc
@@ -31,16 +59,11 @@ lines-from (p ∷ ps) (q ∷ qs) e =
     let b : ps ≡ qs = lines-from ps qs rest in
     cc
 
-module _ (one other : LogEntry) (m n : Fields) (a : m.0 ≡ one.main) (b : n.0 ≡ other.main) where
-  -- where the summary lines differ
-  pub other-entry : false ≡ same_line m n → (IsTrue false → one ≡ other) × (one ≡ other → IsTrue false)
-  other-entry h = ((λ t. absurd (true≢false (sym t))), (λ e. h ∙ (line-Decides m n).1 (line-from m n (a ∙ ap (λ (x : LogEntry). x.main) e ∙ sym b))))
-
-  -- where they are the same
-  pub same-entry : (ps qs : List Fields) (r : Bool) → true ≡ same_line m n → map values ps ≡ one.parts → map values qs ≡ other.parts → r ≡ pointwise same_line ps qs → (IsTrue r → one ≡ other) × (one ≡ other → IsTrue r)
-  same-entry ps qs r h p q is =
+module _ (one other : LogEntry) where
+  -- entries with the same summary line
+  pub same-entry : (ps qs : List Fields) (r : Bool) → one.main ≡ other.main → map values ps ≡ one.parts → map values qs ≡ other.parts → r ≡ pointwise same_line ps qs → (IsTrue r → one ≡ other) × (one ≡ other → IsTrue r)
+  same-entry ps qs r main p q is =
       let d = slice_eq-Decides line-Decides ps qs r is in
-      let main : one.main ≡ other.main = sym a ∙ ap values ((line-Decides m n).0 (sym h)) ∙ b in
       ((λ t. joined main (sym p ∙ ap (map values) (d.0 t) ∙ q)), (λ e. d.1 (lines-from ps qs (p ∙ ap (λ (x : LogEntry). x.parts) e ∙ sym q))))
     where
       joined : one.main ≡ other.main → one.parts ≡ other.parts → one ≡ other

@@ -147,11 +147,26 @@ pub(crate) fn changed_entry<A: Allocator + Copy>(
     Ok(entry)
 }
 
+// Whether two lines have the same values. All are looked at: without an end at the first that
+// differs, several can be compared at once.
+fn are_equal(one: &[Value], other: &[Value]) -> bool
+    ensures { IsTrue result ↔ (one.now ≡ other.now) }
+{
+    if one.len() != other.len() {
+        return false;
+    }
+    let mut same = true;
+    for place in 0..one.len() {
+        same &= one[place] == other[place];
+    }
+    same
+}
+
 // Whether two entries have the same lines.
 fn is_same<A: Allocator + Copy>(one: &Entry<A>, other: &Entry<A>) -> bool
     ensures { IsTrue result ↔ (one.now ≡ other.now) }
 {
-    *one.main() == *other.main() && one.parts() == other.parts()
+    are_equal(one.main().0.as_slice(), other.main().0.as_slice()) && one.parts() == other.parts()
 }
 
 // Whether the entries that are left are the same, in the same order.

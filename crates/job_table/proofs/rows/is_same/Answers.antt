@@ -1,8 +1,8 @@
-use Rattle.job_table.proofs.Same.{same-entry, other-entry}
+use Rattle.std.proofs.Common.{sym, ◌∙◌}
+use Rattle.job_table.proofs.Same.{same-entry}
 use Rattle.job_table.proofs.rows.is_same.Goals as goal
 
-pub returns-then-eq : goal.returns-then-eq
-returns-then-eq g c = same-entry c.args.one.now c.args.other.now c.main.result.now c.main-2.result.now c.main.ensures.main c.main-2.ensures.main c.parts.result.now c.parts-then-eq.result.now c.eq-then-eq.result c.if-eq.ensures c.parts.ensures c.parts-then-eq.ensures c.eq-then-eq.ensures
-
-pub returns-else-eq : goal.returns-else-eq
-returns-else-eq g c = rw c.if-eq.false (other-entry c.args.one.now c.args.other.now c.main.result.now c.main-2.result.now c.main.ensures.main c.main-2.ensures.main c.if-eq.ensures)
+pub returns-then-are_equal : goal.returns-then-are_equal
+returns-then-are_equal g c =
+    let main = sym (c.as_slice.ensures ∙ c.main.ensures.main) ∙ c.are_equal.ensures.0 c.if-are_equal.true ∙ (c.as_slice-2.ensures ∙ c.main-2.ensures.main) in
+    same-entry c.args.one.now c.args.other.now c.parts.result.now c.parts-then-are_equal.result.now c.eq.result main c.parts.ensures c.parts-then-are_equal.ensures c.eq.ensures
