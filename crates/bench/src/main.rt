@@ -1,10 +1,14 @@
 //! Times a plain run of the log that its first word names, on a machine of as many processors as its
 //! second word says: reading, opening, simulating and printing, and a thousand edits of its table.
-//! Without both words it prints one fixed line.
+//! With `changes` or `insertions` as a third word it times 200 edits of that kind in place of it, each
+//! until its run is published. Without the first two words it prints one fixed line.
 #![tactic(auto)]
 
 ghost use Rattle.std.specs.Prelude.{◌≡◌, ◌/◌, max};
 
+mod edits;
+
+use crate::edits::Kind;
 use anyhow::{Context, Result, bail};
 use checkpoints::{Run, simulate};
 use commands::open_text;
@@ -55,8 +59,8 @@ fn edit_all_over<A: Allocator + Copy>(table: &mut JobTable<A>) -> u64 {
     changed
 }
 
-// Times the edits of a copy of the table.
-fn time_edits<R: AllocGlobal + Clock + Print>(rt: &R, table: &JobTable<Global>) -> Result<()> {
+// Times the edits of a copy of the table alone.
+fn time_table<R: AllocGlobal + Clock + Print>(rt: &R, table: &JobTable<Global>) -> Result<()> {
     let begun = Instant::now(rt)?;
     let mut edited = table.copy()?;
     tell(rt, "copy the table", begun.elapsed(rt)?, table.len() as u64)?;
@@ -112,15 +116,41 @@ fn print<R: AllocGlobal + Clock + Print>(rt: &R, run: &Run<Global>) -> Result<()
     println!(rt; "{} segments, {} bytes", run.segments().len(), text.len()).context("the output")
 }
 
-// Reads, opens, simulates and prints the log, and tells how long each took.
-fn time_run<R: AllocGlobal + Clock + Print>(rt: &R, log: &[u8], procs: u64) -> Result<()> {
+// Simulates and prints the log, and tells how long each took, and edits of its table.
+fn time_run<R: AllocGlobal + Clock + Print>(
+    rt: &R,
+    table: JobTable<Global>,
+    scenario: Scenario,
+) -> Result<()> {
+    time_table(rt, &table)?;
+    let run = run_of(rt, table, scenario)?;
+    print(rt, &run)
+}
+
+// Times a log: edits of a kind, or a plain run.
+fn time<R: AllocGlobal + Clock + Print>(
+    rt: &R,
+    log: &[u8],
+    procs: u64,
+    kind: Option<Kind>,
+) -> Result<()> {
     let Some(scenario) = Scenario::new(procs, 1000) else {
         bail!("no such machine");
     };
     let table = open(rt, read(rt, log)?, procs)?;
-    time_edits(rt, &table)?;
-    let run = run_of(rt, table, scenario)?;
-    print(rt, &run)
+    match kind {
+        Some(kind) => edits::time_edits(rt, table, scenario, kind),
+        None => time_run(rt, table, scenario),
+    }
+}
+
+// The kind of edits that a word names.
+fn kind_of(word: &str) -> Result<Kind> {
+    match word {
+        "changes" => Ok(Kind::Changes),
+        "insertions" => Ok(Kind::Insertions),
+        _ => bail!("neither changes nor insertions"),
+    }
 }
 
 fn run<R: AllocGlobal + Clock + Env + Files + Print>(rt: &R) -> Result<()> {
@@ -130,6 +160,10 @@ fn run<R: AllocGlobal + Clock + Env + Files + Print>(rt: &R) -> Result<()> {
         return Ok(());
     };
     let procs = procs.parse().context("the number of processors")?;
+    let kind = match words.next() {
+        Some(word) => Some(kind_of(word.as_str())?),
+        None => None,
+    };
     let begun = Instant::now(rt)?;
     let log = fs::read(rt, name.as_str()).context("the log")?;
     println!(rt;
@@ -137,7 +171,7 @@ fn run<R: AllocGlobal + Clock + Env + Files + Print>(rt: &R) -> Result<()> {
         begun.elapsed(rt)?.as_millis(),
         log.len()
     )?;
-    time_run(rt, log.as_slice(), procs)
+    time(rt, log.as_slice(), procs, kind)
 }
 
 fn main(rt: HostRuntime) -> Result<()> {
