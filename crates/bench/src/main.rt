@@ -1,5 +1,6 @@
 //! Times a plain run of the log that its first word names, on a machine of as many processors as its
-//! second word says: reading, opening, simulating and printing, and a thousand edits of its table.
+//! second word says: reading, by one thread and by several, opening, simulating and printing, and a
+//! thousand edits of its table.
 //! With `changes` or `insertions` as a third word it times 200 edits of that kind in place of it, each
 //! until its run is published. Without the first two words it prints one fixed line.
 #![tactic(auto)]
@@ -13,11 +14,13 @@ use anyhow::{Context, Result, bail};
 use checkpoints::{Run, simulate};
 use commands::open_text;
 use job_table::{Edit, JobTable};
+use parallel_reader::read_parallel;
 use report::schedule_text;
 use scenarios::Scenario;
 use std::alloc::{Allocator, Global};
 use std::rt::{Clock, Env, Files};
 use std::sync::Arc;
+use std::thread::Threads;
 use std::time::{Duration, Instant};
 use std::{env, fs};
 use swf_text::{SwfText, Value, read_swf};
@@ -79,6 +82,21 @@ fn read<R: AllocGlobal + Clock + Print>(rt: &R, log: &[u8]) -> Result<SwfText<Gl
     Ok(text)
 }
 
+// Reads the log with a thread for each processor, and lets it go.
+fn read_with_threads<R: AllocGlobal + Clock + Print + Threads + Sync>(
+    rt: &R,
+    log: &[u8],
+) -> Result<()> {
+    let begun = Instant::now(rt)?;
+    let text = read_parallel(rt, rt.alloc(), log)?;
+    tell(
+        rt,
+        "threads",
+        begun.elapsed(rt)?,
+        text.entries().len() as u64,
+    )
+}
+
 // Opens a text: its table.
 fn open<R: AllocGlobal + Clock + Print>(
     rt: &R,
@@ -128,7 +146,7 @@ fn time_run<R: AllocGlobal + Clock + Print>(
 }
 
 // Times a log: edits of a kind, or a plain run.
-fn time<R: AllocGlobal + Clock + Print>(
+fn time<R: AllocGlobal + Clock + Print + Threads + Sync>(
     rt: &R,
     log: &[u8],
     procs: u64,
@@ -140,7 +158,10 @@ fn time<R: AllocGlobal + Clock + Print>(
     let table = open(rt, read(rt, log)?, procs)?;
     match kind {
         Some(kind) => edits::time_edits(rt, table, scenario, kind),
-        None => time_run(rt, table, scenario),
+        None => {
+            read_with_threads(rt, log)?;
+            time_run(rt, table, scenario)
+        }
     }
 }
 
@@ -153,7 +174,7 @@ fn kind_of(word: &str) -> Result<Kind> {
     }
 }
 
-fn run<R: AllocGlobal + Clock + Env + Files + Print>(rt: &R) -> Result<()> {
+fn run<R: AllocGlobal + Clock + Env + Files + Print + Threads + Sync>(rt: &R) -> Result<()> {
     let mut words = env::args(rt)?.skip(1);
     let (Some(name), Some(procs)) = (words.next(), words.next()) else {
         println!(rt; "name a log and a number of processors")?;
