@@ -1,6 +1,6 @@
 //! Times a plain run of the log that its first word names, on a machine of as many processors as its
-//! second word says: reading, by one thread and by several, opening, simulating and printing, and a
-//! thousand edits of its table.
+//! second word says: reading, by one thread and by several, opening, simulating and printing, and
+//! ten thousand edits of its table, twice.
 //! With `changes` or `insertions` as a third word it times 200 edits of that kind in place of it, each
 //! until its run is published. Without the first two words it prints one fixed line.
 #![tactic(auto)]
@@ -29,7 +29,7 @@ use swf_text::{SwfText, Value, read_swf};
 const SPACING: u32 = 256;
 
 /// How many edits are timed.
-const EDITS: u64 = 1_000;
+const EDITS: u64 = 10_000;
 
 // The share of one entry.
 fn per_entry(nanoseconds: u64, entries: u64) -> u64
@@ -62,16 +62,23 @@ fn edit_all_over<A: Allocator + Copy>(table: &mut JobTable<A>) -> u64 {
     changed
 }
 
-// Times the edits of a copy of the table alone.
+// Times edits all over a table.
+fn time_changes<R: Clock + Print>(rt: &R, what: &str, table: &mut JobTable<Global>) -> Result<()> {
+    let begun = Instant::now(rt)?;
+    let changed = edit_all_over(table);
+    let took = begun.elapsed(rt)?;
+    println!(rt; "{changed} edits").context("the output")?;
+    tell(rt, what, took, EDITS)
+}
+
+// Times the edits of a copy of the table alone, twice: the first ones copy each chunk that they touch,
+// and then nobody else has these.
 fn time_table<R: AllocGlobal + Clock + Print>(rt: &R, table: &JobTable<Global>) -> Result<()> {
     let begun = Instant::now(rt)?;
     let mut edited = table.copy()?;
     tell(rt, "copy the table", begun.elapsed(rt)?, table.len() as u64)?;
-    let begun = Instant::now(rt)?;
-    let changed = edit_all_over(&mut edited);
-    let took = begun.elapsed(rt)?;
-    println!(rt; "{changed} edits").context("the output")?;
-    tell(rt, "edit", took, EDITS)
+    time_changes(rt, "edit", &mut edited)?;
+    time_changes(rt, "again", &mut edited)
 }
 
 // Reads the log.

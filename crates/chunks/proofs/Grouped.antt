@@ -54,7 +54,7 @@ module _ {Y : Type 0} where
       ap (λ (n : ℕ). drop n (flat gs)) far ∙ ap (drop (length (flat (take g gs)) + (i + 1))) (flat_at g gs) ∙ drop-append-add (flat (take g gs)) (get_or gs g [] ++ flat (drop (suc g) gs)) (i + 1)
       ∙ drop_seam g (i + 1) gs (λ lt. let less : i < length (get_or gs g []) = h lt in omega (arith, less))
 
-  inside_flat : (g i : ℕ) (gs : List (List Y)) → g < length gs → i < length (get_or gs g []) → start g gs + i < length (flat gs)
+  pub inside_flat : (g i : ℕ) (gs : List (List Y)) → g < length gs → i < length (get_or gs g []) → start g gs + i < length (flat gs)
   inside_flat g i [] lt h = absurd (omega (arith, lt))
   inside_flat zero i (c ∷ gs) lt h = omega (arith, h, length-append c (flat gs))
   inside_flat (suc g) i (c ∷ gs) lt h =
@@ -62,7 +62,7 @@ module _ {Y : Type 0} where
       omega (arith, next, first_of g i c gs, length-append c (flat gs))
 
   -- ---- one chunk of a group among those of all
-  chunk_is : (g i : ℕ) (gs : List (List Y)) (d : Y) → (g < length gs → i < length (get_or gs g [])) → get_or (flat gs) (start g gs + i) d ≡ get_or (get_or gs g []) i d
+  pub chunk_is : (g i : ℕ) (gs : List (List Y)) (d : Y) → (g < length gs → i < length (get_or gs g [])) → get_or (flat gs) (start g gs + i) d ≡ get_or (get_or gs g []) i d
   chunk_is zero i [] d h = refl
   chunk_is (suc g) i [] d h = refl
   chunk_is zero i (c ∷ gs) d h = ap (λ (n : ℕ). get_or (c ++ flat gs) n d) (zero-add i) ∙ get_or_append_left c (flat gs) d i (h (omega arith))

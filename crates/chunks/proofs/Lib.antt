@@ -2,3 +2,4 @@ mod Changes
 mod Places
 mod Grouped
 mod Lists
+mod Exchanged

@@ -1,4 +1,5 @@
-ghost use Rattle.std.specs.Prelude.{◌≡◌, ◌≤◌, ◌+◌, IfOk, length, take, drop};
+ghost use Rattle.std.specs.Prelude.{◌≡◌, ◌≤◌, ◌<◌, ◌+◌, IfErr, IfOk, OnErr, OnOk, length, slice_set, take, drop};
+ghost use Rattle.chunks.specs.Chunks.{chunk_of};
 
 use std::alloc::Allocator;
 use std::marker::Model;
@@ -58,5 +59,38 @@ impl<T: Drop, A: Allocator + Copy> Chunk<T, A> {
         ensures { result.now ≡ self.now }
     {
         &self.list.as_slice()[self.from..][..self.len]
+    }
+
+    // Puts another element at a place, where no other chunk holds the list; otherwise hands it back.
+    pub(crate) fn put(&mut self, at: usize, item: T) -> Result<(), T>
+        requires { at < length self.old }
+        ensures put { OnOk result (self.new ≡ slice_set self.old at item) }
+        ensures kept { OnErr result (self.new ≡ self.old) }
+        ensures back { IfErr result (λ back. back ≡ item) }
+    {
+        let at = self.from + at;
+        let Some(list) = Arc::get_mut(&mut self.list) else {
+            return Err(item);
+        };
+        list[at] = item;
+        Ok(())
+    }
+}
+
+impl<T: Drop, A: Allocator + Copy> Chunk<Chunk<T, A>, A> {
+    // Puts another element at a place of a chunk, where no other list has that chunk; otherwise
+    // hands it back.
+    pub(crate) fn put_in(&mut self, chunk: usize, at: usize, item: T) -> Result<(), T>
+        requires chunk { chunk < length self.old }
+        requires at { at < length (chunk_of self.old chunk) }
+        ensures put { OnOk result (self.new ≡ slice_set self.old chunk (slice_set (chunk_of self.old chunk) at item)) }
+        ensures kept { OnErr result (self.new ≡ self.old) }
+        ensures back { IfErr result (λ back. back ≡ item) }
+    {
+        let chunk = self.from + chunk;
+        let Some(list) = Arc::get_mut(&mut self.list) else {
+            return Err(item);
+        };
+        list[chunk].put(at, item)
     }
 }

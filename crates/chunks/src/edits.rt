@@ -1,10 +1,10 @@
-ghost use Rattle.std.specs.Prelude.{◌≡◌, ◌≤◌, ◌<◌, ◌+◌, ◌++◌, IfOk, OnOk, length, slice_set, take, drop, vec_len};
+ghost use Rattle.std.specs.Prelude.{◌≡◌, ◌≤◌, ◌<◌, ◌+◌, ◌++◌, IfOk, OnErr, OnOk, length, slice_set, take, drop, vec_len};
 ghost use Rattle.std.specs.List.{insert, remove};
 ghost use Rattle.chunks.specs.Chunks.{flat, moved};
 ghost use Rattle.chunks.specs.Groups.{AreGrouped, IsSpot, chunk_at, chunk_number, chunks_in, place_at};
 
 use crate::copied::Copied;
-use crate::groups::{Group, Place, elements_at};
+use crate::groups::{Group, Place, elements_at, put};
 use crate::pieces::copy_of;
 use crate::row::{elements, with_chunk};
 use std::alloc::Allocator;
@@ -82,7 +82,7 @@ pub(crate) fn removed<T: Copied, A: Allocator + Copy>(
 }
 
 // The groups with another element at a place of a chunk.
-pub(crate) fn with_another<T: Copied, A: Allocator + Copy>(
+fn with_another<T: Copied, A: Allocator + Copy>(
     alloc: A,
     groups: &[Group<T, A>],
     place: Place,
@@ -101,4 +101,33 @@ pub(crate) fn with_another<T: Copied, A: Allocator + Copy>(
     let mut items = copy_of(alloc, elements_at(groups, place), count)?;
     items[place.at] = item;
     Ok(with_elements(alloc, groups, place, items, count)?)
+}
+
+// Puts another element at a place of a chunk: where it stands, or where another list has that chunk,
+// into a copy of it. Counts the elements of that chunk.
+pub(crate) fn exchange<T: Copied, A: Allocator + Copy>(
+    groups: &mut Vec<Group<T, A>, A>,
+    place: Place,
+    item: T,
+    count: &mut u32,
+) -> Result<(), Memory>
+    requires spot { IsSpot place.group place.chunk groups.old.items }
+    requires place { place.at < length (chunk_at place.group place.chunk groups.old.items) }
+    requires room { count.old ≤ 768 }
+    requires sized { AreGrouped groups.old.items }
+    ensures flat { OnOk result (flat (chunks_in groups.new.items) ≡ slice_set (flat (chunks_in groups.old.items)) (place_at place.group place.chunk place.at groups.old.items) item) }
+    ensures sized { AreGrouped groups.new.items }
+    ensures kept { OnErr result (groups.new.items ≡ groups.old.items) }
+    ensures count { OnOk result (count.new ≡ count.old + length (chunk_at place.group place.chunk groups.old.items)) }
+    ensures most { OnOk result (count.new ≤ count.old + 256) }
+{
+    let len = elements_at(groups.as_slice(), place).len() as u32;
+    match put(groups.as_mut_slice(), place, item) {
+        Ok(()) => *count += len,
+        Err(item) => {
+            let alloc = *groups.allocator();
+            *groups = with_another(alloc, groups.as_slice(), place, item, count)?;
+        }
+    }
+    Ok(())
 }

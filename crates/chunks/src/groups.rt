@@ -1,5 +1,6 @@
-ghost use Rattle.std.specs.Prelude.{◌≡◌, ◌≤◌, length};
-ghost use Rattle.chunks.specs.Groups.{AreGrouped, IsSpot, chunk_at};
+ghost use Rattle.std.specs.Prelude.{◌≡◌, ◌≤◌, ◌<◌, IfErr, OnErr, OnOk, length, slice_set};
+ghost use Rattle.chunks.specs.Chunks.{flat};
+ghost use Rattle.chunks.specs.Groups.{AreGrouped, IsSpot, chunk_at, chunks_in, place_at};
 
 use crate::chunk::Chunk;
 use crate::row::elements;
@@ -29,4 +30,22 @@ pub(crate) fn elements_at<T: Drop, A: Allocator + Copy>(
 {
     let chunks = elements(groups, place.group);
     elements(chunks, place.chunk)
+}
+
+// Puts another element at a place of a chunk, where no other list has that chunk; otherwise hands
+// it back.
+pub(crate) fn put<T: Drop, A: Allocator + Copy>(
+    groups: &mut [Group<T, A>],
+    place: Place,
+    item: T,
+) -> Result<(), T>
+    requires spot { IsSpot place.group place.chunk groups.old }
+    requires place { place.at < length (chunk_at place.group place.chunk groups.old) }
+    requires sized { AreGrouped groups.old }
+    ensures put { OnOk result (flat (chunks_in groups.new) ≡ slice_set (flat (chunks_in groups.old)) (place_at place.group place.chunk place.at groups.old) item) }
+    ensures sized { OnOk result (AreGrouped groups.new) }
+    ensures kept { OnErr result (groups.new ≡ groups.old) }
+    ensures back { IfErr result (λ back. back ≡ item) }
+{
+    groups[place.group].put_in(place.chunk, place.at, item)
 }

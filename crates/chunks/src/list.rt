@@ -1,10 +1,10 @@
-ghost use Rattle.std.specs.Prelude.{◌≡◌, ◌≤◌, ◌<◌, ◌+◌, ◌++◌, IfOk, OnOk, length, option_copied, slice_get, slice_set, drop, vec_len};
+ghost use Rattle.std.specs.Prelude.{◌≡◌, ◌≤◌, ◌<◌, ◌+◌, ◌++◌, IfOk, OnErr, OnOk, length, option_copied, slice_get, slice_set, drop, vec_len};
 ghost use Rattle.std.specs.List.{insert, remove};
 ghost use Rattle.std.specs.List.Sorted.{IsPartitionedBy};
 ghost use Rattle.chunks.specs.Chunks.{AreFull, flat, joining, place_in, stands, touched};
 
 use crate::copied::Keyed;
-use crate::edits::{inserted, removed, with_another};
+use crate::edits::{exchange, inserted, removed};
 use crate::groups::Group;
 use crate::pieces::{chunks_of, share};
 use crate::rest::{Rest, rest_of};
@@ -16,9 +16,10 @@ use swf_text::Memory;
 
 /// A list in chunks of 1 to 256 elements, which stand in groups of 1 to 256 chunks. A copy shares
 /// all groups. A list made from this one by an edit shares all groups but the one that the edit
-/// touches, and all chunks of that one but the touched one. The chunks of a list that `of` made are
-/// ranges of the one list that it was given, whose memory stays as long as any chunk of it does.
-/// Contracts see the chunks, each with its elements; how they are grouped is not told.
+/// touches, and all chunks of that one but the touched one. An exchange changes this list alone, and
+/// what other lists have stays as it is. The chunks of a list that `of` made are ranges of the one
+/// list that it was given, whose memory stays as long as any chunk of it does. Contracts see the
+/// chunks, each with its elements; how they are grouped is not told.
 #[derive(Drop)]
 pub struct Chunks<T: Keyed, A: Allocator + Copy> {
     groups: Vec<Group<T, A>, A>,
@@ -124,22 +125,21 @@ impl<T: Keyed, A: Allocator + Copy> Chunks<T, A> {
         Ok(Chunks { groups })
     }
 
-    /// The list with another element in place of the first that doesn't stand before it. Counts
-    /// each element that it copies: those of that element's chunk, at most 256. Memory where a
-    /// growth was refused.
-    pub fn exchanged(&self, item: T, count: &mut u32) -> Result<Chunks<T, A>, Memory>
-        requires parted { IsPartitionedBy (stands T.major T.minor (T.major item) (T.minor item)) (flat self.now) }
-        requires there { place_in T.major T.minor (T.major item) (T.minor item) (flat self.now) < length (flat self.now) }
+    /// Another element in place of the first that doesn't stand before it. Where no other list and
+    /// no other chunk has the memory of its chunk, it is exchanged where it stands, otherwise in a
+    /// copy of the chunk. Counts the elements of that chunk, at most 256. Memory where a growth was
+    /// refused; then the list is as it was.
+    pub fn exchange(&mut self, item: T, count: &mut u32) -> Result<(), Memory>
+        requires parted { IsPartitionedBy (stands T.major T.minor (T.major item) (T.minor item)) (flat self.old) }
+        requires there { place_in T.major T.minor (T.major item) (T.minor item) (flat self.old) < length (flat self.old) }
         requires room { count.old ≤ 768 }
-        ensures list { IfOk result (λ list. flat list ≡ slice_set (flat self.now) (place_in T.major T.minor (T.major item) (T.minor item) (flat self.now)) item) }
-        ensures count { OnOk result (count.new ≡ count.old + touched (place_in T.major T.minor (T.major item) (T.minor item) (flat self.now)) self.now) }
+        ensures list { OnOk result (flat self.new ≡ slice_set (flat self.old) (place_in T.major T.minor (T.major item) (T.minor item) (flat self.old)) item) }
+        ensures kept { OnErr result (self.new ≡ self.old) }
+        ensures count { OnOk result (count.new ≡ count.old + touched (place_in T.major T.minor (T.major item) (T.minor item) (flat self.old)) self.old) }
         ensures least { OnOk result (count.old < count.new) }
         ensures most { OnOk result (count.new ≤ count.old + 256) }
     {
-        let old = self.groups.as_slice();
-        let place = place_of(old, item.major(), item.minor());
-        let alloc = *self.groups.allocator();
-        let groups = with_another(alloc, old, place, item, count)?;
-        Ok(Chunks { groups })
+        let place = place_of(self.groups.as_slice(), item.major(), item.minor());
+        exchange(&mut self.groups, place, item, count)
     }
 }

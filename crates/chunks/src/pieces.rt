@@ -83,7 +83,11 @@ pub(crate) fn joined<T: Drop, A: Allocator + Copy>(
 ) -> Result<Vec<Chunk<T, A>, A>, Memory>
     ensures { IfOk result (λ row. row.items ≡ front.now ++ pieces.now ++ back.now) }
 {
-    let mut row = Vec::with_capacity(alloc, front.len())?;
+    let len = front
+        .len()
+        .saturating_add(pieces.len())
+        .saturating_add(back.len());
+    let mut row = Vec::with_capacity(alloc, len)?;
     share(&mut row, front)?;
     share(&mut row, pieces)?;
     share(&mut row, back)?;

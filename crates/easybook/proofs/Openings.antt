@@ -10,7 +10,9 @@ use Rattle.commands.specs.Opening.{base_on, of_setting, machine_of, opened, told
 use Rattle.commands.specs.declared.opening_fault.OpenTextFault.{OpenTextFault}
 use Rattle.report.specs.Schedule.{schedule_text, HasALineForEachJob}
 use Rattle.easybook.specs.Opened.{IsOpened}
-use Rattle.easybook.specs.Plain.{IsScheduleOf}
+use Rattle.easybook.specs.Plain.{Answers, IsPrinted, IsScheduleOf, Prints}
+use Rattle.easybook.specs.declared.fault.ProgramFault.{ProgramFault}
+use Rattle.easybook.specs.declared.fault.ProgramFault.TheVariants as faults
 
 -- a list has a first scenario, if there is a list
 filled : Result Listing OpenTextFault → Bool
@@ -56,3 +58,19 @@ of-plan {text} {log} {table} {setting} {scenario} name is same_log same_scenario
 pub lines-of-plan : {text : List ℕ} {log table : List LogEntry} {setting scenario : Setting} → (name : List ℕ) → HasALineForEachJob name 0 (plan_of log setting) text → log ≡ table → setting ≡ scenario → HasALineForEachJob name 0 (plan_of table scenario) text
 lines-of-plan {text} {log} {table} {setting} {scenario} name has same_log same_scenario =
     subst (λ (s : Setting). HasALineForEachJob name 0 (plan_of table s) text) same_scenario (subst (λ (es : List LogEntry). HasALineForEachJob name 0 (plan_of es setting) text) same_log has)
+
+-- the schedule of the first scenario of a log, or why it is not written, is what the log is answered
+pub printed : {X : Type 0} (log : List ℕ) (procs : Option ℕ) (comments : List (List ℕ)) (table : List LogEntry) (scenarios : Listing) (first : Listed) (old new : Option (List ℕ)) (result : Result X ProgramFault) → IsOpened log procs comments table scenarios → slice_get scenarios.scenarios 0 ≡ Some first → Prints first.name (plan_of table first.setting) old new result → Answers log procs old new result
+printed log procs comments table scenarios first old new (Ok x) is is_first p = (p.0, schedule-is log procs p.0 comments table scenarios first is is_first p.1.schedule p.1.lines_of_jobs, p.2)
+printed log procs comments table scenarios first old new (Err faults.Write) is is_first p = (p.0, schedule-is log procs p.0 comments table scenarios first is is_first p.1.schedule p.1.lines_of_jobs, p.2)
+printed log procs comments table scenarios first old new (Err faults.Memory) is is_first p = (tt, p)
+printed log procs comments table scenarios first old new (Err faults.TooLong) is is_first p = absurd p
+printed log procs comments table scenarios first old new (Err faults.Read) is is_first p = absurd p
+printed log procs comments table scenarios first old new (Err (faults.Log f)) is is_first p = absurd p
+printed log procs comments table scenarios first old new (Err faults.NoMachine) is is_first p = absurd p
+printed log procs comments table scenarios first old new (Err faults.BadMachine) is is_first p = absurd p
+printed log procs comments table scenarios first old new (Err (faults.Close f)) is is_first p = absurd p
+
+-- the report on a run is that of the plan of this log and scenario, where they are the run's
+pub is-printed : {log table : List LogEntry} {setting scenario : Setting} → (name text : List ℕ) → text ≡ schedule_text name 0 (plan_of log setting) → HasALineForEachJob name 0 (plan_of log setting) text → log ≡ table → setting ≡ scenario → IsPrinted name (plan_of table scenario) text
+is-printed name text is has same_log same_scenario = record { schedule = of-plan name is same_log same_scenario; lines_of_jobs = lines-of-plan name has same_log same_scenario }

@@ -5,7 +5,7 @@ use Rattle.swf_text.specs.Text.{LogText, lines}
 use Rattle.swf_text.specs.Grammar.{IsText, FirstFault}
 use Rattle.swf_text.specs.Log.{log_of}
 use Rattle.scenarios.specs.ScenarioList.{Listed, Listing}
-use Rattle.scenarios.specs.Plan.{plan_of}
+use Rattle.scenarios.specs.Plan.{Plan, plan_of}
 use Rattle.commands.specs.Opening.{opened}
 use Rattle.commands.specs.declared.opening_fault.OpenTextFault.{OpenTextFault}
 use Rattle.commands.specs.declared.opening_fault.OpenTextFault.TheVariants as openings
@@ -48,10 +48,18 @@ IsFaultOf log procs faults.Read = ⊥
 IsFaultOf log procs faults.Write = ⊥
 IsFaultOf log procs (faults.Close fault) = ⊥
 
--- the schedule of the log, or the fault
-abbrev pub IsTextOrFault : {X : Type 0} → (X → List ℕ) → List ℕ → Option ℕ → Result X ProgramFault → Type 0
-IsTextOrFault bytes log procs (Ok text) = IsScheduleOf log procs (bytes text)
-IsTextOrFault bytes log procs (Err fault) = IsFaultOf log procs fault
+-- the text is the schedule of a plan under this name, with a line for each of its jobs
+pub record IsPrinted (name : List ℕ) (plan : Plan) (text : List ℕ) : Type 0 where
+  pub schedule : text ≡ schedule_text name 0 plan
+  pub lines_of_jobs : HasALineForEachJob name 0 plan text
+
+-- what is written of the schedule of a plan: all of it, or where the writer failed a beginning of it, or where memory was
+-- short nothing
+abbrev pub Prints : {X : Type 0} → List ℕ → Plan → Option (List ℕ) → Option (List ℕ) → Result X ProgramFault → Type 0
+Prints name plan old new (Ok x) = (text : List ℕ) × IsPrinted name plan text × Appends old new text
+Prints name plan old new (Err faults.Write) = (text : List ℕ) × IsPrinted name plan text × ((n : ℕ) × Appends old new (take n text))
+Prints name plan old new (Err faults.Memory) = Keeps old new
+Prints name plan old new (Err fault) = ⊥
 
 -- what the plain run wrote, by what it answers: the whole schedule, or where the writer failed a beginning of it, or
 -- where there is none nothing

@@ -1,4 +1,4 @@
-ghost use Rattle.std.specs.Prelude.{IfErr, IfOk, map};
+ghost use Rattle.std.specs.Prelude.{◌≡◌, None, IfErr, IfOk, map, slice_get};
 ghost use Rattle.easybook.specs.Opened.{IsOpened};
 ghost use Rattle.easybook.specs.Plain.{IsFaultOf};
 
@@ -20,6 +20,7 @@ pub(crate) fn opening_of<T: Threads + Sync, A: Allocator + Copy>(
     procs: Option<u64>,
 ) -> Result<Opening<A>, ProgramFault>
     ensures opened { IfOk result (λ o. IsOpened log.now procs (map (λ c. c.items) o.comments.items) o.table o.scenarios) }
+    ensures some { IfOk result (λ o. slice_get o.scenarios.scenarios 0 ≡ None → ⊥) }
     ensures fault { IfErr result (IsFaultOf log.now procs) }
 {
     if log.len() > LOG_LIMIT {

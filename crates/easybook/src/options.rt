@@ -6,7 +6,7 @@ ghost use Rattle.checkpoints.specs.Spacing.{spacing_limit};
 pub struct Options {
     /// The machine's processors, where the words give them.
     pub procs: Option<u64>,
-    /// At most so many event seconds to a segment of a run, 1 to 65,536.
+    /// At most so many event seconds to a segment of a session's runs, 1 to 65,536.
     pub spacing: u32,
     /// How many workers simulate beside each other, 1 to 64.
     pub workers: u32,

@@ -1,9 +1,9 @@
-ghost use Rattle.std.specs.Prelude.{◌≡◌, IfOk, IfErr};
+ghost use Rattle.std.specs.Prelude.{◌≡◌, ℕ, List, Option, None, IfOk, IfErr, map, slice_get};
 ghost use Rattle.scenarios.specs.Plan.{plan_of};
 ghost use Rattle.checkpoints.specs.Cut.{IsShortCut};
-ghost use Rattle.checkpoints.specs.Spacing.{IsSpacing};
-ghost use Rattle.report.specs.Schedule.{schedule_text, HasALineForEachJob};
-ghost use Rattle.easybook.specs.Plain.{IsTextOrFault, Answers};
+ghost use Rattle.checkpoints.specs.Spacing.{spacing_limit};
+ghost use Rattle.easybook.specs.Opened.{IsOpened};
+ghost use Rattle.easybook.specs.Plain.{Prints, Answers};
 
 use crate::fault::ProgramFault;
 use crate::opened::opening_of;
@@ -11,71 +11,71 @@ use crate::options::Options;
 use checkpoints::{Run, RunFault, simulate};
 use commands::Opening;
 use job_table::JobTable;
-use report::schedule_text;
+use report::schedule_report;
 use scenarios::Scenario;
 use std::alloc::Allocator;
 use std::io::Write;
 use std::marker::Sync;
 use std::sync::Arc;
 use std::thread::Threads;
-use swf_text::write_bytes;
 
-// The run of a table under a scenario, in segments of up to `spacing` event seconds.
+/// The most event seconds of a segment. Nobody edits the log of a plain run, so its run is cut as
+/// seldom as a run may be.
+const SPACING: u32 = 65_536;
+
+// The run of a table under a scenario.
 fn run_of<A: Allocator + Copy>(
     alloc: A,
     table: JobTable<A>,
     scenario: Scenario,
-    spacing: u32,
 ) -> Result<Run<A>, ProgramFault>
-    requires { IsSpacing spacing }
     ensures log { IfOk result (λ run. run.log ≡ table) }
     ensures setting { IfOk result (λ run. run.setting ≡ scenario) }
-    ensures cut { IfOk result (λ run. IsShortCut (plan_of table scenario) spacing run.segments) }
+    ensures cut { IfOk result (λ run. IsShortCut (plan_of table scenario) spacing_limit run.segments) }
     ensures memory { IfErr result (λ fault. fault ≡ ProgramFault.Memory) }
 {
-    match simulate(alloc, Arc::new(alloc, table)?, scenario, spacing) {
+    match simulate(alloc, Arc::new(alloc, table)?, scenario, SPACING) {
         Ok(run) => Ok(run),
         Err(RunFault::Memory) => Err(ProgramFault::Memory),
         Err(RunFault::BadSpacing) => unreachable!(),
     }
 }
 
-// The text of the schedule of a table under a scenario of this name.
-fn schedule_under<A: Allocator + Copy>(
+// Writes the schedule of a table under a scenario of this name.
+fn write_under<W: Write, A: Allocator + Copy>(
     alloc: A,
+    writer: &mut W,
     name: &str,
     scenario: Scenario,
     table: JobTable<A>,
-    spacing: u32,
-) -> Result<Vec<u8, A>, ProgramFault>
-    requires { IsSpacing spacing }
-    ensures text { IfOk result (λ text. text.items ≡ schedule_text name.now 0 (plan_of table scenario)) }
-    ensures lines { IfOk result (λ text. HasALineForEachJob name.now 0 (plan_of table scenario) text.items) }
-    ensures memory { IfErr result (λ fault. fault ≡ ProgramFault.Memory) }
+) -> Result<(), ProgramFault>
+    ensures { Prints name.now (plan_of table scenario) (W.contents writer.old) (W.contents writer.new) result }
 {
-    let run = run_of(alloc, table, scenario, spacing)?;
-    Ok(schedule_text(alloc, name, 0, &run)?)
+    let run = run_of(alloc, table, scenario)?;
+    let report = schedule_report(alloc, name, 0, &run)?;
+    report.write(writer)?;
+    Ok(())
 }
 
-// The text of the schedule of the log's first scenario.
-fn schedule_of<T: Threads + Sync, A: Allocator + Copy>(
-    rt: &T,
+// Writes the schedule of an opened log's first scenario.
+pub(crate) fn write_first<W: Write, A: Allocator + Copy>(
     alloc: A,
-    log: &[u8],
-    options: Options,
-) -> Result<Vec<u8, A>, ProgramFault>
-    ensures { IsTextOrFault (λ text. text.items) log.now options.procs result }
+    writer: &mut W,
+    opening: Opening<A>,
+) -> Result<(), ProgramFault>
+    requires { slice_get opening.scenarios.scenarios 0 ≡ None → ⊥ }
+    ensures { (log : List ℕ) (procs : Option ℕ) → IsOpened log procs (map (λ c. c.items) opening.comments.items) opening.table opening.scenarios
+        → Answers log procs (W.contents writer.old) (W.contents writer.new) result }
 {
     let Opening {
         comments: _comments,
         table,
         scenarios,
-    } = opening_of(rt, alloc, log, options.procs)?;
+    } = opening;
     let Some(first) = scenarios.at(0) else {
         unreachable!()
     };
-    let schedule = schedule_under(alloc, first.0, first.2, table, options.spacing)?;
-    Ok(schedule)
+    write_under(alloc, writer, first.0, first.2, table)
 }
 
 /// Writes the schedule of a log's first scenario: the start and the end that EASY backfilling gives
@@ -97,7 +97,6 @@ pub fn run_plain<W: Write, T: Threads + Sync, A: Allocator + Copy>(
 ) -> Result<(), ProgramFault>
     ensures { Answers log.now options.procs (W.contents writer.old) (W.contents writer.new) result }
 {
-    let text = schedule_of(rt, alloc, log, options)?;
-    write_bytes(writer, text.as_slice())?;
-    Ok(())
+    let opening = opening_of(rt, alloc, log, options.procs)?;
+    write_first(alloc, writer, opening)
 }

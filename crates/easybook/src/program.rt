@@ -1,14 +1,15 @@
 ghost use Rattle.std.specs.Prelude.{◌≡◌, IfErr, IfOk, IfSome, length, map, vec_len};
 ghost use Rattle.std.specs.Option.{option_map};
 ghost use Rattle.easybook.specs.Input.{IsNotHad, IsReadFault};
-ghost use Rattle.easybook.specs.Program.{Ends, EndsOnFile, EndsOnInput, EndsOnScripts, RunsParts, log_known};
+ghost use Rattle.easybook.specs.Plain.{Answers};
+ghost use Rattle.easybook.specs.Program.{Ends, EndsOnFile, EndsOnInput, EndsOnScripts, log_known};
 
 use crate::alone::{SCRIPT_LIMIT, run_alone};
 use crate::fault::ProgramFault;
 use crate::input::{read_front, read_input};
-use crate::opened::LOG_LIMIT;
+use crate::opened::{LOG_LIMIT, opening_of};
 use crate::options::Options;
-use crate::plain::run_plain;
+use crate::plain::write_first;
 use crate::shared::run_shared;
 use crate::split::split_input;
 use crate::stop::Stop;
@@ -48,21 +49,19 @@ fn run_file<L: Read + Drop, R: Read + Drop, W: Write, T: Threads + Sync, A: Allo
     )
 }
 
-// Runs a log with the script behind it, if there is one.
-fn run_parts<W: Write, T: Threads + Sync, A: Allocator + Copy>(
+// Runs a log alone, whose bytes are let go once it is opened.
+fn run_log<W: Write, T: Threads + Sync, A: Allocator + Copy>(
     rt: &T,
     alloc: A,
-    log: &[u8],
-    script: Option<&[u8]>,
+    log: Vec<u8, A>,
     writer: &mut W,
     options: Options,
 ) -> Result<(), ProgramFault>
-    ensures { RunsParts A log.now (option_map (λ s. s.now) script.entry) options.procs (W.contents writer.old) (W.contents writer.new) result }
+    ensures { Answers log.items options.procs (W.contents writer.old) (W.contents writer.new) result }
 {
-    match script {
-        Some(script) => run_alone(rt, alloc, script, writer, log, options),
-        None => run_plain(rt, alloc, writer, log, options),
-    }
+    let opening = opening_of(rt, alloc, log.as_slice(), options.procs)?;
+    drop(log);
+    write_first(alloc, writer, opening)
 }
 
 // Reads an input, at most 1,200,000,000 bytes, and runs the log that it holds, with the script
@@ -77,8 +76,10 @@ fn run_input<R: Read + Drop, W: Write, T: Threads + Sync, A: Allocator + Copy>(
     ensures { EndsOnInput A options.procs (R.remaining reader) (W.contents writer.old) (W.contents writer.new) result }
 {
     let input = read_input(alloc, reader, INPUT_LIMIT)?;
-    let (log, script) = split_input(input.as_slice());
-    run_parts(rt, alloc, log, script, writer, options)
+    match split_input(input.as_slice()) {
+        (log, Some(script)) => run_alone(rt, alloc, script, writer, log, options),
+        (_, None) => run_log(rt, alloc, input, writer, options),
+    }
 }
 
 // Reads the scripts in these files, in their order, each at most one byte past its limit.
@@ -152,7 +153,7 @@ fn open<F: Files>(files: &F, path: &str) -> Result<F::File, ProgramFault>
 /// Where the words name scripts, these are worked side by side by `run_shared` on the log, which is the
 /// named file or all of the reader's bytes. Where they name none but a log, the reader's bytes are the
 /// script, which `run_alone` works. Where they don't, the reader's bytes are cut by `split_input`: a script in
-/// them is worked by `run_alone` on the log before it, and a log alone is run by `run_plain`.
+/// them is worked by `run_alone` on the log before it, and a log alone is run as by `run_plain`.
 ///
 /// The faults in their order: those of `read_words`; Read where the file cannot be opened or read;
 /// without a file TooLong where the reader has over 1,200,000,000 bytes; Read where the reader

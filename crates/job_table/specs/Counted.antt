@@ -1,5 +1,5 @@
--- How many entries and pairs of the index an edit copies or moves to another chunk.
--- Of each chunk that it makes anew these are at least one, since no chunk is empty.
+-- How many entries and pairs of the index an edit counts: those of each chunk that it touches, and those that it
+-- moves to another chunk. Of each chunk these are at least one, since no chunk is empty.
 use Rattle.std.specs.Prelude.{ℕ, ◌==◌, not, Bool, false, ℤ, List, length, Option, Some, None, if◌then◌else◌}
 use Rattle.swf_text.specs.Entry.{LogEntry, submit_of}
 use Rattle.job_table.specs.Edit.{LogEdit, Insert, Remove, Change, entry_of, with_field}
@@ -9,7 +9,7 @@ abbrev pub moves : ℕ → ℤ → Option LogEntry → Bool
 moves place value None = false
 moves place value (Some entry) = not (submit_of (with_field place value entry) == submit_of entry)
 
--- the fewest that an accepted edit of a log copies or moves: the new entry, one of the chunk of pairs and one of
+-- the fewest that an accepted edit of a log counts: the new entry, one of the chunk of pairs and one of
 -- the chunk of entries that it joins, where there are any; one of each chunk that a job leaves; the changed entry
 -- and one of its chunk, and where it moves, one of the chunk of its pair too, and one of the chunk that it joins,
 -- where there is another entry

@@ -1,4 +1,4 @@
-ghost use Rattle.std.specs.Prelude.{◌≡◌, ◌≤◌, ◌<◌, ◌+◌, ◌==◌, ℕ, IfOk, OnOk, Some, None, true, is_some, length, map, if◌then◌else◌};
+ghost use Rattle.std.specs.Prelude.{◌≡◌, ◌≤◌, ◌<◌, ◌+◌, ◌==◌, ℕ, IfOk, OnErr, OnOk, Some, None, true, is_some, length, map, if◌then◌else◌};
 ghost use Rattle.std.specs.List.Sorted.{IsNonDecreasingBy, IsPermutation};
 ghost use Rattle.chunks.specs.Chunks.{flat, joining, place_in, touched};
 ghost use Rattle.job_table.specs.Arranged.{IsDistinct};
@@ -125,21 +125,22 @@ pub(crate) fn without_number<A: Allocator + Copy>(
     Ok(index.without(number, number, count)?)
 }
 
-// The index with another submit second of a number that it has.
-pub(crate) fn with_second<A: Allocator + Copy>(
-    index: &Index<A>,
+// Sets another submit second of a number that the index has.
+pub(crate) fn set_second<A: Allocator + Copy>(
+    index: &mut Index<A>,
     number: u64,
     submit: u64,
     count: &mut u32,
-) -> Result<Index<A>, Memory>
-    requires rising { NumbersRise (flat index.now) }
-    requires there { is_some (second_of (flat index.now) number) ≡ true }
+) -> Result<(), Memory>
+    requires rising { NumbersRise (flat index.old) }
+    requires there { is_some (second_of (flat index.old) number) ≡ true }
     requires room { count.old ≤ 768 }
-    ensures rising { IfOk result (λ new. NumbersRise (flat new)) }
-    ensures seconds { IfOk result (λ new. (n : ℕ) → second_of (flat new) n ≡ (if number == n then Some submit else second_of (flat index.now) n)) }
-    ensures count { OnOk result (count.new ≡ count.old + touched (place_in number_in number_in number number (flat index.now)) index.now) }
+    ensures rising { OnOk result (NumbersRise (flat index.new)) }
+    ensures seconds { OnOk result ((n : ℕ) → second_of (flat index.new) n ≡ (if number == n then Some submit else second_of (flat index.old) n)) }
+    ensures kept { OnErr result (index.new ≡ index.old) }
+    ensures count { OnOk result (count.new ≡ count.old + touched (place_in number_in number_in number number (flat index.old)) index.old) }
     ensures least { OnOk result (count.old < count.new) }
     ensures most { OnOk result (count.new ≤ count.old + 256) }
 {
-    Ok(index.exchanged(Numbered { number, submit }, count)?)
+    index.exchange(Numbered { number, submit }, count)
 }

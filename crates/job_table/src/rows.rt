@@ -1,4 +1,4 @@
-ghost use Rattle.std.specs.Prelude.{◌≡◌, ◌≤◌, ◌<◌, ◌+◌, ◌↔◌, length, IfOk, OnOk, IsTrue, Some, None, option_copied, option_map};
+ghost use Rattle.std.specs.Prelude.{◌≡◌, ◌≤◌, ◌<◌, ◌+◌, ◌↔◌, length, IfOk, OnErr, OnOk, IsTrue, Some, None, option_copied, option_map};
 ghost use Rattle.chunks.specs.Chunks.{flat, joining, place_in, touched};
 ghost use Rattle.swf_text.specs.Entry.{number_of_entry, submit_of};
 ghost use Rattle.swf_text.specs.Log.{with_entry};
@@ -116,21 +116,22 @@ pub(crate) fn with_moved<A: Allocator + Copy>(
     Ok(with_one(&left, entry, count)?)
 }
 
-// The entries with another one in place of that with its job number and its submit second.
-pub(crate) fn with_exchanged<A: Allocator + Copy>(
-    rows: &Rows<A>,
+// Puts another entry in place of that with its job number and its submit second.
+pub(crate) fn exchange<A: Allocator + Copy>(
+    rows: &mut Rows<A>,
     entry: Entry<A>,
     count: &mut u32,
-) -> Result<Rows<A>, Memory>
-    requires table { IsTable (flat rows.now) }
-    requires known { Some (submit_of entry) ≡ option_map submit_of (entry_of (number_of_entry entry) (flat rows.now)) }
+) -> Result<(), Memory>
+    requires table { IsTable (flat rows.old) }
+    requires known { Some (submit_of entry) ≡ option_map submit_of (entry_of (number_of_entry entry) (flat rows.old)) }
     requires room { count.old ≤ 768 }
-    ensures rows { IfOk result (λ new. flat new ≡ with_entry entry (without (number_of_entry entry) (flat rows.now))) }
-    ensures count { OnOk result (count.new ≡ count.old + touched (place_in submit_of number_of_entry (submit_of entry) (number_of_entry entry) (flat rows.now)) rows.now) }
+    ensures rows { OnOk result (flat rows.new ≡ with_entry entry (without (number_of_entry entry) (flat rows.old))) }
+    ensures kept { OnErr result (rows.new ≡ rows.old) }
+    ensures count { OnOk result (count.new ≡ count.old + touched (place_in submit_of number_of_entry (submit_of entry) (number_of_entry entry) (flat rows.old)) rows.old) }
     ensures least { OnOk result (count.old < count.new) }
     ensures most { OnOk result (count.new ≤ count.old + 256) }
 {
-    Ok(rows.exchanged(entry, count)?)
+    rows.exchange(entry, count)
 }
 
 // An entry with another value in a field.

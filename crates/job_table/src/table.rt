@@ -13,11 +13,11 @@ use crate::cursor::Cursor;
 use crate::edit::Edit;
 use crate::fault::EditFault;
 use crate::index::{
-    Index, has_number, index_of, pairs_of, second, with_number, with_second, without_number,
+    Index, has_number, index_of, pairs_of, second, set_second, with_number, without_number,
 };
 use crate::rows::{
-    Rows, are_same, changed_entry, copy_of, copy_rest, entry_at, rest_from, with_exchanged,
-    with_moved, with_one, without_one,
+    Rows, are_same, changed_entry, copy_of, copy_rest, entry_at, exchange, rest_from, with_moved,
+    with_one, without_one,
 };
 use chunks::Chunks;
 use std::alloc::Allocator;
@@ -246,12 +246,11 @@ impl<A: Allocator + Copy> JobTable<A> {
         let entry = changed_entry(was, field, value)?;
         let at = entry.submit();
         if at == submit {
-            self.rows = with_exchanged(&self.rows, entry, &mut count)?;
+            exchange(&mut self.rows, entry, &mut count)?;
             return Ok(count);
         }
-        let index = with_second(&self.index, number, at, &mut count)?;
         let rows = with_moved(&self.rows, submit, entry, &mut count)?;
-        self.index = index;
+        set_second(&mut self.index, number, at, &mut count)?;
         self.rows = rows;
         Ok(count)
     }
@@ -270,9 +269,9 @@ impl<A: Allocator + Copy> JobTable<A> {
         Ok(())
     }
 
-    /// As `apply`, and answers how many entries and pairs of the index it copied or moved to
-    /// another chunk: at most 1,024, and at least `fewest`, one for each chunk that is made anew and
-    /// one for an entry that is new or changed.
+    /// As `apply`, and answers a count of its work: the entries and pairs of the index of each chunk
+    /// that it touches, those that it moves to another chunk, and an entry that is new or changed.
+    /// These are at most 1,024, and at least `fewest`, one for each chunk and one for the entry.
     pub fn apply_counted(&mut self, edit: &Edit<A>) -> Result<u32, EditFault>
         ensures accepted { OnOk result (fault_of (edit_of edit.now) self.old ≡ None) }
         ensures sound { OnOk result (IsEdit (edit_of edit.now)) }

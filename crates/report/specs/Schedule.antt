@@ -8,10 +8,13 @@ use Rattle.checkpoints.specs.Schedule.{rows_of}
 use Rattle.report.specs.Pieces.{right, cell, verdict}
 use Rattle.report.specs.Heading.{heading}
 
--- a job's number, submit second, start, end and size, and whether it was killed
+-- a job's number, submit second, start, end and size
+abbrev pub row_numbers : Row → List ℕ
+row_numbers row = right 8 (decimal row.number) ++ cell 10 row.submit ++ cell 10 row.start ++ cell 10 row.end ++ cell 8 row.size
+
+-- the numbers of a job, and whether it was killed
 abbrev pub row_line : Row → List ℕ
-row_line row =
-    right 8 (decimal row.number) ++ cell 10 row.submit ++ cell 10 row.start ++ cell 10 row.end ++ cell 8 row.size ++ verdict row.killed
+row_line row = row_numbers row ++ verdict row.killed
 
 -- these rows: how many there are, and a line for each
 abbrev pub rows_text : List ℕ → ℕ → List Row → List ℕ

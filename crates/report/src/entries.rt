@@ -5,7 +5,7 @@ ghost use Rattle.scenarios.specs.Effective.{effective};
 ghost use Rattle.report.specs.Entries.{reason, job_cells, told_of, entry_line, log_text};
 
 use crate::heading::push_heading;
-use crate::pieces::{push_aligned, push_cell, push_verdict};
+use crate::pieces::{push_aligned, push_cell, verdict};
 use job_table::JobTable;
 use scenarios::{Job, Scenario, Skip, effective};
 use std::alloc::{AllocError, Allocator};
@@ -36,7 +36,7 @@ fn push_job<A: Allocator + Copy>(text: &mut Vec<u8, A>, job: &Job) -> Result<(),
     push_cell(text, job.length(), 10)?;
     text.push(b' ')?;
     push_aligned(text, job.user(), 8)?;
-    push_verdict(text, job.killed())?;
+    text.extend_from_slice(verdict(job.killed()))?;
     Ok(())
 }
 

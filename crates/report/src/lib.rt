@@ -7,6 +7,7 @@ mod entries;
 mod heading;
 mod line;
 mod pieces;
+mod printing;
 mod schedule;
 mod side;
 mod table;
@@ -14,5 +15,6 @@ mod texts;
 mod users;
 
 pub use entries::log_text;
+pub use printing::ScheduleReport;
 pub use side::{SideLine, side_text};
-pub use texts::{days_text, schedule_text, table_text, users_text};
+pub use texts::{days_text, schedule_report, schedule_text, table_text, users_text};

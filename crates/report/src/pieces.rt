@@ -1,6 +1,6 @@
 //! The pieces that lines are made of.
 
-ghost use Rattle.std.specs.Prelude.{◌≡◌, ◌≤◌, ◌<◌, ◌++◌, OnOk, codes, replicate};
+ghost use Rattle.std.specs.Prelude.{◌≡◌, ◌≤◌, ◌<◌, ◌++◌, OnOk, codes, length, replicate};
 ghost use Rattle.std.specs.Fmt.{decimal};
 ghost use Rattle.report.specs.Pieces.{right, left, three_digits, cell, thousandths, percent, verdict};
 
@@ -136,11 +136,9 @@ pub(crate) fn push_percent<A: Allocator + Copy>(
 }
 
 // Whether a job was killed, and the end of its line.
-pub(crate) fn push_verdict<A: Allocator + Copy>(
-    text: &mut Vec<u8, A>,
-    killed: bool,
-) -> Result<(), AllocError>
-    ensures { OnOk result (text.new.items ≡ text.old.items ++ verdict killed) }
+pub(crate) fn verdict(killed: bool) -> &'static [u8]
+    ensures text { result.now ≡ verdict killed }
+    ensures short { length result.now ≤ 6 }
 {
-    text.extend_from_slice(if killed { b" kill\n" } else { b" ok\n" })
+    if killed { b" kill\n" } else { b" ok\n" }
 }

@@ -1,29 +1,46 @@
 //! The report on a schedule.
 
-ghost use Rattle.std.specs.Prelude.{◌≡◌, ◌++◌, OnOk, IfOk};
-ghost use Rattle.report.specs.Schedule.{row_line, rows_text};
+ghost use Rattle.std.specs.Prelude.{◌≡◌, ◌≤◌, ◌++◌, OnOk, IfOk, drop, length};
+ghost use Rattle.report.specs.Schedule.{row_numbers, row_line, rows_text};
 
 use crate::heading::push_heading;
 use crate::line::{ROOM, put_cell, put_right};
-use crate::pieces::push_verdict;
+use crate::pieces::verdict;
 use checkpoints::{Row, Rows};
 use std::alloc::{AllocError, Allocator};
 
 /// Room for the line of a job whose numbers fit their columns.
 const LINE: usize = 56;
 
-// The line of a job.
-fn push_row<A: Allocator + Copy>(text: &mut Vec<u8, A>, row: &Row) -> Result<(), AllocError>
-    ensures { OnOk result (text.new.items ≡ text.old.items ++ row_line row.now) }
+/// The numbers of a job's line, and where among its blanks they begin.
+#[derive(Drop)]
+pub(crate) struct Numbers {
+    pub(crate) line: [u8; ROOM],
+    pub(crate) begin: usize,
+}
+
+// The numbers of the line of a job.
+pub(crate) fn row_numbers(row: &Row) -> Numbers
+    ensures begin { result.begin ≤ 105 }
+    ensures long { length result.line ≡ 105 }
+    ensures numbers { drop result.begin result.line ≡ row_numbers row.now }
 {
     let mut line = [b' '; ROOM];
     let size = put_cell(&mut line, ROOM, row.size, 8);
     let end = put_cell(&mut line, size, row.end, 10);
     let start = put_cell(&mut line, end, row.start, 10);
     let submit = put_cell(&mut line, start, row.submit, 10);
-    let number = put_right(&mut line, submit, row.number, 8);
-    text.extend_from_slice(&line[number..])?;
-    push_verdict(text, row.killed)?;
+    let begin = put_right(&mut line, submit, row.number, 8);
+    Numbers { line, begin }
+}
+
+// The line of a job.
+fn push_row<A: Allocator + Copy>(text: &mut Vec<u8, A>, row: &Row) -> Result<(), AllocError>
+    ensures { OnOk result (text.new.items ≡ text.old.items ++ row_line row.now) }
+{
+    let numbers = row_numbers(row);
+    text.extend_from_slice(&numbers.line[numbers.begin..])?;
+    text.extend_from_slice(verdict(row.killed))?;
     Ok(())
 }
 

@@ -8,6 +8,7 @@ ghost use Rattle.report.specs.Users.{users_text};
 ghost use Rattle.report.specs.Days.{days_text};
 
 use crate::days::days_report;
+use crate::printing::ScheduleReport;
 use crate::schedule::rows_report;
 use crate::table::table_report;
 use crate::users::users_report;
@@ -29,6 +30,21 @@ pub fn schedule_text<A: Allocator + Copy>(
 {
     let rows = run.rows()?;
     Ok(rows_report(alloc, name, version, rows)?)
+}
+
+/// The report on a run's schedule, which is written piece by piece: its text is that of
+/// `schedule_text`, and nothing holds all of it at once. Memory where a growth is refused.
+pub fn schedule_report<'a, A: Allocator + Copy>(
+    alloc: A,
+    name: &str,
+    version: u64,
+    run: &'a Run<A>,
+) -> Result<ScheduleReport<'a, A>, Memory>
+    ensures text { IfOk result (λ text. text ≡ schedule_text name.now version (plan_of run.now.log run.now.setting)) }
+    ensures lines { IfOk result (λ text. HasALineForEachJob name.now version (plan_of run.now.log run.now.setting) text) }
+{
+    let rows = run.rows()?;
+    Ok(ScheduleReport::new(alloc, name, version, rows)?)
 }
 
 /// The numbers of a run over all its jobs: how many there are and were killed, how many entries

@@ -84,15 +84,14 @@ impl Write for Failing {
     }
 }
 
-// Whether all of the schedule was taken, or the answer is Write and the calls took a beginning of it.
-fn took(writer: &Failing, calls: u32, answer: Result<(), ProgramFault>) -> bool {
+// Whether all of the schedule was taken, or the answer is Write, no call was left and a beginning of
+// it was taken.
+fn took(writer: &Failing, answer: Result<(), ProgramFault>) -> bool {
     let bytes = writer.bytes.as_slice();
     if bytes.len() == SCHEDULE.len() {
         return answer == Ok(()) && bytes == SCHEDULE;
     }
-    answer == Err(ProgramFault::Write)
-        && bytes.len() == calls as usize * 7
-        && SCHEDULE.starts_with(bytes)
+    answer == Err(ProgramFault::Write) && writer.left == 0 && SCHEDULE.starts_with(bytes)
 }
 
 // Whether that holds of a writer that takes so many calls.
@@ -107,7 +106,7 @@ fn writes_a_beginning<R: AllocGlobal + Threads + Sync>(
         takes_none,
     };
     let answer = run_plain(rt, rt.alloc(), &mut writer, FOUR, options(10));
-    took(&writer, calls, answer)
+    took(&writer, answer)
 }
 
 #[test]

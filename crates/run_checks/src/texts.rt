@@ -1,6 +1,9 @@
 use crate::logs::{FOUR, add_line, run_on, table_of};
 use checkpoints::Run;
-use report::{SideLine, days_text, log_text, schedule_text, side_text, table_text, users_text};
+use report::{
+    SideLine, days_text, log_text, schedule_report, schedule_text, side_text, table_text,
+    users_text,
+};
 use scenarios::Scenario;
 use std::alloc::Global;
 use std::sync::Arc;
@@ -47,9 +50,18 @@ fn has_tables(alloc: Global, run: &Run<Global>, table: &str, users: &str) -> boo
         && reads(users_text(alloc, "base", 0, run), users)
 }
 
+// Whether the schedule of a run is written as its text.
+fn is_written(alloc: Global, run: &Run<Global>) -> Option<bool> {
+    let mut written = Vec::new(alloc);
+    let report = schedule_report(alloc, "big", 12, run).ok()?;
+    report.write(&mut written).ok()?;
+    Some(written.as_slice() == SCHEDULE.as_bytes())
+}
+
 fn tells_of_four(alloc: Global) -> Option<bool> {
     let run = run_on(alloc, FOUR, 10, 1000)?;
-    let has_schedule = reads(schedule_text(alloc, "big", 12, &run), SCHEDULE);
+    let has_schedule = is_written(alloc, &run)?
+        && reads(schedule_text(alloc, "big", 12, &run), SCHEDULE);
     let has_days = reads(days_text(alloc, "base", 0, &run), DAYS);
     Some(has_schedule && has_days && has_tables(alloc, &run, TABLE, USERS))
 }

@@ -1,4 +1,5 @@
 use Rattle.std.proofs.Common.{arith}
+use Rattle.easybook.proofs.Openings.{opened-some}
 use Rattle.easybook.proofs.opened.opening_of.Goals as goal
 
 pub returns-clause-opened : goal.returns-clause-opened
@@ -10,3 +11,6 @@ returns-clause-opened g c = record {
   kept_comments = c.in_ok-opening.ensures.comments;
   arranged = c.in_ok-opening.ensures.table;
 }
+
+pub returns-clause-some : goal.returns-clause-some
+returns-clause-some g c = opened-some c.args.procs c.in_ok-text.text.comments c.in_ok-opening.opening.scenarios c.in_ok-opening.ensures.scenarios

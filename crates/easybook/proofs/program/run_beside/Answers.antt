@@ -1,4 +1,4 @@
-use Rattle.std.proofs.Common.{rules, ◌≡◌, ℕ, List, IfSome, length, map, vec_len, subst, sym, arith}
+use Rattle.std.proofs.Common.{◌≡◌, ℕ, List, IfSome, length, map, vec_len, subst, sym, arith}
 use Rattle.std.specs.Option.{option_map}
 use Rattle.std.proofs.lemmas.List.{length-map}
 use Rattle.easybook.specs.Program.{log_known}

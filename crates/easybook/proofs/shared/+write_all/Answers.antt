@@ -1,7 +1,6 @@
-use Rattle.std.proofs.Common.{rules, ◌≡◌, ℕ, ◌+◌, List, ◌∷◌, ◌++◌, map, take, sym, ap, subst}
+use Rattle.std.proofs.Common.{rules, ◌≡◌, ℕ, ◌+◌, List, ◌∷◌, ◌++◌, map, take, subst}
 use Rattle.std.specs.Io.KnownBytes.{Appends}
 use Rattle.std.proofs.lemmas.Result.{err_from_is_err_and}
-use Rattle.swf_text.specs.Writing.{Writes}
 use Rattle.swf_text.proofs.Lemmas.{front_more, writes_then}
 use Rattle.easybook.specs.Shared.{head_line, headed}
 use Rattle.easybook.proofs.shared.+write_all.Goals as goal

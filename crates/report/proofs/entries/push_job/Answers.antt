@@ -1,4 +1,4 @@
-use Rattle.std.proofs.Common.{◌++◌, ap, rules, w64, List, ℕ}
+use Rattle.std.proofs.Common.{◌++◌, ◌∙◌, ap, rules, w64, List, ℕ}
 use mir.Val.{SFits}
 use Rattle.std.proofs.lemmas.Int.{to_z-of_z}
 use Rattle.std.specs.Prelude.{codes}
@@ -24,4 +24,4 @@ returns g c =
     let length = joined_as o d (cell 10 j.length) estimate c.in_ok-push_cell-4.ensures (ap (cell 10) c.length.ensures.value) in
     let blank = joined o e (codes " ") length c.in_ok-push.ensures.items in
     let by = joined_as o f (right 8 (signed_decimal j.user)) blank user (ap (λ z. right 8 (signed_decimal z)) c.user.ensures) in
-    joined_as o (f ++ right 8 (signed_decimal j.user)) (verdict j.killed) by c.in_ok-push_verdict.ensures (ap verdict c.killed.ensures)
+    joined_as o (f ++ right 8 (signed_decimal j.user)) (verdict j.killed) by c.in_ok-extend_from_slice.ensures.items (c.verdict.ensures.text ∙ ap verdict c.killed.ensures)

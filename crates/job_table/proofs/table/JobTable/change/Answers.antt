@@ -17,8 +17,8 @@ unwrap-submit-requires g c =
 pub unwrap-was-requires : goal.unwrap-was-requires
 unwrap-was-requires g c = entry-told c.args.number (flat c.self.inside.rows) c.args.self.now c.entry_at.result c.entry_at.ensures c.self.view_is c.requires.there
 
-pub with_exchanged-requires-clause-known : goal.with_exchanged-requires-clause-known
-with_exchanged-requires-clause-known g c =
+pub exchange-requires-clause-known : goal.exchange-requires-clause-known
+exchange-requires-clause-known g c =
     let rows = flat c.self.inside.rows in
     let known : Some c.unwrap-submit.result ≡ option_map submit_of (entry_of c.args.number rows) = sym c.unwrap-submit.ensures ∙ c.second.ensures ∙ c.self.invariant.index.gives c.args.number in
     let later : 2 ≤ c.args.field = change-places c.args.field c.args.value c.requires.taken in
@@ -43,7 +43,7 @@ invariant_of-self-2 g c =
     let there : entry_of n rows ≡ Some c.unwrap-was.result.now = sym c.entry_at.ensures ∙ ap option_copied c.unwrap-was.ensures in
     let number : number_of_entry entry ≡ n = number-stays n c.args.field c.args.value rows c.unwrap-was.result.now entry later there c.in_ok-entry.ensures in
     let moved : flat c.in_ok-rows.rows ≡ with_entry entry (without n rows) = c.in_ok-rows.ensures.rows ∙ ap (λ (m : ℕ). with_entry entry (without m rows)) number in
-    stored-moved rows (flat c.in_ok-rows.rows) (flat c.self.inside.index) (flat c.in_ok-index.index) c.self.inside.len c.self.invariant n c.submit-at.result c.unwrap-was.result.now entry there c.submit-at.ensures.entry number moved c.submit-at.ensures.second c.in_ok-index.ensures.rising c.in_ok-index.ensures.seconds
+    stored-moved rows (flat c.in_ok-rows.rows) (flat c.self.inside.index) (flat c.set_second.new.index) c.self.inside.len c.self.invariant n c.submit-at.result c.unwrap-was.result.now entry there c.submit-at.ensures.entry number moved c.submit-at.ensures.second c.in_ok-set_second.ensures.rising c.in_ok-set_second.ensures.seconds
 
 pub returns-clause-ok : goal.returns-clause-ok
 returns-clause-ok g c =
@@ -56,17 +56,17 @@ returns-clause-ok g c =
     let moved : flat c.in_ok-rows.rows ≡ with_entry entry (without n rows) = c.in_ok-rows.ensures.rows ∙ ap (λ (m : ℕ). with_entry entry (without m rows)) number in
     moved ∙ sym (placed-is entry (without n rows)) ∙ log-changed n c.args.field c.args.value rows c.unwrap-was.result.now entry later c.self.invariant.table there c.in_ok-entry.ensures ∙ ap (λ (es : List LogEntry). log_of (changed n c.args.field c.args.value es)) c.self.view_is
 
-pub invariant_of-self : goal.invariant_of-self
-invariant_of-self g c =
+pub invariant_of-self-then-at-submit : goal.invariant_of-self-then-at-submit
+invariant_of-self-then-at-submit g c =
     let rows = flat c.self.inside.rows in
     let n = c.args.number in
     let entry : LogEntry = c.in_ok-entry.entry in
     let later : 2 ≤ c.args.field = change-places c.args.field c.args.value c.requires.taken in
     let there : entry_of n rows ≡ Some c.unwrap-was.result.now = sym c.entry_at.ensures ∙ ap option_copied c.unwrap-was.ensures in
     let number : number_of_entry entry ≡ n = number-stays n c.args.field c.args.value rows c.unwrap-was.result.now entry later there c.in_ok-entry.ensures in
-    let moved : flat c.in_ok-self-inside.field-0 ≡ with_entry entry (without n rows) = c.in_ok-self-inside.ensures.rows ∙ ap (λ (m : ℕ). with_entry entry (without m rows)) number in
+    let moved : flat c.exchange.new.rows ≡ with_entry entry (without n rows) = c.in_ok-exchange.ensures.rows ∙ ap (λ (m : ℕ). with_entry entry (without m rows)) number in
     let again : (q : ℕ) → second_of (flat c.self.inside.index) q ≡ (if n == q then Some c.submit-at.result else second_of (flat c.self.inside.index) q) = tells-again n c.submit-at.result (flat c.self.inside.index) (ap Some c.if-at-submit.true ∙ sym c.unwrap-submit.ensures ∙ c.second.ensures) in
-    stored-moved rows (flat c.in_ok-self-inside.field-0) (flat c.self.inside.index) (flat c.self.inside.index) c.self.inside.len c.self.invariant n c.submit-at.result c.unwrap-was.result.now entry there c.submit-at.ensures.entry number moved c.submit-at.ensures.second c.self.invariant.index.rising again
+    stored-moved rows (flat c.exchange.new.rows) (flat c.self.inside.index) (flat c.self.inside.index) c.self.inside.len c.self.invariant n c.submit-at.result c.unwrap-was.result.now entry there c.submit-at.ensures.entry number moved c.submit-at.ensures.second c.self.invariant.index.rising again
 
 pub returns-then-at-submit-clause-ok : goal.returns-then-at-submit-clause-ok
 returns-then-at-submit-clause-ok g c =
@@ -76,14 +76,14 @@ returns-then-at-submit-clause-ok g c =
     let later : 2 ≤ c.args.field = change-places c.args.field c.args.value c.requires.taken in
     let there : entry_of n rows ≡ Some c.unwrap-was.result.now = sym c.entry_at.ensures ∙ ap option_copied c.unwrap-was.ensures in
     let number : number_of_entry entry ≡ n = number-stays n c.args.field c.args.value rows c.unwrap-was.result.now entry later there c.in_ok-entry.ensures in
-    let moved : flat c.in_ok-self-inside.field-0 ≡ with_entry entry (without n rows) = c.in_ok-self-inside.ensures.rows ∙ ap (λ (m : ℕ). with_entry entry (without m rows)) number in
+    let moved : flat c.exchange.new.rows ≡ with_entry entry (without n rows) = c.in_ok-exchange.ensures.rows ∙ ap (λ (m : ℕ). with_entry entry (without m rows)) number in
     moved ∙ sym (placed-is entry (without n rows)) ∙ log-changed n c.args.field c.args.value rows c.unwrap-was.result.now entry later c.self.invariant.table there c.in_ok-entry.ensures ∙ ap (λ (es : List LogEntry). log_of (changed n c.args.field c.args.value es)) c.self.view_is
 
 pub returns-clause-least : goal.returns-clause-least
 returns-clause-least g c =
     let long : length (flat c.self.inside.rows) ≡ length c.args.self.now = ap length c.self.view_is in
-    fewest-change c.args.number c.args.field c.args.value c.args.self.now _ (omega (arith, c.in_ok-index.ensures.least, c.in_ok-rows.ensures.least))
-    (λ two. omega (arith, c.in_ok-index.ensures.least, c.in_ok-rows.ensures.both (omega (arith, two, long))))
+    fewest-change c.args.number c.args.field c.args.value c.args.self.now _ (omega (arith, c.in_ok-set_second.ensures.least, c.in_ok-rows.ensures.least))
+    (λ two. omega (arith, c.in_ok-set_second.ensures.least, c.in_ok-rows.ensures.both (omega (arith, two, long))))
 
 pub returns-then-at-submit-clause-least : goal.returns-then-at-submit-clause-least
 returns-then-at-submit-clause-least g c =
@@ -91,4 +91,4 @@ returns-then-at-submit-clause-least g c =
     let there : entry_of c.args.number (flat c.self.inside.rows) ≡ Some was = sym c.entry_at.ensures ∙ ap option_copied c.unwrap-was.ensures in
     let second : Some c.unwrap-submit.result ≡ Some (submit_of was) = sym c.unwrap-submit.ensures ∙ c.second.ensures ∙ c.self.invariant.index.gives c.args.number ∙ ap (option_map submit_of) there in
     fewest-in-place c.args.number c.args.field c.args.value c.args.self.now was c.unwrap-submit.result c.submit-at.result c.in_ok-entry.entry _
-    (ap (entry_of c.args.number) (sym c.self.view_is) ∙ there) c.in_ok-entry.ensures second c.submit-at.ensures.second c.if-at-submit.true (omega (arith, c.in_ok-self-inside.ensures.least))
+    (ap (entry_of c.args.number) (sym c.self.view_is) ∙ there) c.in_ok-entry.ensures second c.submit-at.ensures.second c.if-at-submit.true (omega (arith, c.in_ok-exchange.ensures.least))

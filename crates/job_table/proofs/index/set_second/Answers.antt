@@ -1,0 +1,21 @@
+use Rattle.chunks.specs.Chunks.{flat}
+use Rattle.chunks.specs.declared.numbered.Numbered.{Numbered}
+use Rattle.std.proofs.lemmas.Result.{on_ok_weaker}
+use Rattle.job_table.proofs.Numbers.{parted-numbers, number-within, other-rises, other-gives}
+use Rattle.job_table.proofs.index.set_second.Goals as goal
+
+pub exchange-requires-clause-parted : goal.exchange-requires-clause-parted
+exchange-requires-clause-parted g c = parted-numbers c.args.number (flat c.args.index.now) c.requires.rising
+
+pub exchange-requires-clause-there : goal.exchange-requires-clause-there
+exchange-requires-clause-there g c = number-within c.args.number (flat c.args.index.now) c.requires.rising c.requires.there
+
+pub returns-clause-rising : goal.returns-clause-rising
+returns-clause-rising g c =
+    let pair : Numbered = record { number = c.args.number; submit = c.args.submit } in
+    on_ok_weaker c.exchange.result (other-rises pair (flat c.args.index.now) (flat c.exchange.new.self) c.requires.rising c.requires.there) c.exchange.ensures.list
+
+pub returns-clause-seconds : goal.returns-clause-seconds
+returns-clause-seconds g c =
+    let pair : Numbered = record { number = c.args.number; submit = c.args.submit } in
+    on_ok_weaker c.exchange.result (other-gives pair (flat c.args.index.now) (flat c.exchange.new.self) c.requires.rising c.requires.there) c.exchange.ensures.list
