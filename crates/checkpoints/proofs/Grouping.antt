@@ -1,14 +1,12 @@
--- Groups of segments, one after another.
-use Rattle.std.proofs.Common.{◌≡◌, ℕ, List, [], ◌∷◌, ◌++◌, map, take, drop, length, refl, sym, ◌∙◌, ap, arith, subst, append_assoc, append-nil}
+-- Groups of parts, one after another, and their levels.
+use Rattle.std.proofs.Common.{◌≡◌, List, [], ◌∷◌, ◌++◌, map, length, refl, sym, ◌∙◌, ap, arith, subst, append_assoc, append-nil}
 use Rattle.std.specs.List.{AllZip}
 use Rattle.std.proofs.lemmas.Grind.{flat_map-append}
-use Rattle.std.proofs.lemmas.List.{take-append-drop, map-append, length-map}
 use Rattle.scenarios.specs.declared.placed.Placed.{Placed}
 use Rattle.metrics.specs.Part.{PartSums, IsPartOf}
 use Rattle.checkpoints.specs.Merged.{joined, IsMerged, AreFew}
-use Rattle.checkpoints.specs.Segment.{SegmentView}
-use Rattle.checkpoints.specs.Groups.{GroupView, parts_of, AreGroupsOf}
-use Rattle.checkpoints.proofs.Merging.{zip-split, few-front, few-back}
+use Rattle.checkpoints.specs.Groups.{GroupView, LevelsView, group_parts, AreGroupsOf, AreLevelsOf}
+use Rattle.checkpoints.proofs.Merging.{zip-split, few-back}
 
 pub groups-both : (vs ws : List PartSums) (gs hs : List GroupView) → AreGroupsOf vs gs → AreGroupsOf ws hs → AreGroupsOf (vs ++ ws) (gs ++ hs)
 groups-both vs ws [] hs e k = subst (λ l. AreGroupsOf (l ++ ws) hs) (sym e) k
@@ -65,18 +63,9 @@ adding-more all rest front back was is g a e n m = record {
 pub adding-done : (all : List PartSums) (was is : List GroupView) → Adding all [] was is → (vs : List PartSums) → AreGroupsOf vs was → AreGroupsOf (vs ++ all) is
 adding-done all was is a vs h = subst (λ l. AreGroupsOf (vs ++ l) is) (sym (a.split ∙ append-nil a.done)) (a.groups vs h)
 
--- the parts of the first segments and of the others
-module _ {X : Type 0} (f : X → SegmentView) where
-  pub front-parts : (xs ys zs : List X) (k : ℕ) → ys ≡ take k xs → zs ≡ drop k xs → parts_of (map f xs) ≡ parts_of (map f ys) ++ parts_of (map f zs)
-  front-parts xs ys zs k d e =
-      let part = λ (s : SegmentView). s.part in
-      ap (λ l. parts_of (map f l)) (sym (take-append-drop k xs) ∙ (λ i. sym d i ++ sym e i)) ∙ ap (map part) (map-append f ys zs) ∙ map-append part (map f ys) (map f zs)
+-- the parts of levels: the merged part of the large groups is that of all, and they are few
+pub levels-merged : (vs : List PartSums) (l : LevelsView) (v : PartSums) → AreLevelsOf vs l → IsMerged (group_parts l.large) v → IsMerged vs v
+levels-merged vs l v h m = groups-merged vs l.small v h.small (groups-merged (group_parts l.small) l.middle v h.middle (groups-merged (group_parts l.middle) l.large v h.large m))
 
-  pub front-parts-few : (xs ys zs : List X) (k : ℕ) → ys ≡ take k xs → zs ≡ drop k xs → AreFew (parts_of (map f xs)) → AreFew (parts_of (map f ys))
-  front-parts-few xs ys zs k d e h = few-front (parts_of (map f ys)) (parts_of (map f zs)) (subst AreFew (front-parts xs ys zs k d e) h)
-
-  pub back-parts-few : (xs ys zs : List X) (k : ℕ) → ys ≡ take k xs → zs ≡ drop k xs → AreFew (parts_of (map f xs)) → AreFew (parts_of (map f zs))
-  back-parts-few xs ys zs k d e h = few-back (parts_of (map f ys)) (parts_of (map f zs)) (subst AreFew (front-parts xs ys zs k d e) h)
-
-  pub front-long : (xs : List X) → length (parts_of (map f xs)) ≡ length xs
-  front-long xs = length-map (map f xs) (λ (s : SegmentView). s.part) ∙ length-map xs f
+pub levels-few : (vs : List PartSums) (l : LevelsView) → AreLevelsOf vs l → AreFew vs → AreFew (group_parts l.large)
+levels-few vs l h few' = groups-few (group_parts l.middle) l.large h.large (groups-few (group_parts l.small) l.middle h.middle (groups-few vs l.small h.small few'))

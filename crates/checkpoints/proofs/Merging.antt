@@ -98,7 +98,7 @@ module _ {X : Type 0} (f : X → PartSums) where
   pub two-merged : (xs : List X) (x y : X) (u : PartSums) → length xs ≡ 2 → x ≡ get_or xs 0 x → y ≡ get_or xs 1 y → ((ps qs : List Placed) → IsPartOf ps (f x) → IsPartOf qs (f y) → IsPartOf (ps ++ qs) u) → IsMerged (map f xs) u
   two-merged xs x y u l d e join = subst (λ vs. IsMerged vs u) (sym (two-are xs x y l d e)) (merged-both (f x ∷ []) (f y ∷ []) (f x) (f y) u (merged-one (f x)) (merged-one (f y)) join)
 
-  halves : (xs ys zs : List X) (k : ℕ) → ys ≡ take k xs → zs ≡ drop k xs → map f ys ++ map f zs ≡ map f xs
+  pub halves : (xs ys zs : List X) (k : ℕ) → ys ≡ take k xs → zs ≡ drop k xs → map f ys ++ map f zs ≡ map f xs
   halves xs ys zs k d e = (λ i. map f (d i) ++ map f (e i)) ∙ sym (map-append f (take k xs) (drop k xs)) ∙ ap (map f) (take-append-drop k xs)
 
   pub front-few : (xs ys zs : List X) (k : ℕ) → ys ≡ take k xs → zs ≡ drop k xs → AreFew (map f xs) → AreFew (map f ys)

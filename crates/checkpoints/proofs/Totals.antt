@@ -1,5 +1,5 @@
 -- The sums and the tables of a plan, from the segments of its simulation.
-use Rattle.std.proofs.Common.{◌≡◌, ℕ, List, [], ◌∷◌, map, length, All, refl, ◌∙◌, ap, arith, subst}
+use Rattle.std.proofs.Common.{◌≡◌, ℕ, List, [], ◌∷◌, length, All, refl, ◌∙◌, ap, arith, subst}
 use Rattle.swf_text.specs.Entry.{LogEntry}
 use Rattle.scenarios.specs.Scenario.{Setting}
 use Rattle.scenarios.specs.Plan.{Plan, plan_of}
@@ -12,12 +12,11 @@ use Rattle.metrics.specs.Part.{PartSums, IsPartOf}
 use Rattle.metrics.specs.Tables.{TableRows, tables_of}
 use Rattle.checkpoints.specs.Segment.{SegmentView}
 use Rattle.checkpoints.specs.Cut.{IsCut, placed_of}
-use Rattle.checkpoints.specs.Groups.{GroupView, parts_of, AreGroupsOf}
+use Rattle.checkpoints.specs.Groups.{parts_of}
 use Rattle.checkpoints.specs.Merged.{IsMerged, AreFew}
 use Rattle.checkpoints.specs.Sums.{IsTablesOf, HasOwnPart, all_placed}
 use Rattle.checkpoints.proofs.Chains.{chain-part, cut-told}
 use Rattle.checkpoints.proofs.Counting.{jobs-or-skips}
-use Rattle.checkpoints.proofs.Grouping.{groups-few, groups-merged}
 use Rattle.checkpoints.proofs.Late.{placed-fewer, sim-few, sim-fewer}
 use Rattle.checkpoints.proofs.Merging.{count-is, own-few, own-merged}
 
@@ -33,13 +32,9 @@ cut-few plan ss p cut =
     let b = sim-few plan p in
     own-few plan.jobs ss (parts-are plan ss cut) (omega (arith, e, a, b))
 
-pub group-parts-few : (plan : Plan) (ss : List SegmentView) (gs : List GroupView) → IsPlan plan → IsCut plan ss → AreGroupsOf (parts_of ss) gs → AreFew (map (λ (g : GroupView). g.part) gs)
-group-parts-few plan ss gs p cut h = groups-few (parts_of ss) gs h (cut-few plan ss p cut)
-
--- the merged part of the groups of a cut is that of all jobs
-pub total-is : (plan : Plan) (ss : List SegmentView) (gs : List GroupView) (v : PartSums) → IsPlan plan → IsCut plan ss → AreGroupsOf (parts_of ss) gs → IsMerged (map (λ (g : GroupView). g.part) gs) v → IsPartOf (all_placed plan) v
-total-is plan ss gs v p cut h m =
-    subst (λ xs. IsPartOf (placed_of plan.jobs xs) v) (cut-told plan ss p cut) (own-merged plan.jobs ss v (parts-are plan ss cut) (groups-merged (parts_of ss) gs v h m))
+-- the merged part of a cut's parts is that of all jobs
+pub total-is : (plan : Plan) (ss : List SegmentView) (v : PartSums) → IsPlan plan → IsCut plan ss → IsMerged (parts_of ss) v → IsPartOf (all_placed plan) v
+total-is plan ss v p cut m = subst (λ xs. IsPartOf (placed_of plan.jobs xs) v) (cut-told plan ss p cut) (own-merged plan.jobs ss v (parts-are plan ss cut) m)
 
 none-left : (log : List LogEntry) (s : Setting) → length (reasons_of log s) ≡ 0 → skips_of log s ≡ skips_among []
 none-left log s e = ap skips_among (go (reasons_of log s) e) where

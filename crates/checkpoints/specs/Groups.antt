@@ -1,11 +1,11 @@
--- Segments in groups, and where the segments of a run come from.
+-- Parts in groups, the groups in groups, and where the parts of a run come from.
 use Rattle.std.specs.Prelude.{◌≡◌, ℕ, ◌+◌, List, [], ◌∷◌, ◌++◌, map, length, slice_get, Option, Some, IfSome}
 use Rattle.std.specs.List.{AllZip}
 use Rattle.metrics.specs.Part.{PartSums}
 use Rattle.checkpoints.specs.Merged.{IsMerged}
 use Rattle.checkpoints.specs.Segment.{SegmentView}
 
--- Segments that stand side by side: how many they are, and the sums over all jobs that start in them.
+-- Parts that stand side by side: how many they are, and the sums over all their jobs.
 pub record GroupView : Type 0 where
   pub count : ℕ
   pub part : PartSums
@@ -14,15 +14,35 @@ pub record GroupView : Type 0 where
 abbrev pub parts_of : List SegmentView → List PartSums
 parts_of ss = map (λ s. s.part) ss
 
--- the groups of segments with these parts, one after another: each has the number of its segments and their merged part
+-- the parts of groups
+abbrev pub group_parts : List GroupView → List PartSums
+group_parts gs = map (λ g. g.part) gs
+
+-- the groups of these parts, one after another: each has the number of its parts and their merged part
 abbrev pub AreGroupsOf : List PartSums → List GroupView → Type 0
 AreGroupsOf vs [] = vs ≡ []
 AreGroupsOf vs (g ∷ gs) =
     (front : List PartSums) × (back : List PartSums) × (vs ≡ front ++ back) × (length front ≡ g.count) × IsMerged front g.part × AreGroupsOf back gs
 
+-- Groups of parts, groups of the small groups' parts, and groups of the middle groups' parts.
+pub record LevelsView : Type 0 where
+  pub small : List GroupView
+  pub middle : List GroupView
+  pub large : List GroupView
+
+-- they are those of these parts
+pub record AreLevelsOf (vs : List PartSums) (levels : LevelsView) : Type 0 where
+  pub small : AreGroupsOf vs levels.small
+  pub middle : AreGroupsOf (group_parts levels.small) levels.middle
+  pub large : AreGroupsOf (group_parts levels.middle) levels.large
+
 -- where each of some segments comes from: it is the old one at that place, or a new one
 abbrev pub AreFrom : List SegmentView → List SegmentView → List (Option ℕ) → Type 0
 AreFrom old ss places = AllZip (λ s place. IfSome place (λ k. slice_get old k ≡ Some s)) ss places
+
+-- where each of some parts comes from
+abbrev pub ArePartsFrom : List PartSums → List PartSums → List (Option ℕ) → Type 0
+ArePartsFrom old vs places = AllZip (λ v place. IfSome place (λ k. slice_get old k ≡ Some v)) vs places
 
 -- they come from places that follow one another, from this one on
 abbrev pub AreInRow : ℕ → List (Option ℕ) → Type 0

@@ -1,24 +1,22 @@
-//! Segments that stand side by side in groups, so that after an edit only the groups with a new
-//! segment are merged again.
+//! Parts that stand side by side in groups, so that after an edit only the groups with a new part
+//! are merged again.
 
-ghost use Rattle.std.specs.Prelude.{◌≡◌, ◌++◌, List, IfOk, OnOk, map, length};
-ghost use Rattle.std.specs.Arc.{arc_value};
+ghost use Rattle.std.specs.Prelude.{◌≡◌, ◌++◌, ℕ, List, Option, IfOk, OnOk, map, length};
 ghost use Rattle.metrics.specs.Part.{PartSums};
 ghost use Rattle.checkpoints.specs.Merged.{AreFew, IsMerged};
-ghost use Rattle.checkpoints.specs.Groups.{parts_of, AreGroupsOf};
+ghost use Rattle.checkpoints.specs.Groups.{AreGroupsOf, ArePartsFrom, group_parts};
 
 use crate::merged::merged;
-use crate::segment::Segment;
 use metrics::Part;
-use std::alloc::Allocator;
+use std::alloc::{AllocError, Allocator};
 use std::marker::Model;
 use std::sync::Arc;
 use swf_text::Memory;
 
-/// The most segments of a new group.
-const FULL: usize = 64;
+/// The most parts of a new group.
+const FULL: usize = 8;
 
-// Segments that stand side by side: how many they are, and the sums over all jobs that start in them.
+// Parts that stand side by side: how many they are, and the sums over all their jobs.
 #[derive(Drop)]
 pub(crate) struct Group<A: Allocator + Copy> {
     count: usize,
@@ -35,24 +33,20 @@ impl<A: Allocator + Copy> Model for Group<A> {
 }
 
 impl<A: Allocator + Copy> Group<A> {
-    // The group of these segments.
-    fn of(alloc: A, segments: &[Arc<Segment<A>, A>]) -> Result<Group<A>, Memory>
-        requires { AreFew (parts_of (map arc_value segments.now)) }
-        ensures count { IfOk result (λ group. group.count ≡ length segments.now) }
-        ensures part { IfOk result (λ group. IsMerged (parts_of (map arc_value segments.now)) group.part) }
+    // The group of these parts.
+    fn of(alloc: A, parts: &[&Part<A>]) -> Result<Group<A>, Memory>
+        requires { AreFew (map (λ p. p.now) parts.now) }
+        ensures count { IfOk result (λ group. group.count ≡ length parts.now) }
+        ensures part { IfOk result (λ group. IsMerged (map (λ p. p.now) parts.now) group.part) }
     {
-        let mut parts = Vec::with_capacity(alloc, segments.len())?;
-        for segment in segments {
-            parts.push(segment.part())?;
-        }
-        let part = merged(alloc, parts.as_slice())?;
+        let part = merged(alloc, parts)?;
         Ok(Group {
-            count: segments.len(),
+            count: parts.len(),
             part: Arc::new(alloc, part)?,
         })
     }
 
-    // How many segments it has.
+    // How many parts it has.
     pub(crate) fn count(&self) -> usize
         ensures { result ≡ self.now.count }
     {
@@ -70,48 +64,60 @@ impl<A: Allocator + Copy> Group<A> {
     }
 }
 
-// The sums over all jobs of these groups.
-pub(crate) fn total_of<A: Allocator + Copy>(
+// Groups one after another, and the place of each among old ones where it was taken over.
+#[derive(Drop)]
+pub(crate) struct Grouped<A: Allocator + Copy> {
+    pub(crate) groups: Vec<Group<A>, A>,
+    pub(crate) places: Vec<Option<usize>, A>,
+}
+
+// The parts of groups.
+pub(crate) fn parts_in<A: Allocator + Copy>(
     alloc: A,
     groups: &[Group<A>],
-) -> Result<Part<A>, Memory>
-    requires { AreFew (map (λ g. g.part) groups.now) }
-    ensures { IfOk result (IsMerged (map (λ g. g.part) groups.now)) }
+) -> Result<Vec<&Part<A>, A>, AllocError>
+    ensures { IfOk result (λ parts. map (λ p. p.now) parts.items ≡ group_parts groups.now) }
 {
     let mut parts = Vec::with_capacity(alloc, groups.len())?;
     for group in groups {
         parts.push(&*group.part)?;
     }
-    merged(alloc, parts.as_slice())
+    Ok(parts)
 }
 
-// Adds groups of these segments.
+// Adds groups of these parts.
 pub(crate) fn add_groups<A: Allocator + Copy>(
     alloc: A,
-    segments: &[Arc<Segment<A>, A>],
-    groups: &mut Vec<Group<A>, A>,
+    parts: &[&Part<A>],
+    so_far: &mut Grouped<A>,
 ) -> Result<(), Memory>
-    requires { AreFew (parts_of (map arc_value segments.now)) }
-    ensures { OnOk result ((vs : List PartSums) → AreGroupsOf vs groups.old.items → AreGroupsOf (vs ++ parts_of (map arc_value segments.now)) groups.new.items) }
+    requires { AreFew (map (λ p. p.now) parts.now) }
+    ensures groups { OnOk result ((vs : List PartSums) → AreGroupsOf vs so_far.old.groups.items → AreGroupsOf (vs ++ map (λ p. p.now) parts.now) so_far.new.groups.items) }
+    ensures places { OnOk result ((olds : List PartSums) → ArePartsFrom olds (group_parts so_far.old.groups.items) so_far.old.places.items → ArePartsFrom olds (group_parts so_far.new.groups.items) so_far.new.places.items) }
 {
-    let mut rest = segments;
-    'groups: while !rest.is_empty() {
-        let (front, back) = rest.split_at(rest.len().min(FULL));
-        groups.push(Group::of(alloc, front)?)?;
-        rest = back;
+    let mut at = 0;
+    'groups: while at < parts.len() {
+        let end = at + FULL.min(parts.len() - at);
+        so_far.groups.push(Group::of(alloc, &parts[at..end])?)?;
+        so_far.places.push(None)?;
+        at = end;
     }
     Ok(())
 }
 
-// The groups of these segments.
+// The groups of these parts.
 pub(crate) fn groups_of<A: Allocator + Copy>(
     alloc: A,
-    segments: &[Arc<Segment<A>, A>],
+    parts: &[&Part<A>],
 ) -> Result<Vec<Group<A>, A>, Memory>
-    requires { AreFew (parts_of (map arc_value segments.now)) }
-    ensures { IfOk result (λ groups. AreGroupsOf (parts_of (map arc_value segments.now)) groups.items) }
+    requires { AreFew (map (λ p. p.now) parts.now) }
+    ensures { IfOk result (λ groups. AreGroupsOf (map (λ p. p.now) parts.now) groups.items) }
 {
-    let mut groups = Vec::new(alloc);
-    add_groups(alloc, segments, &mut groups)?;
+    let mut so_far = Grouped {
+        groups: Vec::new(alloc),
+        places: Vec::new(alloc),
+    };
+    add_groups(alloc, parts, &mut so_far)?;
+    let Grouped { groups, .. } = so_far;
     Ok(groups)
 }

@@ -6,6 +6,7 @@ mod cutting;
 mod fault;
 mod groups;
 pub mod laws;
+mod levels;
 mod merged;
 mod parts;
 mod regrouping;

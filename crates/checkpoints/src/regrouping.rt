@@ -1,31 +1,30 @@
-//! The groups of a run's segments, some of which are taken over from an old run.
+//! The groups of some parts, some of which are taken over from old groups.
 
-ghost use Rattle.std.specs.Prelude.{◌≡◌, ◌+◌, ◌≤◌, ◌<◌, ◌^◌, [], ◌∷◌, ◌↔◌, List, IsTrue, IfSome, IfOk, OnOk, map, take, drop, length};
-ghost use Rattle.std.specs.Arc.{arc_value};
+ghost use Rattle.std.specs.Prelude.{◌≡◌, ◌+◌, ◌≤◌, ◌<◌, ◌^◌, [], ◌∷◌, ◌↔◌, List, Some, IsTrue, IfSome, IfOk, OnOk, map, take, drop, length, slice_get};
+ghost use Rattle.metrics.specs.Part.{PartSums};
 ghost use Rattle.checkpoints.specs.Merged.{AreFew};
-ghost use Rattle.checkpoints.specs.Groups.{GroupView, parts_of, AreGroupsOf, AreInRow};
+ghost use Rattle.checkpoints.specs.Groups.{GroupView, AreGroupsOf, ArePartsFrom, AreInRow, group_parts};
 ghost use Rattle.checkpoints.specs.Regrouping.{IsRegrouping};
 
-use crate::groups::{Group, add_groups};
-use crate::segment::Segment;
+use crate::groups::{Group, Grouped, add_groups};
+use metrics::Part;
 use std::alloc::Allocator;
-use std::sync::Arc;
 use swf_text::Memory;
 
 // The new groups so far.
 #[derive(Drop)]
 struct NewGroups<A: Allocator + Copy> {
-    groups: Vec<Group<A>, A>,
-    // How many of the new segments they have.
+    grouped: Grouped<A>,
+    // How many of the new parts they have.
     count: usize,
-    // The new place from which on the next old segments are looked for.
+    // The new place from which on the next old parts are looked for.
     place: usize,
-    // The place of the next old group's first segment among the old ones.
+    // The place of the next old group's first part among the old ones.
     first: usize,
 }
 
-// The next place, from one on, at which a segment stands that comes from the old one at `first` or from
-// one behind it; the end where there is none.
+// The next place, from one on, at which a part stands that comes from the old one at `first` or from one
+// behind it; the end where there is none.
 fn next_place(places: &[Option<usize>], from: usize, first: usize) -> usize
     requires { from ≤ length places.now }
     ensures from { from ≤ result }
@@ -39,7 +38,7 @@ fn next_place(places: &[Option<usize>], from: usize, first: usize) -> usize
     places.len()
 }
 
-// Whether segments come from old ones that stand side by side, the first of them at `first`.
+// Whether parts come from old ones that stand side by side, the first of them at `first`.
 fn are_in_row(places: &[Option<usize>], first: usize) -> bool
     requires { first + length places.now < 2 ^ 64 }
     ensures { IsTrue result ↔ AreInRow first places.now }
@@ -50,8 +49,7 @@ fn are_in_row(places: &[Option<usize>], first: usize) -> bool
     }
 }
 
-// Where the segments of the next old group stand among the new ones, if all were taken over side by
-// side.
+// Where the parts of the next old group stand among the new ones, if all were taken over side by side.
 fn end_of_group(places: &[Option<usize>], place: usize, first: usize, count: usize) -> Option<usize>
     requires place { place ≤ length places.now }
     requires few { first + count < 2 ^ 64 }
@@ -67,19 +65,22 @@ fn end_of_group(places: &[Option<usize>], place: usize, first: usize, count: usi
     Some(end)
 }
 
-// Goes past the next old group. Where all its segments were taken over side by side it is taken over
-// too, behind new groups of the segments before them.
+// Goes past the next old group, the one at `at`. Where all its parts were taken over side by side it is
+// taken over too, behind new groups of the parts before them.
 fn pass_group<A: Allocator + Copy>(
     alloc: A,
+    at: usize,
     group: &Group<A>,
-    segments: &[Arc<Segment<A>, A>],
+    parts: &[&Part<A>],
     places: &[Option<usize>],
     so_far: &mut NewGroups<A>,
 ) -> Result<(), Memory>
-    requires few { AreFew (parts_of (map arc_value segments.now)) }
-    requires old { (left : List GroupView) × IsRegrouping (map arc_value segments.now) places.now (group.now ∷ left) so_far.old.groups.items so_far.old.count so_far.old.place so_far.old.first }
-    ensures { OnOk result ((left : List GroupView) → IsRegrouping (map arc_value segments.now) places.now (group.now ∷ left) so_far.old.groups.items so_far.old.count so_far.old.place so_far.old.first
-        → IsRegrouping (map arc_value segments.now) places.now left so_far.new.groups.items so_far.new.count so_far.new.place so_far.new.first) }
+    requires few { AreFew (map (λ p. p.now) parts.now) }
+    requires old { (left : List GroupView) × IsRegrouping (map (λ p. p.now) parts.now) places.now (group.now ∷ left) so_far.old.grouped.groups.items so_far.old.count so_far.old.place so_far.old.first }
+    ensures groups { OnOk result ((left : List GroupView) → IsRegrouping (map (λ p. p.now) parts.now) places.now (group.now ∷ left) so_far.old.grouped.groups.items so_far.old.count so_far.old.place so_far.old.first
+        → IsRegrouping (map (λ p. p.now) parts.now) places.now left so_far.new.grouped.groups.items so_far.new.count so_far.new.place so_far.new.first) }
+    ensures places { OnOk result ((olds : List PartSums) → slice_get olds at ≡ Some group.now.part → ArePartsFrom olds (group_parts so_far.old.grouped.groups.items) so_far.old.grouped.places.items
+        → ArePartsFrom olds (group_parts so_far.new.grouped.groups.items) so_far.new.grouped.places.items) }
 {
     let first = so_far.first;
     let count = group.count();
@@ -88,40 +89,45 @@ fn pass_group<A: Allocator + Copy>(
     let Some(end) = end_of_group(places, so_far.place, first, count) else {
         return Ok(());
     };
-    let new = &segments[so_far.count..so_far.place];
-    add_groups(alloc, new, &mut so_far.groups)?;
-    so_far.groups.push(group.share()?)?;
+    let new = &parts[so_far.count..so_far.place];
+    add_groups(alloc, new, &mut so_far.grouped)?;
+    so_far.grouped.groups.push(group.share()?)?;
+    so_far.grouped.places.push(Some(at))?;
     so_far.count = end;
     so_far.place = end;
     Ok(())
 }
 
-// The groups of a run's segments, each of which is new or has its place among old ones: the old groups
-// whose segments all were taken over side by side, and new ones of the segments between them.
+// The groups of some parts, each of which is new or has its place among old ones: the old groups whose
+// parts all were taken over side by side, each with its place, and new ones of the parts between them.
 pub(crate) fn regrouped<A: Allocator + Copy>(
     alloc: A,
     old: &[Group<A>],
-    segments: &[Arc<Segment<A>, A>],
+    parts: &[&Part<A>],
     places: &[Option<usize>],
-) -> Result<Vec<Group<A>, A>, Memory>
-    requires few { AreFew (parts_of (map arc_value segments.now)) }
-    requires old { IsRegrouping (map arc_value segments.now) places.now old.now [] 0 0 0 }
-    ensures { IfOk result (λ groups. AreGroupsOf (parts_of (map arc_value segments.now)) groups.items) }
+) -> Result<Grouped<A>, Memory>
+    requires few { AreFew (map (λ p. p.now) parts.now) }
+    requires old { IsRegrouping (map (λ p. p.now) parts.now) places.now old.now [] 0 0 0 }
+    ensures groups { IfOk result (λ grouped. AreGroupsOf (map (λ p. p.now) parts.now) grouped.groups.items) }
+    ensures places { IfOk result (λ grouped. ArePartsFrom (group_parts old.now) (group_parts grouped.groups.items) grouped.places.items) }
 {
     let mut so_far = NewGroups {
-        groups: Vec::new(alloc),
+        grouped: Grouped {
+            groups: Vec::new(alloc),
+            places: Vec::new(alloc),
+        },
         count: 0,
         place: 0,
         first: 0,
     };
-    for group in old {
-        pass_group(alloc, group, segments, places, &mut so_far)?;
+    for at in 0..old.len() {
+        pass_group(alloc, at, &old[at], parts, places, &mut so_far)?;
     }
     let NewGroups {
-        mut groups,
+        mut grouped,
         count,
         ..
     } = so_far;
-    add_groups(alloc, &segments[count..], &mut groups)?;
-    Ok(groups)
+    add_groups(alloc, &parts[count..], &mut grouped)?;
+    Ok(grouped)
 }

@@ -1,8 +1,7 @@
 ghost use Rattle.std.specs.Prelude.{◌≡◌, ◌≤◌, ◌+◌, map, length, IfOk};
 ghost use Rattle.std.specs.Arc.{arc_value};
 
-use crate::groups::{Group, groups_of};
-use crate::regrouping::regrouped;
+use crate::levels::Levels;
 use crate::row::Row;
 use crate::rows::Rows;
 use crate::schedule::{listed, start_in};
@@ -26,7 +25,7 @@ pub struct Run<A: Allocator + Copy> {
     alloc: A,
     plan: Plan<A>,
     segments: Vec<Arc<Segment<A>, A>, A>,
-    groups: Vec<Group<A>, A>,
+    levels: Levels<A>,
     tables: Tables<A>,
 }
 
@@ -34,13 +33,13 @@ impl<A: Allocator + Copy> Model for Run<A> {
     ghost use Rattle.std.specs.Prelude.{map};
     ghost use Rattle.std.specs.Arc.{arc_value};
     ghost use Rattle.checkpoints.specs.RunView.{RunView, IsRun};
-    ghost use Rattle.checkpoints.specs.Groups.{AreGroupsOf, parts_of};
+    ghost use Rattle.checkpoints.specs.Groups.{AreLevelsOf, parts_of};
 
     ghost Value = { RunView };
 
     ghost view = { λ r. record { log = r.plan.log; setting = r.plan.setting; segments = map arc_value r.segments.items; tables = r.tables } };
 
-    ghost invariant = { λ r. IsRun (record { log = r.plan.log; setting = r.plan.setting; segments = map arc_value r.segments.items; tables = r.tables }) × AreGroupsOf (parts_of (map arc_value r.segments.items)) r.groups.items };
+    ghost invariant = { λ r. IsRun (record { log = r.plan.log; setting = r.plan.setting; segments = map arc_value r.segments.items; tables = r.tables }) × AreLevelsOf (parts_of (map arc_value r.segments.items)) r.levels };
 }
 
 impl<A: Allocator + Copy> Run<A> {
@@ -80,8 +79,8 @@ impl<A: Allocator + Copy> Run<A> {
     /// run's at that place.
     ///
     /// It looks at no entry of the table. The old run keeps its segments in groups, each with the sums
-    /// of its segments: groups whose segments all are taken over, side by side, are not merged again.
-    /// Memory where a growth was refused.
+    /// of its segments, and these in groups too: groups whose segments all are taken over, side by
+    /// side, are not merged again. Memory where a growth was refused.
     pub fn of_taken_over(
         alloc: A,
         old: &Run<A>,
@@ -99,13 +98,13 @@ impl<A: Allocator + Copy> Run<A> {
         ensures sound { IfOk result IsRun }
     {
         let plan = Plan::new(table, old.plan.scenario());
-        let groups = regrouped(alloc, old.groups.as_slice(), segments.as_slice(), places)?;
-        let tables = tables_of(alloc, &plan, skips, groups.as_slice())?;
+        let levels = Levels::of_taken_over(alloc, &old.levels, segments.as_slice(), places)?;
+        let tables = tables_of(alloc, &plan, skips, &levels)?;
         Ok(Run {
             alloc,
             plan,
             segments,
-            groups,
+            levels,
             tables,
         })
     }
@@ -123,13 +122,13 @@ impl<A: Allocator + Copy> Run<A> {
         ensures sound { IfOk result IsRun }
     {
         prove!(plan.scenario().procs() >= 1);
-        let groups = groups_of(alloc, segments.as_slice())?;
-        let tables = tables_anew(alloc, &plan, groups.as_slice())?;
+        let levels = Levels::of(alloc, segments.as_slice())?;
+        let tables = tables_anew(alloc, &plan, &levels)?;
         Ok(Run {
             alloc,
             plan,
             segments,
-            groups,
+            levels,
             tables,
         })
     }

@@ -5,40 +5,40 @@ ghost use Rattle.scenarios.specs.Skips.{skips_of};
 ghost use Rattle.metrics.specs.Part.{IsPartOf};
 ghost use Rattle.checkpoints.specs.Segment.{SegmentView};
 ghost use Rattle.checkpoints.specs.Cut.{IsCut};
-ghost use Rattle.checkpoints.specs.Groups.{AreGroupsOf, parts_of};
+ghost use Rattle.checkpoints.specs.Groups.{AreLevelsOf, parts_of};
 ghost use Rattle.checkpoints.specs.Sums.{IsTablesOf, all_placed};
 
-use crate::groups::{Group, total_of};
+use crate::levels::Levels;
 use metrics::{Part, Tables};
 use scenarios::{Plan, Skips};
 use std::alloc::Allocator;
 use swf_text::Memory;
 
-// The sums over all jobs of a plan, from the groups of its simulation's segments.
+// The sums over all jobs of a plan, from its simulation's segments in groups.
 fn sums_of<A: Allocator + Copy>(
     alloc: A,
     plan: &Plan<A>,
-    groups: &[Group<A>],
+    levels: &Levels<A>,
 ) -> Result<Part<A>, Memory>
-    requires { (ss : List SegmentView) × IsCut (plan_in plan.now) ss × AreGroupsOf (parts_of ss) groups.now }
+    requires { (ss : List SegmentView) × IsCut (plan_in plan.now) ss × AreLevelsOf (parts_of ss) levels.now }
     ensures { IfOk result (IsPartOf (all_placed (plan_in plan.now))) }
 {
     prove!(plan.scenario().procs() >= 1);
-    total_of(alloc, groups)
+    levels.total(alloc)
 }
 
-// The tables of a plan, from the groups of its simulation's segments and its counts of skipped entries.
+// The tables of a plan, from its simulation's segments in groups and its counts of skipped entries.
 pub(crate) fn tables_of<A: Allocator + Copy>(
     alloc: A,
     plan: &Plan<A>,
     skips: Skips,
-    groups: &[Group<A>],
+    levels: &Levels<A>,
 ) -> Result<Tables<A>, Memory>
-    requires cut { (ss : List SegmentView) × IsCut (plan_in plan.now) ss × AreGroupsOf (parts_of ss) groups.now }
+    requires cut { (ss : List SegmentView) × IsCut (plan_in plan.now) ss × AreLevelsOf (parts_of ss) levels.now }
     requires skips { skips ≡ skips_of plan.now.log plan.now.setting }
     ensures { IfOk result (λ tables. IsTablesOf plan.now.log plan.now.setting tables) }
 {
-    let total = sums_of(alloc, plan, groups)?;
+    let total = sums_of(alloc, plan, levels)?;
     let tables = total.tables(plan.scenario().procs(), skips)?;
     Ok(tables)
 }
@@ -64,12 +64,12 @@ fn skips_beside<A: Allocator + Copy>(plan: &Plan<A>, total: &Part<A>) -> Skips
 pub(crate) fn tables_anew<A: Allocator + Copy>(
     alloc: A,
     plan: &Plan<A>,
-    groups: &[Group<A>],
+    levels: &Levels<A>,
 ) -> Result<Tables<A>, Memory>
-    requires { (ss : List SegmentView) × IsCut (plan_in plan.now) ss × AreGroupsOf (parts_of ss) groups.now }
+    requires { (ss : List SegmentView) × IsCut (plan_in plan.now) ss × AreLevelsOf (parts_of ss) levels.now }
     ensures { IfOk result (λ tables. IsTablesOf plan.now.log plan.now.setting tables) }
 {
-    let total = sums_of(alloc, plan, groups)?;
+    let total = sums_of(alloc, plan, levels)?;
     let skips = skips_beside(plan, &total);
     let procs = plan.scenario().procs();
     let tables = total.tables(procs, skips)?;

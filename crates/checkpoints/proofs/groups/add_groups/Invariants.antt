@@ -1,11 +1,15 @@
-use Rattle.std.proofs.Common.{map, length}
-use Rattle.std.specs.Arc.{arc_value}
-use Rattle.checkpoints.specs.Groups.{parts_of}
+use Rattle.std.proofs.Common.{◌-◌, ◌≤◌, List, map, drop, length}
+use Rattle.metrics.specs.Part.{PartSums}
+use Rattle.checkpoints.specs.Groups.{group_parts, ArePartsFrom}
 use Rattle.checkpoints.proofs.Grouping.{Adding}
 use Rattle.checkpoints.proofs.groups.add_groups.Given as goal
 
 abbrev pub invariant-groups : goal.invariant-groups
-invariant-groups g l = Adding (parts_of (map arc_value l.fn.segments)) (parts_of (map arc_value l.rest)) l.fn.groups.items l.groups.items
+invariant-groups g l = record {
+  within : l.at ≤ length l.parts;
+  groups : Adding (map (λ p. p.now) l.fn.parts) (map (λ p. p.now) (drop l.at l.parts)) l.fn.so_far.groups.items l.so_far.groups.items;
+  places : (olds : List PartSums) → ArePartsFrom olds (group_parts l.fn.so_far.groups.items) l.fn.so_far.places.items → ArePartsFrom olds (group_parts l.so_far.groups.items) l.so_far.places.items;
+}
 
 abbrev pub decreases-groups : goal.decreases-groups
-decreases-groups g l = length l.rest
+decreases-groups g l = length l.parts - l.at

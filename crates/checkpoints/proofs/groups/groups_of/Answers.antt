@@ -3,4 +3,4 @@ use Rattle.checkpoints.specs.Groups.{AreGroupsOf}
 use Rattle.checkpoints.proofs.groups.groups_of.Goals as goal
 
 pub returns : goal.returns
-returns g c = c.in_ok-add_groups.ensures [] (subst (AreGroupsOf []) (sym c.new-groups.ensures.items) refl)
+returns g c = c.in_ok-add_groups.ensures.groups [] (subst (AreGroupsOf []) (sym c.new.ensures.items) refl)

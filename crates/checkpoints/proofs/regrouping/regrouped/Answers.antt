@@ -1,26 +1,44 @@
-use Rattle.std.proofs.Common.{◌+◌, ◌∷◌, ◌++◌, map, drop, List, length, sym, ◌∙◌, ap, subst}
-use Rattle.std.specs.Arc.{arc_value}
+use Rattle.std.proofs.Common.{◌≡◌, ◌+◌, ◌∷◌, ◌++◌, map, drop, List, length, sym, ◌∙◌, ap, subst, Bor, Some, option_map, refl}
+use Rattle.std.specs.List.{slice_get}
 use Rattle.std.proofs.lemmas.List.{drop_more}
-use Rattle.checkpoints.specs.Segment.{SegmentView}
-use Rattle.checkpoints.specs.Groups.{GroupView, parts_of, AreGroupsOf}
+use Rattle.std.proofs.lemmas.Option.{slice_get_read, slice_get-map}
+use Rattle.metrics.specs.Part.{PartSums}
+use Rattle.checkpoints.specs.Groups.{GroupView, AreGroupsOf, group_parts}
 use Rattle.checkpoints.specs.Regrouping.{IsRegrouping}
 use Rattle.checkpoints.proofs.TakenOver.{rest-grouped, between-few, behind-same}
 use Rattle.checkpoints.proofs.regrouping.regrouped.Goals as goal
 
-pub loop-group-preserved : goal.loop-group-preserved
-loop-group-preserved g c =
-    let at = c.loop-group.group-index in
-    let so_far = c.loop-group.so_far in
-    let next = drop_more c.args.old.now at c.group-item.result c.loop-group-test.true ∙ ap (λ x. x ∷ drop (at + 1) c.args.old.now) (sym c.group-item.is) in
-    c.in_ok-pass_group.ensures (drop (at + 1) c.args.old.now)
-    (subst (λ (gs : List GroupView). IsRegrouping (map arc_value c.args.segments.now) c.args.places.now gs so_far.groups.items so_far.count so_far.place so_far.first) next c.loop-group.invariant)
+abbrev now : Bor PartSums → PartSums
+now b = b.now
+
+pub pass_group-requires-clause-old : goal.pass_group-requires-clause-old
+pass_group-requires-clause-old g c =
+    let at = c.loop-at.at in
+    let so_far = c.loop-at.so_far in
+    let next : drop at c.args.old.now ≡ c.index-old-at.result ∷ drop (at + 1) c.args.old.now = drop_more c.args.old.now at c.index-old-at.result c.loop-at-test.true ∙ ap (λ x. x ∷ drop (at + 1) c.args.old.now) (sym c.index-old-at.is) in
+    (drop (at + 1) c.args.old.now, subst (λ (gs : List GroupView). IsRegrouping (map now c.args.parts.now) c.args.places.now gs so_far.grouped.groups.items so_far.count so_far.place so_far.first) next c.loop-at.invariant.groups)
+
+pub loop-at-preserved : goal.loop-at-preserved
+loop-at-preserved g c =
+    let at = c.loop-at.at in
+    let so_far = c.loop-at.so_far in
+    let part = λ (k : GroupView). k.part in
+    let next : drop at c.args.old.now ≡ c.index-old-at.result ∷ drop (at + 1) c.args.old.now = drop_more c.args.old.now at c.index-old-at.result c.loop-at-test.true ∙ ap (λ x. x ∷ drop (at + 1) c.args.old.now) (sym c.index-old-at.is) in
+    let found : slice_get (group_parts c.args.old.now) at ≡ Some c.index-old-at.result.part = slice_get-map part c.args.old.now at ∙ ap (option_map part) (slice_get_read c.args.old.now (length c.args.old.now) at c.index-old-at.result refl c.loop-at-test.true c.index-old-at.is) in
+    record {
+      groups = c.in_ok-pass_group.ensures.groups (drop (at + 1) c.args.old.now) (subst (λ (gs : List GroupView). IsRegrouping (map now c.args.parts.now) c.args.places.now gs so_far.grouped.groups.items so_far.count so_far.place so_far.first) next c.loop-at.invariant.groups);
+      places = c.in_ok-pass_group.ensures.places (group_parts c.args.old.now) found c.loop-at.invariant.places;
+    }
 
 pub add_groups-requires : goal.add_groups-requires
-add_groups-requires g c = between-few arc_value c.args.segments.now c.loop-group.so_far.count (length c.args.segments.now) c.requires.few
+add_groups-requires g c = between-few now c.args.parts.now c.loop-at.so_far.count (length c.args.parts.now) c.requires.few
 
-pub returns : goal.returns
-returns g c =
-    let so_far = c.loop-group.so_far in
-    let gs : List GroupView = c.add_groups.new.groups.items in
-    rest-grouped (map arc_value c.args.segments.now) c.args.places.now _ so_far.groups.items gs so_far.count so_far.place so_far.first c.loop-group.invariant
-    (λ vs h. subst (λ (ss : List SegmentView). AreGroupsOf (vs ++ parts_of ss) gs) (behind-same arc_value c.args.segments.now so_far.count) (c.in_ok-add_groups.ensures vs h))
+pub returns-clause-groups : goal.returns-clause-groups
+returns-clause-groups g c =
+    let so_far = c.loop-at.so_far in
+    let gs : List GroupView = c.add_groups.new.so_far.groups.items in
+    rest-grouped (map now c.args.parts.now) c.args.places.now _ so_far.grouped.groups.items gs so_far.count so_far.place so_far.first c.loop-at.invariant.groups
+    (λ vs h. subst (λ (ws : List PartSums). AreGroupsOf (vs ++ ws) gs) (behind-same now c.args.parts.now so_far.count) (c.in_ok-add_groups.ensures.groups vs h))
+
+pub returns-clause-places : goal.returns-clause-places
+returns-clause-places g c = c.in_ok-add_groups.ensures.places (group_parts c.args.old.now) c.loop-at.invariant.places

@@ -1,20 +1,20 @@
 use Rattle.std.proofs.Common.{map}
 use Rattle.std.specs.Arc.{arc_value}
 use Rattle.scenarios.specs.PlanView.{plan_in}
-use Rattle.checkpoints.specs.Groups.{parts_of, AreGroupsOf}
+use Rattle.checkpoints.specs.Groups.{parts_of, AreLevelsOf}
 use Rattle.checkpoints.proofs.Totals.{cut-few}
 use Rattle.checkpoints.proofs.run.Run.of_plan.Goals as goal
 
-pub groups_of-requires : goal.groups_of-requires
-groups_of-requires g c = rw c.as_slice.ensures.value (cut-few (plan_in c.args.plan) (map arc_value c.args.segments.items) c.scenario.ensures.sound c.requires)
+pub of-requires : goal.of-requires
+of-requires g c = rw c.as_slice.ensures.value (cut-few (plan_in c.args.plan) (map arc_value c.args.segments.items) c.scenario.ensures.sound c.requires)
 
 pub tables_anew-requires : goal.tables_anew-requires
 tables_anew-requires g c =
-    let groups : AreGroupsOf (parts_of (map arc_value c.args.segments.items)) c.in_ok-groups.groups.items = rw c.as_slice.ensures.value at c.in_ok-groups.ensures in
-    (map arc_value c.args.segments.items, c.requires, rw c.as_slice-2.ensures.value groups)
+    let levels : AreLevelsOf (parts_of (map arc_value c.args.segments.items)) c.in_ok-levels.levels = rw c.as_slice.ensures.value at c.in_ok-levels.ensures in
+    (map arc_value c.args.segments.items, c.requires, levels)
 
 pub invariant_of-result : goal.invariant_of-result
-invariant_of-result g c = (record { cut = c.requires; tables = c.in_ok-tables.ensures }, rw c.as_slice.ensures.value at c.in_ok-groups.ensures)
+invariant_of-result g c = (record { cut = c.requires; tables = c.in_ok-tables.ensures }, rw c.as_slice.ensures.value at c.in_ok-levels.ensures)
 
 pub returns-clause-sound : goal.returns-clause-sound
 returns-clause-sound g c = record { cut = c.requires; tables = c.in_ok-tables.ensures }

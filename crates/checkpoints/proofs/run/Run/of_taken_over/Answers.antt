@@ -1,31 +1,41 @@
-use Rattle.std.proofs.Common.{◌≡◌, ◌∙◌, ap, map}
+use Rattle.std.proofs.Common.{◌≡◌, ◌∙◌, List, arith, sym, subst, ap, map}
+use Rattle.std.proofs.lemmas.List.{length-map}
 use Rattle.std.specs.Arc.{arc_value}
 use Rattle.scenarios.specs.PlanView.{plan_in}
 use Rattle.checkpoints.specs.Cut.{IsCut}
-use Rattle.checkpoints.specs.Groups.{parts_of, AreGroupsOf}
+use Rattle.checkpoints.specs.Groups.{parts_of, AreLevelsOf, AreFrom}
+use Rattle.checkpoints.specs.Segment.{SegmentView}
 use Rattle.checkpoints.specs.RunView.{RunView}
 use Rattle.checkpoints.proofs.Totals.{cut-few}
 use Rattle.checkpoints.proofs.run.Run.of_taken_over.Goals as goal
 
-pub regrouped-requires-clause-few : goal.regrouped-requires-clause-few
-regrouped-requires-clause-few g c =
+pub of_taken_over-requires-clause-few : goal.of_taken_over-requires-clause-few
+of_taken_over-requires-clause-few g c =
     let setting : c.scenario.result ≡ c.args.old.now.setting = c.scenario.ensures.scenario ∙ ap (λ (r : RunView). r.setting) c.old.view_is in
     let cut : IsCut (plan_in c.new-plan.result) (map arc_value c.args.segments.items) = rw (c.new-plan.ensures.view, setting) c.requires.cut in
-    rw c.as_slice-2.ensures.value (cut-few (plan_in c.new-plan.result) (map arc_value c.args.segments.items) c.new-plan.ensures.sound cut)
+    rw c.as_slice.ensures.value (cut-few (plan_in c.new-plan.result) (map arc_value c.args.segments.items) c.new-plan.ensures.sound cut)
+
+pub of_taken_over-requires-clause-old : goal.of_taken_over-requires-clause-old
+of_taken_over-requires-clause-old g c =
+    let olds : List SegmentView = map arc_value c.old.inside.segments.items in
+    let segments : c.args.old.now.segments ≡ olds = sym (ap (λ (r : RunView). r.segments) c.old.view_is) in
+    let from : AreFrom olds (map arc_value c.args.segments.items) c.args.places.now = subst (λ (ss : List SegmentView). AreFrom ss (map arc_value c.args.segments.items) c.args.places.now) segments c.requires.places in
+    let long = length-map c.old.inside.segments.items arc_value in
+    (olds, omega (arith, long, c.old.inside.segments.small), c.old.invariant.1, rw c.as_slice.ensures.value from)
 
 pub tables_of-requires-clause-cut : goal.tables_of-requires-clause-cut
 tables_of-requires-clause-cut g c =
     let setting : c.scenario.result ≡ c.args.old.now.setting = c.scenario.ensures.scenario ∙ ap (λ (r : RunView). r.setting) c.old.view_is in
     let cut : IsCut (plan_in c.new-plan.result) (map arc_value c.args.segments.items) = rw (c.new-plan.ensures.view, setting) c.requires.cut in
-    let groups : AreGroupsOf (parts_of (map arc_value c.args.segments.items)) c.in_ok-groups.groups.items = rw c.as_slice-2.ensures.value at c.in_ok-groups.ensures in
-    (map arc_value c.args.segments.items, cut, rw c.as_slice-3.ensures.value groups)
+    let levels : AreLevelsOf (parts_of (map arc_value c.args.segments.items)) c.in_ok-levels.levels = rw c.as_slice.ensures.value at c.in_ok-levels.ensures in
+    (map arc_value c.args.segments.items, cut, levels)
 
 pub invariant_of-result : goal.invariant_of-result
 invariant_of-result g c =
     let setting : c.scenario.result ≡ c.args.old.now.setting = c.scenario.ensures.scenario ∙ ap (λ (r : RunView). r.setting) c.old.view_is in
     let cut : IsCut (plan_in c.new-plan.result) (map arc_value c.args.segments.items) = rw (c.new-plan.ensures.view, setting) c.requires.cut in
-    let groups : AreGroupsOf (parts_of (map arc_value c.args.segments.items)) c.in_ok-groups.groups.items = rw c.as_slice-2.ensures.value at c.in_ok-groups.ensures in
-    (record { cut = cut; tables = c.in_ok-tables.ensures }, groups)
+    let levels : AreLevelsOf (parts_of (map arc_value c.args.segments.items)) c.in_ok-levels.levels = rw c.as_slice.ensures.value at c.in_ok-levels.ensures in
+    (record { cut = cut; tables = c.in_ok-tables.ensures }, levels)
 
 pub returns-clause-sound : goal.returns-clause-sound
 returns-clause-sound g c =
