@@ -80,11 +80,11 @@ fn edit_of(alloc: Global, log: &JobTable<Global>, kind: Kind, place: u64) -> Res
 // Works the scenario that is due until its run is published: what that took, unless it was made from
 // nothing.
 fn settle(book: &mut Book<Global>) -> Result<Option<Work>> {
-    let Some(task) = book.claim(CALLER)? else {
+    let Some(mut task) = book.claim(CALLER)? else {
         bail!("no scenario is due");
     };
-    let (run, work) = task.work()?;
-    book.finish(CALLER, task.ticket(), run)?;
+    let (run, work) = task.deliver()?;
+    book.finish_delivered(CALLER, task.ticket(), run)?;
     Ok(work)
 }
 

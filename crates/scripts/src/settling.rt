@@ -26,19 +26,19 @@ pub(crate) enum Turn {
 }
 
 // Works a claimed task: publishes its run, or gives it up where memory is refused for it.
-fn work<A: Allocator + Copy>(book: &mut Book<A>, task: &Task<A>) -> Turn
-    requires { IsOut book.old.state task.now }
-    ensures { TaskEnds result task.now.ticket (machine_of book.old) (machine_of book.new) }
+fn work<A: Allocator + Copy>(book: &mut Book<A>, task: &mut Task<A>) -> Turn
+    requires { IsOut book.old.state task.old }
+    ensures { TaskEnds result task.old.ticket (machine_of book.old) (machine_of book.new) }
 {
     let ticket = task.ticket();
-    let Ok((run, _)) = task.work() else {
+    let Ok((run, _)) = task.deliver() else {
         return match book.give_up(WORKER, ticket) {
             Ok(()) | Err(GiveUpRefusal::UnknownTicket) => Turn::Worked,
             Err(GiveUpRefusal::JournalFull) => Turn::AtRest,
             Err(GiveUpRefusal::Memory) => Turn::Short,
         };
     };
-    match book.finish(WORKER, ticket, run) {
+    match book.finish_delivered(WORKER, ticket, run) {
         Ok(_) | Err(FinishRefusal::Stale { .. }) => Turn::Worked,
         Err(FinishRefusal::JournalFull) => Turn::AtRest,
         Err(FinishRefusal::Memory) => Turn::Short,
@@ -55,7 +55,7 @@ fn work_next<A: Allocator + Copy>(book: &mut Book<A>) -> Turn
         return Turn::AtRest;
     }
     match book.claim(WORKER) {
-        Ok(Some(task)) => work(book, &task),
+        Ok(Some(mut task)) => work(book, &mut task),
         Ok(None) => unreachable!(),
         Err(ClaimRefusal::TooManyTickets) => unreachable!(),
         Err(ClaimRefusal::JournalFull) => Turn::AtRest,

@@ -12,8 +12,8 @@ use Rattle.book_machine.specs.Call.{BookCall, Edit, AddScenario, DropScenario, R
 use Rattle.book_machine.specs.Machine.{Machine, Progress, Ticket, version, opened, current, fresh, dropped, due, are_all_out, changed, closed, publish, marked, ticket_of, reply_to, changed_by, after, noted, note_limit}
 use Rattle.book_machine.specs.History.{Noted, IsLegal, after_all}
 use Rattle.version_book.specs.Book.{StateView, BookView, machine_at, machine_of}
-use Rattle.version_book.specs.Sound.{IsBook}
-use Rattle.version_book.specs.Steps.{Answer, full, memory, told, Answers, Does, IsStep, note_of, notes_of, reply_in}
+use Rattle.version_book.specs.Sound.{IsBook, IsSound}
+use Rattle.version_book.specs.Steps.{Answer, full, memory, told, Answers, Does, IsStep, note_of, notes_of, opening_state, reply_in}
 
 -- ---- what no call changes
 
@@ -142,3 +142,10 @@ as-it-was {b} {v} f xs ys who call a is journal ys_is test a_is =
     let same : record { state = b.state; journal = map f ys } ≡ b = ap (λ (j : List Noted). let w : BookView = record { state = b.state; journal = j } in w) (ap (map f) ys_is ∙ sym journal) in
     let count = ap length journal in
     subst (λ (q : Answer). Answers v (record { state = b.state; journal = map f ys }) who call q) (sym a_is) (subst (λ (w : BookView). Answers w (record { state = b.state; journal = map f ys }) who call memory) is (omega arith, same))
+
+-- ---- a log that was just opened
+
+pub opened-book : (s : StateView) (log : List LogEntry) (spacing : ℕ) (notes : List Noted) → IsSound s → s ≡ opening_state log spacing → notes ≡ [] → IsBook (record { state = s; journal = notes })
+opened-book s log spacing notes sound is none =
+    let whole : IsSound (opening_state log spacing) → IsBook (record { state = opening_state log spacing; journal = [] }) = λ it. record { sound = it; legal = tt; led = refl; room = omega arith; numbers = omega arith } in
+    subst (λ (ns : List Noted). IsBook (record { state = s; journal = ns })) (sym none) (subst (λ (t : StateView). IsSound t → IsBook (record { state = t; journal = [] })) (sym is) whole sound)

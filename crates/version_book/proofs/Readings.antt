@@ -158,6 +158,10 @@ claim-with {s} {w} task t ts seen h next ts_is t_is =
     let told = ap (λ (k : TaskView). reply.Claimed k.ticket k.id k.version (version_in k.base)) n.3 ∙ ap (reply.Claimed s.next_ticket x.id (length s.edits)) (base-version s.edits x.published) in
     claim-given s x ts _ h (sym (due-shown s) ∙ n.1) n.2 (ts_is ∙ ap (λ (u : TicketView). s.tickets ++ u ∷ []) ticket) told
 
+-- the same of a task that stayed as it was
+pub claim-left : {s new : StateView} (task left : TaskView) → left ≡ task → IsStep s new Claim (reply.Claimed task.ticket task.id task.version (version_in task.base)) → IsStep s new Claim (reply.Claimed left.ticket left.id left.version (version_in left.base))
+claim-left {s} {new} task left is step = subst (λ (k : TaskView). IsStep s new Claim (reply.Claimed k.ticket k.id k.version (version_in k.base))) (sym is) step
+
 pub next-none : {s w : StateView} (v : ℕ) → s ≡ w → v ≡ length s.edits → find (is_due_at v s.tickets) s.shown ≡ None → due_shown w ≡ None
 next-none {s} {w} v seen v_is is = subst (λ (u : StateView). due_shown u ≡ None) seen (due-with s v None v_is is)
 

@@ -1,17 +1,25 @@
 -- What a change of where a book stands keeps, and calls that change nothing.
 use Rattle.std.proofs.Common.{◌≡◌, ℕ, ◌≤◌, ◌==◌, List, [], ◌∷◌, ◌++◌, length, map, refl, sym, ◌∙◌, ap, ap₂, subst, Bool, true, false, cond, arith}
-use Rattle.std.specs.Prelude.{Option, None, Some, Ok, Err, MatchOption, ⊤, IfSome, find, is_some}
+use Rattle.std.specs.Prelude.{◌<◌, ◌||◌, not, nat_le, nat_lt, Option, None, Some, Result, Ok, Err, MatchOption, ⊤, IfSome, find, is_some, ok_or}
 use Rattle.std.specs.List.{All}
 use Rattle.std.specs.Option.{option_map}
-use Rattle.std.proofs.lemmas.List.{map-append}
+use Rattle.std.proofs.lemmas.List.{map-append, length-map}
+use Rattle.std.proofs.lemmas.Bool.Decides.{nat_tests}
+use Rattle.swf_text.specs.Entry.{LogEntry}
+use Rattle.job_table.specs.Edit.{LogEdit}
+use Rattle.job_table.specs.Table.{IsTable}
+use Rattle.checkpoints.specs.Spacing.{IsSpacing}
 use Rattle.std.proofs.lemmas.List.Elements.{All-nil, All-cons, All-head, All-tail, All-weaker}
-use Rattle.scenarios.specs.ScenarioList.{Listing}
+use Rattle.scenarios.specs.ScenarioList.{Listing, add_fault, empty, id_of}
+use Rattle.scenarios.specs.declared.list_fault.AddFault.{AddFault}
+use Rattle.scenarios.specs.declared.list_fault.AddFault.TheVariants.{BadName, NameTaken, TooMany}
+use Rattle.scenarios.specs.Name.{is_name}
 use Rattle.book_machine.specs.declared.reply.Reply.{Reply}
 use Rattle.book_machine.specs.Call.{BookCall}
 use Rattle.book_machine.specs.Machine.{Progress, Ticket, changed, progress_of, published_of, ticket_of, reply_to, changed_by}
 use Rattle.version_book.specs.Book.{ShownView, TicketView, StateView, machine_at, progress_of_shown, ticket_of_view, published_version}
-use Rattle.version_book.specs.Sound.{IsSound, IsOfItsVersion, IsTicketOfItsVersion, IsTicketOfItsScenario, Under, under_of_shown}
-use Rattle.version_book.specs.Steps.{Answer, Does, IsStep}
+use Rattle.version_book.specs.Sound.{IsSound, IsOfItsVersion, IsTicketOfItsVersion, IsTicketOfItsScenario, AreListed, Under, under_of_listed, under_of_shown}
+use Rattle.version_book.specs.Steps.{Answer, Does, IsStep, opening_state}
 use Rattle.version_book.specs.Lookups.{has_id, has_number, with_change, version_shown}
 use Rattle.version_book.proofs.Lists.{find-map}
 
@@ -135,6 +143,62 @@ none-told (Some f) x h = cc
 pub some-of : {X : Type 0} (o : Option X) → is_some o ≡ true → (x : X) × (o ≡ Some x)
 some-of None is = cc
 some-of (Some x) is = (x, refl)
+
+pub ok-told : {R E : Type 0} (o : Option R) (e : E) (x : R) → ◌≡◌ {A = Result R E} (Ok x) (ok_or o e) → o ≡ Some x
+ok-told None e x is = cc
+ok-told (Some y) e x is = cc
+
+pub is_some-map : {X Y : Type 0} (f : X → Y) (o : Option X) → is_some (option_map f o) ≡ is_some o
+is_some-map f None = refl
+is_some-map f (Some x) = refl
+
+pub not-both : (b : Bool) → b ≡ false → b ≡ true → ⊥
+not-both true f t = cc
+not-both false f t = cc
+
+-- ---- a list with room
+
+fault-of : (named taken full : Bool) → (cond (not named) (Some BadName) (cond taken (Some NameTaken) (cond full (Some TooMany) None))) ≡ None → full ≡ false
+fault-of false taken full is = cc
+fault-of true true full is = cc
+fault-of true false true is = cc
+fault-of true false false is = refl
+
+first-false : (a b : Bool) → (a || b) ≡ false → a ≡ false
+first-false true b is = cc
+first-false false b is = refl
+
+below-of : (n : ℕ) → nat_le 64 n ≡ false → n < 64
+below-of n is = grind (arith, nat_tests)
+
+-- a list to which one can be added has fewer than 64, and so many are shown
+pub shown-room : (xs : List ShownView) (name : List ℕ) (list : Listing) → AreListed xs list → add_fault name list ≡ None → length xs < 64
+shown-room xs name list listed none =
+    let full = fault-of (is_name name) (is_some (id_of name list)) (nat_le 64 (length list.scenarios) || nat_lt 4294967295 list.next) none in
+    let below = below-of (length list.scenarios) (first-false (nat_le 64 (length list.scenarios)) (nat_lt 4294967295 list.next) full) in
+    omega (arith, below, length-map xs under_of_shown, length-map list.scenarios under_of_listed, ap length listed)
+
+-- ---- a log that was just opened
+
+pub opening-sound : (log : List LogEntry) (spacing : ℕ) → IsSpacing spacing → IsTable log → IsSound (opening_state log spacing)
+opening-sound log spacing within table = record {
+  spacing = within;
+  opening = table;
+  accepted = tt;
+  current = refl;
+  listed = refl;
+  ids = omega arith;
+  runs = All-nil (λ (x : ShownView). IfSome x.published (IsOfItsVersion log [] x.setting));
+  tickets = All-nil (IsTicketOfItsVersion log []);
+  claimed = All-nil (IsTicketOfItsScenario [] 1);
+  few = omega arith;
+}
+
+pub opened-sound : (log o k : List LogEntry) (spacing : ℕ) (es : List LogEdit) (list : Listing) (xs : List ShownView) (ts : List TicketView) → IsSpacing spacing → IsTable log → o ≡ log → k ≡ o → es ≡ [] → list ≡ empty → xs ≡ [] → ts ≡ [] → IsSound (record { spacing = spacing; opening = o; current = k; edits = es; listing = list; shown = xs; tickets = ts; next_ticket = 1 })
+opened-sound log o k spacing es list xs ts within table o_is k_is es_is list_is xs_is ts_is =
+    let s : StateView = record { spacing = spacing; opening = o; current = k; edits = es; listing = list; shown = xs; tickets = ts; next_ticket = 1 } in
+    let is : s ≡ opening_state log spacing = cc in
+    subst IsSound (sym is) (opening-sound log spacing within table)
 
 pub does-as : {s v : StateView} (new : StateView) (call : BookCall) {a b : Answer} → s ≡ v → a ≡ b → Does s new call a → Does v new call b
 does-as {s} {v} new call {a} {b} is same h = subst (λ (w : StateView). Does w new call b) is (subst (λ (q : Answer). Does s new call q) same h)

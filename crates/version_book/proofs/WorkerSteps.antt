@@ -1,6 +1,6 @@
 -- The steps of the workers' calls.
 use Rattle.std.proofs.Common.{◌≡◌, ℕ, ◌+◌, ◌≤◌, ◌<◌, ◌==◌, ◌&&◌, List, [], ◌∷◌, ◌++◌, length, map, refl, sym, ◌∙◌, ap, ap₂, subst, Bool, true, false, not, cond, arith}
-use Rattle.std.specs.Prelude.{Option, None, Some, IfSome, find, filter, is_some, unwrap_or}
+use Rattle.std.specs.Prelude.{Option, None, Some, Result, Ok, Err, IfSome, find, filter, is_some, unwrap_or}
 use Rattle.std.specs.List.{All}
 use Rattle.std.specs.Option.{option_map}
 use Rattle.std.proofs.lemmas.Bool.{eqb-true, eq-eqb, ne_eqb}
@@ -14,7 +14,10 @@ use Rattle.book_machine.specs.Call.{Claim, Finish, GiveUp}
 use Rattle.book_machine.specs.Machine.{Machine, Progress, Ticket, version, is_below, is_due, due, are_all_out, changed, closed, publish, marked, finish_reply_at, ticket_of}
 use Rattle.version_book.specs.Book.{PublishedView, ShownView, TicketView, StateView, machine_at, progress_of_shown, ticket_of_view, published_version}
 use Rattle.version_book.specs.Sound.{IsSound, IsOfItsVersion, IsTicketOfItsVersion, IsTicketOfItsScenario}
-use Rattle.version_book.specs.Steps.{IsStep}
+use Rattle.version_book.specs.Steps.{Does, IsStep}
+use Rattle.version_book.specs.Answers.{TakesWhatFits, TellsFit, finish_answer, fitted}
+use Rattle.version_book.specs.declared.worker_refusal.FinishRefusal.{FinishRefusal}
+use Rattle.version_book.specs.declared.worker_refusal.FinishRefusal.TheVariants as finish
 use Rattle.version_book.specs.Tasks.{Fits, HasThoseOf, due_shown}
 use Rattle.version_book.specs.Lookups.{has_id, has_number, is_mark, is_due_at, marking, publishing, version_shown, with_change}
 use Rattle.version_book.proofs.Lists.{find-map, filter-map, list_any-map, find-All, length-filter-le}
@@ -266,3 +269,38 @@ other-with s n t v ts h is v_is other ts_is = give_up-other s n t ts h is (λ e.
 
 pub fits-of : {s v : StateView} (n : ℕ) (t : TicketView) (run : RunView) → s ≡ v → find (has_number n) s.tickets ≡ Some t → run.log ≡ t.log → run.setting ≡ t.setting → Fits v n run
 fits-of {s} {v} n t run is some log setting = subst (λ (w : StateView). Fits w n run) is (subst (λ (o : Option TicketView). HasThoseOf o run) (sym some) (log, setting))
+
+pub those-of : {s v : StateView} (n : ℕ) (t : TicketView) (run : RunView) → s ≡ v → find (has_number n) s.tickets ≡ Some t → Fits v n run → HasThoseOf (Some t) run
+those-of {s} {v} n t run is some fits = subst (λ (o : Option TicketView). HasThoseOf o run) some (subst (λ (w : StateView). Fits w n run) (sym is) fits)
+
+pub none-fits : {s v : StateView} (n : ℕ) (run : RunView) → s ≡ v → find (has_number n) s.tickets ≡ None → Fits v n run → ⊥
+none-fits {s} {v} n run is none fits = subst (λ (o : Option TicketView). HasThoseOf o run) none (subst (λ (w : StateView). Fits w n run) (sym is) fits)
+
+-- ---- a run that fitted
+
+pub does-fitted : (s v : StateView) (n : ℕ) (r : Result ℕ FinishRefusal) → fitted r ≡ true → Does s v (Finish n true) (finish_answer r) → Does s v (Finish n (fitted r)) (finish_answer r)
+does-fitted s v n r is does = subst (λ (b : Bool). Does s v (Finish n b) (finish_answer r)) (sym is) does
+
+pub tells-fit : (F : Type 0) (r : Result ℕ FinishRefusal) → F → fitted r ≡ true → TellsFit F r
+tells-fit F (Ok version) fits is = fits
+tells-fit F (Err finish.JournalFull) fits is = tt
+tells-fit F (Err finish.UnknownTicket) fits is = cc
+tells-fit F (Err finish.Stranger) fits is = cc
+tells-fit F (Err (finish.Stale published)) fits is = fits
+tells-fit F (Err finish.Memory) fits is = tt
+
+pub takes-fitted : (F : Type 0) (r : Result ℕ FinishRefusal) → fitted r ≡ true → TakesWhatFits F r
+takes-fitted F (Ok version) is = tt
+takes-fitted F (Err finish.JournalFull) is = tt
+takes-fitted F (Err finish.UnknownTicket) is = cc
+takes-fitted F (Err finish.Stranger) is = cc
+takes-fitted F (Err (finish.Stale published)) is = tt
+takes-fitted F (Err finish.Memory) is = tt
+
+pub takes-told : (F : Type 0) (r : Result ℕ FinishRefusal) → TellsFit F r → TakesWhatFits F r
+takes-told F (Ok version) told = tt
+takes-told F (Err finish.JournalFull) told = tt
+takes-told F (Err finish.UnknownTicket) told = told
+takes-told F (Err finish.Stranger) told = told
+takes-told F (Err (finish.Stale published)) told = tt
+takes-told F (Err finish.Memory) told = tt

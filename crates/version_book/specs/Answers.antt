@@ -98,6 +98,15 @@ TellsFit Fits (Err finish.Stranger) = Fits → ⊥
 TellsFit Fits (Err (finish.Stale published)) = Fits
 TellsFit Fits (Err finish.Memory) = Unit {0}
 
+-- a run that fits is not refused as one of another ticket or of none
+abbrev pub TakesWhatFits : Type 0 → Result ℕ FinishRefusal → Type 0
+TakesWhatFits Fits (Ok version) = Unit {0}
+TakesWhatFits Fits (Err finish.JournalFull) = Unit {0}
+TakesWhatFits Fits (Err finish.UnknownTicket) = Fits → ⊥
+TakesWhatFits Fits (Err finish.Stranger) = Fits → ⊥
+TakesWhatFits Fits (Err (finish.Stale published)) = Unit {0}
+TakesWhatFits Fits (Err finish.Memory) = Unit {0}
+
 abbrev pub give_up_answer : {U : Type 0} → Result U GiveUpRefusal → Answer
 give_up_answer (Ok _) = told reply.GivenUp
 give_up_answer (Err give_up.JournalFull) = full

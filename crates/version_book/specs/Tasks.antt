@@ -7,6 +7,7 @@ use Rattle.job_table.specs.Edit.{LogEdit, log_after}
 use Rattle.scenarios.specs.Scenario.{Setting}
 use Rattle.checkpoints.specs.RunView.{RunView}
 use Rattle.scenarios.specs.Plan.{plan_of}
+use Rattle.scenarios.specs.PlanView.{PlanView}
 use Rattle.checkpoints.specs.Spacing.{IsSpacing}
 use Rattle.checkpoints.specs.Cut.{IsShortCut}
 use Rattle.rejoin.specs.Patch.{IsRejoined}
@@ -79,6 +80,10 @@ abbrev pub due_shown : StateView → Option ShownView
 due_shown s = find (λ (x : ShownView). is_due (machine_at 0 s) (progress_of_shown x)) s.shown
 
 -- ---- a run that is handed in
+
+-- the run is of the plan's log and setting
+abbrev pub IsRunOf : PlanView → RunView → Type 0
+IsRunOf plan run = (run.log ≡ plan.log) × (run.setting ≡ plan.setting)
 
 -- the run has the log and the setting of this ticket, if there is one
 abbrev pub HasThoseOf : Option TicketView → RunView → Type 0

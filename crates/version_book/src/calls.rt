@@ -6,7 +6,7 @@ ghost use Rattle.std.specs.Arc.{arc_value};
 ghost use Rattle.job_table.specs.Edit.{edit_of};
 ghost use Rattle.book_machine.specs.declared.caller.Caller.TheVariants as caller;
 ghost use Rattle.book_machine.specs.Call.{AddScenario, Claim, DropScenario, Edit as Edits, Finish, GiveUp, Retry, View};
-ghost use Rattle.version_book.specs.Answers.{TellsFit, add_answer, claim_answer, drop_answer, edit_answer, finish_answer, fitted, give_up_answer, retry_answer, view_answer};
+ghost use Rattle.version_book.specs.Answers.{TakesWhatFits, TellsFit, add_answer, claim_answer, drop_answer, edit_answer, finish_answer, fitted, give_up_answer, retry_answer, view_answer};
 ghost use Rattle.version_book.specs.Sound.{IsBook};
 ghost use Rattle.version_book.specs.Steps.{Answers};
 ghost use Rattle.version_book.specs.Tasks.{Fits, IsOut, IsShownFor, due_shown, task_for};
@@ -190,6 +190,36 @@ impl<A: Allocator + Copy> Book<A> {
         }
         make_room(&mut self.journal)?;
         let told = self.state.finish(ticket, run);
+        let reply = replies::finish_reply(&told);
+        let fits = replies::fitted(&told);
+        note(
+            &mut self.journal,
+            Caller::Worker(worker),
+            Call::Finish { ticket, fits },
+            reply,
+        );
+        told
+    }
+
+    /// Hands in the run that the ticket's task has left there by `Task::deliver`, or this one where it has
+    /// left none, and answers as `finish`.
+    ///
+    /// What a task has left is of its ticket's log and scenario, so it is not compared with them entry by
+    /// entry, as `finish` does.
+    pub fn finish_delivered(
+        &mut self,
+        worker: u64,
+        ticket: u64,
+        run: Arc<Run<A>, A>,
+    ) -> Result<u64, FinishRefusal>
+        ensures answer { Answers self.old self.new (caller.Worker worker) (Finish ticket (fitted result)) (finish_answer result) }
+        ensures fits { TakesWhatFits (Fits self.old.state ticket (arc_value run)) result }
+    {
+        if is_full(&self.journal) {
+            return Err(FinishRefusal::JournalFull);
+        }
+        make_room(&mut self.journal)?;
+        let told = self.state.finish_delivered(ticket, run);
         let reply = replies::finish_reply(&told);
         let fits = replies::fitted(&told);
         note(

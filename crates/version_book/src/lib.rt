@@ -5,6 +5,7 @@
 mod book;
 mod book_fault;
 mod calls;
+mod delivery;
 mod journal;
 mod lookups;
 mod published;

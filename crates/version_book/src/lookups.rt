@@ -1,15 +1,19 @@
 // Look-ups among the scenarios and tickets of a book, of which there are at most 64 and 256.
-ghost use Rattle.std.specs.Prelude.{◌≡◌, ◌==◌, ◌≤◌, ◌&&◌, length, find, filter, count_by, not, None, Some, option_copied, vec_capacity};
+ghost use Rattle.std.specs.Prelude.{◌≡◌, ◌==◌, ◌≤◌, ◌&&◌, length, find, filter, count_by, not, IfSome, None, Some, option_copied, vec_capacity};
+ghost use Rattle.std.specs.Arc.{arc_value};
 ghost use Rattle.std.specs.List.{list_any, position};
 ghost use Rattle.version_book.specs.Book.{ShownView, TicketView};
 ghost use Rattle.version_book.specs.Lookups.{AreApart, has_id, has_number, is_awaited, is_behind, is_due_at, is_out, marking, publishing, settled_at, unmarking, version_shown, with_change};
+ghost use Rattle.version_book.specs.Tasks.{HasThoseOf};
 
 use crate::published::Published;
 use crate::shown::{Shown, is_below};
 use crate::ticket::Ticket;
 use book_machine::SettleState;
+use checkpoints::Run;
 use scenarios::ScenarioId;
 use std::alloc::Allocator;
+use std::sync::Arc;
 
 // The scenario with this id.
 pub(crate) fn shown_of<A: Allocator + Copy>(shown: &[Shown<A>], id: ScenarioId) -> Option<&Shown<A>>
@@ -140,6 +144,26 @@ pub(crate) fn unmark<A: Allocator + Copy>(shown: &mut Vec<Shown<A>, A>, id: Scen
     if let Some(place) = place_of(shown, id) {
         shown[place].unmark();
     }
+}
+
+// The place of the ticket with this number.
+fn place_of_ticket<A: Allocator + Copy>(tickets: &[Ticket<A>], number: u64) -> Option<usize>
+    ensures { result ≡ position (has_number number) tickets.now }
+{
+    tickets.iter().position(move |t| t.has_number(number))
+}
+
+// The run that the task of the ticket with this number has left there.
+pub(crate) fn take_run<A: Allocator + Copy>(
+    tickets: &mut Vec<Ticket<A>, A>,
+    number: u64,
+) -> Option<Arc<Run<A>, A>>
+    ensures run { IfSome result (λ run. HasThoseOf (find (has_number number) tickets.old.items) (arc_value run)) }
+    ensures tickets { tickets.new.items ≡ tickets.old.items }
+    ensures capacity { vec_capacity tickets.new ≡ vec_capacity tickets.old }
+{
+    let place = place_of_ticket(tickets, number)?;
+    tickets[place].take_run()
 }
 
 // Closes the ticket with this number.

@@ -6,12 +6,15 @@ ghost use Rattle.checkpoints.specs.RunView.{IsRun};
 ghost use Rattle.checkpoints.specs.Cut.{IsShortCut};
 ghost use Rattle.job_table.specs.Accepted.{AreAccepted};
 ghost use Rattle.rejoin.specs.Patch.{IsRejoined};
-ghost use Rattle.version_book.specs.Tasks.{IsMade, IsTask};
+ghost use Rattle.version_book.specs.Tasks.{IsMade, IsTask, ticket_for};
 
+use crate::delivery::{MadeRun, RunGiver};
+use crate::ticket::Ticket;
 use checkpoints::{Run, simulate};
+use handover::open;
 use job_table::{Edit, JobTable};
 use rejoin::{Work, rerun};
-use scenarios::{Scenario, ScenarioId};
+use scenarios::{Plan, Scenario, ScenarioId};
 use std::alloc::Allocator;
 use std::marker::Model;
 use std::sync::Arc;
@@ -119,9 +122,12 @@ pub struct Task<A: Allocator + Copy> {
     scenario: Scenario,
     spacing: u32,
     base: Option<Base<A>>,
+    // Where its run is left for the ticket; None before the ticket is made.
+    giver: Option<RunGiver<A>>,
 }
 
 impl<A: Allocator + Copy> Model for Task<A> {
+    ghost use Rattle.std.specs.Prelude.{◌≡◌, IfSome, Some};
     ghost use Rattle.std.specs.Arc.{arc_value};
     ghost use Rattle.version_book.specs.Tasks.{TaskView, IsTask};
 
@@ -129,7 +135,7 @@ impl<A: Allocator + Copy> Model for Task<A> {
 
     ghost view = { λ t. record { ticket = t.ticket; id = t.id; version = t.version; log = arc_value t.table; setting = t.scenario; spacing = t.spacing; base = t.base } };
 
-    ghost invariant = { λ t. IsTask (record { ticket = t.ticket; id = t.id; version = t.version; log = arc_value t.table; setting = t.scenario; spacing = t.spacing; base = t.base }) };
+    ghost invariant = { λ t. IsTask (record { ticket = t.ticket; id = t.id; version = t.version; log = arc_value t.table; setting = t.scenario; spacing = t.spacing; base = t.base }) × IfSome t.giver (λ g. g ≡ Some (record { log = arc_value t.table; setting = t.scenario })) };
 }
 
 impl<A: Allocator + Copy> Task<A> {
@@ -158,7 +164,20 @@ impl<A: Allocator + Copy> Task<A> {
             scenario,
             spacing,
             base,
+            giver: None,
         }
+    }
+
+    // Its ticket, where it leaves its run from now on.
+    pub(crate) fn to_ticket(&mut self) -> Result<Ticket<A>, Memory>
+        ensures task { self.new ≡ self.old }
+        ensures ticket { IfOk result (λ ticket. ticket ≡ ticket_for self.old) }
+    {
+        let plan = Plan::new(self.table.clone()?, self.scenario);
+        let (giver, taker) = open(self.alloc, plan)?;
+        self.giver = Some(giver);
+        let number = self.ticket;
+        Ok(Ticket::new(number, self.id, self.version, taker))
     }
 
     /// The ticket, from 1 on; none is given twice.
@@ -242,5 +261,20 @@ impl<A: Allocator + Copy> Task<A> {
                 Ok((run, None))
             }
         }
+    }
+
+    /// As `work`, and leaves the run with the ticket, where `Book::finish_delivered` takes it.
+    pub fn deliver(&mut self) -> Result<(Arc<Run<A>, A>, Option<Work>), Memory>
+        ensures task { self.new ≡ self.old }
+        ensures log { IfOk result (λ (run, work). (arc_value run).log ≡ self.old.log) }
+        ensures setting { IfOk result (λ (run, work). (arc_value run).setting ≡ self.old.setting) }
+        ensures sound { IfOk result (λ (run, work). IsRun (arc_value run)) }
+        ensures made { IfOk result (λ (run, work). IsMade self.old self.old.base (arc_value run) work) }
+    {
+        let (run, work) = self.work()?;
+        if let Some(giver) = &mut self.giver {
+            giver.give(MadeRun::new(run.clone()?));
+        }
+        Ok((run, work))
     }
 }

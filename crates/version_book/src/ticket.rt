@@ -1,10 +1,11 @@
-ghost use Rattle.std.specs.Prelude.{◌≡◌, ◌==◌, ◌&&◌, ◌↔◌, IsTrue};
+ghost use Rattle.std.specs.Prelude.{◌≡◌, ◌==◌, ◌&&◌, ◌↔◌, IfSome, IsTrue, Some};
 ghost use Rattle.std.specs.Arc.{arc_value};
 ghost use Rattle.version_book.specs.Lookups.{has_number};
+ghost use Rattle.version_book.specs.Tasks.{HasThoseOf};
 
+use crate::delivery::RunTaker;
 use checkpoints::Run;
-use job_table::JobTable;
-use scenarios::{Scenario, ScenarioId};
+use scenarios::ScenarioId;
 use std::alloc::Allocator;
 use std::marker::Model;
 use std::sync::Arc;
@@ -15,36 +16,28 @@ pub(crate) struct Ticket<A: Allocator + Copy> {
     number: u64,
     id: ScenarioId,
     version: u64,
-    table: Arc<JobTable<A>, A>,
-    scenario: Scenario,
+    // What it asks for, and where its task leaves the run.
+    taker: RunTaker<A>,
 }
 
 impl<A: Allocator + Copy> Model for Ticket<A> {
-    ghost use Rattle.std.specs.Arc.{arc_value};
     ghost use Rattle.version_book.specs.Book.{TicketView};
 
     ghost Value = { TicketView };
 
-    ghost view = { λ t. record { number = t.number; id = t.id; version = t.version; log = arc_value t.table; setting = t.scenario } };
+    ghost view = { λ t. record { number = t.number; id = t.id; version = t.version; log = t.taker.log; setting = t.taker.setting } };
 }
 
 impl<A: Allocator + Copy> Ticket<A> {
     // A ticket of these.
-    pub(crate) fn new(
-        number: u64,
-        id: ScenarioId,
-        version: u64,
-        table: Arc<JobTable<A>, A>,
-        scenario: Scenario,
-    ) -> Ticket<A>
-        ensures { result ≡ record { number = number; id = id; version = version; log = arc_value table; setting = scenario } }
+    pub(crate) fn new(number: u64, id: ScenarioId, version: u64, taker: RunTaker<A>) -> Ticket<A>
+        ensures { result ≡ record { number = number; id = id; version = version; log = taker.log; setting = taker.setting } }
     {
         Ticket {
             number,
             id,
             version,
-            table,
-            scenario,
+            taker,
         }
     }
 
@@ -83,10 +76,21 @@ impl<A: Allocator + Copy> Ticket<A> {
         self.version
     }
 
+    // The run that its task has left, if one is there. It is of the ticket's log and scenario, since no
+    // other can be left.
+    pub(crate) fn take_run(&mut self) -> Option<Arc<Run<A>, A>>
+        ensures run { IfSome result (λ run. HasThoseOf (Some self.old) (arc_value run)) }
+        ensures ticket { self.new ≡ self.old }
+    {
+        let made = self.taker.take()?;
+        Some(made.into_run())
+    }
+
     // Whether a run has the ticket's log and scenario. The logs are compared by value.
     pub(crate) fn fits(&self, run: &Run<A>) -> bool
         ensures { IsTrue result ↔ ((run.now.log ≡ self.now.log) × (run.now.setting ≡ self.now.setting)) }
     {
-        run.scenario() == self.scenario && run.table().same(&self.table)
+        let plan = self.taker.question();
+        run.scenario() == plan.scenario() && run.table().same(plan.table())
     }
 }

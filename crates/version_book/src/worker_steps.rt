@@ -1,20 +1,19 @@
 // What the workers' calls change of where a book stands, and what they are told.
-ghost use Rattle.std.specs.Prelude.{◌≡◌, ◌≤◌, ◌<◌, [], ◌∷◌, ◌++◌, drop, length, map, option_copied, IfOk, IfSome, Some, None};
+ghost use Rattle.std.specs.Prelude.{◌≡◌, ◌≤◌, ◌<◌, [], ◌∷◌, ◌++◌, drop, length, map, option_copied, IfOk, IfSome, Some, None, true};
 ghost use Rattle.std.specs.Option.{option_map};
 ghost use Rattle.std.specs.Arc.{arc_value};
 ghost use Rattle.job_table.specs.Edit.{edit_of};
 ghost use Rattle.book_machine.specs.Call.{Claim, Finish, GiveUp};
-ghost use Rattle.version_book.specs.Answers.{TellsFit, claim_answer, finish_answer, fitted, give_up_answer};
+ghost use Rattle.version_book.specs.Answers.{TakesWhatFits, TellsFit, claim_answer, finish_answer, fitted, give_up_answer};
 ghost use Rattle.version_book.specs.Sound.{IsOfItsVersion};
 ghost use Rattle.version_book.specs.Steps.{Does};
 ghost use Rattle.version_book.specs.Tasks.{Fits, IsNext, base_since, bases_since, due_shown, task_for, ticket_for};
 
-use crate::lookups::{close, first_due, mark, publish, published_version, ticket_of};
+use crate::lookups::{close, first_due, mark, publish, published_version, take_run, ticket_of};
 use crate::published::Published;
 use crate::shown::{Shown, is_below};
 use crate::state::{State, TICKET_LIMIT};
 use crate::task::{Base, Task};
-use crate::ticket::Ticket;
 use crate::worker_refusal::{ClaimRefusal, FinishRefusal, GiveUpRefusal};
 use checkpoints::Run;
 use job_table::Edit;
@@ -83,19 +82,6 @@ impl<A: Allocator + Copy> State<A> {
         ))
     }
 
-    // The ticket of a task.
-    fn ticket_for(task: &Task<A>) -> Result<Ticket<A>, Memory>
-        ensures { IfOk result (λ t. t ≡ record { number = task.now.ticket; id = task.now.id; version = task.now.version; log = task.now.log; setting = task.now.setting }) }
-    {
-        Ok(Ticket::new(
-            task.ticket(),
-            task.id(),
-            task.version(),
-            task.table().clone()?,
-            task.scenario(),
-        ))
-    }
-
     // The task of the first scenario that is due, unless 256 tickets stand.
     fn next_task(&self) -> Result<Option<Task<A>>, ClaimRefusal>
         ensures { IsNext self.now result }
@@ -118,13 +104,37 @@ impl<A: Allocator + Copy> State<A> {
         ensures task { IfOk result (λ task. task ≡ option_map (task_for self.old) (due_shown self.old)) }
         ensures tickets { IfOk result (λ task. IfSome task (λ t. self.new.tickets ≡ self.old.tickets ++ ticket_for t ∷ [])) }
     {
-        let Some(task) = self.next_task()? else {
+        let Some(mut task) = self.next_task()? else {
             return Ok(None);
         };
-        let ticket = State::ticket_for(&task)?;
+        let ticket = task.to_ticket()?;
         self.tickets.push_reserved(ticket);
         self.next_ticket += 1;
         Ok(Some(task))
+    }
+
+    // Takes a run that has the log and the scenario of its ticket: publishes it, unless one of its version
+    // or a newer one is published, and closes the ticket.
+    fn accept(&mut self, number: u64, run: Arc<Run<A>, A>) -> Result<u64, FinishRefusal>
+        requires { Fits self.old number (arc_value run) }
+        ensures does { Does self.old self.new (Finish number true) (finish_answer result) }
+        ensures fits { fitted result ≡ true }
+    {
+        let Some(ticket) = ticket_of(self.tickets.as_slice(), number) else {
+            unreachable!()
+        };
+        let id = ticket.id();
+        let version = ticket.version();
+        let found = published_version(self.shown.as_slice(), id);
+        prove!(run.plan().scenario().procs() <= MAX_PROCS);
+        close(&mut self.tickets, number);
+        if is_below(found, version) {
+            publish(&mut self.shown, id, Published::new(version, run));
+            return Ok(version);
+        }
+        Err(FinishRefusal::Stale {
+            published: found.unwrap_or(0),
+        })
     }
 
     // Hands in a run for a ticket.
@@ -138,18 +148,22 @@ impl<A: Allocator + Copy> State<A> {
         if !ticket.fits(&run) {
             return Err(FinishRefusal::Stranger);
         }
-        let id = ticket.id();
-        let version = ticket.version();
-        let found = published_version(self.shown.as_slice(), id);
-        prove!(run.plan().scenario().procs() <= MAX_PROCS);
-        close(&mut self.tickets, number);
-        if is_below(found, version) {
-            publish(&mut self.shown, id, Published::new(version, run));
-            return Ok(version);
+        self.accept(number, run)
+    }
+
+    // Hands in the run that the task of a ticket has left there, or this one where it has left none.
+    pub(crate) fn finish_delivered(
+        &mut self,
+        number: u64,
+        run: Arc<Run<A>, A>,
+    ) -> Result<u64, FinishRefusal>
+        ensures does { Does self.old self.new (Finish number (fitted result)) (finish_answer result) }
+        ensures fits { TakesWhatFits (Fits self.old number (arc_value run)) result }
+    {
+        match take_run(&mut self.tickets, number) {
+            Some(delivered) => self.accept(number, delivered),
+            None => self.finish(number, run),
         }
-        Err(FinishRefusal::Stale {
-            published: found.unwrap_or(0),
-        })
     }
 
     // Gives a ticket up.

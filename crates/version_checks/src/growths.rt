@@ -37,9 +37,11 @@ enum Called {
     /// Of one that shows an older version.
     ClaimAgain,
     Finish,
+    FinishDelivered,
     GiveUp,
     View,
     Work,
+    Deliver,
 }
 
 /// All of them.
@@ -53,9 +55,11 @@ const CALLS: &[Called] = &[
     Called::Claim,
     Called::ClaimAgain,
     Called::Finish,
+    Called::FinishDelivered,
     Called::GiveUp,
     Called::View,
     Called::Work,
+    Called::Deliver,
 ];
 
 // Right where this holds.
@@ -144,6 +148,17 @@ fn finishes<A: Allocator + Copy>(book: &mut Book<A>, task: &Task<A>) -> Told {
     }
 }
 
+// Hands in the run that the task has left with its ticket.
+fn finishes_delivered<A: Allocator + Copy>(book: &mut Book<A>, task: &mut Task<A>) -> Told {
+    let Ok((run, _work)) = task.deliver() else {
+        return Told::Before;
+    };
+    match book.finish_delivered(1, task.ticket(), run) {
+        Ok(version) => right_if(version == 1),
+        Err(refusal) => memory_if(refusal == FinishRefusal::Memory),
+    }
+}
+
 // Gives the task up.
 fn gives_up<A: Allocator + Copy>(book: &mut Book<A>, ticket: u64) -> Told {
     match book.give_up(1, ticket) {
@@ -168,6 +183,14 @@ fn works<A: Allocator + Copy>(task: &Task<A>) -> Told {
     }
 }
 
+// Makes the task's run, and leaves it with its ticket.
+fn delivers<A: Allocator + Copy>(task: &mut Task<A>) -> Told {
+    match task.deliver() {
+        Ok((run, work)) => right_if(is_made(&run, work)),
+        Err(Memory) => Told::Memory,
+    }
+}
+
 // Makes the call.
 fn call<A: Allocator + Copy>(alloc: A, at: &mut Standing<A>, called: Called) -> Told {
     match called {
@@ -180,9 +203,11 @@ fn call<A: Allocator + Copy>(alloc: A, at: &mut Standing<A>, called: Called) -> 
         Called::Claim => claims(&mut at.book, false),
         Called::ClaimAgain => claims(&mut at.book, true),
         Called::Finish => finishes(&mut at.book, &at.task),
+        Called::FinishDelivered => finishes_delivered(&mut at.book, &mut at.task),
         Called::GiveUp => gives_up(&mut at.book, at.task.ticket()),
         Called::View => views(&mut at.book, at.first),
         Called::Work => works(&at.task),
+        Called::Deliver => delivers(&mut at.task),
     }
 }
 

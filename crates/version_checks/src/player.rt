@@ -177,6 +177,29 @@ impl Player {
         }
     }
 
+    fn finish_delivered(&mut self, worker: u64, ticket: u64, handed: Handed) -> Told {
+        match self.run_for(ticket, handed) {
+            Some(run) => of_finish(self.book.finish_delivered(worker, ticket, run)),
+            None => Told::Other,
+        }
+    }
+
+    // The task of a ticket leaves its run with it.
+    fn is_delivered(&mut self, ticket: u64) -> bool {
+        match self.tasks.get_mut(ticket.wrapping_sub(1) as usize) {
+            Some(task) => task.deliver().is_ok(),
+            None => false,
+        }
+    }
+
+    fn deliver(&mut self, worker: u64, ticket: u64, handed: Handed) -> Told {
+        if self.is_delivered(ticket) {
+            self.finish_delivered(worker, ticket, handed)
+        } else {
+            Told::Other
+        }
+    }
+
     fn give_up(&mut self, ticket: u64) -> Told {
         match self.book.give_up(1, ticket) {
             Ok(()) => Told::GivenUp,
@@ -195,6 +218,10 @@ impl Player {
             Said::Retry(place) => self.retry(place),
             Said::Claim => self.claim(),
             Said::Finish(worker, ticket, handed) => self.finish(worker, ticket, handed),
+            Said::Undelivered(worker, ticket, handed) => {
+                self.finish_delivered(worker, ticket, handed)
+            }
+            Said::Delivered(worker, ticket, handed) => self.deliver(worker, ticket, handed),
             Said::GiveUp(ticket) => self.give_up(ticket),
             Said::View(place, seen) => self.view(place, seen),
         }

@@ -83,6 +83,20 @@ const EDITED: &[(Said, Told)] = &[
     (Said::Claim, Told::Claimed(2, 1, 1, None)),
 ];
 
+/// Where a task has left no run, the run that is handed in is compared with the ticket; where it has left
+/// one, that is published, whatever is handed in beside it.
+const DELIVERED: &[(Said, Told)] = &[
+    (Said::Add("base"), Told::Added(1)),
+    (Said::Claim, Told::Claimed(1, 1, 0, None)),
+    (Said::Undelivered(1, 1, Handed::OnSixteen), Told::Stranger),
+    (Said::Undelivered(1, 1, Handed::Own), Told::Finished(0)),
+    (Said::Change(4, 4, b"400"), Told::Edited(1)),
+    (Said::Claim, Told::Claimed(2, 1, 1, Some((0, 1)))),
+    (Said::Delivered(2, 2, Handed::OnSixteen), Told::Finished(1)),
+    (Said::Undelivered(2, 2, Handed::Own), Told::UnknownTicket),
+    (Said::View(0, 1), Told::Shown(1)),
+];
+
 // Whether all this is told in turn.
 fn holds(alloc: Global, rows: &[(Said, Told)]) -> bool {
     played(alloc, FOUR, rows).is_some()
@@ -120,6 +134,11 @@ fn the_newer_run_stays(rt: HostRuntime) {
 #[test]
 fn a_stranger_leaves_the_ticket(rt: HostRuntime) {
     assert!(rt; holds_behind(rt.alloc(), NEWER_FIRST, STRANGERS));
+}
+
+#[test]
+fn what_was_delivered_is_published(rt: HostRuntime) {
+    assert!(rt; holds(rt.alloc(), DELIVERED));
 }
 
 #[test]

@@ -30,6 +30,10 @@ pub(crate) enum Said {
     Claim,
     /// Worker, ticket and run.
     Finish(u64, u64, Handed),
+    /// The same, as a run that the ticket's task has delivered, which it has not.
+    Undelivered(u64, u64, Handed),
+    /// The same, once the ticket's task has delivered its own.
+    Delivered(u64, u64, Handed),
     GiveUp(u64),
     /// A scenario, and the version that was seen.
     View(usize, u64),

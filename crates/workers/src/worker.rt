@@ -67,12 +67,12 @@ fn end_of_give_up(told: Result<(), GiveUpRefusal>) -> Option<WorkerEnd>
     }
 }
 
-// The run that a task wants.
-fn run_for<A: Allocator + Copy>(task: &Task<A>) -> Result<Arc<Run<A>, A>, Memory>
-    ensures log { IfOk result (λ run. (arc_value run).log ≡ task.now.log) }
-    ensures setting { IfOk result (λ run. (arc_value run).setting ≡ task.now.setting) }
+// The run that a task wants, which is left with its ticket too.
+fn run_for<A: Allocator + Copy>(task: &mut Task<A>) -> Result<Arc<Run<A>, A>, Memory>
+    ensures log { IfOk result (λ run. (arc_value run).log ≡ task.old.log) }
+    ensures setting { IfOk result (λ run. (arc_value run).setting ≡ task.old.setting) }
 {
-    let (run, _work) = task.work()?;
+    let (run, _work) = task.deliver()?;
     Ok(run)
 }
 
@@ -184,14 +184,14 @@ impl<A: Allocator + Copy> Worker<A> {
         rt: &R,
         desk: &Desk<A>,
         gate: &G,
-        task: Task<A>,
+        mut task: Task<A>,
     ) -> Option<WorkerEnd>
         ensures list { HandsInOnce task.ticket self.old.list self.new.list result }
         ensures number { self.new.number ≡ self.old.number }
     {
         let ticket = task.ticket();
         gate.before_work(ticket);
-        let made = run_for(&task);
+        let made = run_for(&mut task);
         if made.is_ok() {
             gate.before_finish(ticket);
         }

@@ -4,7 +4,7 @@ ghost use Rattle.std.specs.Option.{option_map};
 ghost use Rattle.std.specs.Arc.{arc_value};
 ghost use Rattle.book_machine.specs.declared.caller.Caller.TheVariants as caller;
 ghost use Rattle.book_machine.specs.Call.{Claim, Finish, GiveUp};
-ghost use Rattle.version_book.specs.Answers.{TellsFit, claim_answer, finish_answer, fitted, give_up_answer};
+ghost use Rattle.version_book.specs.Answers.{TakesWhatFits, claim_answer, finish_answer, fitted, give_up_answer};
 ghost use Rattle.version_book.specs.Steps.{Answers};
 ghost use Rattle.version_book.specs.Tasks.{Fits, due_shown, task_for};
 ghost use Rattle.workers.specs.Lists.{Gains, exchanged_of};
@@ -42,7 +42,7 @@ impl<A: Allocator + Copy> Shared<A> {
         told
     }
 
-    // A run for a ticket.
+    // The run that a ticket's task has delivered, or this one.
     pub(crate) fn finish_for(
         &mut self,
         worker: u64,
@@ -53,10 +53,10 @@ impl<A: Allocator + Copy> Shared<A> {
         requires room { vec_len list.old < vec_capacity list.old }
         ensures book { Answers self.old.book self.new.book (caller.Worker worker) (Finish ticket (fitted result)) (finish_answer result) }
         ensures list { Gains (map exchanged_of list.old.items) (map exchanged_of list.new.items) (Finish ticket (fitted result)) (finish_answer result) }
-        ensures fits { TellsFit (Fits self.old.book.state ticket (arc_value run)) result }
+        ensures fits { TakesWhatFits (Fits self.old.book.state ticket (arc_value run)) result }
     {
         let notes = self.notes();
-        let told = self.book.finish(worker, ticket, run);
+        let told = self.book.finish_delivered(worker, ticket, run);
         let fits = is_fitting(&told);
         keep(
             list,

@@ -1,13 +1,10 @@
-use Rattle.std.proofs.Common.{rules, ◌≡◌, find, refl, ◌∙◌, ap, arith}
-use Rattle.std.specs.Prelude.{None, Some, true, false, unwrap_or}
+use Rattle.std.proofs.Common.{rules, ◌≡◌, find, sym, subst}
+use Rattle.std.specs.Prelude.{None, Some}
 use Rattle.std.specs.Arc.{arc_value}
-use Rattle.checkpoints.specs.RunView.{IsRun}
-use Rattle.book_machine.specs.Machine.{is_below}
-use Rattle.version_book.specs.Book.{PublishedView}
-use Rattle.version_book.specs.Lookups.{has_number, publishing, version_shown, with_change}
-use Rattle.version_book.proofs.Ids.{ids-apart}
-use Rattle.version_book.proofs.Stepping.{seen-as, still-as}
-use Rattle.version_book.proofs.WorkerSteps.{finish-unknown, finish-stranger, finish-with, stale-with, fits-of}
+use Rattle.version_book.specs.Lookups.{has_number}
+use Rattle.version_book.specs.Tasks.{HasThoseOf}
+use Rattle.version_book.proofs.Stepping.{not-both, still-as}
+use Rattle.version_book.proofs.WorkerSteps.{does-fitted, finish-stranger, finish-unknown, fits-of, none-fits, tells-fit, those-of}
 use Rattle.version_book.proofs.state.State.finish.Goals as goal
 
 pub returns-in_default-clause-does : goal.returns-in_default-clause-does
@@ -20,48 +17,28 @@ returns-then-not-fits-clause-does g c =
     let some : find (has_number c.args.number) c.self.inside.tickets.items ≡ Some c.in-Some.ticket.now = search rules in
     still-as c.self.view_is (finish-stranger _ c.args.number _ c.self.invariant.0 some)
 
-pub publish-requires : goal.publish-requires
-publish-requires g c = ids-apart _ _ c.self.invariant.0.listed c.self.invariant.0.ids
+pub returns-in_default-clause-fits : goal.returns-in_default-clause-fits
+returns-in_default-clause-fits g c fits =
+    let none : find (has_number c.args.number) c.self.inside.tickets.items ≡ None = search rules in
+    none-fits c.args.number (arc_value c.args.run) c.self.view_is none fits
 
-pub invariant_of-self : goal.invariant_of-self
-invariant_of-self g c =
+pub returns-then-not-fits-clause-fits : goal.returns-then-not-fits-clause-fits
+returns-then-not-fits-clause-fits g c fits =
     let some : find (has_number c.args.number) c.self.inside.tickets.items ≡ Some c.in-Some.ticket.now = search rules in
-    let log : (arc_value c.args.run).log ≡ c.in-Some.ticket.now.log = search rules in
-    let setting : (arc_value c.args.run).setting ≡ c.in-Some.ticket.now.setting = search rules in
-    let found : c.published_version-found.result ≡ version_shown c.id-id.result c.self.inside.shown.items = search rules in
-    let below : is_below c.published_version-found.result c.version-version.result ≡ true = search rules in
-    let run : IsRun (arc_value c.args.run) = search rules in
-    let shown = c.publish.ensures.shown ∙ ap (λ (p : PublishedView). with_change c.id-id.result (publishing p) c.self.inside.shown.items) c.new.ensures in
-    ((finish-with _ c.args.number _ _ _ _ _ _ _ c.self.invariant.0 some c.id-id.ensures c.version-version.ensures found below run log setting shown c.close.ensures.tickets).sound, omega (arith, c.self.invariant.1, c.publish.ensures.capacity), omega (arith, c.self.invariant.2, c.close.ensures.capacity))
+    let those = those-of c.args.number c.in-Some.ticket.now (arc_value c.args.run) c.self.view_is some fits in
+    not-both c.fits.result c.if-not-fits.true (c.fits.ensures.1 (subst (HasThoseOf (Some c.in-Some.ticket.now)) (sym c.deref.ensures) those))
 
-pub returns-then-is_below-clause-does : goal.returns-then-is_below-clause-does
-returns-then-is_below-clause-does g c =
+pub accept-requires : goal.accept-requires
+accept-requires g c =
     let some : find (has_number c.args.number) c.self.inside.tickets.items ≡ Some c.in-Some.ticket.now = search rules in
-    let log : (arc_value c.args.run).log ≡ c.in-Some.ticket.now.log = search rules in
-    let setting : (arc_value c.args.run).setting ≡ c.in-Some.ticket.now.setting = search rules in
-    let found : c.published_version-found.result ≡ version_shown c.id-id.result c.self.inside.shown.items = search rules in
-    let below : is_below c.published_version-found.result c.version-version.result ≡ true = search rules in
-    let run : IsRun (arc_value c.args.run) = search rules in
-    let shown = c.publish.ensures.shown ∙ ap (λ (p : PublishedView). with_change c.id-id.result (publishing p) c.self.inside.shown.items) c.new.ensures in
-    seen-as c.self.view_is (finish-with _ c.args.number _ _ _ _ _ _ _ c.self.invariant.0 some c.id-id.ensures c.version-version.ensures found below run log setting shown c.close.ensures.tickets)
-
-pub returns-then-is_below-clause-fits : goal.returns-then-is_below-clause-fits
-returns-then-is_below-clause-fits g c =
-    let some : find (has_number c.args.number) c.self.inside.tickets.items ≡ Some c.in-Some.ticket.now = search rules in
-    let log : (arc_value c.args.run).log ≡ c.in-Some.ticket.now.log = search rules in
-    let setting : (arc_value c.args.run).setting ≡ c.in-Some.ticket.now.setting = search rules in
-    fits-of c.args.number _ _ c.self.view_is some log setting
-
-pub invariant_of-self-else-is_below : goal.invariant_of-self-else-is_below
-invariant_of-self-else-is_below g c =
-    let some : find (has_number c.args.number) c.self.inside.tickets.items ≡ Some c.in-Some.ticket.now = search rules in
-    let found : c.published_version-found.result ≡ version_shown c.id-id.result c.self.inside.shown.items = search rules in
-    let above : is_below c.published_version-found.result c.version-version.result ≡ false = search rules in
-    ((stale-with _ c.args.number _ _ _ _ _ (unwrap_or c.published_version-found.result 0) c.self.invariant.0 some c.id-id.ensures c.version-version.ensures found above c.close.ensures.tickets refl).sound, c.self.invariant.1, omega (arith, c.self.invariant.2, c.close.ensures.capacity))
+    let those = subst (HasThoseOf (Some c.in-Some.ticket.now)) c.deref.ensures (c.fits.ensures.0 c.if-not-fits.false) in
+    fits-of c.args.number c.in-Some.ticket.now (arc_value c.args.run) c.self.view_is some those.0 those.1
 
 pub returns-clause-does : goal.returns-clause-does
-returns-clause-does g c =
+returns-clause-does g c = does-fitted _ _ c.args.number _ c.accept.ensures.fits c.accept.ensures.does
+
+pub returns-clause-fits : goal.returns-clause-fits
+returns-clause-fits g c =
     let some : find (has_number c.args.number) c.self.inside.tickets.items ≡ Some c.in-Some.ticket.now = search rules in
-    let found : c.published_version-found.result ≡ version_shown c.id-id.result c.self.inside.shown.items = search rules in
-    let above : is_below c.published_version-found.result c.version-version.result ≡ false = search rules in
-    seen-as c.self.view_is (stale-with _ c.args.number _ _ _ _ _ _ c.self.invariant.0 some c.id-id.ensures c.version-version.ensures found above c.close.ensures.tickets c.unwrap_or.ensures)
+    let those = subst (HasThoseOf (Some c.in-Some.ticket.now)) c.deref.ensures (c.fits.ensures.0 c.if-not-fits.false) in
+    tells-fit _ _ (fits-of c.args.number c.in-Some.ticket.now (arc_value c.args.run) c.self.view_is some those.0 those.1) c.accept.ensures.fits
