@@ -289,14 +289,6 @@ tells-fit F (Err finish.Stranger) fits is = cc
 tells-fit F (Err (finish.Stale published)) fits is = fits
 tells-fit F (Err finish.Memory) fits is = tt
 
-pub takes-fitted : (F : Type 0) (r : Result ℕ FinishRefusal) → fitted r ≡ true → TakesWhatFits F r
-takes-fitted F (Ok version) is = tt
-takes-fitted F (Err finish.JournalFull) is = tt
-takes-fitted F (Err finish.UnknownTicket) is = cc
-takes-fitted F (Err finish.Stranger) is = cc
-takes-fitted F (Err (finish.Stale published)) is = tt
-takes-fitted F (Err finish.Memory) is = tt
-
 pub takes-told : (F : Type 0) (r : Result ℕ FinishRefusal) → TellsFit F r → TakesWhatFits F r
 takes-told F (Ok version) told = tt
 takes-told F (Err finish.JournalFull) told = tt
