@@ -3,12 +3,12 @@ ghost use Rattle.checkpoints.specs.declared.fault.RunFault.TheVariants as faults
 
 use event_loop::EngineFault;
 use std::alloc::{AllocError, AllocFailed};
-use std::error::Error;
 use std::fmt;
 use swf_text;
+use thiserror::Error;
 
 /// Why there is no run.
-#[derive(Clone, Copy, Debug, PartialEq, Eq)]
+#[derive(Clone, Copy, Debug, PartialEq, Eq, Error)]
 pub enum RunFault {
     /// The spacing is not within 1 to 65,536 event seconds.
     BadSpacing,
@@ -41,8 +41,6 @@ impl fmt::Display for RunFault {
         f.write_str(self.name())
     }
 }
-
-impl Error for RunFault {}
 
 impl From<swf_text::Memory> for RunFault {
     ghost from_gives = { λ _ fault. fault ≡ faults.Memory };

@@ -1,8 +1,8 @@
-use std::error::Error;
 use std::fmt;
+use thiserror::Error;
 
 /// Why a line is no command, in the order of checks.
-#[derive(Clone, Copy, Debug, PartialEq, Eq)]
+#[derive(Clone, Copy, Debug, PartialEq, Eq, Error)]
 pub enum CommandFault {
     /// The line has more than 65,536 bytes, its line feed not counted.
     TooLong,
@@ -48,5 +48,3 @@ impl fmt::Display for CommandFault {
         }
     }
 }
-
-impl Error for CommandFault {}

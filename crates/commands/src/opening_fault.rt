@@ -1,12 +1,12 @@
 ghost use Rattle.std.specs.Prelude.{◌≡◌};
 ghost use Rattle.commands.specs.declared.opening_fault.OpenTextFault.TheVariants.{Memory as no_memory};
 
-use std::error::Error;
 use std::fmt;
 use swf_text::Memory;
+use thiserror::Error;
 
 /// Why a log is not opened, in the order of checks.
-#[derive(Clone, Copy, Debug, PartialEq, Eq)]
+#[derive(Clone, Copy, Debug, PartialEq, Eq, Error)]
 pub enum OpenTextFault {
     /// Neither the comments nor the caller name a scenario or a machine's size.
     NoMachine,
@@ -42,8 +42,6 @@ impl fmt::Display for OpenTextFault {
         f.write_str(self.name())
     }
 }
-
-impl Error for OpenTextFault {}
 
 impl From<Memory> for OpenTextFault {
     ghost from_gives = { λ _ fault. fault ≡ no_memory };

@@ -4,13 +4,13 @@ ghost use Rattle.easybook.specs.declared.fault.ProgramFault.TheVariants.{Memory 
 use commands::OpenTextFault;
 use shared_scripts::SharedFault;
 use std::alloc::{AllocError, AllocFailed};
-use std::error::Error;
 use std::fmt;
 use swf_text::{FaultKind, Memory, SwfFault, WriteFault};
+use thiserror::Error;
 use workers::CloseFault;
 
 /// Why the program ends without its answer. It displays as the line that the program writes.
-#[derive(Clone, Copy, Debug, PartialEq, Eq)]
+#[derive(Clone, Copy, Debug, PartialEq, Eq, Error)]
 pub enum ProgramFault {
     /// The log's first faulty line.
     Log(SwfFault),
@@ -49,8 +49,6 @@ impl fmt::Display for ProgramFault {
         }
     }
 }
-
-impl Error for ProgramFault {}
 
 impl From<SwfFault> for ProgramFault {
     ghost use Rattle.std.specs.Prelude.{◌≡◌};

@@ -6,12 +6,12 @@ ghost use Rattle.easybook.specs.declared.stop.Stop.TheVariants.{Fault as fault_s
 use crate::fault::ProgramFault;
 use crate::words::WordsFault;
 use std::alloc::AllocFailed;
-use std::error::Error;
 use std::io::ErrorKind;
 use std::{fmt, io};
+use thiserror::Error;
 
 /// Why the program ends without its answer. It displays as the line that the program writes.
-#[derive(Clone, Copy, Debug, PartialEq, Eq)]
+#[derive(Clone, Copy, Debug, PartialEq, Eq, Error)]
 pub enum Stop {
     /// The words are bad, or memory was short for them.
     Words(WordsFault),
@@ -32,8 +32,6 @@ impl fmt::Display for Stop {
         }
     }
 }
-
-impl Error for Stop {}
 
 impl Stop {
     ghost use Rattle.std.specs.Prelude.{◌≡◌};

@@ -13,9 +13,9 @@ use clap::error::ErrorKind;
 use clap::{Arg, ArgAction, ArgMatches, Command};
 use scenarios::MAX_PROCS;
 use std::alloc::{AllocError, Global};
-use std::error::Error;
 use std::fmt;
 use swf_text::read_digits;
+use thiserror::Error;
 
 /// The spacing where the words give none.
 const SPACING: u32 = 256;
@@ -27,7 +27,7 @@ const WORKERS: u32 = 2;
 const CALLERS: u64 = 64;
 
 /// Why the program's words choose nothing.
-#[derive(Clone, Copy, Debug, PartialEq, Eq)]
+#[derive(Clone, Copy, Debug, PartialEq, Eq, Error)]
 pub enum WordsFault {
     /// A word is unknown, stands twice, lacks its value, or is outside the limits.
     BadWords,
@@ -48,8 +48,6 @@ impl fmt::Display for WordsFault {
         }
     }
 }
-
-impl Error for WordsFault {}
 
 impl From<AllocError> for WordsFault {
     ghost use Rattle.std.specs.Prelude.{◌≡◌};

@@ -2,12 +2,12 @@ ghost use Rattle.std.specs.Prelude.{◌≡◌};
 ghost use Rattle.event_loop.specs.declared.fault.EngineFault.TheVariants as faults;
 
 use std::alloc::{AllocError, AllocFailed};
-use std::error::Error;
 use std::fmt;
 use swf_text;
+use thiserror::Error;
 
 /// Why an engine does not go on.
-#[derive(Clone, Copy, Debug, PartialEq, Eq)]
+#[derive(Clone, Copy, Debug, PartialEq, Eq, Error)]
 pub enum EngineFault {
     /// It met want of memory before.
     Failed,
@@ -40,8 +40,6 @@ impl fmt::Display for EngineFault {
         f.write_str(self.name())
     }
 }
-
-impl Error for EngineFault {}
 
 impl From<swf_text::Memory> for EngineFault {
     ghost from_gives = { λ _ fault. fault ≡ faults.Memory };

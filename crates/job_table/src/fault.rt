@@ -1,11 +1,11 @@
 ghost use Rattle.std.specs.Prelude.{◌≡◌};
 ghost use Rattle.job_table.specs.declared.fault.EditFault.TheVariants as faults;
 
-use std::error::Error;
 use std::fmt;
+use thiserror::Error;
 
 /// Why an edit is refused, in the order of checks.
-#[derive(Clone, Copy, Debug, PartialEq, Eq)]
+#[derive(Clone, Copy, Debug, PartialEq, Eq, Error)]
 pub enum EditFault {
     /// No job has the number that is to be removed or changed.
     NoSuchJob,
@@ -50,8 +50,6 @@ impl fmt::Display for EditFault {
         f.write_str(self.name())
     }
 }
-
-impl Error for EditFault {}
 
 impl From<swf_text::Memory> for EditFault {
     ghost from_gives = { λ _ fault. fault ≡ faults.Memory };

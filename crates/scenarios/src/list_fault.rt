@@ -1,12 +1,12 @@
 ghost use Rattle.std.specs.Prelude.{◌≡◌};
 ghost use Rattle.scenarios.specs.declared.list_fault.AddFault.TheVariants.{Memory as no_memory};
 
-use std::error::Error;
 use std::fmt;
 use swf_text::Memory;
+use thiserror::Error;
 
 /// Why a scenario was not added, in the order of checks.
-#[derive(Clone, Copy, Debug, PartialEq, Eq)]
+#[derive(Clone, Copy, Debug, PartialEq, Eq, Error)]
 pub enum AddFault {
     /// The name is not 1 to 16 bytes of `a` to `z`, `0` to `9`, `-` and `_`.
     BadName,
@@ -46,8 +46,6 @@ impl fmt::Display for AddFault {
     }
 }
 
-impl Error for AddFault {}
-
 impl From<Memory> for AddFault {
     ghost from_gives = { λ _ fault. fault ≡ no_memory };
 
@@ -57,7 +55,7 @@ impl From<Memory> for AddFault {
 }
 
 /// No scenario of the list has the name.
-#[derive(Clone, Copy, Debug, PartialEq, Eq)]
+#[derive(Clone, Copy, Debug, PartialEq, Eq, Error)]
 pub struct NoSuchScenario;
 
 impl NoSuchScenario {
@@ -82,5 +80,3 @@ impl fmt::Display for NoSuchScenario {
         f.write_str(self.name())
     }
 }
-
-impl Error for NoSuchScenario {}

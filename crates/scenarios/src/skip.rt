@@ -1,8 +1,8 @@
-use std::error::Error;
 use std::fmt;
+use thiserror::Error;
 
 /// Why an entry of a log is not simulated.
-#[derive(Clone, Copy, Debug, PartialEq, Eq)]
+#[derive(Clone, Copy, Debug, PartialEq, Eq, Error)]
 pub enum Skip {
     /// Neither the requested nor the allocated processors are above 0.
     NoSize,
@@ -41,5 +41,3 @@ impl fmt::Display for Skip {
         f.write_str(self.name())
     }
 }
-
-impl Error for Skip {}

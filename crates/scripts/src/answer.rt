@@ -8,12 +8,14 @@ use commands::{CommandFault, Name};
 use itoa::Buffer;
 use job_table::EditFault;
 use scenarios::AddFault;
+use std::fmt;
+use thiserror::Error;
 
 /// Room for the longest line that answers a command.
 const ROOM: usize = 96;
 
 /// Why a command is refused, by the refusal's name alone.
-#[derive(Clone, Copy, Debug, PartialEq, Eq)]
+#[derive(Clone, Copy, Debug, PartialEq, Eq, Error)]
 pub enum Refusal {
     /// The journal has no room for another call.
     JournalFull,
@@ -76,6 +78,17 @@ impl Refusal {
             Refusal::NotYet => "NotYet",
             Refusal::Memory => "Memory",
         }
+    }
+}
+
+impl fmt::Display for Refusal {
+    ghost use Rattle.std.specs.Prelude.{Some};
+    ghost use Rattle.scripts.specs.Told.{refusal_name};
+
+    ghost output = { λ refusal. Some (refusal_name refusal) };
+
+    fn fmt<W: fmt::Write>(&self, f: &mut fmt::Formatter<W>) -> fmt::Result {
+        f.write_str(self.name())
     }
 }
 

@@ -3,11 +3,11 @@ ghost use Rattle.swf_text.specs.declared.fault.FaultKind.TheVariants.{Memory};
 
 use crate::line::LineFault;
 use std::alloc::{AllocError, AllocFailed};
-use std::error::Error;
 use std::fmt;
+use thiserror::Error;
 
 /// Why a line ends the reading of a log, in the order of checks.
-#[derive(Clone, Copy, Debug, PartialEq, Eq)]
+#[derive(Clone, Copy, Debug, PartialEq, Eq, Error)]
 pub enum FaultKind {
     /// The line has more than 65,536 bytes, its line feed not counted.
     LineTooLong,
@@ -68,8 +68,6 @@ impl fmt::Display for FaultKind {
     }
 }
 
-impl Error for FaultKind {}
-
 impl From<LineFault> for FaultKind {
     ghost use Rattle.std.specs.Prelude.{◌≡◌};
     ghost use Rattle.swf_text.specs.Fault.{kind_of};
@@ -103,7 +101,7 @@ impl<T: Drop> From<AllocFailed<T>> for FaultKind {
 }
 
 /// The first faulty line of a log, counted from 1, and its first fault.
-#[derive(Clone, Copy, Debug, PartialEq, Eq)]
+#[derive(Clone, Copy, Debug, PartialEq, Eq, Error)]
 pub struct SwfFault {
     pub line: u64,
     pub kind: FaultKind,
@@ -122,10 +120,8 @@ impl fmt::Display for SwfFault {
     }
 }
 
-impl Error for SwfFault {}
-
 /// Why lines make no entry, in the order of checks.
-#[derive(Clone, Copy, Debug, PartialEq, Eq)]
+#[derive(Clone, Copy, Debug, PartialEq, Eq, Error)]
 pub enum EntryFault {
     /// Field 1 of the summary line is no whole number of at least 0.
     BadJobNumber,
@@ -165,10 +161,8 @@ impl fmt::Display for EntryFault {
     }
 }
 
-impl Error for EntryFault {}
-
 /// Why bytes were not written whole.
-#[derive(Clone, Copy, Debug, PartialEq, Eq)]
+#[derive(Clone, Copy, Debug, PartialEq, Eq, Error)]
 pub enum WriteFault {
     /// The writer answered an error, or took no byte.
     Device,
@@ -198,5 +192,3 @@ impl fmt::Display for WriteFault {
         f.write_str(self.name())
     }
 }
-
-impl Error for WriteFault {}

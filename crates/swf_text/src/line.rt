@@ -1,14 +1,14 @@
 use crate::fault::FaultKind;
 use crate::value::Value;
-use std::error::Error;
 use std::fmt;
+use thiserror::Error;
 
 /// The eighteen values of a job line, field 1 first.
 #[derive(Clone, Copy, Debug, PartialEq, Eq)]
 pub struct Fields(pub [Value; 18]);
 
 /// What is wrong with a line by itself, in the order in which it is looked for.
-#[derive(Clone, Copy, Debug, PartialEq, Eq)]
+#[derive(Clone, Copy, Debug, PartialEq, Eq, Error)]
 pub enum LineFault {
     /// The line has more than 65,536 bytes, its line feed not counted.
     LineTooLong,
@@ -30,8 +30,6 @@ impl fmt::Display for LineFault {
         FaultKind::from(*self).fmt(f)
     }
 }
-
-impl Error for LineFault {}
 
 /// What one line is.
 #[derive(Clone, Copy, Debug, PartialEq, Eq)]

@@ -1,11 +1,11 @@
 ghost use Rattle.std.specs.Prelude.{◌≡◌};
 
 use std::alloc::{AllocError, AllocFailed};
-use std::error::Error;
 use std::fmt;
+use thiserror::Error;
 
 /// Want of memory: a growth was refused by the allocator.
-#[derive(Clone, Copy, Debug, PartialEq, Eq)]
+#[derive(Clone, Copy, Debug, PartialEq, Eq, Error)]
 pub struct Memory;
 
 impl fmt::Display for Memory {
@@ -17,8 +17,6 @@ impl fmt::Display for Memory {
         f.write_str("out of memory")
     }
 }
-
-impl Error for Memory {}
 
 impl From<AllocError> for Memory {
     ghost from_gives = { λ _ memory. memory ≡ record {} };

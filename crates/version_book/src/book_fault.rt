@@ -2,12 +2,12 @@ ghost use Rattle.std.specs.Prelude.{◌≡◌};
 ghost use Rattle.version_book.specs.declared.book_fault.BookFault.TheVariants as faults;
 
 use std::alloc::{AllocError, AllocFailed};
-use std::error::Error;
 use std::fmt;
 use swf_text;
+use thiserror::Error;
 
 /// Why there is no book.
-#[derive(Clone, Copy, Debug, PartialEq, Eq)]
+#[derive(Clone, Copy, Debug, PartialEq, Eq, Error)]
 pub enum BookFault {
     /// The spacing is not within 1 to 65,536 event seconds.
     BadSpacing,
@@ -40,8 +40,6 @@ impl fmt::Display for BookFault {
         f.write_str(self.name())
     }
 }
-
-impl Error for BookFault {}
 
 impl From<swf_text::Memory> for BookFault {
     ghost from_gives = { λ _ fault. fault ≡ faults.Memory };

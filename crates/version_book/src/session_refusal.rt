@@ -8,12 +8,12 @@ ghost use Rattle.version_book.specs.declared.session_refusal.ViewRefusal.TheVari
 
 use job_table::EditFault;
 use scenarios::AddFault;
-use std::error::Error;
 use std::fmt;
 use swf_text;
+use thiserror::Error;
 
 /// Why an edit is not accepted, in the order of checks.
-#[derive(Clone, Copy, Debug, PartialEq, Eq)]
+#[derive(Clone, Copy, Debug, PartialEq, Eq, Error)]
 pub enum EditRefusal {
     /// The journal has 1,000,000 notes.
     JournalFull,
@@ -50,8 +50,6 @@ impl fmt::Display for EditRefusal {
     }
 }
 
-impl Error for EditRefusal {}
-
 impl From<swf_text::Memory> for EditRefusal {
     ghost from_gives = { λ _ refusal. refusal ≡ edit.Memory };
 
@@ -61,7 +59,7 @@ impl From<swf_text::Memory> for EditRefusal {
 }
 
 /// Why a scenario is not added, in the order of checks.
-#[derive(Clone, Copy, Debug, PartialEq, Eq)]
+#[derive(Clone, Copy, Debug, PartialEq, Eq, Error)]
 pub enum AddRefusal {
     /// The journal has 1,000,000 notes.
     JournalFull,
@@ -98,8 +96,6 @@ impl fmt::Display for AddRefusal {
     }
 }
 
-impl Error for AddRefusal {}
-
 impl From<AddFault> for AddRefusal {
     ghost from_gives = { λ fault refusal. refusal ≡ refusal_of fault };
 
@@ -120,7 +116,7 @@ impl From<swf_text::Memory> for AddRefusal {
 }
 
 /// Why no scenario is dropped, in the order of checks.
-#[derive(Clone, Copy, Debug, PartialEq, Eq)]
+#[derive(Clone, Copy, Debug, PartialEq, Eq, Error)]
 pub enum DropRefusal {
     /// The journal has 1,000,000 notes.
     JournalFull,
@@ -157,8 +153,6 @@ impl fmt::Display for DropRefusal {
     }
 }
 
-impl Error for DropRefusal {}
-
 impl From<swf_text::Memory> for DropRefusal {
     ghost from_gives = { λ _ refusal. refusal ≡ drop.Memory };
 
@@ -168,7 +162,7 @@ impl From<swf_text::Memory> for DropRefusal {
 }
 
 /// Why no mark is taken away, in the order of checks.
-#[derive(Clone, Copy, Debug, PartialEq, Eq)]
+#[derive(Clone, Copy, Debug, PartialEq, Eq, Error)]
 pub enum RetryRefusal {
     /// The journal has 1,000,000 notes.
     JournalFull,
@@ -205,8 +199,6 @@ impl fmt::Display for RetryRefusal {
     }
 }
 
-impl Error for RetryRefusal {}
-
 impl From<swf_text::Memory> for RetryRefusal {
     ghost from_gives = { λ _ refusal. refusal ≡ retry.Memory };
 
@@ -216,7 +208,7 @@ impl From<swf_text::Memory> for RetryRefusal {
 }
 
 /// Why no run is shown, in the order of checks.
-#[derive(Clone, Copy, Debug, PartialEq, Eq)]
+#[derive(Clone, Copy, Debug, PartialEq, Eq, Error)]
 pub enum ViewRefusal {
     /// The journal has 1,000,000 notes.
     JournalFull,
@@ -258,8 +250,6 @@ impl fmt::Display for ViewRefusal {
         f.write_str(self.name())
     }
 }
-
-impl Error for ViewRefusal {}
 
 impl From<swf_text::Memory> for ViewRefusal {
     ghost from_gives = { λ _ refusal. refusal ≡ view.Memory };

@@ -3,12 +3,12 @@ ghost use Rattle.version_book.specs.declared.worker_refusal.ClaimRefusal.TheVari
 ghost use Rattle.version_book.specs.declared.worker_refusal.FinishRefusal.TheVariants as finish;
 ghost use Rattle.version_book.specs.declared.worker_refusal.GiveUpRefusal.TheVariants as give_up;
 
-use std::error::Error;
 use std::fmt;
 use swf_text;
+use thiserror::Error;
 
 /// Why there is no answer to a claim, in the order of checks.
-#[derive(Clone, Copy, Debug, PartialEq, Eq)]
+#[derive(Clone, Copy, Debug, PartialEq, Eq, Error)]
 pub enum ClaimRefusal {
     /// The journal has 1,000,000 notes.
     JournalFull,
@@ -45,8 +45,6 @@ impl fmt::Display for ClaimRefusal {
     }
 }
 
-impl Error for ClaimRefusal {}
-
 impl From<swf_text::Memory> for ClaimRefusal {
     ghost from_gives = { λ _ refusal. refusal ≡ claim.Memory };
 
@@ -56,7 +54,7 @@ impl From<swf_text::Memory> for ClaimRefusal {
 }
 
 /// Why a run is not published, in the order of checks.
-#[derive(Clone, Copy, Debug, PartialEq, Eq)]
+#[derive(Clone, Copy, Debug, PartialEq, Eq, Error)]
 pub enum FinishRefusal {
     /// The journal has 1,000,000 notes.
     JournalFull,
@@ -99,8 +97,6 @@ impl fmt::Display for FinishRefusal {
     }
 }
 
-impl Error for FinishRefusal {}
-
 impl From<swf_text::Memory> for FinishRefusal {
     ghost from_gives = { λ _ refusal. refusal ≡ finish.Memory };
 
@@ -110,7 +106,7 @@ impl From<swf_text::Memory> for FinishRefusal {
 }
 
 /// Why no ticket is given up, in the order of checks.
-#[derive(Clone, Copy, Debug, PartialEq, Eq)]
+#[derive(Clone, Copy, Debug, PartialEq, Eq, Error)]
 pub enum GiveUpRefusal {
     /// The journal has 1,000,000 notes.
     JournalFull,
@@ -146,8 +142,6 @@ impl fmt::Display for GiveUpRefusal {
         f.write_str(self.name())
     }
 }
-
-impl Error for GiveUpRefusal {}
 
 impl From<swf_text::Memory> for GiveUpRefusal {
     ghost from_gives = { λ _ refusal. refusal ≡ give_up.Memory };

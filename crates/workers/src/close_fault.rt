@@ -1,8 +1,8 @@
-use std::error::Error;
 use std::fmt;
+use thiserror::Error;
 
 /// Why a desk is not closed, in the order of checks.
-#[derive(Clone, Copy, Debug, PartialEq, Eq)]
+#[derive(Clone, Copy, Debug, PartialEq, Eq, Error)]
 pub enum CloseFault {
     /// A session or worker that the desk opened was not handed in.
     StillOut,
@@ -35,5 +35,3 @@ impl fmt::Display for CloseFault {
         f.write_str(self.name())
     }
 }
-
-impl Error for CloseFault {}
