@@ -64,7 +64,7 @@ pub negative_not : (v : ℤ) → is_below_zero v ≡ false → pos 0 ≤ℤ v
 negative_not (pos m) h = omega (arith, ints)
 negative_not (negsuc m) h = absurd cc
 
-not_negative : (v : ℤ) → pos 0 ≤ℤ v → is_below_zero v ≡ false
+pub not_negative : (v : ℤ) → pos 0 ≤ℤ v → is_below_zero v ≡ false
 not_negative (pos m) h = refl
 not_negative (negsuc m) h = absurd (omega (arith, ints))
 
@@ -91,7 +91,7 @@ has_none n (job ∷ entries) h = elim (cases_Bool (has_number n job)) [
 
 -- ---- the last job
 
-last_apart : (entries : List LogEntry) (last : LogEntry) → slice_get entries (length entries - 1) ≡ Some last → (front : List LogEntry) × (entries ≡ front ++ last ∷ [])
+pub last_apart : (entries : List LogEntry) (last : LogEntry) → slice_get entries (length entries - 1) ≡ Some last → (front : List LogEntry) × (entries ≡ front ++ last ∷ [])
 last_apart entries last h =
     let k = length entries - 1 in
     let within : k < length entries = slice_get_within entries k last h in
@@ -188,7 +188,7 @@ pub line_adds : (t : LogText) (line : List ℕ) (u : LogText) → with_line t li
 unfolding with_line
 line_adds t line u h = record { read = line_of line; is = IsReadAs-line_of line; adds = read_adds t line (line_of line) u h }
 
-adds_line : (t : LogText) (line : List ℕ) (u : LogText) → AddsLine t line u → with_line t line ≡ Ok u
+pub adds_line : (t : LogText) (line : List ℕ) (u : LogText) → AddsLine t line u → with_line t line ≡ Ok u
 unfolding with_line
 adds_line t line u h = ap (with_read t line) (line_of-IsReadAs line h.read h.is) ∙ adds_read t line h.read u h.adds
 

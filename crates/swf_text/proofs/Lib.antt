@@ -5,6 +5,7 @@ mod Walks
 mod Lines
 mod Grammars
 mod Outcomes
+mod Faults
 mod Texts
 mod Entries
 mod Spellings

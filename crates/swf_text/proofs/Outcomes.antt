@@ -21,10 +21,10 @@ use Rattle.swf_text.proofs.Grammars.{chosen, ok_is, done, adds_part, line_adds, 
 
 -- ---- answers
 
-abbrev failed : {A : Type 0} → SwfFault → Result A SwfFault
+abbrev pub failed : {A : Type 0} → SwfFault → Result A SwfFault
 failed x = Err x
 
-err_is : {A : Type 0} (x y : SwfFault) → failed {A = A} x ≡ failed y → x ≡ y
+pub err_is : {A : Type 0} (x y : SwfFault) → failed {A = A} x ≡ failed y → x ≡ y
 err_is x y h = cc
 
 -- ---- the fault of a line

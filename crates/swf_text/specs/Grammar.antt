@@ -105,6 +105,11 @@ pub record FirstFault (lines : List (List ℕ)) (fault : SwfFault) : Type 0 wher
   pub text : IsText (take (fault.line - 1) lines) before
   pub refused : IsLineFault before (slice_index_or lines (fault.line - 1) []) fault.kind
 
+-- the first lines up to this one are no text, and fewer of them are one, however many
+pub record IsLeastNoText (lines : List (List ℕ)) (line : ℕ) : Type 0 where
+  pub none : (t : LogText) → IsText (take line lines) t → ⊥
+  pub fewer : (count : ℕ) → count < line → (t : LogText) × IsText (take count lines) t
+
 -- what a reading answers of a text: the text, unless memory ran out
 abbrev pub IsOkOf : Result LogText SwfFault → LogText → Type 0
 IsOkOf (Ok text) t = text ≡ t

@@ -121,9 +121,10 @@ impl<A: Allocator + Copy> Entry<A> {
     }
 
     /// Changes a field of the summary line, 2 to 18. A refused change leaves the entry as it was,
-    /// and is told by the first of these: BadJobNumber for any other place, field 1 among them,
-    /// which is never changed; BadSubmit for a negative submit time; BadStatus for the status of
-    /// a partial line, 2, 3 or 4. Takes no memory.
+    /// and is told by the first of these: BadJobNumber for every other place, whatever the value:
+    /// 0, 19 and above, which no field has, and 1, the job number, which is never changed;
+    /// BadSubmit for a negative submit time; BadStatus for the status of a partial line, 2, 3 or
+    /// 4. Takes no memory.
     pub fn set_field(&mut self, place: usize, value: Value) -> Result<(), EntryFault>
         ensures answer { result ≡ field_change place value }
         ensures changed { OnOk result (self.new ≡ record self.old { main = slice_set self.old.main (place - 1) value }) }

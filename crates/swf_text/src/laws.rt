@@ -1,8 +1,9 @@
-ghost use Rattle.std.specs.Prelude.{◌≡◌, ◌≤◌, ℕ, ℤ, List, nat_abs};
+ghost use Rattle.std.specs.Prelude.{◌≡◌, ◌≤◌, ◌⊎◌, ℕ, ℤ, List, nat_abs};
 ghost use Rattle.std.specs.List.{AllByRecursion};
 ghost use Rattle.swf_text.specs.Number.{Spells, canonical, greatest};
 ghost use Rattle.swf_text.specs.Text.{LogText, lines};
-ghost use Rattle.swf_text.specs.Grammar.{IsText};
+ghost use Rattle.swf_text.specs.Grammar.{IsText, FirstFault, IsLeastNoText};
+ghost use Rattle.swf_text.specs.declared.fault.SwfFault.{SwfFault};
 ghost use Rattle.swf_text.specs.Comment.{IsComment};
 ghost use Rattle.swf_text.specs.Writing.{text_bytes};
 
@@ -14,6 +15,16 @@ pub fn round_trip_law()
     ensures comments { (bytes : List ℕ) (t : LogText) → IsText (lines bytes) t → AllByRecursion IsComment t.comments }
     ensures read_again { (bytes : List ℕ) (t : LogText) → IsText (lines bytes) t → IsText (lines (text_bytes t)) t }
     ensures same_bytes { (bytes : List ℕ) (t u : LogText) → IsText (lines bytes) t → IsText (lines (text_bytes t)) u → text_bytes u ≡ text_bytes t }
+{}
+
+/// Each log is a text or has a first fault, and never both. The first lines up to that fault are no
+/// text, and fewer of them are one, however many; and there is but one first fault, of one line and
+/// one kind.
+pub fn first_fault_law()
+    ensures either { (ls : List (List ℕ)) → ((t : LogText) × IsText ls t) ⊎ ((fault : SwfFault) × FirstFault ls fault) }
+    ensures not_both { (ls : List (List ℕ)) (t : LogText) (fault : SwfFault) → IsText ls t → FirstFault ls fault → ⊥ }
+    ensures least { (ls : List (List ℕ)) (fault : SwfFault) → FirstFault ls fault → IsLeastNoText ls fault.line }
+    ensures unique { (ls : List (List ℕ)) (fault other : SwfFault) → FirstFault ls fault → FirstFault ls other → other ≡ fault }
 {}
 
 /// The spelling in which a value is written is one of those in which it can be read.

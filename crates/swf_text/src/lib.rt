@@ -26,7 +26,7 @@ pub use builder::Builder;
 pub use entry::Entry;
 pub use fault::{EntryFault, FaultKind, SwfFault, WriteFault};
 pub use header::{digits_value, header_number};
-pub use laws::{round_trip_law, spelling_law};
+pub use laws::{first_fault_law, round_trip_law, spelling_law};
 pub use limits::{ENTRY_LIMIT, LINE_LIMIT};
 pub use line::{Fields, LineFault, LineRead};
 pub use memory::Memory;
