@@ -1,10 +1,10 @@
 -- A list in chunks, read as one list.
-use Rattle.std.proofs.Common.{◌≡◌, ℕ, zero, suc, ◌+◌, ◌-◌, ◌<◌, ◌≤◌, min, List, [], ◌∷◌, ◌++◌, length, length-drop, take, drop, get_or, slice_get, refl, ap, sym, subst, ◌∙◌, arith}
+use Rattle.std.proofs.Common.{◌≡◌, ℕ, zero, suc, ◌+◌, ◌-◌, ◌<◌, ◌≤◌, min, List, [], ◌∷◌, ◌++◌, length, length-drop, take, drop, get_or, slice_get, refl, ap, sym, subst, ◌∙◌, arith, inl, inr}
 use Rattle.std.specs.List.Sorted.{IsPartitionedBy}
 use Rattle.std.proofs.Math.Seq.{drop-append-add, take-add}
 use Rattle.std.proofs.lemmas.List.{append-nil, drop-append-le, drop-drop, drop-take, length-take, length-take-le, take-take, take_all}
 use Rattle.std.proofs.lemmas.List.Concat.{flat_map-append}
-use Rattle.chunks.specs.Chunks.{flat, start, stands, place_in, touched, joining, moved, AreSized, AreFull}
+use Rattle.chunks.specs.Chunks.{CountsNoneOr, flat, start, stands, place_in, touched, joining, moved, AreSized, AreFull}
 use Rattle.chunks.specs.Groups.{chunks_in}
 use Rattle.chunks.proofs.Changes.{flat_at}
 
@@ -107,3 +107,8 @@ module _ {X : Type 0} where
     joining_for old new len n e t h =
         let same : len ≡ touched (place_in first second p q (flat cs)) cs = t ∙ ap (λ (k : ℕ). touched k (chunks_in rows)) (place_for n e) ∙ ap (touched (place_in first second p q (flat cs))) seen in
         h ∙ ap (λ (k : ℕ). old + k + moved (k + 1)) same ∙ add_parts old (touched (place_in first second p q (flat cs)) cs) (moved (touched (place_in first second p q (flat cs)) cs + 1))
+
+-- a count of none or of many, said of the many in other words
+pub none_or : (many others old new : ℕ) → (new ≡ old + many → new ≡ old + others) → CountsNoneOr many old new → CountsNoneOr others old new
+none_or many others old new same (inl none) = inl none
+none_or many others old new same (inr counted) = inr (same counted)

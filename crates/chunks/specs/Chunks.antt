@@ -1,5 +1,5 @@
 -- A long list in chunks.
-use Rattle.std.specs.Prelude.{◌≡◌, ℕ, ◌≤◌, ◌+◌, ◌-◌, ◌==◌, ◌&&◌, ◌||◌, nat_lt, nat_le, not, Bool, false, Option, Some, None, if◌then◌else◌, List, [], ◌∷◌, length, take, slice_get, slice_index_or}
+use Rattle.std.specs.Prelude.{◌≡◌, ◌⊎◌, ℕ, ◌≤◌, ◌+◌, ◌-◌, ◌==◌, ◌&&◌, ◌||◌, nat_lt, nat_le, not, Bool, false, Option, Some, None, if◌then◌else◌, List, [], ◌∷◌, length, take, slice_get, slice_index_or}
 use Rattle.std.specs.List.{flat_map, position_or_len}
 
 module _ {X : Type 0} where
@@ -67,3 +67,8 @@ moved n = if nat_le n 256 then 0 else n - 128
 -- how many elements are copied or moved to another chunk when one joins at this place
 abbrev pub joining : {X : Type 0} → ℕ → List (List X) → ℕ
 joining place chunks = touched place chunks + moved (touched place chunks + 1)
+
+-- a count has stayed as it was, where an element is exchanged in its place, or has gone up by these many, where they
+-- are copied: which of the two a list does depends on who shares its memory, and that is no part of its value
+abbrev pub CountsNoneOr : ℕ → ℕ → ℕ → Type 0
+CountsNoneOr many old new = (new ≡ old) ⊎ (new ≡ old + many)

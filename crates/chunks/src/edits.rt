@@ -1,6 +1,6 @@
 ghost use Rattle.std.specs.Prelude.{◌≡◌, ◌≤◌, ◌<◌, ◌+◌, ◌++◌, IfOk, OnErr, OnOk, length, slice_set, take, drop, vec_len};
 ghost use Rattle.std.specs.List.{insert, remove};
-ghost use Rattle.chunks.specs.Chunks.{flat, moved};
+ghost use Rattle.chunks.specs.Chunks.{CountsNoneOr, flat, moved};
 ghost use Rattle.chunks.specs.Groups.{AreGrouped, IsSpot, chunk_at, chunk_number, chunks_in, place_at};
 
 use crate::copied::Copied;
@@ -104,7 +104,7 @@ fn with_another<T: Copied, A: Allocator + Copy>(
 }
 
 // Puts another element at a place of a chunk: where it stands, or where another list has that chunk,
-// into a copy of it. Counts the elements of that chunk.
+// into a copy of it. Counts the elements of that chunk where they are copied, and otherwise nothing.
 pub(crate) fn exchange<T: Copied, A: Allocator + Copy>(
     groups: &mut Vec<Group<T, A>, A>,
     place: Place,
@@ -118,16 +118,13 @@ pub(crate) fn exchange<T: Copied, A: Allocator + Copy>(
     ensures flat { OnOk result (flat (chunks_in groups.new.items) ≡ slice_set (flat (chunks_in groups.old.items)) (place_at place.group place.chunk place.at groups.old.items) item) }
     ensures sized { AreGrouped groups.new.items }
     ensures kept { OnErr result (groups.new.items ≡ groups.old.items) }
-    ensures count { OnOk result (count.new ≡ count.old + length (chunk_at place.group place.chunk groups.old.items)) }
+    ensures count { OnOk result (CountsNoneOr (length (chunk_at place.group place.chunk groups.old.items)) count.old count.new) }
+    ensures least { OnOk result (count.old ≤ count.new) }
     ensures most { OnOk result (count.new ≤ count.old + 256) }
 {
-    let len = elements_at(groups.as_slice(), place).len() as u32;
-    match put(groups.as_mut_slice(), place, item) {
-        Ok(()) => *count += len,
-        Err(item) => {
-            let alloc = *groups.allocator();
-            *groups = with_another(alloc, groups.as_slice(), place, item, count)?;
-        }
+    if let Err(item) = put(groups.as_mut_slice(), place, item) {
+        let alloc = *groups.allocator();
+        *groups = with_another(alloc, groups.as_slice(), place, item, count)?;
     }
     Ok(())
 }

@@ -1,7 +1,7 @@
 ghost use Rattle.std.specs.Prelude.{◌≡◌, ◌≤◌, ◌<◌, ◌+◌, ◌++◌, IfOk, OnErr, OnOk, length, option_copied, slice_get, slice_set, drop, vec_len};
 ghost use Rattle.std.specs.List.{insert, remove};
 ghost use Rattle.std.specs.List.Sorted.{IsPartitionedBy};
-ghost use Rattle.chunks.specs.Chunks.{AreFull, flat, joining, place_in, stands, touched};
+ghost use Rattle.chunks.specs.Chunks.{AreFull, CountsNoneOr, flat, joining, place_in, stands, touched};
 
 use crate::copied::Keyed;
 use crate::edits::{exchange, inserted, removed};
@@ -127,16 +127,16 @@ impl<T: Keyed, A: Allocator + Copy> Chunks<T, A> {
 
     /// Another element in place of the first that doesn't stand before it. Where no other list and
     /// no other chunk has the memory of its chunk, it is exchanged where it stands, otherwise in a
-    /// copy of the chunk. Counts the elements of that chunk, at most 256. Memory where a growth was
-    /// refused; then the list is as it was.
+    /// copy of the chunk. Counts the elements that it copies: none, or those of that chunk, at most
+    /// 256. Memory where a growth was refused; then the list is as it was.
     pub fn exchange(&mut self, item: T, count: &mut u32) -> Result<(), Memory>
         requires parted { IsPartitionedBy (stands T.major T.minor (T.major item) (T.minor item)) (flat self.old) }
         requires there { place_in T.major T.minor (T.major item) (T.minor item) (flat self.old) < length (flat self.old) }
         requires room { count.old ≤ 768 }
         ensures list { OnOk result (flat self.new ≡ slice_set (flat self.old) (place_in T.major T.minor (T.major item) (T.minor item) (flat self.old)) item) }
         ensures kept { OnErr result (self.new ≡ self.old) }
-        ensures count { OnOk result (count.new ≡ count.old + touched (place_in T.major T.minor (T.major item) (T.minor item) (flat self.old)) self.old) }
-        ensures least { OnOk result (count.old < count.new) }
+        ensures count { OnOk result (CountsNoneOr (touched (place_in T.major T.minor (T.major item) (T.minor item) (flat self.old)) self.old) count.old count.new) }
+        ensures least { OnOk result (count.old ≤ count.new) }
         ensures most { OnOk result (count.new ≤ count.old + 256) }
     {
         let place = place_of(self.groups.as_slice(), item.major(), item.minor());

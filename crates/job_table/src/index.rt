@@ -1,6 +1,6 @@
 ghost use Rattle.std.specs.Prelude.{◌≡◌, ◌≤◌, ◌<◌, ◌+◌, ◌==◌, ℕ, IfOk, OnErr, OnOk, Some, None, true, is_some, length, map, if◌then◌else◌};
 ghost use Rattle.std.specs.List.Sorted.{IsNonDecreasingBy, IsPermutation};
-ghost use Rattle.chunks.specs.Chunks.{flat, joining, place_in, touched};
+ghost use Rattle.chunks.specs.Chunks.{CountsNoneOr, flat, joining, place_in, touched};
 ghost use Rattle.job_table.specs.Arranged.{IsDistinct};
 ghost use Rattle.job_table.specs.Table.{IsIndex, NumbersRise, number_in, pair_of, second_of};
 
@@ -138,8 +138,8 @@ pub(crate) fn set_second<A: Allocator + Copy>(
     ensures rising { OnOk result (NumbersRise (flat index.new)) }
     ensures seconds { OnOk result ((n : ℕ) → second_of (flat index.new) n ≡ (if number == n then Some submit else second_of (flat index.old) n)) }
     ensures kept { OnErr result (index.new ≡ index.old) }
-    ensures count { OnOk result (count.new ≡ count.old + touched (place_in number_in number_in number number (flat index.old)) index.old) }
-    ensures least { OnOk result (count.old < count.new) }
+    ensures count { OnOk result (CountsNoneOr (touched (place_in number_in number_in number number (flat index.old)) index.old) count.old count.new) }
+    ensures least { OnOk result (count.old ≤ count.new) }
     ensures most { OnOk result (count.new ≤ count.old + 256) }
 {
     index.exchange(Numbered { number, submit }, count)

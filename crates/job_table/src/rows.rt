@@ -1,5 +1,5 @@
 ghost use Rattle.std.specs.Prelude.{◌≡◌, ◌≤◌, ◌<◌, ◌+◌, ◌↔◌, length, IfOk, OnErr, OnOk, IsTrue, Some, None, option_copied, option_map};
-ghost use Rattle.chunks.specs.Chunks.{flat, joining, place_in, touched};
+ghost use Rattle.chunks.specs.Chunks.{CountsNoneOr, flat, joining, place_in, touched};
 ghost use Rattle.swf_text.specs.Entry.{number_of_entry, submit_of};
 ghost use Rattle.swf_text.specs.Log.{with_entry};
 ghost use Rattle.job_table.specs.Edit.{change_fault, entry_of, with_field, without};
@@ -127,8 +127,8 @@ pub(crate) fn exchange<A: Allocator + Copy>(
     requires room { count.old ≤ 768 }
     ensures rows { OnOk result (flat rows.new ≡ with_entry entry (without (number_of_entry entry) (flat rows.old))) }
     ensures kept { OnErr result (rows.new ≡ rows.old) }
-    ensures count { OnOk result (count.new ≡ count.old + touched (place_in submit_of number_of_entry (submit_of entry) (number_of_entry entry) (flat rows.old)) rows.old) }
-    ensures least { OnOk result (count.old < count.new) }
+    ensures count { OnOk result (CountsNoneOr (touched (place_in submit_of number_of_entry (submit_of entry) (number_of_entry entry) (flat rows.old)) rows.old) count.old count.new) }
+    ensures least { OnOk result (count.old ≤ count.new) }
     ensures most { OnOk result (count.new ≤ count.old + 256) }
 {
     rows.exchange(entry, count)

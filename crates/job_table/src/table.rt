@@ -4,7 +4,7 @@ ghost use Rattle.swf_text.specs.Limits.{entry_limit};
 ghost use Rattle.swf_text.specs.Log.{IsLog, log_of};
 ghost use Rattle.swf_text.specs.Number.{greatest};
 ghost use Rattle.job_table.specs.Accepted.{IsEdit};
-ghost use Rattle.job_table.specs.Counted.{fewest};
+ghost use Rattle.job_table.specs.Counted.{fewest, most};
 ghost use Rattle.job_table.specs.Edit.{Change, Insert, Remove, edit_of, entry_of, holds, without, changed, applied, change_fault, fault_of, IsRefusal};
 ghost use Rattle.job_table.specs.Table.{IsTable, entries_from};
 
@@ -200,7 +200,7 @@ impl<A: Allocator + Copy> JobTable<A> {
         ensures ok { OnOk result (self.new ≡ log_of (entry.now ∷ self.old)) }
         ensures err { OnErr result (self.new ≡ self.old) }
         ensures least { IfOk result (λ count. fewest (Insert entry.now) self.old ≤ count) }
-        ensures most { IfOk result (λ count. count ≤ 1024) }
+        ensures most { IfOk result (λ count. count ≤ most (Insert entry.now) self.old) }
     {
         let mut count = 1;
         let copy = entry.copy()?;
@@ -218,7 +218,7 @@ impl<A: Allocator + Copy> JobTable<A> {
         ensures ok { OnOk result (self.new ≡ log_of (without number self.old)) }
         ensures err { OnErr result (self.new ≡ self.old) }
         ensures least { IfOk result (λ count. fewest (Remove number) self.old ≤ count) }
-        ensures most { IfOk result (λ count. count ≤ 1024) }
+        ensures most { IfOk result (λ count. count ≤ most (Remove number) self.old) }
     {
         let submit = second(&self.index, number).unwrap();
         let mut count = 0;
@@ -238,7 +238,7 @@ impl<A: Allocator + Copy> JobTable<A> {
         ensures ok { OnOk result (self.new ≡ log_of (changed number field value self.old)) }
         ensures err { OnErr result (self.new ≡ self.old) }
         ensures least { IfOk result (λ count. fewest (Change number field value) self.old ≤ count) }
-        ensures most { IfOk result (λ count. count ≤ 1024) }
+        ensures most { IfOk result (λ count. count ≤ most (Change number field value) self.old) }
     {
         let submit = second(&self.index, number).unwrap();
         let was = entry_at(&self.rows, submit, number).unwrap();
@@ -269,9 +269,10 @@ impl<A: Allocator + Copy> JobTable<A> {
         Ok(())
     }
 
-    /// As `apply`, and answers a count of its work: the entries and pairs of the index of each chunk
-    /// that it touches, those that it moves to another chunk, and an entry that is new or changed.
-    /// These are at most 1,024, and at least `fewest`, one for each chunk and one for the entry.
+    /// As `apply`, and answers how many entries and pairs of the index it copies or moves to another
+    /// chunk: those of each chunk that it makes anew, and the entry that is new or changed. What is
+    /// exchanged in its place is not counted. An edit counts from `fewest` to `most`, which is at
+    /// most 898.
     pub fn apply_counted(&mut self, edit: &Edit<A>) -> Result<u32, EditFault>
         ensures accepted { OnOk result (fault_of (edit_of edit.now) self.old ≡ None) }
         ensures sound { OnOk result (IsEdit (edit_of edit.now)) }
@@ -279,7 +280,8 @@ impl<A: Allocator + Copy> JobTable<A> {
         ensures fault { IfErr result (λ fault. IsRefusal fault (edit_of edit.now) self.old) }
         ensures kept { OnErr result (self.new ≡ self.old) }
         ensures least { IfOk result (λ count. fewest (edit_of edit.now) self.old ≤ count) }
-        ensures most { IfOk result (λ count. count ≤ 1024) }
+        ensures most { IfOk result (λ count. count ≤ most (edit_of edit.now) self.old) }
+        ensures limit { IfOk result (λ count. count ≤ 1024) }
     {
         self.check(edit)?;
         match edit {

@@ -1,9 +1,10 @@
-use Rattle.std.proofs.Common.{◌≡◌, ◌+◌, List, length, subst, sym}
+use Rattle.std.proofs.Common.{List, length, subst, sym}
 use Rattle.std.specs.Result.{OnOk}
 use Rattle.std.proofs.lemmas.Result.{on_ok_weaker}
+use Rattle.chunks.specs.Chunks.{CountsNoneOr}
 use Rattle.chunks.specs.Groups.{chunk_at, chunk_number, chunks_in}
 use Rattle.chunks.proofs.Places.{touched_at}
-use Rattle.chunks.proofs.Lists.{parted_for, inside_for, count_for}
+use Rattle.chunks.proofs.Lists.{parted_for, inside_for, count_for, none_or}
 use Rattle.chunks.proofs.list.Chunks.exchange.Goals as goal
 
 pub place_of-place-requires-clause-parted : goal.place_of-place-requires-clause-parted
@@ -16,8 +17,9 @@ returns-clause-count g c =
     let rows = c.as_slice.result.now in
     let inside = c.place_of-place.ensures.inside
     (inside_for g.T.Keyed.major g.T.Keyed.minor c.major.result c.minor.result _ _ rows c.self.inside.groups.items c.args.self.now c.as_slice.ensures.value c.self.view_is c.major.ensures c.minor.ensures _ c.place_of-place.ensures.place c.requires.there) in
-    let counted = subst (λ (gs : List (List (List g.row.T.Denot))). OnOk c.exchange.result (c.exchange.new.count ≡ c.args.count.now + length (chunk_at place.group place.chunk gs))) (sym c.as_slice.ensures.value) c.exchange.ensures.count in
+    let counted = subst (λ (gs : List (List (List g.row.T.Denot))). OnOk c.exchange.result (CountsNoneOr (length (chunk_at place.group place.chunk gs)) c.args.count.now c.exchange.new.count)) (sym c.as_slice.ensures.value) c.exchange.ensures.count in
     on_ok_weaker c.exchange.result
+    (none_or _ _ c.args.count.now c.exchange.new.count
     (count_for g.T.Keyed.major g.T.Keyed.minor c.major.result c.minor.result _ _ rows c.self.inside.groups.items c.args.self.now c.as_slice.ensures.value c.self.view_is c.major.ensures c.minor.ensures
-    _ _ _ _ c.place_of-place.ensures.place (touched_at (chunk_number place.group place.chunk rows) place.at (chunks_in rows) inside))
+    _ _ _ _ c.place_of-place.ensures.place (touched_at (chunk_number place.group place.chunk rows) place.at (chunks_in rows) inside)))
     counted

@@ -6,7 +6,7 @@ use Rattle.job_table.specs.Edit.{entry_of, without, changed}
 use Rattle.job_table.proofs.Edited.{change-places, number-stays, log-changed}
 use Rattle.job_table.specs.Table.{second_of}
 use Rattle.job_table.proofs.Stored.{stored-moved, tells-again, told-of, entry-told}
-use Rattle.job_table.proofs.Counted.{fewest-change, fewest-in-place}
+use Rattle.job_table.proofs.Counted.{fewest-change, fewest-in-place, most-in-place, most-moved}
 use Rattle.job_table.proofs.Tables.{placed-is}
 use Rattle.job_table.proofs.table.JobTable.change.Goals as goal
 
@@ -85,10 +85,26 @@ returns-clause-least g c =
     fewest-change c.args.number c.args.field c.args.value c.args.self.now _ (omega (arith, c.in_ok-set_second.ensures.least, c.in_ok-rows.ensures.least))
     (λ two. omega (arith, c.in_ok-set_second.ensures.least, c.in_ok-rows.ensures.both (omega (arith, two, long))))
 
+pub returns-clause-most : goal.returns-clause-most
+returns-clause-most g c =
+    let was : LogEntry = c.unwrap-was.result.now in
+    let there : entry_of c.args.number (flat c.self.inside.rows) ≡ Some was = sym c.entry_at.ensures ∙ ap option_copied c.unwrap-was.ensures in
+    let second : Some c.unwrap-submit.result ≡ Some (submit_of was) = sym c.unwrap-submit.ensures ∙ c.second.ensures ∙ c.self.invariant.index.gives c.args.number ∙ ap (option_map submit_of) there in
+    most-moved c.args.number c.args.field c.args.value c.args.self.now was c.unwrap-submit.result c.submit-at.result c.in_ok-entry.entry
+    (ap (entry_of c.args.number) (sym c.self.view_is) ∙ there) c.in_ok-entry.ensures second c.submit-at.ensures.second _ c.if-at-submit.false (omega (arith, c.in_ok-set_second.ensures.most, c.in_ok-rows.ensures.most))
+
 pub returns-then-at-submit-clause-least : goal.returns-then-at-submit-clause-least
 returns-then-at-submit-clause-least g c =
     let was : LogEntry = c.unwrap-was.result.now in
     let there : entry_of c.args.number (flat c.self.inside.rows) ≡ Some was = sym c.entry_at.ensures ∙ ap option_copied c.unwrap-was.ensures in
     let second : Some c.unwrap-submit.result ≡ Some (submit_of was) = sym c.unwrap-submit.ensures ∙ c.second.ensures ∙ c.self.invariant.index.gives c.args.number ∙ ap (option_map submit_of) there in
-    fewest-in-place c.args.number c.args.field c.args.value c.args.self.now was c.unwrap-submit.result c.submit-at.result c.in_ok-entry.entry _
-    (ap (entry_of c.args.number) (sym c.self.view_is) ∙ there) c.in_ok-entry.ensures second c.submit-at.ensures.second c.if-at-submit.true (omega (arith, c.in_ok-exchange.ensures.least))
+    fewest-in-place c.args.number c.args.field c.args.value c.args.self.now was c.unwrap-submit.result c.submit-at.result c.in_ok-entry.entry
+    (ap (entry_of c.args.number) (sym c.self.view_is) ∙ there) c.in_ok-entry.ensures second c.submit-at.ensures.second _ c.if-at-submit.true (omega (arith, c.in_ok-exchange.ensures.least))
+
+pub returns-then-at-submit-clause-most : goal.returns-then-at-submit-clause-most
+returns-then-at-submit-clause-most g c =
+    let was : LogEntry = c.unwrap-was.result.now in
+    let there : entry_of c.args.number (flat c.self.inside.rows) ≡ Some was = sym c.entry_at.ensures ∙ ap option_copied c.unwrap-was.ensures in
+    let second : Some c.unwrap-submit.result ≡ Some (submit_of was) = sym c.unwrap-submit.ensures ∙ c.second.ensures ∙ c.self.invariant.index.gives c.args.number ∙ ap (option_map submit_of) there in
+    most-in-place c.args.number c.args.field c.args.value c.args.self.now was c.unwrap-submit.result c.submit-at.result c.in_ok-entry.entry
+    (ap (entry_of c.args.number) (sym c.self.view_is) ∙ there) c.in_ok-entry.ensures second c.submit-at.ensures.second _ c.if-at-submit.true (omega (arith, c.in_ok-exchange.ensures.most))
