@@ -10,6 +10,8 @@ use Rattle.swf_text.specs.Log.{comes_before, log_of, with_entry}
 use Rattle.swf_text.specs.Text.{LogText, lines}
 use Rattle.swf_text.specs.Writing.{text_bytes}
 use Rattle.swf_text.proofs.Lemmas.{one_text, text_sound, read_again}
+use Rattle.swf_text.specs.Comment.{IsComment}
+use Rattle.job_table.specs.Table.{IsTable}
 use Rattle.job_table.proofs.Lemmas.{log-table}
 use Rattle.scenarios.specs.declared.order.Order.{Order}
 use Rattle.scenarios.specs.Scenario.{Setting, IsSetting, are_within, setting_of}
@@ -19,7 +21,7 @@ use Rattle.commands.specs.declared.comment.ScenarioLine.{ScenarioLine}
 use Rattle.commands.specs.declared.opening_fault.OpenTextFault.{OpenTextFault}
 use Rattle.commands.specs.ScenarioLine.{scenario_line}
 use Rattle.commands.specs.Opening.{base_on, machine_of, of_setting, opened, told, with_line, with_setting}
-use Rattle.commands.specs.Laws.{SavesTheSameBytes, saved_of}
+use Rattle.commands.specs.Laws.{AreSavedAgain, SavesEditedBytes, SavesTheSameBytes, saved_of}
 use Rattle.commands.proofs.SavedAgain.{saves_same, saves_sound}
 use Rattle.commands.proofs.Told.{told_from}
 
@@ -106,33 +108,34 @@ all_log : (P : LogEntry → Type 0) (es : List LogEntry) → AllByRecursion P es
 all_log P [] h = tt
 all_log P (e ∷ es) h = all_with P e (log_of es) h.0 (all_log P es h.1)
 
-saved_read : (bytes : List ℕ) (t : LogText) (list : Listing) → IsText (lines bytes) t → IsListing list → IsText (lines (text_bytes (saved_of t.comments (log_of t.entries) list))) (saved_of t.comments (log_of t.entries) list)
-saved_read bytes t list is listing =
-    let sound = text_sound bytes t is in
-    read_again (saved_of t.comments (log_of t.entries) list) (saves_sound t.comments (log_of t.entries) list sound.comments listing) (all_log HasFields t.entries sound.fields) (log-table t.entries sound.log).log
+saved_read : (comments : List (List ℕ)) (entries : List LogEntry) (list : Listing) → AllByRecursion IsComment comments → AllByRecursion HasFields entries → IsTable entries → IsListing list → IsText (lines (text_bytes (saved_of comments entries list))) (saved_of comments entries list)
+saved_read comments entries list sound fields table listing = read_again (saved_of comments entries list) (saves_sound comments entries list sound listing) fields table.log
 
--- ---- the law
+-- ---- the laws
 
 same_list : (a b : Listing) (r : Result Listing OpenTextFault) → r ≡ Ok a → r ≡ Ok b → a ≡ b
 same_list a b r p q = cc
 
-pub saves_bytes : SavesTheSameBytes
-saves_bytes procs again bytes once is =
-    let t = is.read in
-    let listing = is_opened procs t.comments is.list is.opened_with in
-    let table = log-table t.entries (text_sound bytes t is.is_text).log in
-    let text : LogText = saved_of t.comments (log_of t.entries) is.list in
-    let back : IsText (lines (text_bytes text)) text = saved_read bytes t is.list is.is_text listing.0 in
-    let reads : IsText (lines once) text = subst (λ (bs : List ℕ). IsText (lines bs) text) (sym is.written) back in
-    let same = saves_same t.comments (log_of t.entries) is.list table listing.0 listing.1 again in (
-      record { read = text; is_text = reads; list = same.0; opened_with = same.1; written = is.written ∙ ap text_bytes (sym same.2) },
-      λ twice other.
-          let read_same : other.read ≡ text = one_text (lines once) text other.read reads other.is_text in
-          let opens : opened again text.comments ≡ Ok other.list = ap (λ (u : LogText). opened again u.comments) (sym read_same) ∙ other.opened_with in
-          let list_same : other.list ≡ same.0 = same_list other.list same.0 (opened again text.comments) opens same.1 in
+pub saves_edited : SavesEditedBytes
+saves_edited comments entries list sound fields table listing some procs =
+    let text : LogText = saved_of comments entries list in
+    let reads : IsText (lines (text_bytes text)) text = saved_read comments entries list sound fields table listing in
+    let same = saves_same comments entries list table listing some procs in (
+      record { read = text; is_text = reads; list = same.0; opened_with = same.1; written = ap text_bytes (sym same.2) },
+      λ again other.
+          let read_same : other.read ≡ text = one_text (lines (text_bytes text)) text other.read reads other.is_text in
+          let opens : opened procs text.comments ≡ Ok other.list = ap (λ (u : LogText). opened procs u.comments) (sym read_same) ∙ other.opened_with in
+          let list_same : other.list ≡ same.0 = same_list other.list same.0 (opened procs text.comments) opens same.1 in
           other.written
           ∙ ap (λ (u : LogText). text_bytes (saved_of u.comments (log_of u.entries) other.list)) read_same
           ∙ ap (λ (l : Listing). text_bytes (saved_of text.comments (log_of text.entries) l)) list_same
-          ∙ ap text_bytes same.2
-          ∙ sym is.written,
+          ∙ ap text_bytes same.2,
     )
+
+pub saves_bytes : SavesTheSameBytes
+saves_bytes procs bytes once is =
+    let t = is.read in
+    let sound = text_sound bytes t is.is_text in
+    let listing = is_opened procs t.comments is.list is.opened_with in
+    subst AreSavedAgain (sym is.written)
+    (saves_edited t.comments (log_of t.entries) is.list sound.comments (all_log HasFields t.entries sound.fields) (log-table t.entries sound.log) listing.0 listing.1)

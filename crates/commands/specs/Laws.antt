@@ -2,7 +2,7 @@
 use Rattle.std.specs.Prelude.{◌≡◌, ℕ, ◌<◌, List, length, Option, Ok}
 use Rattle.std.specs.List.{AllByRecursion}
 use Rattle.swf_text.specs.Comment.{IsComment}
-use Rattle.swf_text.specs.Entry.{LogEntry}
+use Rattle.swf_text.specs.Entry.{HasFields, LogEntry}
 use Rattle.swf_text.specs.Log.{log_of}
 use Rattle.swf_text.specs.Text.{LogText, lines}
 use Rattle.swf_text.specs.Grammar.{IsText}
@@ -40,8 +40,19 @@ pub record IsSavedAs (procs : Option ℕ) (bytes saved_bytes : List ℕ) : Type 
   pub opened_with : opened procs read.comments ≡ Ok list
   pub written : saved_bytes ≡ text_bytes (saved_of read.comments (log_of read.entries) list)
 
--- what is saved of bytes gives the same bytes, and no others, when it is opened and saved again, whatever machine is named
+-- these bytes, opened and saved again, are the same, and no others, whatever machine is named beside them
+abbrev pub AreSavedAgain : List ℕ → Type 0
+AreSavedAgain bytes =
+    (procs : Option ℕ) → IsSavedAs procs bytes bytes × ((again : List ℕ) → IsSavedAs procs bytes again → again ≡ bytes)
+
+-- so it is with the bytes that are saved of a log after any edits: of the entries of any table, each with its eighteen
+-- values, of sound comments, and of a list with a scenario or more
+abbrev pub SavesEditedBytes : Type 0
+SavesEditedBytes =
+    (comments : List (List ℕ)) (entries : List LogEntry) (list : Listing) →
+    AllByRecursion IsComment comments → AllByRecursion HasFields entries → IsTable entries →
+    IsListing list → 0 < length list.scenarios → AreSavedAgain (text_bytes (saved_of comments entries list))
+
+-- and with what is saved of bytes that are opened
 abbrev pub SavesTheSameBytes : Type 0
-SavesTheSameBytes =
-    (procs again : Option ℕ) (bytes once : List ℕ) →
-    IsSavedAs procs bytes once → IsSavedAs again once once × ((twice : List ℕ) → IsSavedAs again once twice → twice ≡ once)
+SavesTheSameBytes = (procs : Option ℕ) (bytes once : List ℕ) → IsSavedAs procs bytes once → AreSavedAgain once
