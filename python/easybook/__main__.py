@@ -1,0 +1,183 @@
+"""The commands: python -m easybook sacct | sweep | waits."""
+
+from __future__ import annotations
+
+import argparse
+import contextlib
+import csv
+import os
+import sys
+import warnings
+from decimal import Decimal
+from typing import Any, BinaryIO, Callable, Iterator, List, Optional, Sequence, TypeVar
+
+from . import waits as _waits
+from .errors import EasybookError
+from .runs import ORDERS, Row, Scenario
+from .slurm import Options, convert
+from .slurm.convert import A_YEAR
+from .slurm.values import Unreadable, duration, zone
+from .sweeps import sweep
+from .swf import MISSING
+
+T = TypeVar("T")
+
+
+def _whole(text: str) -> int:
+    if not (text.isascii() and text.isdigit()):
+        raise argparse.ArgumentTypeError(f"{text!r} is no whole number")
+    return int(text)
+
+
+def _listed(one: Callable[[str], T]) -> Callable[[str], List[T]]:
+    def read(text: str) -> List[T]:
+        return [one(it) for it in text.split(",")]
+
+    read.__name__ = "list"
+    return read
+
+
+def _order(text: str) -> str:
+    if text not in ORDERS:
+        raise argparse.ArgumentTypeError(f"an order is arrival or shortest, not {text!r}")
+    return text
+
+
+def _duration(text: str) -> int:
+    try:
+        return duration(text)
+    except Unreadable as it:
+        raise argparse.ArgumentTypeError(str(it)) from None
+
+
+def _delimiter(text: str) -> str:
+    if not text or "\n" in text:
+        raise argparse.ArgumentTypeError("a delimiter is one or more characters of a line")
+    return text
+
+
+@contextlib.contextmanager
+def _dump(path: str) -> Iterator[BinaryIO]:
+    if path == "-":
+        yield sys.stdin.buffer
+        return
+    with open(path, "rb") as file:
+        yield file
+
+
+def _sacct(words: argparse.Namespace) -> int:
+    local = zone(words.tz) if words.tz else None
+    options = Options(words.procs, words.arrival, words.size, words.unlimited, words.no_limit,
+                      frozenset(it for it in words.partition if it), words.zero, local, words.tz or "", words.delimiter)
+    with _dump(words.dump) as file:
+        made = convert(file, options)
+    made.write(sys.stdout.buffer)
+    sys.stdout.flush()
+    print(f"easybook: {len(made.jobs)} jobs", file=sys.stderr)
+    for line in made.decided:
+        print(f"easybook: {line}", file=sys.stderr)
+    for line in made.warned:
+        print(f"easybook: warning: {line}", file=sys.stderr)
+    return 0
+
+
+def _table(heads: Sequence[str], rows: Sequence[Sequence[Any]], as_csv: bool) -> None:
+    """Prints a table: with commas, or in columns, names to the left and numbers to the right."""
+    if as_csv:
+        writer = csv.writer(sys.stdout, lineterminator="\n")
+        writer.writerow(heads)
+        writer.writerows(rows)
+        return
+    texts = [list(map(str, row)) for row in (heads, *rows)]
+    widths = [max(map(len, column)) for column in zip(*texts)]
+    sides = [str.ljust if isinstance(it, str) else str.rjust for it in rows[0]]
+    for row in texts:
+        print("  ".join(side(it, width) for side, it, width in zip(sides, row, widths)).rstrip())
+
+
+def _sweep(words: argparse.Namespace) -> int:
+    scenarios = [Scenario(procs, factor, order) for procs in words.procs for factor in words.factor for order in words.order]
+    with warnings.catch_warnings():
+        warnings.simplefilter("ignore", RuntimeWarning)
+        rows = sweep(words.log, scenarios, at_once=words.at_once, program=words.program)
+    if rows:
+        _table(Row._fields, rows, words.csv)
+    for failure in rows.failures:
+        print(f"easybook: {failure}", file=sys.stderr)
+    return 1 if rows.failures else 0
+
+
+def _ratio(group: _waits.Group) -> Optional[Decimal]:
+    return None if group.ratio is None else Decimal(group.ratio).scaleb(-3)
+
+
+def _waits_of(words: argparse.Namespace) -> int:
+    pairs = _waits.compare(words.log, words.procs, words.factor, words.order, program=words.program)
+    if not pairs:
+        print(f"easybook: no job of {words.log} that is simulated has a wait in field 3", file=sys.stderr)
+        return 1
+    groups = [(it, "all") for it in _waits.summary(pairs)]
+    groups += [(it, f"size {it.group}") for it in _waits.summary(pairs, _waits.by_size)]
+    groups += [(it, f"user {it.group}") for it in _waits.summary(pairs, _waits.by_user)]
+    _table(("group", *_waits.Group._fields[1:]), [(name, *it[1:-1], _ratio(it)) for it, name in groups], words.csv)
+    return 0
+
+
+def _parser() -> argparse.ArgumentParser:
+    parser = argparse.ArgumentParser(prog="python -m easybook", description="Makes logs, and asks easybook about them.")
+    commands = parser.add_subparsers(dest="command", required=True)
+    it = commands.add_parser("sacct", help="make a log of Slurm's accounting")
+    it.set_defaults(work=_sacct)
+    it.add_argument("dump", help="what `sacct -P` or `sacct -p` printed; - is standard input")
+    it.add_argument("--procs", type=_whole, required=True, help="the machine's processors (with --size nodes: its nodes)")
+    it.add_argument("--tz", help="the zone of times without one, such as Europe/Paris, UTC or +01:00")
+    it.add_argument("--arrival", choices=("eligible", "submit"), default="eligible", help="when a job arrives")
+    it.add_argument("--size", choices=("alloc", "req", "nodes"), default="alloc", help="what a job takes")
+    it.add_argument("--unlimited", type=_duration, default=A_YEAR, help="the estimate of jobs of unlimited time, as `sbatch -t` takes it; a year without this")
+    it.add_argument("--no-limit", type=_duration, default=MISSING, help="the estimate of jobs without a limit")
+    it.add_argument("--partition", type=_listed(str), default=[], help="take the jobs of these partitions alone: A,B")
+    it.add_argument("--zero", choices=("first", "midnight"), default="first", help="second 0 of the log")
+    it.add_argument("--delimiter", type=_delimiter, default="|", help="what stands between the columns; | without this")
+    it = commands.add_parser("sweep", help="simulate logs under many scenarios")
+    it.set_defaults(work=_sweep)
+    it.add_argument("log", nargs="+", help="a log's file (.gz: it is unpacked)")
+    it.add_argument("--procs", type=_listed(_whole), default=[None], help="processors: A,B,C; the log's own machine without this")
+    it.add_argument("--factor", type=_listed(_whole), default=[1000], help="thousandths of the estimates: A,B,C")
+    it.add_argument("--order", type=_listed(_order), default=["arrival"], help="orders of backfills: arrival,shortest")
+    it.add_argument("--at-once", type=_whole, help="how many scenarios one program takes, at most 64")
+    _common(it)
+    it = commands.add_parser("waits", help="set the waits that a log records beside the simulated ones")
+    it.set_defaults(work=_waits_of)
+    it.add_argument("log", help="a log's file (.gz: it is unpacked)")
+    it.add_argument("--procs", type=_whole, help="processors; the log's own machine without this")
+    it.add_argument("--factor", type=_whole, default=1000, help="thousandths of the estimates")
+    it.add_argument("--order", type=_order, default="arrival", help="arrival or shortest")
+    _common(it)
+    return parser
+
+
+def _common(it: argparse.ArgumentParser) -> None:
+    it.add_argument("--csv", action="store_true", help="print a table with commas")
+    it.add_argument("--program", help="the program easybook; without this $EASYBOOK, or the one on the PATH")
+
+
+def main(words: Optional[Sequence[str]] = None) -> int:
+    """Works a command; the exit status."""
+    try:
+        asked = _parser().parse_args(words)
+        status: int = asked.work(asked)
+        return status
+    except BrokenPipeError:
+        os.dup2(os.open(os.devnull, os.O_WRONLY), sys.stdout.fileno())
+        return 1
+    except (EasybookError, Unreadable) as it:
+        print(f"easybook: {it}", file=sys.stderr)
+    except OSError as it:
+        print(f"easybook: {it.filename or ''}{': ' if it.filename else ''}{it.strerror or it}", file=sys.stderr)
+    except KeyboardInterrupt:
+        return 130
+    return 1
+
+
+if __name__ == "__main__":
+    sys.exit(main())

@@ -1,0 +1,150 @@
+"""Finds the program easybook and runs it on a log with a script; whatever raises, no process stays behind."""
+
+from __future__ import annotations
+
+import contextlib
+import os
+import shutil
+import subprocess
+import tempfile
+import threading
+from typing import IO, Iterator, List, Optional, Set
+
+from .errors import EasybookError, Ended, NoProgram, fault
+from .reports import Answers
+from .swf import Path, opened
+
+_MOST_BYTES_SAID = 65_536
+
+
+def find(program: Optional[Path] = None) -> str:
+    """The program's path: the one given, that of the variable EASYBOOK, the one on the PATH, or the one in whose
+    repository this module stands."""
+    given = program or os.environ.get("EASYBOOK")
+    if given:
+        found = shutil.which(os.fspath(given))
+    else:
+        beside = os.path.join(os.path.dirname(os.path.abspath(__file__)), "..", "..", "easybook")
+        found = shutil.which("easybook") or (shutil.which(beside) if os.path.isfile(beside) else None)
+    if found is None:
+        raise NoProgram(f"there is no program {given}" if given else "the program easybook is not on the PATH: give program=PATH, or set EASYBOOK")
+    return os.path.abspath(found)
+
+
+_ready: Set[str] = set()
+_ready_lock = threading.Lock()
+
+
+def ready(program: Optional[Path] = None) -> str:
+    """The program's path, once it has answered for an empty log. What it says meanwhile goes to standard error, since a
+    program that is called from its repository for the first time builds itself; no second one is started till then."""
+    path = find(program)
+    with _ready_lock:
+        if path not in _ready:
+            try:
+                ran = subprocess.run([path, "--procs=1"], stdin=subprocess.DEVNULL, stdout=subprocess.PIPE, check=False)
+            except OSError as it:
+                raise NoProgram(f"{path} could not be started: {it.strerror}") from None
+            if ran.returncode != 0 or ran.stdout != b"schedule base version 0 jobs 0\n":
+                raise NoProgram(f"{path} is no easybook: on an empty log it ended with status {ran.returncode}")
+            _ready.add(path)
+    return path
+
+
+class Stopper:
+    """Ends the programs that were started under it, and lets no other begin."""
+
+    def __init__(self) -> None:
+        self._lock = threading.Lock()
+        self._running: Set["subprocess.Popen[bytes]"] = set()
+        self._is_stopped = False
+
+    def add(self, process: "subprocess.Popen[bytes]") -> None:
+        """Takes a program that has just been started."""
+        with self._lock:
+            self._running.add(process)
+            if self._is_stopped:
+                process.kill()
+
+    def remove(self, process: "subprocess.Popen[bytes]") -> None:
+        """Lets go of a program that has ended."""
+        with self._lock:
+            self._running.discard(process)
+
+    def stop(self) -> None:
+        """Ends all of them."""
+        with self._lock:
+            self._is_stopped = True
+            for process in self._running:
+                process.kill()
+
+
+def _why(process: "subprocess.Popen[bytes]", said: IO[bytes]) -> EasybookError:
+    """Why a program gave no further answer."""
+    status = process.wait()
+    said.seek(0)
+    told = said.read(_MOST_BYTES_SAID).decode("utf-8", "replace").splitlines()
+    line = told[-1] if told else ""
+    own = line[len("easybook: ") :] if line.startswith("easybook: ") else line
+    found = fault(own[len("line ") :].replace(": ", " ")) if status == 1 and own.startswith("line ") else None
+    return found or Ended(status, own)
+
+
+def _send(process: "subprocess.Popen[bytes]", script: bytes) -> None:
+    """Hands a script over; a program that ended before it read all of it says why itself."""
+    assert process.stdin is not None
+    with contextlib.suppress(BrokenPipeError):
+        process.stdin.write(script)
+    with contextlib.suppress(BrokenPipeError):
+        process.stdin.close()
+
+
+def _words(program: Optional[Path], log: str, procs: Optional[int], spacing: Optional[int]) -> List[str]:
+    # A name that begins with `-` would be read as an option.
+    words = [ready(program), log if os.path.isabs(log) else os.path.join(".", log)]
+    if procs is not None:
+        words.append(f"--procs={procs}")
+    if spacing is not None:
+        words.append(f"--spacing={spacing}")
+    return words
+
+
+@contextlib.contextmanager
+def answers(log: str, script: bytes, procs: Optional[int] = None, spacing: Optional[int] = None,
+            program: Optional[Path] = None, stopper: Optional[Stopper] = None) -> Iterator[Answers]:
+    """Runs the program on the log in a file with a script, and reads what it answers; at the end it must have ended
+    well and said nothing more."""
+    words = _words(program, log, procs, spacing)
+    with tempfile.TemporaryFile() as said:
+        try:
+            process = subprocess.Popen(words, stdin=subprocess.PIPE, stdout=subprocess.PIPE, stderr=said)
+        except OSError as it:
+            raise NoProgram(f"{words[0]} could not be started: {it.strerror}") from None
+        with process:
+            try:
+                if stopper:
+                    stopper.add(process)
+                _send(process, script)
+                assert process.stdout is not None
+                told = (line.decode("ascii", "replace") for line in process.stdout)
+                yield Answers(told, lambda: _why(process, said))
+                if next(told, None) is not None or process.wait() != 0:
+                    raise _why(process, said)
+            finally:
+                process.kill()
+                if stopper:
+                    stopper.remove(process)
+
+
+@contextlib.contextmanager
+def as_file(log: Path) -> Iterator[str]:
+    """The path of a log as the program can read it: an unpacked copy, for as long as this stands, where its name ends
+    in `.gz`."""
+    path = os.fspath(log)
+    if not path.endswith(".gz"):
+        yield path
+        return
+    with tempfile.NamedTemporaryFile(prefix="easybook-", suffix=".swf") as copy, opened(path) as packed:
+        shutil.copyfileobj(packed, copy, 1 << 20)
+        copy.flush()
+        yield copy.name

@@ -1,0 +1,212 @@
+"""Makes a log of a dump, and says what was decided."""
+
+from __future__ import annotations
+
+from collections import Counter
+from datetime import tzinfo
+from typing import BinaryIO, Dict, FrozenSet, List, NamedTuple, Optional, Tuple
+
+from ..errors import DumpFault
+from ..runs import MOST_PROCESSORS
+from ..swf import MISSING, MOST_JOBS, Job, job_text
+from .executions import Execution, Names, Reader, is_unlimited
+from .notes import Facts, decided, warned
+from .numbers import Numbered, number_all
+from .rows import Dump
+from .values import Clock, Fate
+
+A_YEAR = 365 * 86_400
+GREATEST_ESTIMATE = 100_000_000
+
+
+class Options(NamedTuple):
+    """How a dump is taken.
+
+    `procs`: the machine's processors, or its nodes where `size` is `nodes`. `arrival`: `eligible` or `submit`. `size`:
+    `alloc`, `req` or `nodes`. `unlimited` and `no_limit`: the estimate, in seconds, of jobs of unlimited time and of
+    those without a limit. `partitions`: those whose jobs are taken (empty: all). `zero`: second 0 of the log is the
+    `first` arrival, or `midnight` before it. `zone`: where times without a zone are of (None: UTC, unsaid).
+    """
+
+    procs: int
+    arrival: str = "eligible"
+    size: str = "alloc"
+    unlimited: int = A_YEAR
+    no_limit: int = MISSING
+    partitions: FrozenSet[str] = frozenset()
+    zero: str = "first"
+    zone: Optional[tzinfo] = None
+    zone_name: str = ""
+    delimiter: str = "|"
+
+
+class Made(NamedTuple):
+    """What a dump was made into: a log's comments and its jobs, what was decided, and warnings."""
+
+    comments: List[str]
+    jobs: List[Job]
+    decided: List[str]
+    warned: List[str]
+
+    def write(self, to: BinaryIO) -> None:
+        """Writes the log."""
+        for line in self.comments:
+            to.write(line.encode("ascii") + b"\n")
+        for job in self.jobs:
+            to.write(job_text(job).encode("ascii") + b"\n")
+
+
+def _read(dump: Dump, reader: Reader, options: Options, counts: "Counter[str]") -> List[Execution]:
+    """The executions that are taken."""
+    taken: List[Execution] = []
+    allowed: Dict[int, bool] = {}
+    for row in dump.rows():
+        it = reader.read(row)
+        if it is None:
+            continue
+        if options.partitions and it.partition not in allowed:
+            names = row.values[dump.columns.need("Partition")].split(",")
+            allowed[it.partition] = bool(options.partitions.intersection(names))
+        if options.partitions and not allowed[it.partition]:
+            counts["other partitions"] += 1
+        else:
+            taken.append(it)
+    return taken
+
+
+def _arrival(it: Execution, options: Options, counts: "Counter[str]") -> int:
+    arrival = it.submit if options.arrival == "submit" or it.eligible is None else it.eligible
+    if it.start is not None and it.start < arrival:
+        counts["started early"] += 1
+        return it.start
+    return arrival
+
+
+def _estimate(it: Execution, options: Options, counts: "Counter[str]") -> int:
+    if is_unlimited(it):
+        counts["unlimited"] += 1
+        return options.unlimited
+    if it.limit is None:
+        counts["no limit" if options.no_limit > 0 else "no estimate"] += 1
+        return options.no_limit
+    return int(it.limit)
+
+
+def _size(it: Execution, options: Options) -> int:
+    """The processors, or nodes, that it asks the simulated machine for."""
+    wants = (it.requested, it.allocated)
+    if options.size != "req" and it.start is not None:
+        wants = (it.allocated, it.requested)
+    return next((size for size in wants if size > 0), MISSING)
+
+
+def _count(it: Execution, size: int, estimate: int, options: Options, counts: "Counter[str]") -> None:
+    """Counts what is to be said of a job."""
+    counts["tasks"] += it.is_array_task
+    counts["parts"] += it.is_part
+    counts["suspended"] += it.was_suspended
+    counts["no size"] += size == MISSING
+    counts["long"] += estimate > GREATEST_ESTIMATE
+    if it.start is None:
+        counts["never"] += 1
+        counts["pending"] += it.fate in (Fate.PENDING, Fate.RUNNING)
+        return
+    counts["running"] += it.fate is Fate.RUNNING
+    counts["no run"] += it.run is None
+    counts["large"] += size > options.procs
+    counts["past limit"] += it.run is not None and 0 < estimate < it.run
+
+
+def _job(that: Numbered, zero: int, arrival: int, options: Options, counts: "Counter[str]") -> Job:
+    it = that.execution
+    size, estimate = _size(it, options), _estimate(it, options, counts)
+    _count(it, size, estimate, options, counts)
+    has_run = it.start is not None
+    status = MISSING if it.fate in (Fate.PENDING, Fate.RUNNING) else it.fate.value
+    return Job(number=that.number, submit=arrival - zero, wait=it.start - arrival if it.start is not None else MISSING,
+               run=it.run if has_run and it.run is not None else MISSING, allocated=it.allocated if has_run else MISSING,
+               processors=size, estimate=estimate, status=status, user=it.user, group=it.account, queue=it.qos,
+               partition=it.partition)
+
+
+def _peak(jobs: List[Numbered], options: Options, zero: int) -> Tuple[int, int]:
+    """The most processors in use at a time, and the first second of the log at which they are."""
+    changes: List[Tuple[int, int]] = []
+    for _, it, _ in jobs:
+        # One that was suspended held nothing for a part of its time, which no column tells.
+        if it.start is not None and it.run is not None and not it.was_suspended:
+            size = it.allocated if it.allocated > 0 else max(_size(it, options), 0)
+            changes.append((it.start, size))
+            changes.append((max(it.start, it.end if it.end is not None else it.start + it.run), -size))
+    used, peak, when = 0, 0, zero
+    for second, change in sorted(changes):
+        used += change
+        if used > peak:
+            peak, when = used, second
+    return peak, when - zero
+
+
+class _Legend(NamedTuple):
+    """A kind of names: what it is called in a log, its field, and its names."""
+
+    kind: str
+    field: str
+    names: Names
+
+
+def _named(jobs: List[Job], reader: Reader) -> Tuple[List[Job], List[str]]:
+    """The jobs with users, accounts, partitions and QOS numbered in the order of their names, and what the numbers are."""
+    legends = (_Legend("user", "user", reader.users), _Legend("group", "group", reader.accounts),
+               _Legend("partition", "partition", reader.partitions), _Legend("queue", "queue", reader.qos))
+    lines: List[str] = []
+    places: Dict[str, Dict[int, int]] = {}
+    for it in legends:
+        names, places[it.field] = it.names.sorted({int(getattr(job, it.field)) for job in jobs})
+        lines += [f"{it.kind} {place} is {_shown(name)}" for place, name in enumerate(names, 1)]
+    user, group, partition, queue = (places[it.field] for it in legends)
+    return [job._replace(user=user[int(job.user)], group=group[int(job.group)], partition=partition[int(job.partition)],
+                         queue=queue[int(job.queue)]) for job in jobs], lines
+
+
+def convert(file: BinaryIO, options: Options) -> Made:
+    """The log of a dump. Raises `DumpFault` at the first row that can't be taken."""
+    if not 1 <= options.procs <= MOST_PROCESSORS:
+        raise DumpFault(1, f"the machine has 1 to {MOST_PROCESSORS} processors, not {options.procs}")
+    clock = Clock(options.zone)
+    dump = Dump(file, options.delimiter)
+    reader = Reader(dump.columns, clock, options.size == "nodes")
+    counts = reader.counts
+    executions = _read(dump, reader, options, counts)
+    if not executions:
+        raise DumpFault(1, "no job stands behind it: look at the dates (-S, -E) and users (-a) of the dump, and at --partition")
+    numbered = number_all(executions, counts)
+    del executions
+    if len(numbered) > MOST_JOBS:
+        raise DumpFault(1, f"it has {len(numbered)} jobs, and a log at most {MOST_JOBS}: dump a shorter time (-S, -E)")
+    arrivals = [_arrival(it.execution, options, counts) for it in numbered]
+    first = min(arrivals)
+    zero = clock.midnight(first) if options.zero == "midnight" else first
+    jobs, legend = _named([_job(it, zero, arrival, options, counts) for it, arrival in zip(numbered, arrivals)], reader)
+    peak, when = _peak(numbered, options, zero)
+    counts["first lines"] = dump.further_first_lines
+    facts = Facts(counts, options, clock, len(jobs), zero, peak, when, len({it.partition for it in jobs}),
+                  next((it.number for it in numbered if it.legend), None))
+    said, warnings = decided(facts), warned(facts)
+    legend += [f"job {it.number} is {_shown(it.legend)}" for it in numbered if it.legend]
+    return Made(_comments(facts, said + warnings + legend), jobs, said, warnings)
+
+
+def _shown(name: str) -> str:
+    """A name in ASCII, without anything that isn't seen."""
+    text = name.encode("utf-8", "surrogateescape").decode("utf-8", "backslashreplace")
+    text = "".join(it if it.isprintable() else it.encode("unicode_escape").decode("ascii") for it in text)
+    return text.encode("ascii", "backslashreplace").decode("ascii")[:1000]
+
+
+def _comments(facts: Facts, notes: List[str]) -> List[str]:
+    options = facts.options
+    lines = ["Version: 2.2", "Conversion: python -m easybook sacct", f"MaxJobs: {facts.jobs}", f"MaxProcs: {options.procs}",
+             f"UnixStartTime: {facts.zero}"]
+    if options.zone_name:
+        lines.append(f"TimeZoneString: {_shown(options.zone_name)}")
+    return [f"; {it}" for it in lines] + [f"; Note: {it}" for it in notes]

@@ -1,0 +1,96 @@
+"""What is said of a conversion: the choices that it makes of every log, and counts."""
+
+from __future__ import annotations
+
+from collections import Counter
+from typing import TYPE_CHECKING, List, NamedTuple, Optional, Tuple
+
+from .values import Clock
+
+if TYPE_CHECKING:
+    from .convert import Options
+
+
+class Facts(NamedTuple):
+    """What the notes are made of."""
+
+    counts: "Counter[str]"
+    options: "Options"
+    clock: Clock
+    jobs: int
+    zero: int
+    peak: int
+    when: int
+    partitions: int
+    first_fresh: Optional[int]
+
+
+_SIZES = {
+    "alloc": "processors are those allocated (AllocCPUS); of a job that never started those requested (ReqCPUS)",
+    "req": "processors are those requested (ReqCPUS)",
+    "nodes": "a processor of this log is a node: those allocated (AllocNodes); of a job that never started those requested",
+}
+
+
+def _choices(facts: Facts) -> List[str]:
+    options = facts.options
+    eligible = "a job arrives when it is eligible, or submitted where that is missing"
+    zone = f"; times without a zone are of {options.zone_name}" if options.zone_name else ""
+    return [
+        f"second 0 is {'midnight before the first arrival' if options.zero == 'midnight' else 'the first arrival'}{zone}",
+        eligible if options.arrival == "eligible" else "a job arrives when it is submitted",
+        _SIZES[options.size],
+        "run times are without suspension; estimates are the limits, in minutes, times 60",
+        "field 3 is the wait on the cluster; group is the account, queue the QOS",
+    ]
+
+
+def _counted(counts: "Counter[str]", lines: List[Tuple[str, str]]) -> List[str]:
+    return [text.format(counts[name], "" if counts[name] == 1 else "s") for name, text in lines if counts[name]]
+
+
+def decided(facts: Facts) -> List[str]:
+    """The choices, and a line for each kind of row that was treated in a way of its own."""
+    options = facts.options
+    fresh = f", under job numbers from {facts.first_fresh} on" if facts.first_fresh is not None else ""
+    return _choices(facts) + _counted(facts.counts, [
+        ("steps", "{} row{} of steps skipped"),
+        ("first lines", "{} further first line{} skipped"),
+        ("repeated", "{} row{} that a later row tells again skipped"),
+        ("other partitions", "{} job{} of other partitions than " + ", ".join(sorted(options.partitions)) + " left out"),
+        ("never", "{} job{} that never started: without a run time, and so not simulated"),
+        ("pending", "{} of these pending at the dump"),
+        ("running", "{} job{} running at the dump: the run time so far is taken"),
+        ("requeued", "{} earlier execution{} of requeued or resized jobs kept as jobs of their own" + fresh),
+        ("tasks", "{} task{} of arrays, each a job of its own"),
+        ("parts", "{} part{} of heterogeneous jobs, each a job of its own"),
+        ("suspended", "{} job{} with times of suspension"),
+        ("unlimited", "{} job{} of unlimited time: the estimate is " + f"{options.unlimited} seconds (--unlimited)"),
+        ("no limit", "{} job{} without a limit: the estimate is " + f"{options.no_limit} seconds (--no-limit)"),
+    ])
+
+
+def warned(facts: Facts) -> List[str]:
+    """Warnings, each with a count."""
+    options, clock = facts.options, facts.clock
+    clocks: "Counter[str]" = Counter({"none": 0 if options.zone_name else clock.without_zone, "folded": clock.folded, "skipped": clock.skipped})
+    machine = f"the machine's {options.procs}"
+    lines = _counted(facts.counts, [
+        ("no estimate", "{} job{} without an estimate: the run time is taken, a perfect estimate (--no-limit gives another)"),
+        ("past limit", "{} job{} ran past the limit: the simulation ends them at it"),
+        ("long", "{} job{} with a limit over 100000000 seconds: not simulated"),
+        ("large", "{} job{} larger than " + machine + ": not simulated (--procs)"),
+        ("no size", "{} job{} without a number of processors: not simulated"),
+        ("no run", "{} job{} without a run time: not simulated"),
+        ("guessed", "{} cancelled job{} of no run time taken as never started: a column AllocNodes or NodeList would tell"),
+        ("started early", "{} job{} started before they were eligible: the start is taken as arrival"),
+    ]) + _counted(clocks, [
+        ("none", "{} time{} without a zone taken as UTC: an hour that the clocks repeat or skip isn't told apart (--tz)"),
+        ("folded", "{} time{} of an hour that the clocks repeat: the first is taken (SLURM_TIME_FORMAT=%s tells them apart)"),
+        ("skipped", "{} time{} of an hour that the clocks skip: is --tz the cluster's zone?"),
+    ])
+    if facts.peak > options.procs:
+        lines.append(f"{facts.peak} processors in use at second {facts.when}, more than {machine}: is --procs too small?")
+    if facts.partitions > 1 and not options.partitions:
+        lines.append(f"{facts.partitions} partitions taken as one machine (--partition chooses)")
+    return lines

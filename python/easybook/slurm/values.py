@@ -1,0 +1,185 @@
+"""The values of a dump: times, durations, limits and states."""
+
+from __future__ import annotations
+
+import enum
+import re
+from datetime import datetime, timedelta, timezone, tzinfo
+from typing import Dict, Optional, Tuple, Union
+from zoneinfo import ZoneInfo, ZoneInfoNotFoundError
+
+UNLIMITED = "UNLIMITED"
+A_DAY = 86_400
+
+_MISSING = frozenset(("", "None", "Unknown", "N/A", "0", "INVALID"))
+_TIME = re.compile(r"(\d{4}-\d\d-\d\d)[T ](\d\d:\d\d:\d\d)(Z|[+-]\d\d:?\d\d)?", re.ASCII)
+_OFFSET = re.compile(r"([+-])(\d\d):?(\d\d)", re.ASCII)
+_LENGTH = re.compile(r"(?:(\d+)-)?(?:(\d+):)?(\d+):(\d+)(?:\.\d+)?", re.ASCII)
+_EPOCH = datetime(1970, 1, 1)
+
+
+class Unreadable(ValueError):
+    """A value that is of no form that Slurm writes; its text says what it should be."""
+
+
+def whole(delta: timedelta) -> int:
+    """The seconds of a difference of times, which has no fractions here."""
+    return delta.days * A_DAY + delta.seconds
+
+
+def _offset(text: str) -> timezone:
+    match = _OFFSET.fullmatch(text)
+    if match is None:
+        return timezone.utc
+    minutes = int(match.group(2)) * 60 + int(match.group(3))
+    if minutes >= 24 * 60:
+        raise Unreadable(f"no zone is {text} from UTC")
+    return timezone(timedelta(minutes=-minutes if match.group(1) == "-" else minutes))
+
+
+def zone(name: str) -> tzinfo:
+    """The zone of a name such as Europe/Paris, UTC, or +01:00.
+
+    >>> zone("-0500")
+    datetime.timezone(datetime.timedelta(days=-1, seconds=68400))
+    """
+    if name == "UTC" or _OFFSET.fullmatch(name):
+        return _offset(name)
+    try:
+        return ZoneInfo(name)
+    except (ZoneInfoNotFoundError, ValueError, OSError):
+        raise Unreadable(f"no zone is known by the name {name!r}: give one such as Europe/Paris, UTC or +01:00") from None
+
+
+class Clock:
+    """Reads times as seconds since 1970, and counts those that a clock's change makes doubtful."""
+
+    def __init__(self, local: Optional[tzinfo]) -> None:
+        self._local = local
+        self.without_zone = 0
+        self.folded = 0
+        self.skipped = 0
+
+    def read(self, text: str) -> Optional[int]:
+        """The seconds of a time; None where it is missing."""
+        if text in _MISSING:
+            return None
+        if text.isdigit() and text.isascii() and len(text) <= 12:
+            return int(text)
+        match = _TIME.fullmatch(text)
+        if match is None:
+            raise Unreadable(f"{text!r} is no time: dump with SLURM_TIME_FORMAT=%s, or unset it")
+        try:
+            there = datetime.fromisoformat(f"{match.group(1)}T{match.group(2)}")
+        except ValueError:
+            raise Unreadable(f"{text!r} is no time of the calendar") from None
+        if match.group(3):
+            return whole(there - _EPOCH) - whole(_offset(match.group(3)).utcoffset(None))
+        return self._in_zone(there)
+
+    def _in_zone(self, there: datetime) -> int:
+        seconds = whole(there - _EPOCH)
+        if self._local is None:
+            self.without_zone += 1
+            return seconds
+        first = self._local.utcoffset(there)
+        second = self._local.utcoffset(there.replace(fold=1))
+        assert first is not None and second is not None
+        if first > second:
+            self.folded += 1
+        elif first < second:
+            self.skipped += 1
+        return seconds - whole(first)
+
+    def midnight(self, seconds: int) -> int:
+        """The last midnight of the zone that is not after a time."""
+        there = datetime.fromtimestamp(seconds, self._local or timezone.utc)
+        day = there.replace(hour=0, minute=0, second=0, microsecond=0, fold=0)
+        offset = day.utcoffset()
+        assert offset is not None
+        return whole(day.replace(tzinfo=None) - _EPOCH) - whole(offset)
+
+
+def length(text: str) -> Optional[int]:
+    """The seconds of [D-][H:]M:S, as sacct writes lengths of time, fractions cut; None where it is missing.
+
+    >>> length("2-01:00:05"), length("00:07"), length("")
+    (176405, 7, None)
+    """
+    if text in _MISSING:
+        return None
+    match = _LENGTH.fullmatch(text)
+    if match is None:
+        raise Unreadable(f"{text!r} is no length of time such as 1-02:03:04")
+    days, hours, minutes, seconds = (int(it or 0) for it in match.groups())
+    return ((days * 24 + hours) * 60 + minutes) * 60 + seconds
+
+
+def limit(text: str, is_minutes: bool) -> Union[int, str, None]:
+    """The seconds of a time limit, UNLIMITED, or None where the job has none of its own.
+
+    >>> limit("3", True), limit("2-00:00:00", False), limit("UNLIMITED", True), limit("Partition_Limit", False)
+    (180, 172800, 'UNLIMITED', None)
+    """
+    if text.upper() in (UNLIMITED, "INFINITE") or text == "0":
+        return UNLIMITED
+    if text in _MISSING or text.lower() == "partition_limit":
+        return None
+    if not is_minutes:
+        return length(text)
+    if not (text.isdigit() and text.isascii()):
+        raise Unreadable(f"{text!r} is no limit in minutes")
+    return int(text) * 60
+
+
+_DURATION = re.compile(
+    r"(?P<m>\d+)|(?P<m2>\d+):(?P<s2>\d+)|(?:(?P<d3>\d+)-)?(?P<h3>\d+):(?P<m3>\d+):(?P<s3>\d+)|(?P<d4>\d+)-(?P<h4>\d+)(?::(?P<m4>\d+))?",
+    re.ASCII)
+
+
+def duration(text: str) -> int:
+    """The seconds of a limit as `sbatch -t` takes it: M, M:S, H:M:S, D-H, D-H:M or D-H:M:S.
+
+    >>> duration("90"), duration("1:30"), duration("1-12"), duration("2-00:00:01")
+    (5400, 90, 129600, 172801)
+    """
+    match = _DURATION.fullmatch(text)
+    if match is None:
+        raise Unreadable(f"{text!r} is no time limit: give minutes, H:M:S or D-H:M:S")
+    unit = {"d": A_DAY, "h": 3600, "m": 60, "s": 1}
+    return sum(unit[name[0]] * int(digits) for name, digits in match.groupdict().items() if digits)
+
+
+class Fate(enum.Enum):
+    """What a state says of a job: its status in a log is the value."""
+
+    COMPLETED = 1
+    FAILED = 0
+    CANCELLED = 5
+    RUNNING = -1
+    PENDING = -2
+
+
+_STATES: Dict[Fate, Tuple[str, ...]] = {
+    Fate.COMPLETED: ("COMPLETED", "CD"),
+    Fate.FAILED: ("FAILED", "F", "TIMEOUT", "TO", "NODE_FAIL", "NF", "OUT_OF_MEMORY", "OOM", "BOOT_FAIL", "BF",
+                  "LAUNCH_FAILED", "LF", "RECONFIG_FAIL", "RF", "PREEMPTED", "PR", "REQUEUED", "RQ", "RESIZING", "RS",
+                  "SPECIAL_EXIT", "SE"),
+    Fate.CANCELLED: ("CANCELLED", "CA", "DEADLINE", "DL", "REVOKED", "RV"),
+    Fate.RUNNING: ("RUNNING", "R", "SUSPENDED", "S", "COMPLETING", "CG", "STOPPED", "ST", "SIGNALING", "SI", "STAGE_OUT",
+                   "SO", "POWER_UP_NODE", "PU", "UPDATE_DB", "UD"),
+    Fate.PENDING: ("PENDING", "PD", "CONFIGURING", "CF", "REQUEUE_HOLD", "RH", "REQUEUE_FED", "RESV_DEL_HOLD", "RD"),
+}
+_FATE_OF = {name: fate for fate, names in _STATES.items() for name in names}
+
+
+def fate(state: str) -> Fate:
+    """What a state says; `CANCELLED by 1000` is CANCELLED.
+
+    >>> fate("CANCELLED by 1000"), fate("PD")
+    (<Fate.CANCELLED: 5>, <Fate.PENDING: -2>)
+    """
+    name = state.split(" ", 1)[0].rstrip("+")
+    if name not in _FATE_OF:
+        raise Unreadable(f"the state {state!r} is not known: if it is one of Slurm's, tell easybook's makers; otherwise mend or leave out the row")
+    return _FATE_OF[name]

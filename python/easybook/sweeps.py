@@ -1,0 +1,171 @@
+"""Many scenarios of many logs, over any executor of `concurrent.futures`."""
+
+from __future__ import annotations
+
+import os
+import sys
+import time
+import warnings
+from collections import Counter
+from concurrent.futures import CancelledError, Executor, Future, ThreadPoolExecutor, as_completed
+from typing import Dict, Iterable, List, NamedTuple, Optional, Sequence, TextIO, Tuple, Union
+
+from .errors import BadWord
+from .program import Stopper, find
+from .runs import MOST_SCENARIOS, Failure, Row, Scenario, side
+from .swf import Path
+
+
+class Rows(List[Row]):
+    """The rows of a sweep, in the order of its logs and scenarios, and what failed."""
+
+    failures: List[Failure]
+
+    def __init__(self, rows: Iterable[Row] = (), failures: Iterable[Failure] = ()) -> None:
+        super().__init__(rows)
+        self.failures = list(failures)
+
+
+class Task(NamedTuple):
+    """What one program is asked: some scenarios of a log."""
+
+    log: str
+    scenarios: Tuple[Scenario, ...]
+    program: Optional[str]
+
+
+class Done(NamedTuple):
+    """What came of a task."""
+
+    rows: List[Row]
+    failures: List[Failure]
+
+
+def work(task: Task, stopper: Optional[Stopper] = None) -> Done:
+    """Works a task; a failure is told for each of its scenarios. It can be sent to another process or machine."""
+    try:
+        return Done(*side(task.log, task.scenarios, task.program, stopper))
+    except Exception as it:  # whatever it is, the other tasks go on, and this one is told
+        return _failed(task, it)
+
+
+def _failed(task: Task, error: BaseException) -> Done:
+    whole = error if isinstance(error, Exception) else RuntimeError(repr(error))
+    return Done([], [Failure(task.log, it, whole) for it in task.scenarios])
+
+
+def tasks(logs: Sequence[str], scenarios: Sequence[Scenario], program: Optional[str], at_once: Optional[int]) -> List[Task]:
+    """The tasks of a sweep: of each log its scenarios, so many a program. Without a number as many as give each
+    processor of this machine a program; never more than 64.
+
+    >>> [len(it.scenarios) for it in tasks(["a"], [Scenario(n + 1) for n in range(130)], None, 64)]
+    [64, 64, 2]
+    """
+    spread = -(-len(logs) * len(scenarios) // (os.cpu_count() or 1))
+    most = max(1, min(MOST_SCENARIOS, spread if at_once is None else at_once))
+    return [Task(log, tuple(scenarios[it : it + most]), program) for log in logs for it in range(0, len(scenarios), most)]
+
+
+class _Progress:
+    """A line on a terminal that says how many are done and how long the rest will take; nothing on anything else."""
+
+    def __init__(self, count: int, to: TextIO) -> None:
+        self._count, self._done, self._to, self._began = count, 0, to, time.monotonic()
+        self._is_shown = to.isatty()
+
+    def add(self, count: int) -> None:
+        """So many more scenarios are done."""
+        self._done += count
+        left = round((time.monotonic() - self._began) * (self._count - self._done) / self._done)
+        self._say(f"\reasybook: {self._done} of {self._count} scenarios done, about {left} s left \033[K")
+
+    def end(self) -> None:
+        """Ends the line."""
+        self._say("\r\033[K")
+
+    def _say(self, text: str) -> None:
+        if self._is_shown:
+            self._to.write(text)
+            self._to.flush()
+
+
+def _result(task: Task, future: "Future[Done]") -> Done:
+    try:
+        return future.result()
+    except (Exception, CancelledError) as it:  # the executor's own trouble: a process that was killed, an engine gone
+        return _failed(task, it)
+
+
+def _over(executor: Executor, todo: List[Task], stopper: Optional[Stopper]) -> List[Done]:
+    """Works tasks over an executor; the answers in the order of the tasks. Whatever raises, what has not begun never
+    does."""
+    progress = _Progress(sum(len(it.scenarios) for it in todo), sys.stderr)
+    futures: Dict["Future[Done]", int] = {}
+    done: Dict[int, Done] = {}
+    try:
+        for place, task in enumerate(todo):
+            futures[executor.submit(work, task, stopper) if stopper else executor.submit(work, task)] = place
+        for future in as_completed(futures):
+            place = futures[future]
+            done[place] = _result(todo[place], future)
+            progress.add(len(todo[place].scenarios))
+    finally:
+        progress.end()
+        for future in futures:
+            future.cancel()
+    return [done[place] for place in range(len(todo))]
+
+
+def _checked(logs: Iterable[Path], scenarios: Iterable[Scenario]) -> Tuple[List[str], List[Scenario]]:
+    if isinstance(logs, (str, os.PathLike)):
+        logs = [logs]
+    asked = list(scenarios)
+    for it in asked:
+        it.check()
+    names = Counter(it.name for it in asked if it.name is not None)
+    for name, count in names.items():
+        if count > 1:
+            raise BadWord(f"{count} scenarios are named {name}")
+    return [os.fspath(it) for it in logs], asked
+
+
+def sweep(logs: Union[Path, Iterable[Path]], scenarios: Iterable[Scenario], executor: Optional[Executor] = None, *,
+          at_once: Optional[int] = None, program: Optional[Path] = None) -> Rows:
+    """The numbers of each log under each scenario, in this order.
+
+    The work goes to the executor, in tasks of at most 64 scenarios of a log, each worked by a program of its own
+    (`at_once`: at most so many). Without an executor there are as many threads as this machine has processors. On other
+    machines the logs and the program must have the same paths.
+
+    What fails is told by a warning, with its log and scenario, and in `failures` of what is answered; the others' rows are
+    all there. Where this is interrupted, the programs that run under its own threads are ended.
+    """
+    rows = _sweep(logs, scenarios, executor, at_once, program)
+    for failure in rows.failures:
+        warnings.warn(str(failure), RuntimeWarning, stacklevel=2)
+    return rows
+
+
+def _sweep(logs: Union[Path, Iterable[Path]], scenarios: Iterable[Scenario], executor: Optional[Executor],
+           at_once: Optional[int], program: Optional[Path]) -> Rows:
+    names, asked = _checked(logs, scenarios)
+    own = None if executor is not None else find(program)
+    todo = tasks(names, asked, own or (None if program is None else os.fspath(program)), at_once)
+    if executor is not None:
+        done = _over(executor, todo, None)
+    else:
+        stopper = Stopper()
+        with ThreadPoolExecutor(os.cpu_count() or 1) as threads:
+            try:
+                done = _over(threads, todo, stopper)
+            finally:
+                stopper.stop()
+    return Rows((row for it in done for row in it.rows), (failure for it in done for failure in it.failures))
+
+
+def run(log: Path, *scenarios: Scenario, program: Optional[Path] = None) -> List[Row]:
+    """The numbers of one log under some scenarios; without any, on its own machine. The first failure is raised."""
+    rows = _sweep(log, scenarios or (Scenario(),), None, None, program)
+    if rows.failures:
+        raise rows.failures[0].error
+    return list(rows)

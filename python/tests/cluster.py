@@ -1,0 +1,44 @@
+"""What the tests of runs share: the four-job log, and programs that stand in for easybook."""
+
+import contextlib
+import os
+import stat
+import tempfile
+
+FOUR = """1 0 -1 100 6 -1 -1 6 100 -1 1 7 -1 -1 -1 -1 -1 -1
+2 1 9 50 8 -1 -1 8 50 -1 1 8 -1 -1 -1 -1 -1 -1
+3 2 0 90 4 -1 -1 4 90 -1 1 7 -1 -1 -1 -1 -1 -1
+4 3 -1 500 2 -1 -1 2 500 -1 1 8 -1 -1 -1 -1 -1 -1
+"""
+
+
+@contextlib.contextmanager
+def a_log(text=FOUR, name="a.swf"):
+    """The path of a log of this text."""
+    with tempfile.TemporaryDirectory() as room:
+        path = os.path.join(room, name)
+        with open(path, "w", encoding="utf-8") as file:
+            file.write(text)
+        yield path
+
+
+@contextlib.contextmanager
+def a_program(body):
+    """The path of a program that, beside answering for the empty log, does what these lines of shell do."""
+    with tempfile.TemporaryDirectory() as room:
+        path = os.path.join(room, "easybook")
+        with open(path, "w", encoding="utf-8") as file:
+            file.write(f'#!/bin/sh\n[ "$1" = --procs=1 ] && echo "schedule base version 0 jobs 0" && exit\necho $$ >"{room}/pid"\n{body}\n')
+        os.chmod(path, os.stat(path).st_mode | stat.S_IXUSR)
+        yield path
+
+
+def is_running(program):
+    """Whether the process that such a program was last is there still."""
+    with open(os.path.join(os.path.dirname(program), "pid"), encoding="ascii") as file:
+        pid = int(file.read())
+    try:
+        os.kill(pid, 0)
+    except ProcessLookupError:
+        return False
+    return True

@@ -1,0 +1,75 @@
+"""python -m easybook: what it prints, its one-line errors and its exit status."""
+
+import os
+import subprocess
+import sys
+import tempfile
+import unittest
+
+import easybook
+from tests.cluster import FOUR, a_log
+
+DUMP = """JobID|Submit|Start|End|State|AllocCPUS|NodeList|Timelimit|User
+7|2026-07-01T10:00:00|2026-07-01T10:00:10|2026-07-01T10:00:40|COMPLETED|8|n1|00:01:00|ana
+8|2026-07-01T10:00:05|2026-07-01T10:00:40|2026-07-01T10:00:50|COMPLETED|8|n1||bob
+"""
+
+
+def ran(*words, given=b"", **options):
+    """What a command did."""
+    return subprocess.run([sys.executable, "-m", "easybook", *words], input=given, capture_output=True, check=False, timeout=120, **options)
+
+
+class Commands(unittest.TestCase):
+    def test_a_dump_becomes_a_log_that_the_program_reads(self):
+        it = ran("sacct", "-", "--procs", "8", "--tz", "UTC", given=DUMP.encode())
+        self.assertEqual(it.returncode, 0, it.stderr)
+        log = easybook.parse(it.stdout)
+        self.assertEqual([(job.number, job.submit, job.wait, job.run, job.estimate) for job in log.jobs], [(7, 0, 10, 30, 60), (8, 5, 35, 10, -1)])
+        self.assertIn(b"easybook: warning: 1 job without an estimate", it.stderr)
+        with tempfile.TemporaryDirectory() as room:
+            path = os.path.join(room, "month.swf")
+            with open(path, "wb") as file:
+                file.write(it.stdout)
+            self.assertEqual([(job.number, job.start) for job in easybook.simulate(path).schedule], [(7, 0), (8, 30)])
+            table = ran("waits", path, "--csv")
+        self.assertEqual(table.stdout.decode().splitlines()[:2], [
+            "group,jobs,recorded_mean,recorded_median,recorded_p90,simulated_mean,simulated_median,simulated_p90,ratio", "all,2,22,10,35,12,0,25,1.800"])
+
+    def test_a_faulty_dump_is_one_line_and_no_output(self):
+        it = ran("sacct", "-", "--procs", "8", given=DUMP.replace("|8|n1||", "|8|n|1||").encode())
+        self.assertEqual((it.returncode, it.stdout), (1, b""))
+        self.assertRegex(it.stderr.decode(), r"\Aeasybook: line 3 of the dump: 10 columns where line 1 names 9: [^\n]*\n\Z")
+        for words in (("sacct", "/no/such/dump", "--procs", "8"), ("sacct", "-", "--procs", "8", "--tz", "Mars"), ("sacct", "-", "--procs", "0"),
+                      ("sweep", "/no/such/log", "--procs", "8"), ("waits", "/no/such/log"), ("sweep", "x", "--program", "/no/such/program")):
+            it = ran(*words)
+            self.assertEqual((it.returncode, it.stdout, it.stderr.count(b"\n")), (1, b"", 1), it.stderr)
+
+    def test_bad_words(self):
+        for words in ((), ("jump",), ("sacct", "-"), ("sacct", "-", "--procs", "1e3"), ("sweep", "x", "--order", "fast"), ("sweep", "x", "--procs", "8,,9"),
+                      ("sacct", "-", "--procs", "8", "--unlimited", "soon")):
+            self.assertEqual(ran(*words).returncode, 2, words)
+
+    def test_a_sweep_as_a_table_with_commas(self):
+        with a_log() as log:
+            it = ran("sweep", log, "/no/such/log", "--procs", "10,16", "--csv")
+        self.assertEqual(it.stdout.decode().splitlines(), [
+            "log,scenario,procs,factor,order,jobs,mean_wait,mean_slowdown,utilization",
+            f"{log},10-1000,10,1000,arrival,4,47,1.539,39.864", f"{log},16-1000,16,1000,arrival,4,12,1.136,29.324"])
+        self.assertEqual((it.returncode, it.stderr.count(b"\n")), (1, 2))
+        self.assertIn(b"easybook: /no/such/log, scenario 16-1000: ", it.stderr)
+
+    def test_a_log_that_records_no_waits(self):
+        with a_log(FOUR.replace("1 9 50", "1 -1 50").replace("2 0 90", "2 -1 90")) as log:
+            it = ran("waits", log, "--procs", "10")
+        self.assertEqual((it.returncode, it.stdout, it.stderr.count(b"\n")), (1, b"", 1))
+
+    def test_a_reader_that_goes_away(self):
+        rows = "".join(f"{it}|10|20|30|COMPLETED|8|n1|00:01:00|ana\n" for it in range(1, 20_000))
+        command = f"exec {sys.executable} -m easybook sacct - --procs 8 2>/dev/null | head -n 1"
+        it = subprocess.run(["sh", "-c", command], input=(DUMP.splitlines(True)[0] + rows).encode(), capture_output=True, check=False, timeout=60)
+        self.assertEqual((it.stdout, it.stderr), (b"; Version: 2.2\n", b""))
+
+
+if __name__ == "__main__":
+    unittest.main()

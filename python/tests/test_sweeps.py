@@ -1,0 +1,123 @@
+"""Many scenarios of many logs: rows, failures, executors, what is left behind."""
+
+import concurrent.futures
+import io
+import os
+import threading
+import time
+import unittest
+import warnings
+from decimal import Decimal
+from unittest import mock
+
+import easybook
+from easybook import Scenario, sweeps
+from tests.cluster import FOUR, a_log, a_program, is_running
+
+
+class Sweeping(unittest.TestCase):
+    def test_rows_are_in_the_order_of_logs_and_scenarios(self):
+        scenarios = [Scenario(it, order=order) for it in (16, 10) for order in ("shortest", "arrival")]
+        with a_log() as one, a_log(FOUR.replace("100 6", "100 5"), "b.swf") as two:
+            rows = easybook.sweep([one, two], scenarios)
+        self.assertEqual([(it.log, it.procs, it.order) for it in rows], [(log, it.procs, it.order) for log in (one, two) for it in scenarios])
+        self.assertEqual([it.mean_wait for it in rows[:4]], [12, 12, 47, 47])
+        self.assertEqual(rows.failures, [])
+
+    def test_more_than_64_scenarios_are_split(self):
+        with a_log() as log:
+            rows = easybook.sweep(log, [Scenario(8 + it) for it in range(150)], at_once=64)
+        self.assertEqual([it.procs for it in rows], list(range(8, 158)))
+        self.assertEqual(rows[2].mean_wait, 47)
+
+    def test_the_machine_of_each_log(self):
+        with a_log("; MaxProcs: 10\n" + FOUR) as one, a_log("; MaxProcs: 16\n" + FOUR, "b.swf") as two:
+            rows = easybook.sweep([one, two], [Scenario(), Scenario(factor=2000)])
+        self.assertEqual([(it.scenario, it.mean_wait) for it in rows][::2], [("10-1000", 47), ("16-1000", 12)])
+
+    def test_a_failed_log_is_told_and_loses_no_other(self):
+        scenarios = [Scenario(10), Scenario(16, name="big")]
+        with a_log() as good, a_log("x", "bad.swf") as bad, warnings.catch_warnings(record=True) as told:
+            warnings.simplefilter("always")
+            rows = easybook.sweep([bad, good, "/no/such/log"], scenarios)
+        self.assertEqual([(it.log, it.scenario) for it in rows], [(good, "10-1000"), (good, "big")])
+        self.assertEqual([(it.log, it.scenario.label) for it in rows.failures],
+                         [(bad, "10-1000"), (bad, "big"), ("/no/such/log", "10-1000"), ("/no/such/log", "big")])
+        self.assertEqual(rows.failures[0].error.args, (1, "FieldCount", None))
+        self.assertIn(f"{bad}, scenario big: line 1 of the log: FieldCount", [str(it.message) for it in told])
+
+    def test_a_scenario_without_memory_loses_no_other(self):
+        told = ("scenario base dropped\\nscenario s0 added\\nscenario s1 added\\nfailed 1\\nside scenarios 2\\n"
+                "s0               not yet\\ns1                      0        4         12        1.136  29.324%%\\n")
+        with a_log() as log, a_program(f"cat >/dev/null; printf '{told}'") as fake, warnings.catch_warnings():
+            warnings.simplefilter("ignore")
+            rows = easybook.sweep(log, [Scenario(10), Scenario(16)], at_once=2, program=fake)
+        self.assertEqual([tuple(it) for it in rows], [(log, "16-1000", 16, 1000, "arrival", 4, 12, Decimal("1.136"), Decimal("29.324"))])
+        self.assertEqual([(it.scenario.procs, type(it.error)) for it in rows.failures], [(10, easybook.Memory)])
+
+    def test_scenarios_are_checked_before_anything_runs(self):
+        with self.assertRaises(easybook.BadWord):
+            easybook.sweep(["/no/such/log"], [Scenario(10), Scenario(10, order="fast")])
+        with self.assertRaises(easybook.BadWord):
+            easybook.sweep(["/no/such/log"], [Scenario(10, name="a"), Scenario(11, name="a")], at_once=1)
+
+    def test_nothing_asked_is_nothing_answered(self):
+        with a_log() as log:
+            self.assertEqual(easybook.sweep([log], []), [])
+            self.assertEqual(easybook.sweep([], [Scenario(10)]), [])
+
+
+class Executors(unittest.TestCase):
+    def test_threads_and_processes(self):
+        with a_log() as log:
+            want = list(easybook.sweep(log, [Scenario(it) for it in range(8, 20)]))
+            for executor in (concurrent.futures.ThreadPoolExecutor(3), concurrent.futures.ProcessPoolExecutor(2)):
+                with executor:
+                    self.assertEqual(list(easybook.sweep(log, [Scenario(it) for it in range(8, 20)], executor, at_once=5)), want)
+
+    def test_an_executor_whose_worker_is_killed(self):
+        with a_log() as log, concurrent.futures.ProcessPoolExecutor(1) as executor, warnings.catch_warnings():
+            warnings.simplefilter("ignore")
+            executor.submit(os.getpid).result()
+            with mock.patch("easybook.sweeps.work", os._exit):
+                rows = easybook.sweep(log, [Scenario(10)], executor)
+        self.assertEqual((list(rows), len(rows.failures)), ([], 1))
+
+    def test_engines_where_they_are_installed(self):
+        try:
+            from dask.distributed import Client
+        except ImportError:
+            self.skipTest("dask.distributed is not installed")
+        with a_log() as log, Client(processes=False, dashboard_address=None) as client:
+            self.assertEqual(easybook.sweep(log, [Scenario(10)], client.get_executor())[0].mean_wait, 47)
+
+    def test_an_interrupt_ends_the_programs(self):
+        with a_log() as log, a_program("exec sleep 60") as fake:
+            def interrupt(futures):
+                while not os.path.exists(os.path.join(os.path.dirname(fake), "pid")):
+                    time.sleep(0.01)
+                raise KeyboardInterrupt
+
+            began = time.monotonic()
+            with mock.patch("easybook.sweeps.as_completed", interrupt), self.assertRaises(KeyboardInterrupt):
+                easybook.sweep(log, [Scenario(it) for it in range(8, 20)], program=fake, at_once=1)
+            self.assertLess(time.monotonic() - began, 30)
+            self.assertFalse(is_running(fake))
+        self.assertLess(threading.active_count(), 3)
+
+
+class Progress(unittest.TestCase):
+    def test_it_is_shown_on_a_terminal_alone(self):
+        class Terminal(io.StringIO):
+            def isatty(self):
+                return True
+
+        with a_log() as log:
+            for screen, is_shown in ((Terminal(), True), (io.StringIO(), False)):
+                with mock.patch.object(sweeps.sys, "stderr", screen):
+                    easybook.sweep(log, [Scenario(it) for it in range(8, 12)], at_once=1)
+                self.assertEqual("4 of 4 scenarios done, about 0 s left" in screen.getvalue(), is_shown)
+
+
+if __name__ == "__main__":
+    unittest.main()
