@@ -122,7 +122,7 @@ def spelling(value: Number) -> str:
 
 def job_text(job: Job) -> str:
     """A job as a line, without its line feed."""
-    return " ".join(map(spelling, job))
+    return " ".join([str(it) if type(it) is int else spelling(it) for it in job])
 
 
 @dataclass

@@ -28,17 +28,21 @@ def a_program(body):
     with tempfile.TemporaryDirectory() as room:
         path = os.path.join(room, "easybook")
         with open(path, "w", encoding="utf-8") as file:
-            file.write(f'#!/bin/sh\n[ "$1" = --procs=1 ] && echo "schedule base version 0 jobs 0" && exit\necho $$ >"{room}/pid"\n{body}\n')
+            file.write(f'#!/bin/sh\n[ "$1" = --procs=1 ] && echo "schedule base version 0 jobs 0" && exit\n: >"{room}/pid.$$"\n{body}\n')
         os.chmod(path, os.stat(path).st_mode | stat.S_IXUSR)
         yield path
 
 
+def pids(program):
+    """The processes that such a program was."""
+    room = os.path.dirname(program)
+    return [int(it[len("pid.") :]) for it in os.listdir(room) if it.startswith("pid.")]
+
+
 def is_running(program):
-    """Whether the process that such a program was last is there still."""
-    with open(os.path.join(os.path.dirname(program), "pid"), encoding="ascii") as file:
-        pid = int(file.read())
-    try:
-        os.kill(pid, 0)
-    except ProcessLookupError:
-        return False
-    return True
+    """Whether one of them is there still."""
+    for pid in pids(program):
+        with contextlib.suppress(ProcessLookupError):
+            os.kill(pid, 0)
+            return True
+    return False

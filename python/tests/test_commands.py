@@ -1,12 +1,16 @@
 """python -m easybook: what it prints, its one-line errors and its exit status."""
 
+import collections
+import io
 import os
 import subprocess
 import sys
 import tempfile
 import unittest
+from unittest import mock
 
 import easybook
+from easybook.__main__ import main
 from tests.cluster import FOUR, a_log
 
 DUMP = """JobID|Submit|Start|End|State|AllocCPUS|NodeList|Timelimit|User
@@ -15,9 +19,20 @@ DUMP = """JobID|Submit|Start|End|State|AllocCPUS|NodeList|Timelimit|User
 """
 
 
-def ran(*words, given=b"", **options):
-    """What a command did."""
-    return subprocess.run([sys.executable, "-m", "easybook", *words], input=given, capture_output=True, check=False, timeout=120, **options)
+Ran = collections.namedtuple("Ran", "returncode stdout stderr")
+
+
+def ran(*words, given=b""):
+    """What a command did, worked in this process."""
+    rooms = [io.TextIOWrapper(io.BytesIO(text), encoding="utf-8", newline="\n") for text in (given, b"", b"")]
+    with mock.patch.multiple(sys, stdin=rooms[0], stdout=rooms[1], stderr=rooms[2]):
+        try:
+            status = main(words)
+        except SystemExit as it:
+            status = it.code
+    for it in rooms[1:]:
+        it.flush()
+    return Ran(status, rooms[1].buffer.getvalue(), rooms[2].buffer.getvalue())
 
 
 class Commands(unittest.TestCase):

@@ -2,6 +2,7 @@
 
 import io
 import unittest
+from datetime import datetime
 
 import easybook
 from easybook.slurm import Options, convert
@@ -244,6 +245,20 @@ class Times(unittest.TestCase):
         self.assertEqual(none.read("2026-07-01T10:00:00"), none.read("2026-07-01T12:00:00+02:00"))
         self.assertEqual(none.read("2026-07-01T10:00:00Z"), none.read("1782900000"))
         self.assertEqual(none.without_zone, 1)
+
+    def test_each_time_is_that_of_the_zone(self):
+        local = zone("Australia/Lord_Howe")
+        clock, rest = Clock(local), Clock(None)
+        for begin in ("2026-04-04T14:00:00", "2026-10-03T15:00:00", "2026-07-01T00:00:00"):
+            seconds = rest.read(begin)
+            for it in range(seconds - 7200, seconds + 7200, 97):
+                there = datetime.fromtimestamp(it, local)
+                if not there.fold:
+                    self.assertEqual(clock.read(there.replace(tzinfo=None).isoformat()), it)
+        self.assertGreater(clock.folded, 10)
+        self.assertEqual(clock.skipped, 0)
+        with self.assertRaises(Unreadable):
+            clock.read("2026-07-01T00:60:00")
 
     def test_no_zone(self):
         for name in ("Mars/Olympus", "../etc/passwd", "", "+99:00"):

@@ -12,7 +12,7 @@ from unittest import mock
 
 import easybook
 from easybook import Scenario, sweeps
-from tests.cluster import FOUR, a_log, a_program, is_running
+from tests.cluster import FOUR, a_log, a_program, is_running, pids
 
 
 class Sweeping(unittest.TestCase):
@@ -94,7 +94,7 @@ class Executors(unittest.TestCase):
     def test_an_interrupt_ends_the_programs(self):
         with a_log() as log, a_program("exec sleep 60") as fake:
             def interrupt(futures):
-                while not os.path.exists(os.path.join(os.path.dirname(fake), "pid")):
+                while not pids(fake):
                     time.sleep(0.01)
                 raise KeyboardInterrupt
 

@@ -50,10 +50,9 @@ class Made(NamedTuple):
 
     def write(self, to: BinaryIO) -> None:
         """Writes the log."""
-        for line in self.comments:
-            to.write(line.encode("ascii") + b"\n")
-        for job in self.jobs:
-            to.write(job_text(job).encode("ascii") + b"\n")
+        to.write("".join(f"{it}\n" for it in self.comments).encode("ascii"))
+        for begin in range(0, len(self.jobs), 1000):
+            to.write("".join(f"{job_text(it)}\n" for it in self.jobs[begin : begin + 1000]).encode("ascii"))
 
 
 def _read(dump: Dump, reader: Reader, options: Options, counts: "Counter[str]") -> List[Execution]:

@@ -16,6 +16,8 @@ _TIME = re.compile(r"(\d{4}-\d\d-\d\d)[T ](\d\d:\d\d:\d\d)(Z|[+-]\d\d:?\d\d)?", 
 _OFFSET = re.compile(r"([+-])(\d\d):?(\d\d)", re.ASCII)
 _LENGTH = re.compile(r"(?:(\d+)-)?(?:(\d+):)?(\d+):(\d+)(?:\.\d+)?", re.ASCII)
 _EPOCH = datetime(1970, 1, 1)
+_OF_HOUR = {f"{it // 60:02}:{it % 60:02}": it for it in range(3600)}
+_MOST_HOURS = 100_000
 
 
 class Unreadable(ValueError):
@@ -59,11 +61,17 @@ class Clock:
         self.without_zone = 0
         self.folded = 0
         self.skipped = 0
+        self._hours: Dict[str, int] = {}
 
     def read(self, text: str) -> Optional[int]:
         """The seconds of a time; None where it is missing."""
         if text in _MISSING:
             return None
+        # Nearly all times are of an hour that was seen before.
+        begin, rest = self._hours.get(text[:14]), _OF_HOUR.get(text[14:])
+        if begin is not None and rest is not None:
+            self.without_zone += self._local is None
+            return begin + rest
         if text.isdigit() and text.isascii() and len(text) <= 12:
             return int(text)
         match = _TIME.fullmatch(text)
@@ -81,15 +89,28 @@ class Clock:
         seconds = whole(there - _EPOCH)
         if self._local is None:
             self.without_zone += 1
+            self._keep(there, seconds)
             return seconds
-        first = self._local.utcoffset(there)
-        second = self._local.utcoffset(there.replace(fold=1))
+        first, second = self._offsets(there, self._local)
+        self.folded += first > second
+        self.skipped += first < second
+        ends = (there.replace(minute=0, second=0), there.replace(minute=59, second=59))
+        if all(it == (first, first) for end in ends for it in [self._offsets(end, self._local)]):
+            self._keep(there, seconds - first)
+        return seconds - first
+
+    @staticmethod
+    def _offsets(there: datetime, local: tzinfo) -> Tuple[int, int]:
+        """The seconds of a local time from UTC, as its first and as its second passing."""
+        first, second = local.utcoffset(there), local.utcoffset(there.replace(fold=1))
         assert first is not None and second is not None
-        if first > second:
-            self.folded += 1
-        elif first < second:
-            self.skipped += 1
-        return seconds - whole(first)
+        return whole(first), whole(second)
+
+    def _keep(self, there: datetime, seconds: int) -> None:
+        """Keeps when the hour of a time begins, one whose clock doesn't change."""
+        if len(self._hours) == _MOST_HOURS:
+            self._hours.clear()
+        self._hours[there.isoformat()[:14]] = seconds - there.minute * 60 - there.second
 
     def midnight(self, seconds: int) -> int:
         """The last midnight of the zone that is not after a time."""
