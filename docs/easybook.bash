@@ -1,0 +1,29 @@
+# Completions for bash: source this file, or copy it as `easybook` into the folder of completions
+# (~/.local/share/bash-completion/completions).
+
+# The words that may stand next: each option but --script once, and files.
+_easybook() {
+    local word=${COMP_WORDS[COMP_CWORD]} before=${COMP_WORDS[COMP_CWORD - 1]} each options
+    COMPREPLY=()
+    # bash cuts --procs=8 into three words.
+    [ "$before" = '=' ] && before=${COMP_WORDS[COMP_CWORD - 2]}
+    [ "$word" = '=' ] && word='' before=${COMP_WORDS[COMP_CWORD - 1]}
+    case $before in
+    --procs | --spacing | --workers) return ;;
+    --script)
+        mapfile -t COMPREPLY < <(compgen -f -- "$word")
+        return
+        ;;
+    esac
+    case $word in
+    -*)
+        options='--procs --spacing --workers'
+        for each in "${COMP_WORDS[@]:1:COMP_CWORD-1}" "${COMP_WORDS[@]:COMP_CWORD+1}"; do
+            options=${options/"${each%%=*}"/}
+        done
+        mapfile -t COMPREPLY < <(compgen -W "$options --script" -- "$word")
+        ;;
+    *) mapfile -t COMPREPLY < <(compgen -f -- "$word") ;;
+    esac
+}
+complete -o filenames -F _easybook easybook
