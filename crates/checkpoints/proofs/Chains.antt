@@ -6,11 +6,10 @@ use Rattle.scenarios.specs.Plan.{Plan}
 use Rattle.easy_rule.specs.Simulation.{starts_before, sim, bound}
 use Rattle.scenarios.specs.SoundPlan.{IsPlan}
 use Rattle.timeline.proofs.Lemmas.{events-end-by-the-bound}
-use Rattle.event_loop.specs.Events.{events_before}
 use Rattle.event_loop.proofs.Lemmas.{told-all}
 use Rattle.metrics.specs.Part.{IsPartOf}
 use Rattle.checkpoints.specs.Segment.{SegmentView}
-use Rattle.checkpoints.specs.Cut.{placed_of, Spans, Chain, ShortChain, IsCut, IsShortCut, all_starts}
+use Rattle.checkpoints.specs.Cut.{placed_of, Spans, Chain, IsFull, ShortChain, IsCut, IsShortCut, all_starts}
 
 -- the starts of the seconds that a chain holds
 pub chain-told : (plan : Plan) (a b : ℕ) (ss : List SegmentView) → Chain plan a ss b → starts_before plan b ≡ starts_before plan a ++ all_starts ss
@@ -37,8 +36,8 @@ chain-part plan zero a b (s ∷ ss) d (m, sp, rest) l = sp.part
 chain-part plan (suc i) a b (s ∷ ss) d (m, sp, rest) l = chain-part plan i m b ss d rest (omega arith)
 
 -- one segment more
-pub chain-push : (plan : Plan) (n a m b : ℕ) (ss : List SegmentView) (s : SegmentView) → ShortChain plan n a ss m → Spans plan s m b → events_before plan b ≤ events_before plan m + n → ShortChain plan n a (ss ++ s ∷ []) b
-chain-push plan n a m b [] s e sp l = (b, subst (λ x. Spans plan s x b) (sym e) sp, subst (λ x. events_before plan b ≤ events_before plan x + n) (sym e) l, refl)
+pub chain-push : (plan : Plan) (n a m b : ℕ) (ss : List SegmentView) (s : SegmentView) → ShortChain plan n a ss m → Spans plan s m b → IsFull plan n m b → ShortChain plan n a (ss ++ s ∷ []) b
+chain-push plan n a m b [] s e sp l = (b, subst (λ x. Spans plan s x b) (sym e) sp, subst (λ x. IsFull plan n x b) (sym e) l, refl)
 chain-push plan n a m b (x ∷ xs) s (k, sx, lx, rest) sp l = (k, sx, lx, chain-push plan n k m b xs s rest sp l)
 
 -- a short chain is a chain

@@ -1,5 +1,5 @@
 -- An engine that works some event seconds.
-use Rattle.std.proofs.Common.{◌≡◌, ℕ, ◌+◌, ◌-◌, ◌≤◌, ◌<◌, false, List, [], ◌∷◌, ◌++◌, map, All, Some, None, sym, ◌∙◌, ap, arith, subst}
+use Rattle.std.proofs.Common.{◌≡◌, ℕ, ◌+◌, ◌-◌, ◌≤◌, ◌<◌, ◌⊎◌, inl, inr, false, List, [], ◌∷◌, ◌++◌, map, All, Some, None, refl, sym, ◌∙◌, ap, arith, subst}
 use Rattle.std.proofs.lemmas.List.{map-append}
 use Rattle.std.proofs.lemmas.List.Elements.{filter_map-append}
 use Rattle.scenarios.specs.Job.{EffectiveJob}
@@ -18,7 +18,8 @@ use Rattle.event_loop.proofs.Lemmas.{run-on-step}
 use Rattle.metrics.specs.Part.{PartSums, IsPartOf}
 use Rattle.metrics.specs.Placed.{CanSum}
 use Rattle.checkpoints.specs.Segment.{SegmentView}
-use Rattle.checkpoints.specs.Cut.{placed_at, placed_of, EndsWithEvent, Spans, ShortChain, IsShortCut}
+use Rattle.checkpoints.specs.Cut.{placed_at, placed_of, EndsWithEvent, Spans, Over, IsFull, ShortChain, IsShortCut}
+use Rattle.checkpoints.specs.Coming.{NoneComes}
 use Rattle.checkpoints.proofs.Chains.{chain-push, span-bounded}
 use Rattle.checkpoints.proofs.Late.{can-sum}
 use Rattle.checkpoints.proofs.Placing.{placed_from, placed-own}
@@ -67,6 +68,13 @@ working-short old now starts placed count n h l =
     let b = h.run.further.counted in
     omega (arith, a, b, l)
 
+-- where so many were to be worked, that many were
+pub working-full : (old now : Progress) (starts : List Start) (placed : List Placed) (count n : ℕ) → Working old now starts placed count → count ≡ n → events_before old.plan now.position ≡ events_before old.plan old.position + n
+working-full old now starts placed count n h e =
+    let a = h.counted in
+    let b = h.run.further.counted in
+    omega (arith, a, b, e)
+
 -- the stretch is a segment
 pub working-spans : (old new : Progress) (s : SegmentView) → IsRunOn old new s.starts → EndsWithEvent old.plan old.position new.position → s.first ≡ old.position → s.before ≡ numbers_of (before old.plan old.position) → IsPartOf (placed_of old.plan.jobs s.starts) s.part
     → Spans old.plan s old.position new.position
@@ -81,14 +89,19 @@ pub record Cutting (plan : Plan) (n : ℕ) (now : Progress) (ss : List SegmentVi
   pub same : now.plan ≡ plan
   pub chain : ShortChain plan n 0 ss now.position
 
+-- a segment that was worked is full, or the last one
+filled : (plan : Plan) (n a b : ℕ) (new : Progress) → new.plan ≡ plan → new.position ≡ b → events_before plan b ≤ events_before plan a + n → (events_before plan b ≡ events_before plan a + n) ⊎ NoneComes new None → IsFull plan n a b
+filled plan n a b new same at short (inl e) = inl e
+filled plan n a b new same at short (inr none) = inr (short, subst (λ (p : Plan). Over p b) same (subst (λ t. Over new.plan t) at none))
+
 pub cutting-more : (plan : Plan) (n : ℕ) (now new : Progress) (ss : List SegmentView) (s : SegmentView) → Cutting plan n now ss → new.plan ≡ now.plan → new.failed ≡ false → Spans now.plan s now.position new.position → events_before now.plan new.position ≤ events_before now.plan now.position + n
-    → Cutting plan n new (ss ++ s ∷ [])
-cutting-more plan n now new ss s h same going spans short = record {
+    → (events_before now.plan new.position ≡ events_before now.plan now.position + n) ⊎ NoneComes new None → Cutting plan n new (ss ++ s ∷ [])
+cutting-more plan n now new ss s h same going spans short full = record {
   going = going;
   same = same ∙ h.same;
   chain = chain-push plan n 0 now.position new.position ss s h.chain
       (subst (λ (p : Plan). Spans p s now.position new.position) h.same spans)
-      (subst (λ (p : Plan). events_before p new.position ≤ events_before p now.position + n) h.same short);
+      (subst (λ (p : Plan). IsFull p n now.position new.position) h.same (filled now.plan n now.position new.position new same refl short full));
 }
 
 pub cutting-down : (plan : Plan) (now new : Progress) (s : SegmentView) → IsPlan plan → now.plan ≡ plan → Spans now.plan s now.position new.position → bound plan + 1 - new.position < bound plan + 1 - now.position

@@ -1,5 +1,5 @@
 -- How a simulation is cut into segments, one after another.
-use Rattle.std.specs.Prelude.{◌≡◌, ℕ, ◌+◌, ◌≤◌, List, [], ◌∷◌, ◌++◌, Option, None}
+use Rattle.std.specs.Prelude.{◌≡◌, ℕ, ◌+◌, ◌≤◌, ◌⊎◌, List, [], ◌∷◌, ◌++◌, Option, None}
 use Rattle.std.specs.List.{filter_map, flat_map}
 use Rattle.std.specs.Option.{option_map}
 use Rattle.scenarios.specs.Job.{EffectiveJob}
@@ -47,10 +47,14 @@ Over plan a = IsNextEvent plan a None
 abbrev pub IsCut : Plan → List SegmentView → Type 0
 IsCut plan ss = (e : ℕ) × Chain plan 0 ss e × Over plan e
 
--- the same, where each segment holds at most n event seconds
+-- n event seconds lie from a to before b; or fewer, where no event second comes from b on
+abbrev pub IsFull : Plan → ℕ → ℕ → ℕ → Type 0
+IsFull plan n a b = (events_before plan b ≡ events_before plan a + n) ⊎ ((events_before plan b ≤ events_before plan a + n) × Over plan b)
+
+-- the same, where each segment holds n event seconds, but the last one, which may hold fewer
 abbrev pub ShortChain : Plan → ℕ → ℕ → List SegmentView → ℕ → Type 0
 ShortChain plan n a [] b = a ≡ b
-ShortChain plan n a (s ∷ ss) b = (m : ℕ) × Spans plan s a m × (events_before plan m ≤ events_before plan a + n) × ShortChain plan n m ss b
+ShortChain plan n a (s ∷ ss) b = (m : ℕ) × Spans plan s a m × IsFull plan n a m × ShortChain plan n m ss b
 
 abbrev pub IsShortCut : Plan → ℕ → List SegmentView → Type 0
 IsShortCut plan n ss = (e : ℕ) × ShortChain plan n 0 ss e × Over plan e

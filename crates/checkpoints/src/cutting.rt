@@ -1,4 +1,4 @@
-ghost use Rattle.std.specs.Prelude.{◌≡◌, ◌+◌, ◌≤◌, ◌↔◌, false, IsTrue, IfOk, IfErr, IfSome, OnOk};
+ghost use Rattle.std.specs.Prelude.{◌≡◌, ◌+◌, ◌≤◌, ◌⊎◌, ◌↔◌, false, IsTrue, IfOk, IfErr, IfSome, OnOk};
 ghost use Rattle.event_loop.specs.Events.{events_before};
 ghost use Rattle.event_loop.specs.Going.{IsRunOn};
 ghost use Rattle.metrics.specs.Placed.{CanSum};
@@ -33,8 +33,8 @@ pub fn comes_before<A: Allocator + Copy>(engine: &Engine<A>, end: Option<u64>) -
     }
 }
 
-// Works up to `spacing` event seconds before the end, of which one comes, and answers their starts
-// and jobs.
+// Works `spacing` event seconds, or those that come before the end, of which there is one, and answers
+// their starts and jobs.
 fn work<A: Allocator + Copy>(
     alloc: A,
     engine: &mut Engine<A>,
@@ -49,6 +49,7 @@ fn work<A: Allocator + Copy>(
     ensures ends { OnOk result (EndsWithEvent engine.old.plan engine.old.position engine.new.position) }
     ensures within { OnOk result (IfSome end (λ e. engine.new.position ≤ e)) }
     ensures short { OnOk result (events_before engine.old.plan engine.new.position ≤ events_before engine.old.plan engine.old.position + spacing) }
+    ensures full { OnOk result ((events_before engine.old.plan engine.new.position ≡ events_before engine.old.plan engine.old.position + spacing) ⊎ NoneComes engine.new end) }
     ensures can { IfOk result (λ w. CanSum w.placed.items) }
     ensures fault { IfErr result (λ f. f ≡ RunFault.Memory) }
 {
@@ -68,8 +69,8 @@ fn work<A: Allocator + Copy>(
     Ok(Worked { starts, placed })
 }
 
-/// The next segment of an engine's simulation: up to `spacing` event seconds before the end, of which
-/// one comes. Memory where a growth was refused.
+/// The next segment of an engine's simulation: `spacing` event seconds, or those that come before the
+/// end, of which there is one. Memory where a growth was refused.
 pub fn next_segment<A: Allocator + Copy>(
     alloc: A,
     engine: &mut Engine<A>,
@@ -84,6 +85,7 @@ pub fn next_segment<A: Allocator + Copy>(
     ensures spans { IfOk result (λ s. Spans engine.old.plan s engine.old.position engine.new.position) }
     ensures within { OnOk result (IfSome end (λ e. engine.new.position ≤ e)) }
     ensures short { OnOk result (events_before engine.old.plan engine.new.position ≤ events_before engine.old.plan engine.old.position + spacing) }
+    ensures full { OnOk result ((events_before engine.old.plan engine.new.position ≡ events_before engine.old.plan engine.old.position + spacing) ⊎ NoneComes engine.new end) }
     ensures counted { OnOk result (engine.new.handled + events_before engine.old.plan engine.old.position ≡ engine.old.handled + events_before engine.old.plan engine.new.position) }
     ensures fault { IfErr result (λ f. f ≡ RunFault.Memory) }
 {

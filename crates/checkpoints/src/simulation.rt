@@ -19,7 +19,7 @@ use std::sync::Arc;
 /// The most event seconds that a segment may be asked to hold.
 pub const MAX_SPACING: u32 = 65_536;
 
-// The segments of a plan's simulation, of up to `spacing` event seconds each.
+// The segments of a plan's simulation, of `spacing` event seconds each, but the last.
 fn segments_of<A: Allocator + Copy>(
     alloc: A,
     plan: &Plan<A>,
@@ -39,8 +39,8 @@ fn segments_of<A: Allocator + Copy>(
 }
 
 /// Simulates a table under a scenario, and cuts the simulation into segments, each of which holds
-/// at least one and at most `spacing` event seconds. An event second is one at which a job is
-/// submitted or ends.
+/// `spacing` event seconds, but the last one, which may hold fewer, and at least one. An event second
+/// is one at which a job is submitted or ends.
 ///
 /// BadSpacing where `spacing` is not within 1 to 65,536; Memory where a growth was refused.
 pub fn simulate<A: Allocator + Copy>(

@@ -1,5 +1,5 @@
 -- Lists of entries whose keys rise: what they add up to at a key, and their order.
-use Rattle.std.proofs.Common.{◌≡◌, ℕ, ◌+◌, ◌-◌, ◌<◌, ◌≤◌, eqb, Result, Ok, Err, Bool, true, false, cond, List, [], ◌∷◌, length, take, drop, set, get_or, refl, ap, sym, ◌∙◌, arith, unwrap_or, inl, inr, Option, Some, None, All, subst, zero, suc, Ordering, Less, Greater}
+use Rattle.std.proofs.Common.{◌≡◌, ℕ, ◌+◌, ◌-◌, ◌<◌, ◌≤◌, eqb, Result, Ok, Err, Bool, true, false, cond, List, [], ◌∷◌, length, take, drop, set, get_or, refl, ap, sym, ◌∙◌, arith, unwrap_or, inl, inr, Option, Some, None, All, subst, zero, suc, Ordering, Less, Equal, Greater}
 use Rattle.std.specs.Ordering.{is_lt, ordering_reverse}
 use Rattle.std.specs.BTreeMap.{is_at}
 use Rattle.std.specs.Cmp.{IsTotalOrder}
@@ -16,8 +16,9 @@ use Rattle.std.proofs.lemmas.Cmp.{eq_by_cmp_equiv}
 use Rattle.std.proofs.lemmas.List.Elements.{All-append, All-cons, All-take, All-drop}
 use Rattle.std.proofs.lemmas.List.Sums.{sum_by-cons, sum_by-set}
 use Rattle.std.proofs.lemmas.Map.{NonePasses}
-use Rattle.std.proofs.lemmas.Map.Entries.{none_past_head, lookup_from_place}
-use Rattle.std.proofs.lemmas.Option.{slice_get-get_or, get_or_from_slice_get}
+use Rattle.std.proofs.lemmas.Map.Entries.{none_past_head, lookup_at_gap, lookup_from_place}
+use Rattle.std.proofs.lemmas.Map.Lookups.{CmpEqualImpliesEq}
+use Rattle.std.proofs.lemmas.Option.{slice_get-get_or, slice_get_within, get_or_from_slice_get}
 use Rattle.std.proofs.lemmas.Map.Keys.{IsDistinct-from_sorted, Less-from_sorted, sorted_tail}
 use Rattle.metrics.specs.Entries.{total_at, IsFound}
 
@@ -108,6 +109,19 @@ module _ {K X : Type 0} {R : K → K → Ordering} (o : IsTotalOrder R) where
         let z = get_or-map (λ (x : K × X). x.0) es (j + 1) d d.0 l in
         ap is_lt (o.antisymm (get_or es (j + 1) d).0 (get_or es j d).0 ∙ ap ordering_reverse ((λ i. R (sym a i) (sym z i)) ∙ r)))),
   )
+
+  -- what a search finds is what stands at the key
+  pub found_at : CmpEqualImpliesEq R → (es : List (K × X)) (k : K) (i : ℕ) (e : K × X) → IsStrictlySortedBy R (keys_of es) → slice_get es i ≡ Some e → R e.0 k ≡ Equal → lookup (is_at (R k)) es ≡ Some e.1
+  found_at x es k i e s at same =
+      let there = lookup_from_place (eq_by_cmp_equiv o) es i e.0 e.1 (IsDistinct-from_sorted R (keys_of es) s) at in
+      subst (λ q. lookup (is_at (R q)) es ≡ Some e.1) (x e.0 k same) there
+
+  -- and where it finds none, none stands there
+  pub missed_at : (es : List (K × X)) (k : K) (i : ℕ) → IsStrictlySortedBy R (keys_of es) → IsFound R k es (Err i) → lookup (is_at (R k)) es ≡ None
+  missed_at es k i s (l, sides) =
+      lookup_at_gap o k es i s
+      (λ j e m at. let w = slice_get_within es j e at in o.antisymm k e.0 ∙ ap ordering_reverse (ap (λ (y : K × X). R y.0 k) (sym (get_or_from_slice_get es j e e at)) ∙ sides.0 j e (omega arith) m))
+      (λ e at. let w = slice_get_within es i e at in o.antisymm k e.0 ∙ ap ordering_reverse (ap (λ (y : K × X). R y.0 k) (sym (get_or_from_slice_get es i e e at)) ∙ sides.1 i e (omega arith) w))
 
 -- a search of the same list
 pub found_in : {K X : Type 0} (R : K → K → Ordering) (k : K) (es fs : List (K × X)) (r : Result ℕ ℕ) → es ≡ fs → IsFound R k es r → IsFound R k fs r

@@ -3,6 +3,8 @@
 ghost use Rattle.std.specs.Prelude.{◌≡◌, ℕ, ◌+◌, ◌-◌, ◌*◌, ◌/◌, ◌^◌, ◌<◌, ◌≤◌, All, OnOk, IfOk, if◌then◌else◌};
 ghost use Rattle.std.specs.Ordering.{nat_cmp};
 ghost use Rattle.std.specs.BTreeMap.{is_at};
+ghost use Rattle.std.specs.List.Sorted.{IsStrictlySortedBy};
+ghost use Rattle.std.specs.Map.{keys_of, lookup};
 ghost use Rattle.metrics.specs.Days.{busy_on, day_total, IsDayList};
 ghost use Rattle.scenarios.specs.Placed.{real_end};
 ghost use Rattle.metrics.specs.Measures.{busy_in};
@@ -35,6 +37,17 @@ fn add_day<A: Allocator + Copy>(days: &mut Days<A>, day: u64, busy: u128) -> Res
         Err(place) => days.insert(place, (day, busy))?,
     }
     Ok(())
+}
+
+// The processor-seconds of a day, where some are taken.
+pub(crate) fn busy_at(days: &[DayEntry], day: u64) -> Option<u128>
+    requires { IsStrictlySortedBy nat_cmp (keys_of days.now) }
+    ensures { result ≡ lookup (is_at (nat_cmp day)) days.now }
+{
+    match find(days, day) {
+        Ok(place) => Some(days[place].1),
+        Err(_) => None,
+    }
 }
 
 // The processor-seconds that the job takes in the day.

@@ -1,13 +1,18 @@
 //! A part: the sums over some jobs.
 
 ghost use Rattle.std.specs.Prelude.{◌≡◌, ◌+◌, ◌≤◌, List, [], ◌++◌, IfOk};
+ghost use Rattle.std.specs.Ordering.{int_cmp, nat_cmp};
+ghost use Rattle.std.specs.BTreeMap.{is_at};
+ghost use Rattle.std.specs.Map.{lookup};
 ghost use Rattle.swf_text.specs.Limits.{entry_limit};
 ghost use Rattle.metrics.specs.Part.{IsPartOf, IsPart};
 ghost use Rattle.metrics.specs.Placed.{CanSum};
+ghost use Rattle.metrics.specs.Users.{sums_of, sums_entry};
+ghost use Rattle.metrics.specs.Days.{busy_on, busy_entry};
 
 use crate::days::{self, Days};
 use crate::totals::Totals;
-use crate::users::{self, Users};
+use crate::users::{self, UserSums, Users};
 use scenarios::Placed;
 use std::alloc::Allocator;
 use std::marker::Model;
@@ -47,7 +52,7 @@ impl<A: Allocator + Copy> Part<A> {
         }
     }
 
-    /// The part of the jobs.
+    /// The part of the jobs. Memory where a growth was refused.
     pub fn of(alloc: A, placed: &[Placed]) -> Result<Part<A>, Memory>
         requires { CanSum placed.now }
         ensures { IfOk result (λ part. IsPartOf placed.now part) }
@@ -63,7 +68,7 @@ impl<A: Allocator + Copy> Part<A> {
         })
     }
 
-    /// The part of the jobs of both.
+    /// The part of the jobs of both. Memory where a growth was refused.
     pub fn merge(&self, other: &Part<A>) -> Result<Part<A>, Memory>
         requires { self.now.totals.count + other.now.totals.count ≤ entry_limit }
         ensures { IfOk result (λ part. (xs ys : List Placed) → IsPartOf xs self.now → IsPartOf ys other.now → IsPartOf (xs ++ ys) part) }
@@ -79,7 +84,8 @@ impl<A: Allocator + Copy> Part<A> {
         })
     }
 
-    /// The part of the jobs of both, made of this one.
+    /// The part of the jobs of both, made of this one, which is dropped where a growth is refused: then
+    /// it answers Memory.
     pub fn absorb(self, other: &Part<A>) -> Result<Part<A>, Memory>
         requires { self.totals.count + other.now.totals.count ≤ entry_limit }
         ensures { IfOk result (λ part. (xs ys : List Placed) → IsPartOf xs self → IsPartOf ys other.now → IsPartOf (xs ++ ys) part) }
@@ -93,5 +99,21 @@ impl<A: Allocator + Copy> Part<A> {
         ensures part { IsPart self.now }
     {
         self.totals
+    }
+
+    /// The sums over the jobs of a user; None where none of the jobs is this user's. It takes no memory.
+    pub fn user(&self, user: i64) -> Option<UserSums>
+        ensures value { result ≡ lookup (is_at (int_cmp user)) self.now.users }
+        ensures sums { (ps : List Placed) → IsPartOf ps self.now → result ≡ sums_entry (sums_of user ps) }
+    {
+        users::sums_at(self.users.as_slice(), user)
+    }
+
+    /// The processor-seconds that the jobs take in a day; None where they take none. It takes no memory.
+    pub fn day(&self, day: u64) -> Option<u128>
+        ensures value { result ≡ lookup (is_at (nat_cmp day)) self.now.days }
+        ensures sums { (ps : List Placed) → IsPartOf ps self.now → result ≡ busy_entry (busy_on day ps) }
+    {
+        days::busy_at(self.days.as_slice(), day)
     }
 }

@@ -83,7 +83,7 @@ fn day_rows<A: Allocator + Copy>(
 
 impl<A: Allocator + Copy> Part<A> {
     /// The tables of the part's jobs, on a machine of `procs` processors and with these counts of
-    /// skipped entries. Means are cut down, and 0 where there is no job.
+    /// skipped entries. Means are cut down, and 0 where there is no job. Memory where a growth was refused.
     pub fn tables(&self, procs: u64, skips: Skips) -> Result<Tables<A>, Memory>
         ensures { IfOk result (λ tables. tables ≡ tables_of procs skips self.now) }
     {

@@ -1,8 +1,10 @@
 //! Sums by user.
 
 ghost use Rattle.std.specs.Prelude.{◌≡◌, ℕ, ℤ, ◌+◌, ◌^◌, ◌<◌, ◌≤◌, All, map, OnOk, IfOk, if◌then◌else◌};
-ghost use Rattle.std.specs.Ordering.{int_eq};
-ghost use Rattle.std.specs.List.Sorted.{IsPermutation};
+ghost use Rattle.std.specs.Ordering.{int_cmp, int_eq};
+ghost use Rattle.std.specs.BTreeMap.{is_at};
+ghost use Rattle.std.specs.Map.{keys_of, lookup};
+ghost use Rattle.std.specs.List.Sorted.{IsPermutation, IsStrictlySortedBy};
 ghost use Rattle.metrics.specs.Users.{plus, CanAdd, alone, no_sums, sums_of, user_total, IsUserList};
 ghost use Rattle.metrics.specs.Placed.{CanStart};
 ghost use Rattle.metrics.specs.Part.{AreJobs};
@@ -85,6 +87,17 @@ fn by_user<A: Allocator + Copy>(alloc: A, placed: &[Placed]) -> Result<Vec<&Plac
     }
     jobs.sort_by_key(|each| each.job.user())?;
     Ok(jobs)
+}
+
+// The sums over the jobs of a user, where it has some.
+pub(crate) fn sums_at(users: &[UserEntry], user: i64) -> Option<UserSums>
+    requires { IsStrictlySortedBy int_cmp (keys_of users.now) }
+    ensures { result ≡ lookup (is_at (int_cmp user)) users.now }
+{
+    match find(users, user) {
+        Ok(place) => Some(users[place].1),
+        Err(_) => None,
+    }
 }
 
 // How many users the jobs have, where those of a user stand behind one another. It decides only how

@@ -1,9 +1,9 @@
-use Rattle.std.proofs.Common.{◌∙◌, ◌≡◌, true, false, ap, sym, arith, rules, List, map, ◌++◌}
+use Rattle.std.proofs.Common.{◌∙◌, ◌≡◌, inl, inr, true, false, ap, sym, arith, rules, List, map, ◌++◌}
 use Rattle.std.proofs.lemmas.Bool.{false≢true}
 use Rattle.scenarios.specs.Job.{EffectiveJob}
 use Rattle.easy_rule.specs.Pass.{start_at}
 use Rattle.checkpoints.proofs.Placing.{placed_from}
-use Rattle.checkpoints.proofs.Worked.{working-more, working-ends, working-short, working-can}
+use Rattle.checkpoints.proofs.Worked.{working-more, working-ends, working-full, working-short, working-can}
 use Rattle.checkpoints.proofs.Coming.{step-before-end, none-worked, comes-some}
 use Rattle.checkpoints.proofs.cutting.work.Goals as goal
 
@@ -58,3 +58,17 @@ returns-in_default-clause-short g c =
 
 pub returns-clause-short : goal.returns-clause-short
 returns-clause-short g c = working-short c.args.engine.now c.loop.engine c.loop.starts.items c.loop.placed.items c.loop.counter c.args.spacing c.loop.invariant.working (omega arith)
+
+pub returns-then-not-comes_before-clause-full : goal.returns-then-not-comes_before-clause-full
+returns-then-not-comes_before-clause-full g c =
+    let fails : c.comes_before.result ≡ false = search rules in
+    inr (c.comes_before.ensures.none fails)
+
+pub returns-in_default-clause-full : goal.returns-in_default-clause-full
+returns-in_default-clause-full g c =
+    let n = rw c.in_default.is at c.in_ok-second.ensures.none in
+    let comes : c.comes_before.result ≡ true = search rules in
+    absurd (comes-some c.loop.engine c.args.end (c.comes_before.ensures.comes.0 comes) n.1)
+
+pub returns-clause-full : goal.returns-clause-full
+returns-clause-full g c = inl (working-full c.args.engine.now c.loop.engine c.loop.starts.items c.loop.placed.items c.loop.counter c.args.spacing c.loop.invariant.working (omega arith))

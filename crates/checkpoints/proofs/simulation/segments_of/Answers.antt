@@ -25,7 +25,7 @@ next_segment-requires-clause-coming g c = c.comes_before.ensures.comes.0 c.segme
 pub segments-preserved : goal.segments-preserved
 segments-preserved g c =
     let plan : Plan = plan_in c.args.plan.now in
-    let more = cutting-more plan c.args.spacing c.segments.engine c.next_segment.new.engine (map arc_value c.segments.segments.items) c.in_ok-segment.segment c.segments.invariant c.in_ok-segment.ensures.plan c.in_ok-segment.ensures.going c.in_ok-segment.ensures.spans c.in_ok-segment.ensures.short in
+    let more = cutting-more plan c.args.spacing c.segments.engine c.next_segment.new.engine (map arc_value c.segments.segments.items) c.in_ok-segment.segment c.segments.invariant c.in_ok-segment.ensures.plan c.in_ok-segment.ensures.going c.in_ok-segment.ensures.spans c.in_ok-segment.ensures.short c.in_ok-segment.ensures.full in
     subst (λ (ss : List SegmentView). Cutting plan c.args.spacing c.next_segment.new.engine ss) (sym (push-seen arc_value c.segments.segments.items c.push.new.self.items c.in_ok-new.field-0 c.in_ok-segment.segment c.in_ok-push.ensures.items c.in_ok-new.ensures.ok)) more
 
 pub segments-smaller : goal.segments-smaller
