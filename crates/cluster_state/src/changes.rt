@@ -42,13 +42,14 @@ impl<A: Allocator + Copy> Cluster<A> {
         self.running.spare()
     }
 
-    /// Makes room for so many starts.
+    /// Makes room for so many starts. Where there is room for them it takes no memory.
     ///
     /// Memory where a growth was refused; the room may then be greater than it was, too.
     pub fn reserve_starts(&mut self, count: usize) -> Result<(), Memory>
         ensures state { self.new.state ≡ self.old.state }
         ensures ok { OnOk result (count ≤ self.new.spare) }
         ensures kept { self.old.spare ≤ self.new.spare }
+        ensures room { count ≤ self.old.spare → IsOk result }
     {
         self.running.reserve(count)
     }
@@ -89,7 +90,7 @@ impl<A: Allocator + Copy> Cluster<A> {
     /// These waiting jobs start at second `now`, one after another.
     ///
     /// With room for so many starts it takes no memory. Memory where a growth was refused; the state is
-    /// then as it was.
+    /// then as it was, and the room no smaller.
     pub fn start_all(&mut self, jobs: &[Job], now: u64) -> Result<(), Memory>
         requires fits { CanStartAll self.old.state jobs.now now }
         requires now { now < seconds_end }
@@ -97,6 +98,7 @@ impl<A: Allocator + Copy> Cluster<A> {
         ensures err { OnErr result (self.new.state ≡ self.old.state) }
         ensures room { length jobs.now ≤ self.old.spare → IsOk result }
         ensures spare { self.old.spare ≤ self.new.spare + length jobs.now }
+        ensures kept { OnErr result (self.old.spare ≤ self.new.spare) }
     {
         self.running.reserve(jobs.len())?;
         self.running.join_all(jobs, now);
