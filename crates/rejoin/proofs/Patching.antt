@@ -5,28 +5,28 @@ use Rattle.event_loop.specs.Events.{events_before}
 use Rattle.checkpoints.specs.Segment.{SegmentView}
 use Rattle.checkpoints.specs.Cut.{Spans, Chain}
 use Rattle.rejoin.specs.Kept.{next_first, MayBegin, IsKept}
-use Rattle.rejoin.specs.Patch.{AreKept, Patched}
+use Rattle.rejoin.specs.Patch.{AreKept, IsPiece, Patched}
 
 -- a worked one
-pub patched-worked : (q : Plan) (n a m b k : ℕ) (new us : List SegmentView) (s : SegmentView) (h : ℕ) → Patched q n a new us h m → Spans q s m b → events_before q b ≡ events_before q m + k → k ≤ n → Patched q n a (new ++ s ∷ []) us (h + k) b
-patched-worked q n a m b k [] us s h (e, u, z) sp count le =
+pub patched-worked : (q : Plan) (old : List SegmentView) (n a m b k : ℕ) (new us : List SegmentView) (s : SegmentView) (h : ℕ) → Patched q old n a new us h m → Spans q s m b → events_before q b ≡ events_before q m + k → IsPiece q old n k b → Patched q old n a (new ++ s ∷ []) us (h + k) b
+patched-worked q old n a m b k [] us s h (e, u, z) sp count le =
     (b, subst (λ x. Spans q s x b) (sym e) sp, inr (k, count ∙ ap (λ x. events_before q x + k) (sym e), le, (0, omega (arith, z), (refl, u, refl))))
-patched-worked q n a m b k (x ∷ xs) us s h (c, sx, inl (vs, e, rest)) sp count le = (c, sx, inl (vs, e, patched-worked q n c m b k xs vs s h rest sp count le))
-patched-worked q n a m b k (x ∷ xs) us s h (c, sx, inr (j, held, few, (g, e, rest))) sp count le =
-    (c, sx, inr (j, held, few, (g + k, omega (arith, e), patched-worked q n c m b k xs us s g rest sp count le)))
+patched-worked q old n a m b k (x ∷ xs) us s h (c, sx, inl (vs, e, rest)) sp count le = (c, sx, inl (vs, e, patched-worked q old n c m b k xs vs s h rest sp count le))
+patched-worked q old n a m b k (x ∷ xs) us s h (c, sx, inr (j, held, few, (g, e, rest))) sp count le =
+    (c, sx, inr (j, held, few, (g + k, omega (arith, e), patched-worked q old n c m b k xs us s g rest sp count le)))
 
 -- one that is taken over
-pub patched-taken : (q : Plan) (n a m b : ℕ) (new us : List SegmentView) (s : SegmentView) (h : ℕ) → Patched q n a new us h m → Spans q s m b → Patched q n a (new ++ s ∷ []) (us ++ s ∷ []) h b
-patched-taken q n a m b [] us s h (e, u, z) sp =
+pub patched-taken : (q : Plan) (old : List SegmentView) (n a m b : ℕ) (new us : List SegmentView) (s : SegmentView) (h : ℕ) → Patched q old n a new us h m → Spans q s m b → Patched q old n a (new ++ s ∷ []) (us ++ s ∷ []) h b
+patched-taken q old n a m b [] us s h (e, u, z) sp =
     (b, subst (λ x. Spans q s x b) (sym e) sp, inl ([], ap (λ l. l ++ s ∷ []) u, (refl, refl, z)))
-patched-taken q n a m b (x ∷ xs) us s h (c, sx, inl (vs, e, rest)) sp = (c, sx, inl (vs ++ s ∷ [], ap (λ l. l ++ s ∷ []) e, patched-taken q n c m b xs vs s h rest sp))
-patched-taken q n a m b (x ∷ xs) us s h (c, sx, inr (j, held, few, (g, e, rest))) sp = (c, sx, inr (j, held, few, (g, e, patched-taken q n c m b xs us s g rest sp)))
+patched-taken q old n a m b (x ∷ xs) us s h (c, sx, inl (vs, e, rest)) sp = (c, sx, inl (vs ++ s ∷ [], ap (λ l. l ++ s ∷ []) e, patched-taken q old n c m b xs vs s h rest sp))
+patched-taken q old n a m b (x ∷ xs) us s h (c, sx, inr (j, held, few, (g, e, rest))) sp = (c, sx, inr (j, held, few, (g, e, patched-taken q old n c m b xs us s g rest sp)))
 
 -- they are one after another
-pub patched-chain : (q : Plan) (n a b : ℕ) (new us : List SegmentView) (h : ℕ) → Patched q n a new us h b → Chain q a new b
-patched-chain q n a b [] us h p = p.0
-patched-chain q n a b (x ∷ xs) us h (c, sx, inl (vs, e, rest)) = (c, sx, patched-chain q n c b xs vs h rest)
-patched-chain q n a b (x ∷ xs) us h (c, sx, inr (j, held, few, (g, e, rest))) = (c, sx, patched-chain q n c b xs us g rest)
+pub patched-chain : (q : Plan) (old : List SegmentView) (n a b : ℕ) (new us : List SegmentView) (h : ℕ) → Patched q old n a new us h b → Chain q a new b
+patched-chain q old n a b [] us h p = p.0
+patched-chain q old n a b (x ∷ xs) us h (c, sx, inl (vs, e, rest)) = (c, sx, patched-chain q old n c b xs vs h rest)
+patched-chain q old n a b (x ∷ xs) us h (c, sx, inr (j, held, few, (g, e, rest))) = (c, sx, patched-chain q old n c b xs us g rest)
 
 -- where they end, a segment may begin
 pub chain-begins : (q : Plan) (a b : ℕ) (ss : List SegmentView) → MayBegin q a → Chain q a ss b → MayBegin q b

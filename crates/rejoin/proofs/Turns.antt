@@ -1,19 +1,21 @@
 -- Each turn of a re-simulation.
-use Rattle.std.proofs.Common.{◌≡◌, ℕ, zero, suc, ◌+◌, ◌-◌, ◌^◌, ◌≤◌, ◌<◌, Bool, true, false, List, [], ◌∷◌, ◌++◌, drop, length, Option, None, Some, IfSome, refl, sym, ◌∙◌, ap, subst, arith, add-zero, inl, inr}
+use Rattle.std.proofs.Common.{◌≡◌, ℕ, zero, suc, ◌+◌, ◌-◌, ◌^◌, ◌≤◌, ◌<◌, Bool, true, false, List, [], ◌∷◌, ◌++◌, drop, length, Option, None, Some, IfSome, refl, sym, ◌∙◌, ap, subst, arith, add-zero, ◌⊎◌, inl, inr}
 use Rattle.std.proofs.lemmas.List.{length-append, drop_all}
 use Rattle.scenarios.specs.Plan.{Plan}
 use Rattle.cluster_state.specs.Snapshot.{numbers_of}
 use Rattle.easy_rule.specs.Simulation.{IsEvent, before, bound}
 use Rattle.scenarios.specs.SoundPlan.{IsPlan}
+use Rattle.timeline.specs.Laws.{IsQuiet}
 use Rattle.timeline.proofs.Lemmas.{events-end-by-the-bound, short-plan}
 use Rattle.event_loop.specs.Events.{Progress, events_before, begun}
 use Rattle.event_loop.proofs.Lemmas.{events_before-more}
 use Rattle.checkpoints.specs.Coming.{NoneComes}
 use Rattle.checkpoints.specs.Segment.{SegmentView}
-use Rattle.checkpoints.specs.Cut.{Spans, IsCut}
+use Rattle.checkpoints.specs.Cut.{Spans, IsCut, Over}
 use Rattle.checkpoints.proofs.Lemmas.{span-bounded}
 use Rattle.rejoin.specs.Kept.{next_first, MayBegin, IsKept}
-use Rattle.rejoin.specs.Patch.{AreKept, IsRejoined}
+use Rattle.rejoin.specs.Older.{IsFirstOf}
+use Rattle.rejoin.specs.Patch.{AreKept, EndsPiece, IsPiece, IsRejoined}
 use Rattle.rejoin.specs.Rejoining.{ChangeView, IsChange, IsClear, AreTaken, IsSpent, IsOn, IsAfter, Stands}
 use Rattle.rejoin.proofs.Marks.{marks-grow}
 use Rattle.rejoin.proofs.Patching.{all-kept, patched-chain}
@@ -42,19 +44,44 @@ stands-begun c ok n now ss e none = (
       (subst (λ (x : Progress). IsOn c n c.old [] [] x.position (0 + x.handled)) (sym e) (on-begins c ok n)),
 )
 
+-- the first second of the segments from a place on is that of one of all
+first-in : (at : ℕ) (old : List SegmentView) (c : ℕ) → next_first (drop at old) ≡ Some c → IsFirstOf old c
+first-in zero [] c is = cc
+first-in (suc at) [] c is = cc
+first-in zero (s ∷ ss) c is = let same : s.first ≡ c = cc in inl same
+first-in (suc at) (s ∷ ss) c is = inr (first-in at ss c is)
+
+-- where no event second comes before that, a piece may end
+ends-piece : (q : Plan) (at : ℕ) (old : List SegmentView) (now : Progress) → now.plan ≡ q → NoneComes now (next_first (drop at old)) → IfSome (next_first (drop at old)) (λ c. now.position ≤ c) → EndsPiece q old now.position
+ends-piece q at old now plan = go (next_first (drop at old)) (first-in at old)
+  where
+    go : (next : Option ℕ) → ((c : ℕ) → next ≡ Some c → IsFirstOf old c) → NoneComes now next → IfSome next (λ c. now.position ≤ c) → EndsPiece q old now.position
+    go None first none within = inr (subst (λ (p : Plan). Over p now.position) plan none)
+    go (Some c) first none within = inl (c, first c refl, within, subst (λ (p : Plan). IsQuiet p now.position c) plan none)
+
+-- what was worked is a piece
+is-piece : (c : ChangeView) (n at k a : ℕ) (new : Progress) → new.plan ≡ c.is → IfSome (next_first (drop at c.old)) (λ e. new.position ≤ e) → events_before c.is new.position ≡ events_before c.is a + k → k ≤ n
+    → (events_before c.is new.position ≡ events_before c.is a + n) ⊎ NoneComes new (next_first (drop at c.old)) → IsPiece c.is c.old n k new.position
+is-piece c n at k a new plan within counted short (inl full) = record { short = short; ends = inl (omega (arith, counted, full)) }
+is-piece c n at k a new plan within counted short (inr none) = record { short = short; ends = inr (ends-piece c.is at c.old new plan none within) }
+
 pub stands-worked : (c : ChangeView) (n at : ℕ) (now new : Progress) (ss : List SegmentView) (s : SegmentView) (handled reused : ℕ) → Stands c n at false now ss handled reused → new.plan ≡ now.plan → new.failed ≡ false → Spans now.plan s now.position new.position → IfSome (next_first (drop at c.old)) (λ e. new.position ≤ e)
-    → events_before now.plan new.position ≤ events_before now.plan now.position + n → new.handled + events_before now.plan now.position ≡ now.handled + events_before now.plan new.position → Stands c n at false new (ss ++ s ∷ []) handled reused
-stands-worked c n at now new ss s handled reused (us, count, going, plan, on) same still spans within short counted =
+    → events_before now.plan new.position ≤ events_before now.plan now.position + n → (events_before now.plan new.position ≡ events_before now.plan now.position + n) ⊎ NoneComes new (next_first (drop at c.old))
+    → new.handled + events_before now.plan now.position ≡ now.handled + events_before now.plan new.position → Stands c n at false new (ss ++ s ∷ []) handled reused
+stands-worked c n at now new ss s handled reused (us, count, going, plan, on) same still spans within short full counted =
     let a = now.position in
     let b = new.position in
     let sp : Spans c.is s a b = subst (λ (q : Plan). Spans q s a b) plan spans in
     let few : events_before c.is b ≤ events_before c.is a + n = subst (λ (q : Plan). events_before q b ≤ events_before q a + n) plan short in
+    let all : (events_before c.is b ≡ events_before c.is a + n) ⊎ NoneComes new (next_first (drop at c.old)) = subst (λ (q : Plan). (events_before q b ≡ events_before q a + n) ⊎ NoneComes new (next_first (drop at c.old))) plan full in
     let held : new.handled + events_before c.is a ≡ now.handled + events_before c.is b = subst (λ (q : Plan). new.handled + events_before q a ≡ now.handled + events_before q b) plan counted in
     let x = sp.ends.1 in
     let y = sp.ends.2 in
     let grow = events-grow c.is a b (omega (arith, x, y)) in
     let k = events_before c.is b - events_before c.is a in
-    let more = on-worked c n (drop at c.old) ss us s a b (handled + now.handled) k on sp within (omega (arith, grow)) (omega (arith, few)) in
+    let is : events_before c.is b ≡ events_before c.is a + k = omega (arith, grow) in
+    let piece = is-piece c n at k a new (same ∙ plan) within is (omega (arith, few)) all in
+    let more = on-worked c n (drop at c.old) ss us s a b (handled + now.handled) k on sp within is piece in
     let sum : (handled + now.handled) + k ≡ handled + new.handled = omega (arith, held, grow) in
     (us, count, still, same ∙ plan, subst (λ h. IsOn c n (drop at c.old) (ss ++ s ∷ []) us b h) sum more)
 
@@ -175,4 +202,4 @@ stands-passed c n at kept engine ss h k e st = subst (λ (y : Bool). Stands c n 
 -- the new segments are a cut
 pub rejoined-cut : (p q r : Plan) (old : List SegmentView) (n : ℕ) (ss : List SegmentView) (handled reused : ℕ) → IsRejoined p q old n ss handled reused → q ≡ r → IsCut r ss
 rejoined-cut p q r old n ss handled reused done e =
-    subst (λ (x : Plan). IsCut x ss) e (done.patched.0, patched-chain q n 0 done.patched.0 ss done.taken handled done.patched.1, done.patched.2)
+    subst (λ (x : Plan). IsCut x ss) e (done.patched.0, patched-chain q old n 0 done.patched.0 ss done.taken handled done.patched.1, done.patched.2)

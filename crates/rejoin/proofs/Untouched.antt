@@ -42,10 +42,10 @@ span-counts q s a b sp =
     omega (arith, grow, e, one)
 
 -- where nothing is worked, the new segments are those that were taken over
-none-worked : (q : Plan) (n a b h : ℕ) (new us : List SegmentView) → h ≡ 0 → Patched q n a new us h b → new ≡ us
-none-worked q n a b h [] us z (e, u, w) = sym u
-none-worked q n a b h (s ∷ ss) us z (m, sp, inl (vs, e, rest)) = ap (λ (l : List SegmentView). s ∷ l) (none-worked q n m b h ss vs z rest) ∙ sym e
-none-worked q n a b h (s ∷ ss) us z (m, sp, inr (k, held, few, (g, e, rest))) =
+none-worked : (q : Plan) (old : List SegmentView) (n a b h : ℕ) (new us : List SegmentView) → h ≡ 0 → Patched q old n a new us h b → new ≡ us
+none-worked q old n a b h [] us z (e, u, w) = sym u
+none-worked q old n a b h (s ∷ ss) us z (m, sp, inl (vs, e, rest)) = ap (λ (l : List SegmentView). s ∷ l) (none-worked q old n m b h ss vs z rest) ∙ sym e
+none-worked q old n a b h (s ∷ ss) us z (m, sp, inr (k, held, few, (g, e, rest))) =
     absurd (let more = span-counts q s a m sp in omega (arith, more, held, e, z))
 
 taken-over : (c : ChangeView) → IsChange c → (new : List SegmentView) (n handled reused : ℕ) → IsRejoined c.was c.is c.old n new handled reused → NothingTouched c.was c.is → IsTakenOver c.old new handled reused
@@ -54,7 +54,7 @@ taken-over c ok new n handled reused done none =
     let zero' : handled ≡ 0 = let m = marked-none (bound c.is + 1) in omega (arith, spent, m) in
     let all : done.taken ≡ c.old = all-taken c.was c.is c.old done.taken (each-kept c.was c.is c.old ok.alike ok.cut none) done.kept in
     record {
-      same = none-worked c.is n 0 done.patched.0 handled new done.taken zero' done.patched.1 ∙ all;
+      same = none-worked c.is c.old n 0 done.patched.0 handled new done.taken zero' done.patched.1 ∙ all;
       none = zero';
       all = done.count ∙ ap length all;
     }

@@ -159,7 +159,7 @@ fn finish<A: Allocator + Copy>(
 }
 
 // The segments of the new plan's simulation: the kept ones of the old segments, and between them
-// worked ones of up to `spacing` event seconds each.
+// worked ones of `spacing` event seconds, or those up to the next old first second or the end.
 pub(crate) fn rejoined<A: Allocator + Copy>(
     alloc: A,
     change: &Change<'_, A>,

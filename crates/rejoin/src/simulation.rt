@@ -27,9 +27,9 @@ pub struct Work {
 
 /// Simulates a table after edits, of which an old run is the simulation before them, under the old
 /// scenario: only the event seconds that lie in no kept old segment's stretch are worked, and each
-/// kept segment is taken over. The other segments hold at least one and at most `spacing` event
-/// seconds. Where the edits touch no job, all old segments are taken over and no event second is
-/// worked.
+/// kept segment is taken over. The other segments hold `spacing` event seconds each, or fewer, and at
+/// least one, where no more of them come before an old segment's first second, or at all. Where the
+/// edits touch no job, all old segments are taken over and no event second is worked.
 ///
 /// Its condition: each edit is accepted, one after another, and the table is the old one after them;
 /// with no edit, an equal one. BadSpacing where `spacing` is not within 1 to 65,536; Memory where a

@@ -1,5 +1,7 @@
-use Rattle.std.proofs.Common.{◌≤◌, false, map, subst, sym, List, IfSome}
+use Rattle.std.proofs.Common.{◌≡◌, ◌+◌, ◌⊎◌, ◌≤◌, false, map, subst, sym, List, IfSome}
 use Rattle.std.specs.Arc.{arc_value}
+use Rattle.event_loop.specs.Events.{events_before}
+use Rattle.checkpoints.specs.Coming.{NoneComes}
 use Rattle.checkpoints.specs.Segment.{SegmentView}
 use Rattle.checkpoints.proofs.Lemmas.{push-seen}
 use Rattle.rejoin.specs.Rejoining.{Stands}
@@ -14,7 +16,8 @@ segments-preserved g c =
     let s = c.in_ok-segment.segment in
     let before' : List SegmentView = map arc_value c.segments.patch.segments.items in
     let more = stands-worked c.args.change.now c.args.spacing c.args.at now new before' s c.segments.patch.handled c.segments.patch.reused c.segments.invariant.stands c.in_ok-segment.ensures.plan c.in_ok-segment.ensures.going c.in_ok-segment.ensures.spans
-    (subst (λ o. IfSome o (λ e. new.position ≤ e)) c.first-end.ensures.first c.in_ok-segment.ensures.within) c.in_ok-segment.ensures.short c.in_ok-segment.ensures.counted in
+    (subst (λ o. IfSome o (λ e. new.position ≤ e)) c.first-end.ensures.first c.in_ok-segment.ensures.within) c.in_ok-segment.ensures.short
+    (subst (λ o. (events_before now.plan new.position ≡ events_before now.plan now.position + c.args.spacing) ⊎ NoneComes new o) c.first-end.ensures.first c.in_ok-segment.ensures.full) c.in_ok-segment.ensures.counted in
     record {
       stands = subst (λ (ss : List SegmentView). Stands c.args.change.now c.args.spacing c.args.at false new ss c.segments.patch.handled c.segments.patch.reused)
           (sym (push-seen arc_value c.segments.patch.segments.items c.push.new.self.items c.in_ok-new.field-0 s c.in_ok-push.ensures.items c.in_ok-new.ensures.ok)) more;
