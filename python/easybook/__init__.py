@@ -40,8 +40,6 @@ from .swf import Job, Log, parse, read
 from .sweeps import Rows, run, sweep
 from .waits import Group, Pair, Recorded, compare, recorded, summary
 
-__version__ = "1.0.0"
-
 __all__ = [
     "BadField", "BadValue", "BadWord", "Behind", "Day", "DumpFault", "DuplicateJob", "EasybookError", "Ended", "Failure",
     "Group", "Job", "JournalFull", "Log", "LogFault", "Memory", "NameTaken", "NoProgram", "NoSuchJob", "NoSuchScenario",

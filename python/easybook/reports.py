@@ -165,13 +165,14 @@ class Answers:
     def table(self, name: str) -> Table:
         """The report `table`."""
         self.words("table", name, "version")
-        jobs = self._row(lambda it: [int(it[1]), int(it[3])])
-        skipped = self._row(lambda it: [int(it[place]) for place in (2, 4, 6, 8)])
-        wait = self._row(lambda it: [int(it[2]), int(it[4])])
+        jobs, killed = self._row(lambda it: (int(it[1]), int(it[3])))
+        size, run, large, long = self._row(lambda it: (int(it[2]), int(it[4]), int(it[6]), int(it[8])))
+        mean_wait, greatest_wait = self._row(lambda it: (int(it[2]), int(it[4])))
         length = self._row(lambda it: int(it[2]))
         slowdown = self._row(lambda it: Decimal(it[2]))
-        busy = self._row(lambda it: [int(it[1]), int(it[3])])
-        return Table(*jobs, *skipped, *wait, length, slowdown, *busy, self._row(lambda it: _percent(it[1])))
+        busy, span = self._row(lambda it: (int(it[1]), int(it[3])))
+        used = self._row(lambda it: _percent(it[1]))
+        return Table(jobs, killed, size, run, large, long, mean_wait, greatest_wait, length, slowdown, busy, span, used)
 
     def users(self, name: str) -> List[User]:
         """The report `users`."""

@@ -116,7 +116,7 @@ def _over(executor: Executor, todo: List[Task], stopper: Optional[Stopper]) -> L
     return [done[place] for place in range(len(todo))]
 
 
-def _checked(logs: Iterable[Path], scenarios: Iterable[Scenario]) -> Tuple[List[str], List[Scenario]]:
+def _checked(logs: Union[Path, Iterable[Path]], scenarios: Iterable[Scenario]) -> Tuple[List[str], List[Scenario]]:
     if isinstance(logs, (str, os.PathLike)):
         logs = [logs]
     asked = list(scenarios)

@@ -2,7 +2,6 @@
 
 from __future__ import annotations
 
-import contextlib
 from typing import Callable, Dict, Hashable, Iterator, List, NamedTuple, Optional
 
 from . import swf
@@ -57,8 +56,8 @@ def _row(job: Job) -> Recorded:
 
 def rows_of(path: Path) -> Iterator[Recorded]:
     """The jobs of a log whose wait is told, one at a time."""
-    with swf.opened(path) as file, contextlib.closing(swf.lines(file)) as lines:
-        for it in lines:
+    with swf.opened(path) as file:
+        for it in swf.lines(file):
             if isinstance(it, Job) and not it.is_partial and it.wait >= 0:
                 yield _row(it)
 

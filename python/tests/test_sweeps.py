@@ -1,8 +1,12 @@
 """Many scenarios of many logs: rows, failures, executors, what is left behind."""
 
 import concurrent.futures
+import importlib.util
 import io
 import os
+import shutil
+import subprocess
+import sys
 import threading
 import time
 import unittest
@@ -83,7 +87,22 @@ class Executors(unittest.TestCase):
                 rows = easybook.sweep(log, [Scenario(10)], executor)
         self.assertEqual((list(rows), len(rows.failures)), ([], 1))
 
-    def test_engines_where_they_are_installed(self):
+    @unittest.skipUnless(importlib.util.find_spec("mpi4py") and shutil.which("mpiexec"), "mpi4py or mpiexec is not installed")
+    def test_mpi4py(self):
+        code = """import easybook, sys
+from mpi4py.futures import MPIPoolExecutor
+if __name__ == "__main__":
+    with MPIPoolExecutor() as executor:
+        rows = easybook.sweep(sys.argv[1], [easybook.Scenario(10), easybook.Scenario(16)], executor, at_once=1)
+    sys.exit([it.mean_wait for it in rows] != [47, 12])
+"""
+        allowed = {"OMPI_ALLOW_RUN_AS_ROOT": "1", "OMPI_ALLOW_RUN_AS_ROOT_CONFIRM": "1", "OMPI_MCA_rmaps_base_oversubscribe": "1"}
+        with a_log() as log, a_log(code, "sweep.py") as script:
+            words = ["mpiexec", "-n", "2", sys.executable, "-m", "mpi4py.futures", script, log]
+            ran = subprocess.run(words, env={**os.environ, **allowed}, capture_output=True, timeout=120, check=False)
+        self.assertEqual(ran.returncode, 0, ran.stderr)
+
+    def test_dask(self):
         try:
             from dask.distributed import Client
         except ImportError:
