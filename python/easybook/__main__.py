@@ -5,6 +5,7 @@ from __future__ import annotations
 import argparse
 import contextlib
 import csv
+import io
 import os
 import sys
 import warnings
@@ -163,6 +164,9 @@ def _common(it: argparse.ArgumentParser) -> None:
 
 def main(words: Optional[Sequence[str]] = None) -> int:
     """Works a command; the exit status."""
+    for it in (sys.stdout, sys.stderr):
+        if isinstance(it, io.TextIOWrapper):
+            it.reconfigure(errors="surrogateescape")  # names of files may be any bytes
     try:
         asked = _parser().parse_args(words)
         status: int = asked.work(asked)

@@ -1,6 +1,7 @@
 """From accounting to a log: each decision on a dump of a few rows, worked by hand."""
 
 import io
+import random
 import unittest
 from datetime import datetime
 
@@ -215,17 +216,42 @@ class Refusals(unittest.TestCase):
         self.refuses(r"no column AllocCPUS or NCPUS or ReqCPUS", head="JobID|Submit|Start|End|State")
         self.refuses(r"no column ElapsedRaw or Elapsed or End", head="JobID|Submit|Start|State|AllocCPUS")
         self.refuses(r"no column JobIDRaw or JobID", head="Submit|State")
-        self.refuses(r"the column State stands there twice", head="JobID|State|State")
+        self.refuses(r"the column 'State' stands there twice", head="JobID|State|State")
         self.refuses(r"^line 1 of the dump: it names no columns between '\|': dump with", head="JobID   JobName")
         self.refuses(r"^line 1 of the dump: no job stands behind it")
         self.refuses(r"^line 2 of the dump: 'x' is no job", row(JobID="x"))
         self.refuses(r"^line 2 of the dump: JobIDRaw '1e3' is no job's number", row(JobIDRaw="1e3"))
-        self.refuses(r"^line 2 of the dump: '٣' is no number of processors", row(AllocCPUS="٣"))
+        self.refuses(r"^line 2 of the dump: '.u0663' is no number of processors", row(AllocCPUS="٣"))
         self.refuses(r"^line 2 of the dump: ElapsedRaw '-5' is no number", row(ElapsedRaw="-5"))
         self.refuses(r"^line 2 of the dump: the job has no submit time", row(Submit="Unknown", Eligible="Unknown"))
         self.refuses(r"^line 2 of the dump: '11/25-22:22:43' is no time: dump with SLURM_TIME_FORMAT", row(Submit="11/25-22:22:43"))
         self.refuses(r"^line 2 of the dump: '2026-02-30T00:00:00' is no time of the calendar", row(Submit="2026-02-30T00:00:00"))
         self.refuses(r"over 1048576 bytes", row(User="x" * 1_100_000))
+
+    def test_a_spoiled_dump_is_refused_or_gives_a_log(self):
+        chance = random.Random(11)
+        bits = ["", "0", "-1", "None", "Unknown", "UNLIMITED", "9" * 5000, "9" * 11, "9999999-00:00:00", "1:2", "٣", "x", "7.batch", "7_[1-5%2]", "7+1", "a|b", "\r",
+                "\udcff", "0001-01-01T00:00:00", "9999-12-31T23:59:59", "1969-12-31T23:59:59", "2026-07-01T10:00:00", "2026-07-01T10:00:00+23:59", "PENDING", "RUNNING",
+                "None assigned", "999999999999", "199999999999", "1e3", "7"]
+        refused = 0
+        for _ in range(1500):
+            rows = [row(it) for it in (7, 8, 7, 9)]
+            for _ in range(chance.randrange(1, 4)):
+                values = rows[chance.randrange(4)].split("|")
+                values[chance.randrange(len(values))] = chance.choice(bits)
+                rows[chance.randrange(4)] = "|".join(values)
+            local = chance.choice([None, zone("Europe/Paris"), zone("Pacific/Apia"), zone("-2359")])
+            try:
+                that = made(*rows, zone=local, zero=chance.choice(["first", "midnight"]), size=chance.choice(["alloc", "req", "nodes"]))
+            except easybook.DumpFault as it:
+                self.assertRegex(str(it), r"\Aline \d+ of the dump: [ -~]{1,500}\Z")
+                refused += 1
+                continue
+            room = io.BytesIO()
+            that.write(room)
+            self.assertEqual(easybook.parse(room.getvalue()).jobs, that.jobs)
+        self.assertGreater(refused, 300)
+        self.assertLess(refused, 1200)
 
     def test_two_clusters(self):
         head = HEAD + "|Cluster"

@@ -6,7 +6,7 @@ from collections import Counter
 from datetime import tzinfo
 from typing import BinaryIO, Dict, FrozenSet, List, NamedTuple, Optional, Tuple
 
-from ..errors import DumpFault
+from ..errors import BadWord, DumpFault
 from ..runs import MOST_PROCESSORS
 from ..swf import MISSING, MOST_JOBS, Job, job_text
 from .executions import Execution, Names, Reader, is_unlimited
@@ -116,7 +116,7 @@ def _count(it: Execution, size: int, estimate: int, options: Options, counts: "C
     counts["past limit"] += it.run is not None and 0 < estimate < it.run
 
 
-def _job(that: Numbered, zero: int, arrival: int, options: Options, counts: "Counter[str]") -> Job:
+def _job(that: Numbered, zero: int, arrival: int, places: _Places, options: Options, counts: "Counter[str]") -> Job:
     it = that.execution
     size, estimate = _size(it, options), _estimate(it, options, counts)
     _count(it, size, estimate, options, counts)
@@ -124,53 +124,61 @@ def _job(that: Numbered, zero: int, arrival: int, options: Options, counts: "Cou
     status = MISSING if it.fate in (Fate.PENDING, Fate.RUNNING) else it.fate.value
     return Job(number=that.number, submit=arrival - zero, wait=it.start - arrival if it.start is not None else MISSING,
                run=it.run if has_run and it.run is not None else MISSING, allocated=it.allocated if has_run else MISSING,
-               processors=size, estimate=estimate, status=status, user=it.user, group=it.account, queue=it.qos,
-               partition=it.partition)
+               processors=size, estimate=estimate, status=status, user=places.user[it.user],
+               group=places.account[it.account], queue=places.qos[it.qos], partition=places.partition[it.partition])
+
+
+_HALF = 1 << 25
 
 
 def _peak(jobs: List[Numbered], options: Options, zero: int) -> Tuple[int, int]:
     """The most processors in use at a time, and the first second of the log at which they are."""
-    changes: List[Tuple[int, int]] = []
+    # A change is one number, the second above what changes then, since there are two for each of millions of jobs.
+    changes: List[int] = []
     for _, it, _ in jobs:
         # One that was suspended held nothing for a part of its time, which no column tells.
         if it.start is not None and it.run is not None and not it.was_suspended:
-            size = it.allocated if it.allocated > 0 else max(_size(it, options), 0)
-            changes.append((it.start, size))
-            changes.append((max(it.start, it.end if it.end is not None else it.start + it.run), -size))
+            size = min(it.allocated if it.allocated > 0 else max(_size(it, options), 0), MOST_PROCESSORS)
+            end = max(it.start, it.end if it.end is not None else it.start + it.run)
+            changes.append((it.start << 26) + _HALF + size)
+            changes.append((end << 26) + _HALF - size)
+    changes.sort()
     used, peak, when = 0, 0, zero
-    for second, change in sorted(changes):
-        used += change
+    for change in changes:
+        used += (change & (2 * _HALF - 1)) - _HALF
         if used > peak:
-            peak, when = used, second
+            peak, when = used, change >> 26
     return peak, when - zero
 
 
-class _Legend(NamedTuple):
-    """A kind of names: what it is called in a log, its field, and its names."""
+class _Places(NamedTuple):
+    """The numbers that users, accounts, partitions and QOS have in the log, by those that they were read with."""
 
-    kind: str
-    field: str
-    names: Names
+    user: Dict[int, int]
+    account: Dict[int, int]
+    partition: Dict[int, int]
+    qos: Dict[int, int]
 
 
-def _named(jobs: List[Job], reader: Reader) -> Tuple[List[Job], List[str]]:
-    """The jobs with users, accounts, partitions and QOS numbered in the order of their names, and what the numbers are."""
-    legends = (_Legend("user", "user", reader.users), _Legend("group", "group", reader.accounts),
-               _Legend("partition", "partition", reader.partitions), _Legend("queue", "queue", reader.qos))
+def _places(numbered: List[Numbered], reader: Reader) -> Tuple[_Places, List[str]]:
+    """These numbers, in the order of the names, and lines that say whose they are."""
+    kinds = (("user", reader.users, {it.execution.user for it in numbered}),
+             ("group", reader.accounts, {it.execution.account for it in numbered}),
+             ("partition", reader.partitions, {it.execution.partition for it in numbered}),
+             ("queue", reader.qos, {it.execution.qos for it in numbered}))
     lines: List[str] = []
-    places: Dict[str, Dict[int, int]] = {}
-    for it in legends:
-        names, places[it.field] = it.names.sorted({int(getattr(job, it.field)) for job in jobs})
-        lines += [f"{it.kind} {place} is {_shown(name)}" for place, name in enumerate(names, 1)]
-    user, group, partition, queue = (places[it.field] for it in legends)
-    return [job._replace(user=user[int(job.user)], group=group[int(job.group)], partition=partition[int(job.partition)],
-                         queue=queue[int(job.queue)]) for job in jobs], lines
+    places: List[Dict[int, int]] = []
+    for kind, names, used in kinds:
+        those, place = names.sorted(used)
+        places.append(place)
+        lines += [f"{kind} {number} is {_shown(name)}" for number, name in enumerate(those, 1)]
+    return _Places(*places), lines
 
 
 def convert(file: BinaryIO, options: Options) -> Made:
     """The log of a dump. Raises `DumpFault` at the first row that can't be taken."""
     if not 1 <= options.procs <= MOST_PROCESSORS:
-        raise DumpFault(1, f"the machine has 1 to {MOST_PROCESSORS} processors, not {options.procs}")
+        raise BadWord(f"the machine has 1 to {MOST_PROCESSORS} processors, not {options.procs}")
     clock = Clock(options.zone)
     dump = Dump(file, options.delimiter)
     reader = Reader(dump.columns, clock, options.size == "nodes")
@@ -185,7 +193,8 @@ def convert(file: BinaryIO, options: Options) -> Made:
     arrivals = [_arrival(it.execution, options, counts) for it in numbered]
     first = min(arrivals)
     zero = clock.midnight(first) if options.zero == "midnight" else first
-    jobs, legend = _named([_job(it, zero, arrival, options, counts) for it, arrival in zip(numbered, arrivals)], reader)
+    places, legend = _places(numbered, reader)
+    jobs = [_job(it, zero, arrival, places, options, counts) for it, arrival in zip(numbered, arrivals)]
     peak, when = _peak(numbered, options, zero)
     counts["first lines"] = dump.further_first_lines
     facts = Facts(counts, options, clock, len(jobs), zero, peak, when, len({it.partition for it in jobs}),

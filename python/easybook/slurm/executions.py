@@ -8,7 +8,7 @@ from typing import Dict, List, NamedTuple, Optional, Set, Tuple, Union
 
 from ..errors import DumpFault
 from .rows import Columns, Row
-from .values import UNLIMITED, Clock, Fate, Unreadable, fate, length, limit
+from .values import UNLIMITED, Clock, Fate, Unreadable, fate, length, limit, quoted
 
 _JOB_ID = re.compile(r"(\d+)(_(?:\d+|\[[^\]]*\])|\+\d+)?", re.ASCII)
 _NODE_LISTS_OF_NONE = ("None assigned", "None", "(null)")
@@ -135,17 +135,17 @@ class Reader:
         if self._one_cluster is None:
             self._one_cluster = name
         if name != self._one_cluster:
-            raise Unreadable(f"it is of the cluster {name!r}, those before of {self._one_cluster!r}: dump each cluster by itself (-M)")
+            raise Unreadable(f"it is of the cluster {quoted(name)}, those before of {quoted(self._one_cluster)}: dump each cluster by itself (-M)")
 
     @staticmethod
     def _number(label: str, raw: Optional[str]) -> Optional[int]:
         """Slurm's own number of the job; None where the dump doesn't tell it."""
         match = _JOB_ID.fullmatch(label)
         if match is None:
-            raise Unreadable(f"{label!r} is no job: mend or leave out the row")
+            raise Unreadable(f"{quoted(label)} is no job: mend or leave out the row")
         if raw is not None:
             if not (raw.isdigit() and raw.isascii() and len(raw) <= 12):
-                raise Unreadable(f"JobIDRaw {raw!r} is no job's number: mend or leave out the row")
+                raise Unreadable(f"JobIDRaw {quoted(raw)} is no job's number: mend or leave out the row")
             return int(raw)
         return int(match.group(1)) if len(match.group(1)) <= 12 and match.group(2) in (None, "+0") else None
 
@@ -156,7 +156,7 @@ class Reader:
         if text in ("", "Unknown"):
             return -1
         if not (text.isdigit() and text.isascii() and len(text) <= 12):
-            raise Unreadable(f"{text!r} is no number of processors or nodes")
+            raise Unreadable(f"{quoted(text)} is no number of processors or nodes: dump with --noconvert, or mend the row")
         return int(text)
 
     def _run(self, values: List[str], start: Optional[int], end: Optional[int], suspended: int) -> Optional[int]:
@@ -164,7 +164,7 @@ class Reader:
         text = "" if self._elapsed_raw is None else values[self._elapsed_raw]
         if text:
             if not (text.isdigit() and text.isascii() and len(text) <= 12):
-                raise Unreadable(f"ElapsedRaw {text!r} is no number of seconds")
+                raise Unreadable(f"ElapsedRaw {quoted(text)} is no number of seconds")
             return int(text)
         if self._elapsed is not None and values[self._elapsed]:
             return length(values[self._elapsed])

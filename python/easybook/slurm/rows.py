@@ -6,6 +6,7 @@ import codecs
 from typing import BinaryIO, Dict, Iterator, List, NamedTuple, Optional
 
 from ..errors import DumpFault
+from .values import quoted
 
 MOST_BYTES_OF_LINE = 1 << 20
 FORMAT = ("JobIDRaw,JobID,Submit,Eligible,Start,End,ElapsedRaw,Suspended,State,User,Account,Partition,QOS,"
@@ -27,7 +28,7 @@ class Columns:
         self._places: Dict[str, int] = {}
         for place, name in enumerate(names):
             if self._places.setdefault(name.strip().lower(), place) != place:
-                raise DumpFault(line, f"the column {name} stands there twice: {_ADVICE}")
+                raise DumpFault(line, f"the column {quoted(name)} stands there twice: {_ADVICE}")
         self._line = line
 
     def has(self, name: str) -> bool:
@@ -71,7 +72,7 @@ class Dump:
         self._first = next(self._lines, "")
         self.further_first_lines = 0
         if delimiter not in self._first:
-            raise DumpFault(1, f"it names no columns between {delimiter!r}: {_ADVICE}")
+            raise DumpFault(1, f"it names no columns between {quoted(delimiter)}: {_ADVICE}")
         names = self._first.split(delimiter)
         # `sacct -p` ends each line with the delimiter, `sacct -P` doesn't.
         self._ends = names[-1] == ""
@@ -91,6 +92,6 @@ class Dump:
         values = text.split(self._delimiter)
         if len(values) != self._count or (self._ends and values[-1]):
             told, named = len(values) - (self._ends and values[-1] == ""), self._count - self._ends
-            raise DumpFault(line, f"{told} columns where line 1 names {named}: a value holds {self._delimiter!r} or a line's end; "
+            raise DumpFault(line, f"{told} columns where line 1 names {named}: a value holds {quoted(self._delimiter)} or a line's end; "
                             "leave out columns such as JobName and SubmitLine, or dump and read with another --delimiter")
         return values

@@ -14,14 +14,25 @@ A_DAY = 86_400
 _MISSING = frozenset(("", "None", "Unknown", "N/A", "0", "INVALID"))
 _TIME = re.compile(r"(\d{4}-\d\d-\d\d)[T ](\d\d:\d\d:\d\d)(Z|[+-]\d\d:?\d\d)?", re.ASCII)
 _OFFSET = re.compile(r"([+-])(\d\d):?(\d\d)", re.ASCII)
-_LENGTH = re.compile(r"(?:(\d+)-)?(?:(\d+):)?(\d+):(\d+)(?:\.\d+)?", re.ASCII)
+_LENGTH = re.compile(r"(?:(\d{1,7})-)?(?:(\d{1,7}):)?(\d{1,7}):(\d{1,7})(?:\.\d+)?", re.ASCII)
 _EPOCH = datetime(1970, 1, 1)
 _OF_HOUR = {f"{it // 60:02}:{it % 60:02}": it for it in range(3600)}
 _MOST_HOURS = 100_000
+_LATEST = 200_000_000_000
 
 
 class Unreadable(ValueError):
     """A value that is of no form that Slurm writes; its text says what it should be."""
+
+
+def quoted(text: str) -> str:
+    """A value as an error tells it: in one line of ASCII, and no longer than a reader likes.
+
+    >>> quoted("a\\nb")
+    "'a\\\\nb'"
+    """
+    shown = ascii(text)
+    return shown if len(shown) <= 80 else f"{shown[:77]}.."
 
 
 def whole(delta: timedelta) -> int:
@@ -35,7 +46,7 @@ def _offset(text: str) -> timezone:
         return timezone.utc
     minutes = int(match.group(2)) * 60 + int(match.group(3))
     if minutes >= 24 * 60:
-        raise Unreadable(f"no zone is {text} from UTC")
+        raise Unreadable(f"no zone is {quoted(text)} from UTC")
     return timezone(timedelta(minutes=-minutes if match.group(1) == "-" else minutes))
 
 
@@ -50,7 +61,7 @@ def zone(name: str) -> tzinfo:
     try:
         return ZoneInfo(name)
     except (ZoneInfoNotFoundError, ValueError, OSError):
-        raise Unreadable(f"no zone is known by the name {name!r}: give one such as Europe/Paris, UTC or +01:00") from None
+        raise Unreadable(f"no zone is known by the name {quoted(name)}: give one such as Europe/Paris, UTC or +01:00") from None
 
 
 class Clock:
@@ -72,17 +83,24 @@ class Clock:
         if begin is not None and rest is not None:
             self.without_zone += self._local is None
             return begin + rest
-        if text.isdigit() and text.isascii() and len(text) <= 12:
-            return int(text)
+        seconds = int(text) if text.isdigit() and text.isascii() and len(text) <= 12 else self._read(text)
+        if not 0 <= seconds <= _LATEST:
+            raise Unreadable(f"{quoted(text)} is no time of a cluster: mend or leave out the row")
+        return seconds
+
+    def _read(self, text: str) -> int:
+        """The seconds of a time of the calendar."""
         match = _TIME.fullmatch(text)
         if match is None:
-            raise Unreadable(f"{text!r} is no time: dump with SLURM_TIME_FORMAT=%s, or unset it")
+            raise Unreadable(f"{quoted(text)} is no time: dump with SLURM_TIME_FORMAT=%s, or unset it")
         try:
             there = datetime.fromisoformat(f"{match.group(1)}T{match.group(2)}")
         except ValueError:
-            raise Unreadable(f"{text!r} is no time of the calendar") from None
+            raise Unreadable(f"{quoted(text)} is no time of the calendar") from None
         if match.group(3):
             return whole(there - _EPOCH) - whole(_offset(match.group(3)).utcoffset(None))
+        if not 1970 <= there.year < 9000:
+            return -1
         return self._in_zone(there)
 
     def _in_zone(self, there: datetime) -> int:
@@ -131,7 +149,7 @@ def length(text: str) -> Optional[int]:
         return None
     match = _LENGTH.fullmatch(text)
     if match is None:
-        raise Unreadable(f"{text!r} is no length of time such as 1-02:03:04")
+        raise Unreadable(f"{quoted(text)} is no length of time such as 1-02:03:04")
     days, hours, minutes, seconds = (int(it or 0) for it in match.groups())
     return ((days * 24 + hours) * 60 + minutes) * 60 + seconds
 
@@ -148,13 +166,13 @@ def limit(text: str, is_minutes: bool) -> Union[int, str, None]:
         return None
     if not is_minutes:
         return length(text)
-    if not (text.isdigit() and text.isascii()):
-        raise Unreadable(f"{text!r} is no limit in minutes")
+    if not (text.isdigit() and text.isascii() and len(text) <= 10):
+        raise Unreadable(f"{quoted(text)} is no limit in minutes")
     return int(text) * 60
 
 
 _DURATION = re.compile(
-    r"(?P<m>\d+)|(?P<m2>\d+):(?P<s2>\d+)|(?:(?P<d3>\d+)-)?(?P<h3>\d+):(?P<m3>\d+):(?P<s3>\d+)|(?P<d4>\d+)-(?P<h4>\d+)(?::(?P<m4>\d+))?",
+    r"(?P<m>N)|(?P<m2>N):(?P<s2>N)|(?:(?P<d3>N)-)?(?P<h3>N):(?P<m3>N):(?P<s3>N)|(?P<d4>N)-(?P<h4>N)(?::(?P<m4>N))?".replace("N", r"\d{1,7}"),
     re.ASCII)
 
 
@@ -166,7 +184,7 @@ def duration(text: str) -> int:
     """
     match = _DURATION.fullmatch(text)
     if match is None:
-        raise Unreadable(f"{text!r} is no time limit: give minutes, H:M:S or D-H:M:S")
+        raise Unreadable(f"{quoted(text)} is no time limit: give minutes, H:M:S or D-H:M:S")
     unit = {"d": A_DAY, "h": 3600, "m": 60, "s": 1}
     return sum(unit[name[0]] * int(digits) for name, digits in match.groupdict().items() if digits)
 
@@ -202,5 +220,5 @@ def fate(state: str) -> Fate:
     """
     name = state.split(" ", 1)[0].rstrip("+")
     if name not in _FATE_OF:
-        raise Unreadable(f"the state {state!r} is not known: if it is one of Slurm's, tell easybook's makers; otherwise mend or leave out the row")
+        raise Unreadable(f"the state {quoted(state)} is not known: if it is one of Slurm's, tell easybook's makers; otherwise mend or leave out the row")
     return _FATE_OF[name]
