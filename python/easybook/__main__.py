@@ -7,6 +7,7 @@ import contextlib
 import csv
 import io
 import os
+import signal
 import sys
 import warnings
 from decimal import Decimal
@@ -183,5 +184,11 @@ def main(words: Optional[Sequence[str]] = None) -> int:
     return 1
 
 
+def _end(number: int, frame: object) -> None:
+    """Ends in good order, so that the programs that run end too."""
+    sys.exit(128 + number)
+
+
 if __name__ == "__main__":
+    signal.signal(signal.SIGTERM, _end)
     sys.exit(main())

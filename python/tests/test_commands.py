@@ -6,12 +6,13 @@ import os
 import subprocess
 import sys
 import tempfile
+import time
 import unittest
 from unittest import mock
 
 import easybook
 from easybook.__main__ import main
-from tests.cluster import FOUR, a_log
+from tests.cluster import FOUR, a_log, a_program, is_running, pids
 
 DUMP = """JobID|Submit|Start|End|State|AllocCPUS|NodeList|Timelimit|User
 7|2026-07-01T10:00:00|2026-07-01T10:00:10|2026-07-01T10:00:40|COMPLETED|8|n1|00:01:00|ana
@@ -73,6 +74,16 @@ class Commands(unittest.TestCase):
             f"{log},10-1000,10,1000,arrival,4,47,1.539,39.864", f"{log},16-1000,16,1000,arrival,4,12,1.136,29.324"])
         self.assertEqual((it.returncode, it.stderr.count(b"\n")), (1, 2))
         self.assertIn(b"easybook: /no/such/log, scenario 16-1000: ", it.stderr)
+
+    def test_a_sweep_that_is_told_to_end_ends_its_programs(self):
+        with a_log() as log, a_program("exec sleep 60") as fake:
+            words = [sys.executable, "-m", "easybook", "sweep", log, "--procs", "8,9,10", "--at-once", "1", "--program", fake]
+            with subprocess.Popen(words) as process:
+                while not pids(fake):
+                    time.sleep(0.01)
+                process.terminate()
+                self.assertEqual(process.wait(30), 143)
+            self.assertFalse(is_running(fake))
 
     def test_a_log_that_records_no_waits(self):
         with a_log(FOUR.replace("1 9 50", "1 -1 50").replace("2 0 90", "2 -1 90")) as log:

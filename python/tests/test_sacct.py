@@ -122,6 +122,8 @@ class Decisions(unittest.TestCase):
         self.assertEqual(jobs(held), [line()])
         self.assertEqual(jobs(held, arrival="submit"), [line(wait=110)])
         self.assertEqual(jobs(row(Submit="900", Eligible="Unknown")), [line(wait=110)])
+        self.says(made(row(Eligible="Unknown"), row(8)), "1 job without a time from which they were eligible (a column Eligible): they arrive when submitted")
+        self.assertEqual(made(row(Eligible="Unknown"), arrival="submit").warned, [])
 
     def test_a_start_before_it_was_eligible(self):
         that = made(row(Eligible="1020"))

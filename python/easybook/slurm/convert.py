@@ -74,7 +74,10 @@ def _read(dump: Dump, reader: Reader, options: Options, counts: "Counter[str]") 
 
 
 def _arrival(it: Execution, options: Options, counts: "Counter[str]") -> int:
-    arrival = it.submit if options.arrival == "submit" or it.eligible is None else it.eligible
+    arrival = it.submit
+    if options.arrival == "eligible":
+        counts["no eligible"] += it.eligible is None and it.start is not None
+        arrival = it.submit if it.eligible is None else it.eligible
     if it.start is not None and it.start < arrival:
         counts["started early"] += 1
         return it.start

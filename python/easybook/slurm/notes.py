@@ -83,6 +83,7 @@ def warned(facts: Facts) -> List[str]:
         ("no size", "{} job{} without a number of processors: not simulated"),
         ("no run", "{} job{} without a run time: not simulated"),
         ("guessed", "{} cancelled job{} of no run time taken as never started: a column AllocNodes or NodeList would tell"),
+        ("no eligible", "{} job{} without a time from which they were eligible (a column Eligible): they arrive when submitted"),
         ("started early", "{} job{} started before they were eligible: the start is taken as arrival"),
     ]) + _counted(clocks, [
         ("none", "{} time{} without a zone taken as UTC: an hour that the clocks repeat or skip isn't told apart (--tz)"),
