@@ -120,7 +120,8 @@ def _waits_of(words: argparse.Namespace) -> int:
         return 1
     groups = [(it, "all") for it in _waits.summary(pairs)]
     groups += [(it, f"size {it.group}") for it in _waits.summary(pairs, _waits.by_size)]
-    groups += [(it, f"user {it.group}") for it in _waits.summary(pairs, _waits.by_user)]
+    names = {str(user): name for user, name in _waits.user_names(words.log).items()}
+    groups += [(it, f"user {names.get(str(it.group), it.group)}") for it in _waits.summary(pairs, _waits.by_user)]
     _table(("group", *_waits.Group._fields[1:]), [(name, *it[1:-1], _ratio(it)) for it, name in groups], words.csv)
     return 0
 

@@ -2,13 +2,14 @@
 
 from __future__ import annotations
 
+import contextlib
 import os
 import sys
 import time
 import warnings
 from collections import Counter
-from concurrent.futures import CancelledError, Executor, Future, ThreadPoolExecutor, as_completed
-from typing import Dict, Iterable, List, NamedTuple, Optional, Sequence, TextIO, Tuple, Union
+from concurrent.futures import CancelledError, Executor, Future, ThreadPoolExecutor, TimeoutError, as_completed
+from typing import Dict, Iterable, Iterator, List, NamedTuple, Optional, Sequence, TextIO, Tuple, Union
 
 from .errors import BadWord
 from .program import Stopper, find
@@ -96,6 +97,17 @@ def _result(task: Task, future: "Future[Done]") -> Done:
         return _failed(task, it)
 
 
+def _as_completed(futures: Iterable["Future[Done]"]) -> Iterator["Future[Done]"]:
+    """Each of them once it is done. It looks up every second, since a signal that comes just before a wait without end
+    would be seen only after it."""
+    left = set(futures)
+    while left:
+        with contextlib.suppress(TimeoutError):
+            for future in as_completed(set(left), timeout=1):
+                left.discard(future)
+                yield future
+
+
 def _over(executor: Executor, todo: List[Task], stopper: Optional[Stopper]) -> List[Done]:
     """Works tasks over an executor; the answers in the order of the tasks. Whatever raises, what has not begun never
     does."""
@@ -105,7 +117,7 @@ def _over(executor: Executor, todo: List[Task], stopper: Optional[Stopper]) -> L
     try:
         for place, task in enumerate(todo):
             futures[executor.submit(work, task, stopper) if stopper else executor.submit(work, task)] = place
-        for future in as_completed(futures):
+        for future in _as_completed(futures):
             place = futures[future]
             done[place] = _result(todo[place], future)
             progress.add(len(todo[place].scenarios))

@@ -2,6 +2,7 @@
 
 from __future__ import annotations
 
+import re
 from typing import Callable, Dict, Hashable, Iterator, List, NamedTuple, Optional
 
 from . import swf
@@ -74,6 +75,15 @@ def compare(log: Path, procs: Optional[int] = None, factor: int = 1000, order: s
         starts = {it.number: it for it in simulate(path, procs, factor, order, program=program).schedule}
         return [Pair(it.number, it.user, starts[it.number].processors, it.wait, starts[it.number].wait)
                 for it in rows_of(path) if it.number in starts]
+
+
+_USER = re.compile(r";[ \t]*Note: user ([0-9]{1,12}) is (.+)", re.ASCII)
+
+
+def user_names(log: Path) -> Dict[int, str]:
+    """The names of users that a log of Slurm's accounting tells in its comments."""
+    found = (_USER.fullmatch(it) for it in swf.comments_of(log))
+    return {int(it.group(1)): it.group(2) for it in found if it is not None}
 
 
 def percentile(values: List[Number], percent: int) -> Number:

@@ -49,6 +49,7 @@ class Commands(unittest.TestCase):
                 file.write(it.stdout)
             self.assertEqual([(job.number, job.start) for job in easybook.simulate(path).schedule], [(7, 0), (8, 30)])
             table = ran("waits", path, "--csv")
+            self.assertEqual([it.split(",")[0] for it in table.stdout.decode().splitlines()], ["group", "all", "size 8", "user ana", "user bob"])
         self.assertEqual(table.stdout.decode().splitlines()[:2], [
             "group,jobs,recorded_mean,recorded_median,recorded_p90,simulated_mean,simulated_median,simulated_p90,ratio", "all,2,22,10,35,12,0,25,1.800"])
 

@@ -112,7 +112,7 @@ if __name__ == "__main__":
 
     def test_an_interrupt_ends_the_programs(self):
         with a_log() as log, a_program("exec sleep 60") as fake:
-            def interrupt(futures):
+            def interrupt(futures, timeout):
                 while not pids(fake):
                     time.sleep(0.01)
                 raise KeyboardInterrupt
