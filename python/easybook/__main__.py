@@ -136,7 +136,8 @@ def _parser() -> argparse.ArgumentParser:
     it.add_argument("--tz", help="the zone of times without one, such as Europe/Paris, UTC or +01:00")
     it.add_argument("--arrival", choices=("eligible", "submit"), default="eligible", help="when a job arrives")
     it.add_argument("--size", choices=("alloc", "req", "nodes"), default="alloc", help="what a job takes")
-    it.add_argument("--unlimited", type=_duration, default=A_YEAR, help="the estimate of jobs of unlimited time, as `sbatch -t` takes it; a year without this")
+    it.add_argument("--unlimited", type=_duration, default=A_YEAR,
+                    help="the estimate of jobs of unlimited time, as `sbatch -t` takes it; a year without this")
     it.add_argument("--no-limit", type=_duration, default=MISSING, help="the estimate of jobs without a limit")
     it.add_argument("--partition", type=_listed(str), default=[], help="take the jobs of these partitions alone: A,B")
     it.add_argument("--zero", choices=("first", "midnight"), default="first", help="second 0 of the log")

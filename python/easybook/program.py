@@ -27,7 +27,8 @@ def find(program: Optional[Path] = None) -> str:
         beside = os.path.join(os.path.dirname(os.path.abspath(__file__)), "..", "..", "easybook")
         found = shutil.which("easybook") or (shutil.which(beside) if os.path.isfile(beside) else None)
     if found is None:
-        raise NoProgram(f"there is no program {given}" if given else "the program easybook is not on the PATH: give program=PATH, or set EASYBOOK")
+        raise NoProgram(f"there is no program {given}" if given else
+                        "the program easybook is not on the PATH: give program=PATH, or set EASYBOOK")
     return os.path.abspath(found)
 
 

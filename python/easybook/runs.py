@@ -10,7 +10,7 @@ from typing import Dict, Iterable, List, NamedTuple, Optional, Sequence, Tuple
 from . import program as _program
 from . import swf
 from .errors import BadWord, Ended, Memory
-from .reports import Answers, Day, Missing, Start, Table, User
+from .reports import Answers, Day, Missing, Start, Table, UnknownAnswer, User
 from .swf import Path
 
 MOST_PROCESSORS = 16_777_216
@@ -67,7 +67,8 @@ class Opening(NamedTuple):
     procs: Optional[int]
 
 
-_SCENARIO = re.compile(r";[ \t]*Scenario:[ \t]*([^ \t]+)[ \t]+([0-9]{1,18})[ \t]+([0-9]{1,18})(?:[ \t]+(arrival|shortest))?[ \t]*", re.ASCII)
+_SCENARIO = re.compile(
+    r";[ \t]*Scenario:[ \t]*([^ \t]+)[ \t]+([0-9]{1,18})[ \t]+([0-9]{1,18})(?:[ \t]+(arrival|shortest))?[ \t]*", re.ASCII)
 
 
 def opening(comments: List[str]) -> Opening:
@@ -197,10 +198,12 @@ def side(log: Path, scenarios: Sequence[Scenario], program: Optional[Path] = Non
         with _program.answers(path, it.script(["settle", "side"]), it.procs, None, program, stopper) as told:
             it.begin(told)
             told.settled()
-            pairs = list(zip(it.scenarios, told.side()))
+            answered = told.side()
     rows: List[Row] = []
     failures: List[Failure] = []
-    for asked, row in pairs:
+    if [row.name for row in answered] != [asked for asked, _ in it.pairs()]:
+        raise UnknownAnswer(" ".join(row.name for row in answered))
+    for asked, row in zip(it.scenarios, answered):
         if isinstance(row, Missing):
             failures.append(Failure(name, asked, Memory()))
         else:

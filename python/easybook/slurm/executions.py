@@ -135,7 +135,8 @@ class Reader:
         if self._one_cluster is None:
             self._one_cluster = name
         if name != self._one_cluster:
-            raise Unreadable(f"it is of the cluster {quoted(name)}, those before of {quoted(self._one_cluster)}: dump each cluster by itself (-M)")
+            raise Unreadable(f"it is of the cluster {quoted(name)}, those before of {quoted(self._one_cluster)}: "
+                             "dump each cluster by itself (-M)")
 
     @staticmethod
     def _number(label: str, raw: Optional[str]) -> Optional[int]:

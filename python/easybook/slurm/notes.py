@@ -73,7 +73,8 @@ def decided(facts: Facts) -> List[str]:
 def warned(facts: Facts) -> List[str]:
     """Warnings, each with a count."""
     options, clock = facts.options, facts.clock
-    clocks: "Counter[str]" = Counter({"none": 0 if options.zone_name else clock.without_zone, "folded": clock.folded, "skipped": clock.skipped})
+    clocks: "Counter[str]" = Counter({
+        "none": 0 if options.zone_name else clock.without_zone, "folded": clock.folded, "skipped": clock.skipped})
     machine = f"the machine's {options.procs}"
     lines = _counted(facts.counts, [
         ("no estimate", "{} job{} without an estimate: the run time is taken, a perfect estimate (--no-limit gives another)"),

@@ -92,6 +92,6 @@ class Dump:
         values = text.split(self._delimiter)
         if len(values) != self._count or (self._ends and values[-1]):
             told, named = len(values) - (self._ends and values[-1] == ""), self._count - self._ends
-            raise DumpFault(line, f"{told} columns where line 1 names {named}: a value holds {quoted(self._delimiter)} or a line's end; "
-                            "leave out columns such as JobName and SubmitLine, or dump and read with another --delimiter")
+            raise DumpFault(line, f"{told} columns where line 1 names {named}: a value holds {quoted(self._delimiter)} or a "
+                            "line's end; leave out columns such as JobName and SubmitLine, or dump and read with another --delimiter")
         return values

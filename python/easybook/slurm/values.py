@@ -172,8 +172,8 @@ def limit(text: str, is_minutes: bool) -> Union[int, str, None]:
 
 
 _DURATION = re.compile(
-    r"(?P<m>N)|(?P<m2>N):(?P<s2>N)|(?:(?P<d3>N)-)?(?P<h3>N):(?P<m3>N):(?P<s3>N)|(?P<d4>N)-(?P<h4>N)(?::(?P<m4>N))?".replace("N", r"\d{1,7}"),
-    re.ASCII)
+    (r"(?P<m>N)|(?P<m2>N):(?P<s2>N)|(?:(?P<d3>N)-)?(?P<h3>N):(?P<m3>N):(?P<s3>N)|"
+     r"(?P<d4>N)-(?P<h4>N)(?::(?P<m4>N))?").replace("N", r"\d{1,7}"), re.ASCII)
 
 
 def duration(text: str) -> int:
@@ -220,5 +220,6 @@ def fate(state: str) -> Fate:
     """
     name = state.split(" ", 1)[0].rstrip("+")
     if name not in _FATE_OF:
-        raise Unreadable(f"the state {quoted(state)} is not known: if it is one of Slurm's, tell easybook's makers; otherwise mend or leave out the row")
+        raise Unreadable(f"the state {quoted(state)} is not known: if it is one of Slurm's, tell easybook's makers; otherwise "
+                         "mend or leave out the row")
     return _FATE_OF[name]
