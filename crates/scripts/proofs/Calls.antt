@@ -1,5 +1,5 @@
 -- The book's calls as steps of a session.
-use Rattle.std.proofs.Common.{◌≡◌, ℕ, List, max, refl, sym, ap, subst, inl, inr}
+use Rattle.std.proofs.Common.{◌≡◌, ℕ, List, refl, sym, ap, subst, inl, inr}
 use Rattle.std.specs.Prelude.{codes}
 use Rattle.book_machine.specs.declared.caller.Caller.{Caller}
 use Rattle.book_machine.specs.declared.reply.Reply.{Reply}

@@ -1,7 +1,7 @@
 mod Writings
+mod Settlings
 mod Transcripts
 mod Calls
 mod Named
 mod Looking
 mod Sides
-mod Settlings

@@ -26,14 +26,13 @@ use Rattle.version_book.specs.Tasks.{IsShownFor}
 use Rattle.version_book.proofs.Lemmas.{progress-shown}
 use Rattle.scripts.specs.declared.view_report.Report.{Report}
 use Rattle.scripts.specs.declared.view_report.Report.TheVariants as report
-use Rattle.scripts.specs.declared.answer.Refusal.TheVariants as why
 use Rattle.scripts.specs.Lines.{refused}
-use Rattle.scripts.specs.Looks.{IsListedAs, IsLooked, IsOf, IsUnseen, NotLooked, unseen_line}
+use Rattle.scripts.specs.Looks.{IsListedAs, IsLooked, IsOf, NotLooked, unseen_line}
 use Rattle.scripts.specs.Session.{Session, IsStep}
-use Rattle.scripts.specs.Steps.{IsMade, IsNamed, IsView, IsSeen, IsTold, log_of_version}
+use Rattle.scripts.specs.Steps.{IsMade, IsNamed, IsView, IsSeen, log_of_version}
 use Rattle.scripts.specs.Reports.{IsReport, report_text}
 use Rattle.scripts.proofs.Calls.{with}
-use Rattle.scripts.proofs.Named.{IsShown, shown-at, place-of, id-some, name-found, setting-some}
+use Rattle.scripts.proofs.Named.{shown-at, place-of, id-some, name-found, setting-some}
 
 -- ---- a look
 

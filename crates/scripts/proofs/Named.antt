@@ -2,15 +2,14 @@
 use Rattle.std.proofs.Common.{◌≡◌, ℕ, ◌+◌, ◌≤◌, ◌<◌, ◌==◌, List, [], ◌∷◌, map, drop, length, suc, zero, refl, sym, ◌∙◌, ap, subst, Bool, true, false, cond, arith}
 use Rattle.std.specs.Prelude.{Option, None, Some, find, slice_get}
 use Rattle.std.specs.Option.{option_map}
-use Rattle.std.specs.Str.{bytes_eq}
 use Rattle.std.proofs.Math.ListN.{drop_of_length-le}
 use Rattle.std.proofs.lemmas.Bool.{eq-eqb, ne_eqb}
 use Rattle.std.proofs.lemmas.Slice.Eq.{bytes_eq-Decides}
 use Rattle.scenarios.specs.Scenario.{Setting}
-use Rattle.scenarios.specs.ScenarioList.{Listed, Listing, IdsRise, has_name, named, id_of}
+use Rattle.scenarios.specs.ScenarioList.{Listed, IdsRise, has_name, named}
 use Rattle.version_book.specs.Book.{ShownView, BookView}
 use Rattle.version_book.specs.Lookups.{has_id}
-use Rattle.version_book.specs.Sound.{Under, AreListed, IsBook, under_of_shown, under_of_listed}
+use Rattle.version_book.specs.Sound.{Under, IsBook, under_of_shown, under_of_listed}
 
 -- ---- by name
 

@@ -1,22 +1,20 @@
 -- The work of what is due, task after task.
-use Rattle.std.proofs.Common.{◌≡◌, ℕ, ◌+◌, ◌<◌, ◌≤◌, ◌==◌, List, [], ◌∷◌, ◌++◌, map, refl, sym, ◌∙◌, ap, subst, Bool, true, false, cond, inl, inr, ◌⊎◌, arith}
-use Rattle.std.specs.Prelude.{Option, None, Some, Ok, Err, find, is_some}
+use Rattle.std.proofs.Common.{◌≡◌, ℕ, ◌+◌, ◌<◌, ◌≤◌, ◌==◌, List, [], ◌∷◌, ◌++◌, refl, sym, ◌∙◌, ap, subst, Bool, true, false, cond, inl, inr, ◌⊎◌, arith}
+use Rattle.std.specs.Prelude.{Option, None, Some, Ok, find, is_some}
 use Rattle.std.specs.Option.{option_map}
 use Rattle.book_machine.specs.declared.caller.Caller.{Caller}
-use Rattle.book_machine.specs.declared.reply.Reply.{Reply}
 use Rattle.version_book.specs.Answers.{claim_answer}
 use Rattle.version_book.specs.Steps.{Answers as Answered}
 use Rattle.book_machine.specs.declared.reply.Reply.TheVariants as reply
-use Rattle.book_machine.specs.Call.{Claim, Finish, GiveUp}
-use Rattle.book_machine.specs.Machine.{Machine, Progress, Ticket, version, due, are_all_out, is_due, after, changed_by, ticket_of, changed, closed, publish, marked, claim_reply, note_limit}
+use Rattle.book_machine.specs.Call.{Claim}
+use Rattle.book_machine.specs.Machine.{Machine, Progress, Ticket, version, due, are_all_out, is_due, after, ticket_of, changed, closed, publish, marked, claim_reply, note_limit}
 use Rattle.checkpoints.specs.RunView.{RunView}
-use Rattle.version_book.specs.Book.{BookView, StateView, ShownView, TicketView, machine_of, machine_at, progress_of_shown}
+use Rattle.version_book.specs.Book.{BookView, StateView, ShownView, TicketView, machine_of, progress_of_shown}
 use Rattle.version_book.specs.Tasks.{TaskView, Fits, HasThoseOf, IsOut, due_shown, free_due, task_for, ticket_for}
 use Rattle.version_book.proofs.Lemmas.{find-map}
-use Rattle.scripts.specs.Steps.{Ended, Published, GivenUp, Left, after_task, IsWorked, AreWorked, IsAtRest}
 use Rattle.scripts.specs.declared.settling.Turn.{Turn}
 use Rattle.scripts.specs.declared.settling.Turn.TheVariants as turn
-use Rattle.scripts.specs.Settling.{HaveWorked, IsTurn, TaskEnds}
+use Rattle.scripts.specs.Settling.{Ended, Published, GivenUp, after_task, AreWorked, CanClaim, Halts, IsAtRest, IsTurn, IsUnnoted, IsWorked, MayEnd, Settles, TicketEnds}
 
 -- ---- what is due
 
@@ -34,7 +32,7 @@ rests false (Some x) is = cc
 
 pub at-rest : (b : BookView) → free_due b.state ≡ None → IsAtRest (machine_of b)
 at-rest b is = elim (rests (are_all_out (machine_of b)) (due_shown b.state) is) [
-  | inl out ↦ inr (inl out)
+  | inl out ↦ inr out
   | inr none ↦ inl (due-of b ∙ ap (option_map progress_of_shown) none)
 ]
 
@@ -55,6 +53,9 @@ is-free b is =
     let h = goes (are_all_out (machine_of b)) (due_shown b.state) is in
     record { tickets = h.0; scenario = h.1.0; shown = h.1.1; due = due-of b ∙ ap (option_map progress_of_shown) h.1.1 }
 
+pub can-claim : (b : BookView) → is_some (free_due b.state) ≡ true → CanClaim (machine_of b)
+can-claim b is = let h = is-free b is in record { some_due = ap is_some h.due; free = h.tickets }
+
 -- then a claim isn't refused
 pub not-all-out : (b : BookView) → IsFree b → reply.TooManyTickets ≡ claim_reply (machine_of b) → ⊥
 not-all-out b h is =
@@ -72,45 +73,6 @@ pub fits-out : (s : StateView) (t : TaskView) (n : ℕ) (run : RunView) → IsOu
 fits-out s t n run out is log setting =
     let found : find (λ (it : TicketView). it.number == n) s.tickets ≡ Some (ticket_for t) = ap (λ (k : ℕ). find (λ (it : TicketView). it.number == k) s.tickets) is ∙ out in
     subst (λ (o : Option TicketView). HasThoseOf o run) (sym found) (log, setting)
-
--- ---- turns
-
-pub worked : (b : BookView) (ended : Ended) (ticket : ℕ) (new : Machine) → IsFree b → (machine_of b).notes < note_limit → ticket ≡ (machine_of b).next_ticket → new ≡ after_task ticket ended (after Claim (machine_of b)) → IsWorked (machine_of b) ended new
-worked b ended ticket new h room is new_is =
-    (room, ap is_some h.due, h.tickets, new_is ∙ ap (λ (t : ℕ). after_task t ended (after Claim (machine_of b))) is)
-
-pub one-more : (old mid new : Machine) (ends : List Ended) (ended : Ended) → AreWorked old ends mid → IsWorked mid ended new → AreWorked old (ends ++ ended ∷ []) new
-one-more old mid new [] ended h one = (new, subst (λ (m : Machine). IsWorked m ended new) h one, refl)
-one-more old mid new (e ∷ ends) ended h one = (h.0, h.1, one-more h.0 mid new ends ended h.2 one)
-
-pub have-more : (old mid new : Machine) (ended : Ended) → HaveWorked old mid → IsWorked mid ended new → HaveWorked old new
-have-more old mid new ended h one = (h.0 ++ ended ∷ [], one-more old mid new h.0 ended h.1 one)
-
-pub all-more : (old mid new : Machine) (ends others : List Ended) → AreWorked old ends mid → AreWorked mid others new → AreWorked old (ends ++ others) new
-all-more old mid new [] others h more = subst (λ (m : Machine). AreWorked m others new) h more
-all-more old mid new (e ∷ ends) others h more = (h.0, h.1, all-more h.0 mid new ends others h.2 more)
-
-pub have-all : (old mid new : Machine) → HaveWorked old mid → HaveWorked mid new → HaveWorked old new
-have-all old mid new h more = (h.0 ++ more.0, all-more old mid new h.0 more.0 h.1 more.1)
-
-pub is-none : {X : Type 0} (o : Option X) → is_some o ≡ false → o ≡ None
-is-none None is = refl
-is-none (Some x) is = cc
-
-ticket-of : (s : StateView) (t : TaskView) (o : Option ShownView) → Some t ≡ option_map (task_for s) o → t.ticket ≡ s.next_ticket
-ticket-of s t None is = cc
-ticket-of s t (Some x) is = let same : t ≡ task_for s x = cc in ap (λ (k : TaskView). k.ticket) same
-
--- a turn, by how the claimed task ended
-pub turn-of : (old mid : BookView) (who : Caller) (task : TaskView) (r : Turn) (new : Machine) → is_some (free_due old.state) ≡ true → Answered old mid who Claim (claim_answer (Ok (Some task))) → Some task ≡ option_map (task_for old.state) (due_shown old.state) → TaskEnds r task.ticket (machine_of mid) new → IsTurn r (machine_of old) new
-turn-of old mid who task turn.Worked new free h is (inl ended) =
-    (Published, worked old Published task.ticket new (is-free old free) h.0 (ticket-of old.state task (due_shown old.state) is) (ended ∙ ap (after_task task.ticket Published) h.2))
-turn-of old mid who task turn.Worked new free h is (inr ended) =
-    (GivenUp, worked old GivenUp task.ticket new (is-free old free) h.0 (ticket-of old.state task (due_shown old.state) is) (ended ∙ ap (after_task task.ticket GivenUp) h.2))
-turn-of old mid who task turn.AtRest new free h is ended =
-    (subst IsAtRest (sym ended.1) ended.0, (Left ∷ [], (machine_of mid, worked old Left task.ticket (machine_of mid) (is-free old free) h.0 (ticket-of old.state task (due_shown old.state) is) h.2, ended.1)))
-turn-of old mid who task turn.Short new free h is ended =
-    (Left ∷ [], (machine_of mid, worked old Left task.ticket (machine_of mid) (is-free old free) h.0 (ticket-of old.state task (due_shown old.state) is) h.2, ended))
 
 -- ---- notes
 
@@ -145,9 +107,96 @@ give_up-notes n m (Some t) = refl
 task-notes : (ticket : ℕ) (ended : Ended) (m : Machine) → m.notes ≤ (after_task ticket ended m).notes
 task-notes ticket Published m = omega (arith, finish-notes ticket m (ticket_of ticket m.tickets))
 task-notes ticket GivenUp m = omega (arith, give_up-notes ticket m (ticket_of ticket m.tickets))
-task-notes ticket Left m = omega arith
 
-pub noted-more : (old : Machine) (ended : Ended) (new : Machine) → IsWorked old ended new → old.notes < new.notes
-noted-more old ended new h =
-    let is : new.notes ≡ (after_task old.next_ticket ended (after Claim old)).notes = ap (λ (m : Machine). m.notes) h.3 in
+pub noted-more : (short : Bool) (old : Machine) (ended : Ended) (new : Machine) → IsWorked short old ended new → old.notes < new.notes
+noted-more short old ended new h =
+    let is : new.notes ≡ (after_task old.next_ticket ended (after Claim old)).notes = ap (λ (m : Machine). m.notes) h.made in
     omega (arith, is, task-notes old.next_ticket ended (after Claim old), claim-notes old (due old))
+
+-- ---- turns
+
+ticket-of : (s : StateView) (t : TaskView) (o : Option ShownView) → Some t ≡ option_map (task_for s) o → t.ticket ≡ s.next_ticket
+ticket-of s t None is = cc
+ticket-of s t (Some x) is = let same : t ≡ task_for s x = cc in ap (λ (k : TaskView). k.ticket) same
+
+-- the ticket of a claim ended
+claimed-ends : (short : Bool) (old mid new : Machine) (ended : Ended) (ticket : ℕ) → CanClaim old → MayEnd short ended → ticket ≡ old.next_ticket → mid ≡ after Claim old → (mid.notes < note_limit) × (new ≡ after_task ticket ended mid) → IsWorked short old ended new
+claimed-ends short old mid new ended ticket claims cause is mid_is ends = record {
+  claims = claims;
+  room = omega (arith, claim-notes old (due old), ap (λ (m : Machine). m.notes) mid_is, ends.0);
+  cause = cause;
+  made = ends.1 ∙ ap (after_task ticket ended) mid_is ∙ ap (λ (t : ℕ). after_task t ended (after Claim old)) is;
+}
+
+-- a claim was noted, and the end of its ticket wasn't
+claimed-stands : (short : Bool) (old mid new : Machine) → CanClaim old → old.notes < note_limit → mid ≡ after Claim old → IsUnnoted short mid → new ≡ mid → Halts short old new
+claimed-stands short old mid new claims room mid_is unnoted is = inr (inr (claims, room, subst (IsUnnoted short) mid_is unnoted, is ∙ mid_is))
+
+-- a turn, by how the claimed ticket ended
+pub turn-of : (old mid : BookView) (who : Caller) (task : TaskView) (r : Turn) (new : Machine) → is_some (free_due old.state) ≡ true → Answered old mid who Claim (claim_answer (Ok (Some task))) → Some task ≡ option_map (task_for old.state) (due_shown old.state) → TicketEnds r task.ticket (machine_of mid) new → IsTurn r (machine_of old) new
+turn-of old mid who task turn.Worked new may h is ends =
+    claimed-ends false (machine_of old) (machine_of mid) new Published task.ticket (can-claim old may) tt (ticket-of old.state task (due_shown old.state) is) h.2 ends
+turn-of old mid who task turn.GivenUp new may h is ends =
+    claimed-ends true (machine_of old) (machine_of mid) new GivenUp task.ticket (can-claim old may) refl (ticket-of old.state task (due_shown old.state) is) h.2 ends
+turn-of old mid who task turn.Ended new may h is ends =
+    claimed-stands false (machine_of old) (machine_of mid) new (can-claim old may) h.0 h.2 (inl ends.0) ends.1
+turn-of old mid who task turn.Short new may h is ends =
+    claimed-stands true (machine_of old) (machine_of mid) new (can-claim old may) h.0 h.2 (inr refl) ends
+
+pub is-none : {X : Type 0} (o : Option X) → is_some o ≡ false → o ≡ None
+is-none None is = refl
+is-none (Some x) is = cc
+
+-- ---- turn after turn
+
+-- so far, ticket after ticket was worked
+abbrev pub HaveWorked : Bool → Machine → Machine → Type 0
+HaveWorked short old now = (ends : List Ended) × AreWorked short old ends now
+
+-- where memory was refused, it may have been anywhere
+worked-short : (short : Bool) (old new : Machine) (ended : Ended) → IsWorked short old ended new → IsWorked true old ended new
+worked-short short old new Published one = record { claims = one.claims; room = one.room; cause = tt; made = one.made }
+worked-short short old new GivenUp one = record { claims = one.claims; room = one.room; cause = refl; made = one.made }
+
+pub are-short : (short : Bool) (old new : Machine) (ends : List Ended) → AreWorked short old ends new → AreWorked true old ends new
+are-short short old new [] h = h
+are-short short old new (ended ∷ ends) h = (h.0, worked-short short old h.0 ended h.1, are-short short h.0 new ends h.2)
+
+one-more : (short : Bool) (old mid new : Machine) (ends : List Ended) (ended : Ended) → AreWorked short old ends mid → IsWorked short mid ended new → AreWorked short old (ends ++ ended ∷ []) new
+one-more short old mid new [] ended h one = (new, subst (λ (m : Machine). IsWorked short m ended new) h one, refl)
+one-more short old mid new (e ∷ ends) ended h one = (h.0, h.1, one-more short h.0 mid new ends ended h.2 one)
+
+-- one more was published
+pub published-more : (short : Bool) (old mid new : Machine) → HaveWorked short old mid → IsWorked false mid Published new → HaveWorked short old new
+published-more short old mid new h one =
+    (h.0 ++ Published ∷ [], one-more short old mid new h.0 Published h.1 (record { claims = one.claims; room = one.room; cause = tt; made = one.made }))
+
+-- one more was given up
+pub given_up-more : (short : Bool) (old mid new : Machine) → HaveWorked short old mid → IsWorked true mid GivenUp new → HaveWorked true old new
+given_up-more short old mid new h one = (h.0 ++ GivenUp ∷ [], one-more true old mid new h.0 GivenUp (are-short short old mid h.0 h.1) one)
+
+unnoted : (short : Bool) (m : Machine) → IsUnnoted false m → IsUnnoted short m
+unnoted short m (inl full) = inl full
+unnoted short m (inr none) = cc
+
+halted : (short : Bool) (old new : Machine) → Halts false old new → Halts short old new
+halted short old new (inl rest) = inl rest
+halted short old new (inr (inl h)) = inr (inl (h.0, unnoted short old h.1, h.2))
+halted short old new (inr (inr h)) = inr (inr (h.0, h.1, unnoted short (after Claim old) h.2, h.3))
+
+-- the work ends
+pub all-ended : (short : Bool) (old mid new : Machine) → HaveWorked short old mid → Halts false mid new → Settles short old new
+all-ended short old mid new h last = (h.0, mid, h.1, halted short mid new last)
+
+-- the work ends for want of memory
+pub all-short : (short : Bool) (old mid new : Machine) → HaveWorked short old mid → Halts true mid new → Settles true old new
+all-short short old mid new h last = (h.0, mid, are-short short old mid h.0 h.1, last)
+
+-- the work may end at once for want of memory
+pub stops : (m : Machine) → Settles true m m
+stops m = go (due m) refl (are_all_out m) refl
+  where
+    go : (o : Option Progress) → due m ≡ o → (out : Bool) → are_all_out m ≡ out → Settles true m m
+    go None none out is = ([], m, refl, inl (inl none, refl))
+    go (Some p) some true is = ([], m, refl, inl (inr is, refl))
+    go (Some p) some false is = ([], m, refl, inr (inl (record { some_due = ap is_some some; free = is }, inr refl, refl)))

@@ -1,15 +1,14 @@
 -- Views of scenarios that stand side by side, one after another.
-use Rattle.std.proofs.Common.{◌≡◌, ℕ, ◌+◌, ◌<◌, ◌≤◌, List, [], ◌∷◌, ◌++◌, length, map, take, drop, append-nil, suc, zero, refl, sym, ◌∙◌, ap, ap₂, subst, inl, inr, arith}
+use Rattle.std.proofs.Common.{◌≡◌, ℕ, ◌+◌, ◌<◌, List, [], ◌∷◌, ◌++◌, length, map, take, drop, append-nil, suc, zero, refl, sym, ◌∙◌, ap, ap₂, subst, inl, inr, arith}
 use Rattle.std.specs.Prelude.{codes, slice_get, Some}
 use Rattle.std.specs.List.{flat_map}
 use Rattle.std.specs.Fmt.{decimal}
 use Rattle.std.proofs.lemmas.List.{length-map, map-append, length-drop, take-append-drop, take_all}
 use Rattle.scenarios.specs.ScenarioList.{Listed, Listing}
-use Rattle.book_machine.specs.Machine.{Machine, note_limit}
+use Rattle.book_machine.specs.Machine.{Machine}
 use Rattle.report.specs.declared.side.SideLine.{SideLine}
 use Rattle.report.specs.Side.{side_line, side_text}
 use Rattle.scripts.specs.declared.answer.Refusal.{Refusal}
-use Rattle.scripts.specs.declared.answer.Refusal.TheVariants as why
 use Rattle.scripts.specs.Lines.{refused}
 use Rattle.scripts.specs.Told.{refusal_name}
 use Rattle.scripts.specs.Session.{Session}

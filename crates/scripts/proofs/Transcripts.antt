@@ -13,6 +13,7 @@ use Rattle.commands.specs.Commands.{command_of_line}
 use Rattle.scripts.specs.Session.{Session}
 use Rattle.scripts.specs.Steps.{Answers, IsNamed}
 use Rattle.scripts.specs.Transcript.{IsLine, IsTranscript, IsTranscriptOf, is_quit, looked_at}
+use Rattle.scripts.proofs.Settlings.{stops}
 use Rattle.scripts.proofs.Writings.{front_more, front_after}
 
 -- ---- each command has an answer
@@ -34,7 +35,7 @@ some_answer comments old (asks.Change number place value) = (_, (_, inr (inl (re
 some_answer comments old (asks.Scenario name setting) = (_, (_, inr (inl (refl, refl))))
 some_answer comments old (asks.Drop name) = (_, (_, inr (inl (refl, refl))))
 some_answer comments old (asks.Retry name) = some_named old name _ (λ s. (_, (_, inr (inl (refl, refl)))))
-some_answer comments old asks.Settle = (_, (old, ([], refl, refl, refl)))
+some_answer comments old asks.Settle = (_, (old, (true, (stops old.machine, refl, refl))))
 some_answer comments old (asks.Schedule name) = some_named old name _ (λ s. (_, (_, inr (inl (refl, refl)))))
 some_answer comments old (asks.Table name) = some_named old name _ (λ s. (_, (_, inr (inl (refl, refl)))))
 some_answer comments old (asks.Users name) = some_named old name _ (λ s. (_, (_, inr (inl (refl, refl)))))

@@ -2,9 +2,9 @@ pub mod Lines
 pub mod Told
 pub mod Answers
 pub mod Session
+pub mod Settling
 pub mod Steps
 pub mod Replies
 pub mod Reports
 pub mod Looks
-pub mod Settling
 pub mod Transcript

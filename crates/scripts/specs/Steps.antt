@@ -1,5 +1,5 @@
 -- What each command is answered, and the state after it. In each, want of memory is one more case.
-use Rattle.std.specs.Prelude.{◌≡◌, ℕ, ◌+◌, ◌<◌, List, [], ◌∷◌, ◌++◌, length, count_by, None, Some, ◌⊎◌, codes, true, false, is_some}
+use Rattle.std.specs.Prelude.{◌≡◌, ℕ, ◌<◌, List, [], ◌∷◌, ◌++◌, length, count_by, None, Some, ◌⊎◌, codes, Bool}
 use Rattle.std.specs.List.{flat_map}
 use Rattle.std.specs.Fmt.{decimal}
 use Rattle.swf_text.specs.Entry.{LogEntry}
@@ -25,10 +25,11 @@ use Rattle.book_machine.specs.declared.reply.Reply.{Reply}
 use Rattle.book_machine.specs.declared.reply.Reply.TheVariants as reply
 use Rattle.book_machine.specs.declared.settle_state.SettleState.{SettleState}
 use Rattle.book_machine.specs.declared.settle_state.SettleState.TheVariants as settle
-use Rattle.book_machine.specs.Call.{Edit, AddScenario, DropScenario, Retry, Claim, Finish, GiveUp, View}
-use Rattle.book_machine.specs.Machine.{Machine, version, current, due, are_all_out, after, settled, note_limit}
+use Rattle.book_machine.specs.Call.{Edit, AddScenario, DropScenario, Retry, View}
+use Rattle.book_machine.specs.Machine.{Machine, version, current, settled, note_limit}
 use Rattle.scripts.specs.Lines.{version_line, settled_line, failed_line, stopped_line, saved_line, bye_line, refused}
 use Rattle.scripts.specs.Answers.{edit_says, scenario_says, view_says}
+use Rattle.scripts.specs.Settling.{Settles}
 use Rattle.scripts.specs.Session.{Session, IsStep, IsRefused, IsFull, WantsMemory, IsCall}
 
 -- ---- a scenario by its name
@@ -107,40 +108,16 @@ IsSide old text new =
 
 -- ---- settling
 
--- how a claimed ticket may end: its run is published, or it is given up for want of memory, or nothing was noted any more
-pub data Ended : Type 0 where
-  Published GivenUp Left : Ended
-
-abbrev pub after_task : ℕ → Ended → Machine → Machine
-after_task ticket Published m = after (Finish ticket true) m
-after_task ticket GivenUp m = after (GiveUp ticket) m
-after_task ticket Left m = m
-
--- nothing is left to claim: no scenario is due, all tickets are out, or there is no room for a note
-abbrev pub IsAtRest : Machine → Type 0
-IsAtRest m = (due m ≡ None) ⊎ ((are_all_out m ≡ true) ⊎ (m.notes ≡ note_limit))
-
--- a ticket is claimed for the first scenario that is due, and its task ends so
-abbrev pub IsWorked : Machine → Ended → Machine → Type 0
-IsWorked old ended new =
-    (old.notes < note_limit) × (is_some (due old) ≡ true) × (are_all_out old ≡ false) × (new ≡ after_task old.next_ticket ended (after Claim old))
-
--- ticket after ticket
-abbrev pub AreWorked : Machine → List Ended → Machine → Type 0
-AreWorked old [] new = new ≡ old
-AreWorked old (ended ∷ others) new = (next : Machine) × IsWorked old ended next × AreWorked next others new
-
 -- what is told of how far the scenarios are
 abbrev pub settle_line : ℕ → SettleState → List ℕ
 settle_line seen settle.Done = settled_line seen
 settle_line seen (settle.Failed count) = failed_line count
 settle_line seen settle.Waiting = stopped_line
 
--- tickets were worked until none was due, or no more could be claimed, or memory was refused
-abbrev pub IsSettled : Session → List ℕ → Session → Type 0
-IsSettled old text new =
-    (ends : List Ended) × AreWorked old.machine ends new.machine × (new.seen ≡ old.seen)
-    × (text ≡ settle_line old.seen (settled old.seen new.machine))
+-- all that is due is worked, and it is told how far the scenarios are then
+abbrev pub IsSettled : Bool → Session → List ℕ → Session → Type 0
+IsSettled short old text new =
+    Settles short old.machine new.machine × (new.seen ≡ old.seen) × (text ≡ settle_line old.seen (settled old.seen new.machine))
 
 -- ---- the log
 
@@ -165,7 +142,7 @@ Answers comments old (asks.Change number place value) text new = IsCall old (Edi
 Answers comments old (asks.Scenario name setting) text new = IsCall old (AddScenario name setting) (scenario_says name) text new
 Answers comments old (asks.Drop name) text new = IsCall old (DropScenario name) (scenario_says name) text new
 Answers comments old (asks.Retry name) text new = IsNamed old name (λ s. IsCall old (Retry s.id) (scenario_says name) text new) text new
-Answers comments old asks.Settle text new = IsSettled old text new
+Answers comments old asks.Settle text new = (short : Bool) × IsSettled short old text new
 Answers comments old (asks.Schedule name) text new = IsNamed old name (IsView old IsSchedule text new) text new
 Answers comments old (asks.Table name) text new = IsNamed old name (IsView old IsTable text new) text new
 Answers comments old (asks.Users name) text new = IsNamed old name (IsView old IsUsers text new) text new

@@ -36,7 +36,7 @@ impl<A: Allocator + Copy> Analyst<A> {
             Command::Scenario { name, scenario } => Reply::Line(self.add(name, scenario)),
             Command::Drop(name) => Reply::Line(self.drop_named(name)),
             Command::Retry(name) => Reply::Line(self.retry(name)),
-            Command::Settle => Reply::Line(self.settle()),
+            Command::Settle => Reply::Line(self.settle().0),
             Command::Schedule(name) => self.view(&name, Report::Schedule),
             Command::Table(name) => self.view(&name, Report::Table),
             Command::Users(name) => self.view(&name, Report::Users),

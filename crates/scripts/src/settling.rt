@@ -1,14 +1,18 @@
 // How an analyst alone works what is due.
-ghost use Rattle.std.specs.Prelude.{◌≡◌};
+ghost use Rattle.std.specs.Prelude.{◌≡◌, IfOk};
+ghost use Rattle.std.specs.Arc.{arc_value};
 ghost use Rattle.version_book.specs.Book.{machine_of};
-ghost use Rattle.version_book.specs.Tasks.{IsOut};
+ghost use Rattle.version_book.specs.Tasks.{Fits, IsOut};
+ghost use Rattle.scripts.specs.Settling.{IsTurn, IsTurnOf, Settles, TicketEnds};
 ghost use Rattle.scripts.specs.Steps.{IsSettled};
-ghost use Rattle.scripts.specs.Settling.{IsTurn, Ends, TaskEnds};
 ghost use Rattle.scripts.specs.Told.{answer_line};
 
 use crate::analyst::Analyst;
 use crate::answer::Answer;
+use checkpoints::Run;
 use std::alloc::Allocator;
+use std::sync::Arc;
+use swf_text::Memory;
 use version_book::{Book, ClaimRefusal, FinishRefusal, GiveUpRefusal, SettleState, Task};
 
 /// The number of the worker whose calls an analyst makes.
@@ -17,33 +21,52 @@ const WORKER: u64 = 0;
 /// How a turn of the work ends.
 #[derive(Clone, Copy, Debug, PartialEq, Eq)]
 pub(crate) enum Turn {
-    /// A task was worked, or given up for want of memory.
+    /// A task was worked.
     Worked,
+    /// Memory was refused for a task's run, and the task was given up.
+    GivenUp,
     /// Nothing is due, no more tickets can be taken, or the journal is full.
-    AtRest,
+    Ended,
     /// A claim, or the end of a task, found no memory.
     Short,
 }
 
-// Works a claimed task: publishes its run, or gives it up where memory is refused for it.
-fn work<A: Allocator + Copy>(book: &mut Book<A>, task: &mut Task<A>) -> Turn
-    requires { IsOut book.old.state task.old }
-    ensures { TaskEnds result task.old.ticket (machine_of book.old) (machine_of book.new) }
+// Ends a claimed task: publishes the run that was made for it, or gives it up where memory was
+// refused for that.
+fn end_task<A: Allocator + Copy>(
+    book: &mut Book<A>,
+    ticket: u64,
+    made: Result<Arc<Run<A>, A>, Memory>,
+) -> Turn
+    requires { IfOk made (λ run. Fits book.old.state ticket (arc_value run)) }
+    ensures cause { IsTurnOf made result }
+    ensures ends { TicketEnds result ticket (machine_of book.old) (machine_of book.new) }
 {
-    let ticket = task.ticket();
-    let Ok((run, _)) = task.deliver() else {
+    let Ok(run) = made else {
         return match book.give_up(WORKER, ticket) {
-            Ok(()) | Err(GiveUpRefusal::UnknownTicket) => Turn::Worked,
-            Err(GiveUpRefusal::JournalFull) => Turn::AtRest,
+            Ok(()) | Err(GiveUpRefusal::UnknownTicket) => Turn::GivenUp,
+            Err(GiveUpRefusal::JournalFull) => Turn::Ended,
             Err(GiveUpRefusal::Memory) => Turn::Short,
         };
     };
     match book.finish_delivered(WORKER, ticket, run) {
         Ok(_) | Err(FinishRefusal::Stale { .. }) => Turn::Worked,
-        Err(FinishRefusal::JournalFull) => Turn::AtRest,
+        Err(FinishRefusal::JournalFull) => Turn::Ended,
         Err(FinishRefusal::Memory) => Turn::Short,
         Err(FinishRefusal::UnknownTicket) => unreachable!(),
         Err(FinishRefusal::Stranger) => unreachable!(),
+    }
+}
+
+// Works a claimed task, and ends it.
+fn work<A: Allocator + Copy>(book: &mut Book<A>, task: &mut Task<A>) -> Turn
+    requires { IsOut book.old.state task.old }
+    ensures { TicketEnds result task.old.ticket (machine_of book.old) (machine_of book.new) }
+{
+    let ticket = task.ticket();
+    match task.deliver() {
+        Ok((run, _)) => end_task(book, ticket, Ok(run)),
+        Err(refused) => end_task(book, ticket, Err(refused)),
     }
 }
 
@@ -52,41 +75,44 @@ fn work_next<A: Allocator + Copy>(book: &mut Book<A>) -> Turn
     ensures { IsTurn result (machine_of book.old) (machine_of book.new) }
 {
     if book.due().is_none() {
-        return Turn::AtRest;
+        return Turn::Ended;
     }
     match book.claim(WORKER) {
         Ok(Some(mut task)) => work(book, &mut task),
         Ok(None) => unreachable!(),
         Err(ClaimRefusal::TooManyTickets) => unreachable!(),
-        Err(ClaimRefusal::JournalFull) => Turn::AtRest,
+        Err(ClaimRefusal::JournalFull) => Turn::Ended,
         Err(ClaimRefusal::Memory) => Turn::Short,
     }
 }
 
-// Works task after task, until there is no other or memory is refused.
-fn work_all<A: Allocator + Copy>(book: &mut Book<A>) -> Turn
-    ensures { Ends result (machine_of book.old) (machine_of book.new) }
+// Works task after task, until there is no other, the journal is full, or memory is refused for a
+// call. It tells whether memory was refused, for a run or a call.
+fn work_all<A: Allocator + Copy>(book: &mut Book<A>) -> bool
+    ensures { Settles result (machine_of book.old) (machine_of book.new) }
 {
+    let mut short = false;
     loop {
-        let turn = work_next(book);
-        match turn {
+        match work_next(book) {
             Turn::Worked => continue,
-            Turn::AtRest => return Turn::AtRest,
-            Turn::Short => return Turn::Short,
+            Turn::GivenUp => short = true,
+            Turn::Ended => return short,
+            Turn::Short => return true,
         }
     }
 }
 
 impl<A: Allocator + Copy> Analyst<A> {
-    // Works all that is due, and tells how far the scenarios are.
-    pub(crate) fn settle(&mut self) -> Answer
-        ensures { IsSettled self.old (answer_line result) self.new }
+    // Works all that is due, and tells how far the scenarios are, and whether memory was refused.
+    pub(crate) fn settle(&mut self) -> (Answer, bool)
+        ensures { IsSettled result.1 self.old (answer_line result.0) self.new }
     {
-        work_all(&mut self.book);
-        match self.book.settled(self.seen) {
+        let short = work_all(&mut self.book);
+        let answer = match self.book.settled(self.seen) {
             SettleState::Done => Answer::Settled { seen: self.seen },
             SettleState::Failed(count) => Answer::Failed { count },
             SettleState::Waiting => Answer::Stopped,
-        }
+        };
+        (answer, short)
     }
 }

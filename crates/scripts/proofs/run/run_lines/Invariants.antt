@@ -1,4 +1,4 @@
-use Rattle.std.proofs.Common.{◌≡◌, ℕ, List, map, length, ◌+◌, ◌≤◌}
+use Rattle.std.proofs.Common.{ℕ, List, map, length, ◌+◌, ◌≤◌}
 use Rattle.std.specs.Io.KnownBytes.{Appends}
 use Rattle.version_book.specs.Book.{machine_of}
 use Rattle.scripts.proofs.Transcripts.{Leads}

@@ -1,12 +1,15 @@
 use Rattle.version_book.specs.Book.{machine_of}
-use Rattle.scripts.proofs.Settlings.{have-more, have-all}
+use Rattle.scripts.proofs.Settlings.{all-ended, all-short, given_up-more, published-more}
 use Rattle.scripts.proofs.settling.work_all.Goals as goal
 
-pub loop-preserved : goal.loop-preserved
-loop-preserved g c = have-more _ (machine_of c.loop.book) (machine_of c.work_next-turn.new.book) c.in-Worked.ensures.0 c.loop.invariant c.in-Worked.ensures.1
-
-pub returns-in-AtRest : goal.returns-in-AtRest
-returns-in-AtRest g c = (c.in-AtRest.ensures.0, have-all _ (machine_of c.loop.book) (machine_of c.work_next-turn.new.book) c.loop.invariant c.in-AtRest.ensures.1)
+pub returns-in-Ended : goal.returns-in-Ended
+returns-in-Ended g c = all-ended c.loop-short.short _ (machine_of c.loop-short.book) (machine_of c.work_next.new.book) c.loop-short.invariant c.in-Ended.ensures
 
 pub returns-in-Short : goal.returns-in-Short
-returns-in-Short g c = have-all _ (machine_of c.loop.book) (machine_of c.work_next-turn.new.book) c.loop.invariant c.in-Short.ensures
+returns-in-Short g c = all-short c.loop-short.short _ (machine_of c.loop-short.book) (machine_of c.work_next.new.book) c.loop-short.invariant c.in-Short.ensures
+
+pub loop-short-preserved-in-Worked : goal.loop-short-preserved-in-Worked
+loop-short-preserved-in-Worked g c = published-more c.loop-short.short _ (machine_of c.loop-short.book) (machine_of c.work_next.new.book) c.loop-short.invariant c.in-Worked.ensures
+
+pub loop-short-preserved : goal.loop-short-preserved
+loop-short-preserved g c = given_up-more c.loop-short.short _ (machine_of c.loop-short.book) (machine_of c.work_next.new.book) c.loop-short.invariant c.in-GivenUp.ensures

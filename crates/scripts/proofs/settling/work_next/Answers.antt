@@ -1,5 +1,5 @@
-use Rattle.std.proofs.Common.{rules, ◌≡◌, [], refl, sym, ◌∙◌, ap, true}
-use Rattle.std.specs.Prelude.{Option, None, Some, Ok, is_some}
+use Rattle.std.proofs.Common.{rules, ◌≡◌, refl, sym, ◌∙◌, ap, inl, true}
+use Rattle.std.specs.Prelude.{Some, Ok, is_some}
 use Rattle.std.specs.Option.{option_map}
 use Rattle.book_machine.specs.declared.caller.Caller.TheVariants as caller
 use Rattle.book_machine.specs.Call.{Claim}
@@ -10,7 +10,7 @@ use Rattle.scripts.proofs.Settlings.{at-rest, is-none, turn-of}
 use Rattle.scripts.proofs.settling.work_next.Goals as goal
 
 pub returns-then-is_none : goal.returns-then-is_none
-returns-then-is_none g c = (at-rest c.args.book.now (is-none _ (ap is_some (sym c.due.ensures) ∙ c.if-is_none.ensures)), ([], refl))
+returns-then-is_none g c = inl (at-rest c.args.book.now (is-none _ (ap is_some (sym c.due.ensures) ∙ c.if-is_none.ensures)), refl)
 
 pub returns-in-Ok-Some : goal.returns-in-Ok-Some
 returns-in-Ok-Some g c =

@@ -1,6 +1,5 @@
-use Rattle.std.proofs.Common.{◌≡◌, refl, sym, ap, subst}
 use Rattle.std.proofs.lemmas.Result.{err_from_is_err_and}
-use Rattle.scripts.proofs.Looking.{looked, look-refused, looked-as}
+use Rattle.scripts.proofs.Looking.{look-refused, looked-as}
 use Rattle.scripts.proofs.analyst.Analyst.look.Goals as goal
 
 pub returns-in_err-published-clause-refused : goal.returns-in_err-published-clause-refused

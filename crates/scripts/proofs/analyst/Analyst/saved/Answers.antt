@@ -1,5 +1,5 @@
-use Rattle.std.proofs.Common.{rules, ◌≡◌, List, map, refl, sym, ap, subst, ◌∙◌}
-use Rattle.std.specs.Prelude.{Result, IfOk}
+use Rattle.std.proofs.Common.{rules, ◌≡◌, map, subst}
+use Rattle.std.specs.Prelude.{IfOk}
 use Rattle.swf_text.specs.Text.{LogText}
 use Rattle.swf_text.specs.Writing.{text_bytes}
 use Rattle.commands.specs.Opening.{saved}

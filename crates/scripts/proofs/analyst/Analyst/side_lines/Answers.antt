@@ -1,10 +1,10 @@
-use Rattle.std.proofs.Common.{rules, ◌≡◌, ◌+◌, ◌++◌, ◌∷◌, [], ◌<◌, List, ℕ, map, take, length, refl, sym, ◌∙◌, ap, subst, arith}
+use Rattle.std.proofs.Common.{◌≡◌, ◌+◌, ◌++◌, ◌∷◌, [], ◌<◌, List, ℕ, map, take, length, refl, sym, ◌∙◌, ap, subst, arith}
 use Rattle.std.specs.Prelude.{Some, slice_get}
 use Rattle.std.proofs.lemmas.List.{length_push}
 use Rattle.std.proofs.lemmas.Result.{err_from_is_err_and}
 use Rattle.report.specs.Side.{side_line}
 use Rattle.scenarios.specs.ScenarioList.{Listed, Listing}
-use Rattle.scripts.specs.Looks.{IsListedAs, IsListedSome}
+use Rattle.scripts.specs.Looks.{IsListedAs}
 use Rattle.scripts.specs.Steps.{AreSeen, IsSeen}
 use Rattle.scripts.proofs.Sides.{seen-more, side-refused, listing-kept, lines-more, listed-at}
 use Rattle.scripts.proofs.analyst.Analyst.side_lines.Goals as goal

@@ -1,4 +1,4 @@
-use Rattle.std.proofs.Common.{rules, ◌≡◌, refl, sym, ap, subst, ◌∙◌, inl, inr}
+use Rattle.std.proofs.Common.{rules, inl, inr}
 use Rattle.scripts.proofs.Looking.{view-told}
 use Rattle.scripts.proofs.analyst.Analyst.view.Goals as goal
 
