@@ -16,7 +16,7 @@ use Rattle.scenarios.specs.SoundPlan.{IsPlan}
 use Rattle.timeline.specs.Laws.{IsQuiet}
 use Rattle.timeline.proofs.Lemmas.{run-before, sound-arrivals, quiet-seconds-change-nothing, all-have-ended, all-end-by-the-bound, short-plan, submitted-none, only-ends-unsettle}
 use Rattle.event_loop.specs.Coming.{NonFalling, NextJobs, IsComing, first_submit}
-use Rattle.event_loop.specs.Events.{IsNextEvent, earlier, IsEngine, Progress}
+use Rattle.event_loop.specs.Events.{IsNextEvent, IsMidway, earlier, IsEngine, Progress}
 use Rattle.event_loop.proofs.ToCome.{non-falling, at_second, at-in, at-from, at-none, from-All, from-falling, from-later, from-same}
 use Rattle.scenarios.proofs.Lemmas.{from-in, from-out}
 use Rattle.event_loop.proofs.Rows.{coming-on}
@@ -246,3 +246,11 @@ pub sound-ready : (plan : Plan) (s s' : State) (t : ℕ) → IsPlan plan → t <
 sound-ready plan s s' t p small is f =
     subst (λ (js : List EffectiveJob). IsSound (joined s' (filter (λ (j : EffectiveJob). nat_eq j.submit t) js))) (take_all (length plan.jobs) plan.jobs (omega arith))
     (sound-arrivals plan s s' t (length plan.jobs) (omega arith) p is f)
+
+-- who runs where the work on an event second was given up
+pub midway-at : (now : Progress) (plan : Plan) (s ended new : State) (coming : NextJobs) (known : Option Shadow) (a h t : ℕ) (f : Bool) → seen plan a h f ≡ now → IsEngine plan s coming known a h f → now.failed ≡ false → IsNextEvent now.plan now.position (Some t) → ended ≡ ended_until s t
+    → new.running ≡ ended.running → IsMidway plan a new.running
+midway-at now plan s ended new coming known a h t f view engine going next end same =
+    let next' : IsNextEvent plan a (Some t) = subst (λ (p : Progress). IsNextEvent p.plan p.position (Some t)) (sym view) next in
+    let here : s ≡ before plan a = engine.state_is (ap (λ (p : Progress). p.failed) view ∙ going) in
+    inr (t, next', same ∙ ap (λ (z : State). z.running) end ∙ ap (λ (z : State). (ended_until z t).running) here)

@@ -2,7 +2,7 @@
 use Rattle.std.proofs.Common.{◌≡◌, ◌≢◌, ℕ, zero, suc, ◌+◌, ◌-◌, ◌≤◌, ◌<◌, Bool, true, false, cond, nat_eq, List, [], ◌∷◌, ◌++◌, add-one, add-zero, append-nil, append_assoc, length, get_or, Option, Some, None, count_by, refl, sym, ◌∙◌, ap, arith, subst, inl, inr, ⊎_elim, ◌⊎◌}
 use Rattle.std.proofs.lemmas.List.{get_or_default}
 use Rattle.std.proofs.lemmas.List.Sums.{sum_by-cons}
-use Rattle.std.proofs.lemmas.Bool.{cases_lt, cond-true, cond-false, lt-ltb, le-ltb, eq-eqb, eqb-true}
+use Rattle.std.proofs.lemmas.Bool.{true≢false, cases_lt, cond-true, cond-false, lt-ltb, le-ltb, eq-eqb, eqb-true}
 use Rattle.scenarios.specs.Plan.{Plan}
 use Rattle.scenarios.specs.declared.placed.Placed.{Placed}
 use Rattle.scenarios.specs.Placed.{real_end}
@@ -176,9 +176,9 @@ last-same old now new (inl e) k = inl (k ∙ e)
 last-same old now new (inr (t, e, v)) k = inr (t, k ∙ e, v)
 
 -- an engine at the end of quiet seconds
-pub engine-on : (old now : Progress) (plan : Plan) (s : State) (coming : NextJobs) (known : Option Shadow) (a h b : ℕ) (f : Bool) → seen plan a h f ≡ now → IsEngine plan s coming known a h f → now.plan ≡ old.plan → IsQuiet old.plan now.position b → now.position ≤ b
+pub engine-on : (old now : Progress) (plan : Plan) (s : State) (coming : NextJobs) (known : Option Shadow) (a h b : ℕ) (f : Bool) → seen plan a h f ≡ now → IsEngine plan s coming known a h f → now.plan ≡ old.plan → now.failed ≡ false → IsQuiet old.plan now.position b → now.position ≤ b
     → IsEngine plan s coming known b h f
-engine-on old now plan s coming known a h b f view e same quiet le =
+engine-on old now plan s coming known a h b f view e same going quiet le =
     let here : a ≡ now.position = ap (λ (p : Progress). p.position) view in
     let plan-same : plan ≡ old.plan = ap (λ (p : Progress). p.plan) view ∙ same in
     let quiet' : IsQuiet plan a b = (λ u l k v. quiet u (omega (arith, here, l)) k (subst (λ (p : Plan). IsEvent p u) plan-same v)) in
@@ -189,6 +189,7 @@ engine-on old now plan s coming known a h b f view e same quiet le =
       state_is = λ g. e.state_is g ∙ sym (quiet-between plan a b le' quiet').0;
       coming_is = λ g. coming-quiet plan coming a b le' quiet' e.is_plan (e.coming_is g);
       known_is = e.known_is;
+      failed_is = λ g. absurd (true≢false (sym g ∙ ap (λ (p : Progress). p.failed) view ∙ going));
     }
 
 -- no event second is left

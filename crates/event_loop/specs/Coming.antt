@@ -1,13 +1,10 @@
 -- The jobs that are to come.
-use Rattle.std.specs.Prelude.{◌≡◌, ℕ, ◌≤◌, ◌<◌, nat_le, List, [], ◌∷◌, ◌++◌, filter, All, Option, Some, None, IfSome}
+use Rattle.std.specs.Prelude.{◌≡◌, ℕ, ◌≤◌, ◌<◌, List, [], ◌∷◌, ◌++◌, All, Option, Some, None, IfSome}
 use Rattle.std.specs.Option.{option_or}
 use Rattle.scenarios.specs.Job.{EffectiveJob}
+use Rattle.scenarios.specs.Plan.{from_on}
 
--- the jobs that are submitted at a second or later
-abbrev pub from_on : ℕ → List EffectiveJob → List EffectiveJob
-from_on t jobs = filter (λ j. nat_le t j.submit) jobs
-
--- the same, where there is such a second
+-- the jobs that are submitted at a second or later, where there is such a second
 abbrev pub from_any : Option ℕ → List EffectiveJob → List EffectiveJob
 from_any None jobs = []
 from_any (Some t) jobs = from_on t jobs

@@ -1,8 +1,9 @@
 -- The event seconds of a plan, and what an engine holds.
-use Rattle.std.specs.Prelude.{◌≡◌, false, ℕ, zero, suc, ◌+◌, ◌≤◌, min, nat_eq, nat_lt, Bool, if◌then◌else◌, length, count_by, Option, Some, None, IfSome}
+use Rattle.std.specs.Prelude.{◌≡◌, ◌⊎◌, List, false, true, ℕ, zero, suc, ◌+◌, ◌≤◌, min, nat_eq, nat_lt, Bool, if◌then◌else◌, length, count_by, Option, Some, None, IfSome}
 use Rattle.scenarios.specs.Plan.{Plan}
+use Rattle.scenarios.specs.declared.placed.Placed.{Placed}
 use Rattle.scenarios.specs.Placed.{real_end}
-use Rattle.cluster_state.specs.State.{State}
+use Rattle.cluster_state.specs.State.{State, ended_until}
 use Rattle.easy_rule.specs.declared.shadow_time.Shadow.{Shadow}
 use Rattle.easy_rule.specs.Rule.{shadow_of}
 use Rattle.easy_rule.specs.Simulation.{IsEvent, before, submitted}
@@ -35,13 +36,21 @@ pub record Progress : Type 0 where
 abbrev pub begun : Plan → ℕ → Progress
 begun plan position = record { plan = plan; position = position; handled = 0; failed = false }
 
--- what the fields keep: unless the engine failed, its state is the model's, it knows which jobs come next, and a shadow that it knows is the state's
+-- who runs where an engine has failed: those who ran before its position, or at work on the next event second those of
+-- them who don't end by it. So an engine that has failed can't stand before a second that it has worked
+abbrev pub IsMidway : Plan → ℕ → List Placed → Type 0
+IsMidway plan position running =
+    (running ≡ (before plan position).running) ⊎ ((t : ℕ) × IsNextEvent plan position (Some t) × (running ≡ (ended_until (before plan position) t).running))
+
+-- what the fields keep: unless the engine failed, its state is the model's, it knows which jobs come next, and a shadow that it knows is the state's;
+-- where it failed, who runs tells how far it came
 pub record IsEngine (plan : Plan) (state : State) (coming : NextJobs) (known : Option Shadow) (position handled : ℕ) (failed : Bool) : Type 0 where
   pub is_plan : IsPlan plan
   pub counted : handled ≤ position
   pub state_is : failed ≡ false → state ≡ before plan position
   pub coming_is : failed ≡ false → IsComing coming position plan.jobs
   pub known_is : failed ≡ false → IfSome known (λ w. shadow_of state ≡ Some w)
+  pub failed_is : failed ≡ true → IsMidway plan position state.running
 
 -- the earlier of two seconds that may be missing
 abbrev pub earlier : Option ℕ → Option ℕ → Option ℕ

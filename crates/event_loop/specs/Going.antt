@@ -1,15 +1,24 @@
 -- How an engine goes on, and how it fails.
-use Rattle.std.specs.Prelude.{◌≡◌, true, false, ℕ, ◌+◌, ◌≤◌, ◌⊎◌, List, ◌++◌}
+use Rattle.std.specs.Prelude.{◌≡◌, true, false, ℕ, ◌+◌, ◌≤◌, ◌⊎◌, List, ◌++◌, Some}
 use Rattle.easy_rule.specs.declared.start.Start.{Start}
 use Rattle.easy_rule.specs.Simulation.{IsEvent, starts_before}
 use Rattle.event_loop.specs.declared.fault.EngineFault.{EngineFault}
 use Rattle.event_loop.specs.declared.fault.EngineFault.TheVariants.{Failed, Memory}
-use Rattle.event_loop.specs.Events.{Progress, events_before}
+use Rattle.event_loop.specs.Events.{Progress, IsNextEvent, events_before}
 
 -- it failed before and stays as it is, or it fails now at the position where it was
 abbrev pub IsStepFault : Progress → Progress → EngineFault → Type 0
 IsStepFault old new Failed = (old.failed ≡ true) × (new ≡ old)
 IsStepFault old new Memory = (old.failed ≡ false) × (new ≡ record old { failed = true })
+
+-- it failed before and stays as it is, or it fails now: where it was, or with the next event second worked whole, whose
+-- starts found no room to be told
+abbrev pub IsTellFault : Progress → Progress → EngineFault → Type 0
+IsTellFault old new Failed = (old.failed ≡ true) × (new ≡ old)
+IsTellFault old new Memory =
+    (old.failed ≡ false)
+    × ((new ≡ record old { failed = true })
+    ⊎ ((t : ℕ) × IsNextEvent old.plan old.position (Some t) × (new ≡ record old { position = t + 1; handled = old.handled + 1; failed = true })))
 
 -- it went on in its plan, and counted the event seconds between
 pub record IsFurther (old new : Progress) : Type 0 where

@@ -79,6 +79,7 @@ pub(crate) fn arrive_all<A: Allocator + Copy>(
     requires sound { IsSound (joined cluster.old.state (filter (λ job. nat_eq job.submit second) row.old.items)) }
     ensures state { OnOk result (cluster.new.state ≡ joined cluster.old.state (filter (λ job. nat_eq job.submit second) row.old.items)) }
     ensures row { OnOk result (row.new.items ≡ from_on (second + 1) row.old.items) }
+    ensures running { cluster.new.state.running ≡ cluster.old.state.running }
 {
     'jobs: while let Some(job) = first_at(row, second) {
         cluster.arrive(job)?;

@@ -61,6 +61,7 @@ impl<A: Allocator + Copy> Coming<A> {
         requires sound { IsSound (joined cluster.old.state (submitted (plan_in plan.now) second)) }
         ensures state { OnOk result (cluster.new.state ≡ joined cluster.old.state (submitted (plan_in plan.now) second)) }
         ensures coming { OnOk result (IsComing self.new (second + 1) (plan_in plan.now).jobs) }
+        ensures running { cluster.new.state.running ≡ cluster.old.state.running }
     {
         self.take_up(plan, second)?;
         arrive_all(cluster, &mut self.row, second)?;

@@ -46,6 +46,7 @@ pub(crate) fn decide_knowing<A: Allocator + Copy>(
     ensures starts { OnOk result (map (start_at now) started.new.items ≡ starts_at cluster.old.state now) }
     ensures jobs { OnOk result (AreStarted cluster.old.state now started.new.items cluster.new.state) }
     ensures shadow { IfOk result (λ left. IfSome left (λ w. shadow_of cluster.new.state ≡ Some w)) }
+    ensures err { OnErr result (cluster.new.state ≡ cluster.old.state) }
     ensures empty { OnErr result (started.new.items ≡ []) }
 {
     let Some(shadow) = known else {

@@ -14,26 +14,26 @@ impl<A: Allocator + Copy> Engine<A> {
     ghost use Rattle.scenarios.specs.SoundPlan.{IsPlan};
     ghost use Rattle.timeline.specs.Laws.{IsQuiet};
     ghost use Rattle.event_loop.specs.Events.{Progress, IsNextEvent};
-    ghost use Rattle.event_loop.specs.Going.{IsStepFault, IsRunFault, IsRunOn, IsLast};
+    ghost use Rattle.event_loop.specs.Going.{IsStepFault, IsTellFault, IsRunFault, IsRunOn, IsLast};
     ghost use Rattle.event_loop.specs.Stepped.{StartIn};
 
     /// Works the next event second, where there is one.
     ///
     /// Failed in an engine that has failed. Memory where a growth was refused; the engine has failed
-    /// then, with that second not worked.
+    /// then, with that second not worked, or worked whole where it is the list of starts that found no
+    /// room.
     pub fn step(&mut self) -> Result<Option<Stepped<A>>, EngineFault>
         ensures none { IfOk result (λ o. IfNone o ((self.old.failed ≡ false) × IsNextEvent self.old.plan self.old.position None × (self.new ≡ self.old))) }
         ensures some { IfOk result (λ o. IfSome o (λ s. (self.old.failed ≡ false) × IsNextEvent self.old.plan self.old.position (Some s.second) × (s.starts ≡ starts_in self.old.plan s.second) × (self.new ≡ record self.old { position = s.second + 1; handled = self.old.handled + 1 }))) }
-        ensures fault { IfErr result (λ f. IsStepFault self.old self.new f) }
+        ensures fault { IfErr result (λ f. IsTellFault self.old self.new f) }
     {
-        let (position, handled) = (self.position, self.handled);
         let mut started = Vec::new(self.alloc);
         let Some(second) = self.step_into(&mut started)? else {
             return Ok(None);
         };
         let mut starts = Vec::new(self.alloc);
         let Ok(()) = add_starts(&mut starts, started.as_slice(), second) else {
-            self.fail_at(position, handled);
+            self.failed = true;
             return Err(EngineFault::Memory);
         };
         Ok(Some(Stepped::new(second, starts)))
@@ -68,7 +68,9 @@ impl<A: Allocator + Copy> Engine<A> {
     /// Works each event second before `second`, and answers the starts in order.
     ///
     /// Failed in an engine that has failed. Memory where a growth was refused; the engine has failed
-    /// then, one past the last event second that it worked whole, and never past `second`.
+    /// then, one past the last event second that it worked whole, and never past `second`. A second
+    /// is worked whole once its jobs have ended, arrived and started, whether or not its starts
+    /// found room in the list.
     pub fn advance_to(&mut self, second: u64) -> Result<Vec<Start, A>, EngineFault>
         requires { self.old.position ≤ second }
         ensures position { OnOk result (self.new.position ≡ second) }
@@ -84,7 +86,7 @@ impl<A: Allocator + Copy> Engine<A> {
     /// Works all event seconds that are left, and answers the starts in order.
     ///
     /// Failed in an engine that has failed. Memory where a growth was refused; the engine has failed
-    /// then, one past the last event second that it worked whole.
+    /// then, as in `advance_to` one past the last event second that it worked whole.
     pub fn finish(&mut self) -> Result<Vec<Start, A>, EngineFault>
         ensures done { OnOk result (IsNextEvent self.new.plan self.new.position None) }
         ensures all { IfOk result (λ starts. starts_before self.old.plan self.old.position ++ starts.items ≡ sim self.old.plan) }
@@ -160,15 +162,5 @@ impl<A: Allocator + Copy> Engine<A> {
         self.position = second + 1;
         self.handled += 1;
         Ok(())
-    }
-
-    // Fails, and stands before an earlier second: what was worked since then can't be told.
-    fn fail_at(&mut self, position: u64, handled: u64)
-        requires { handled ≤ position }
-        ensures { self.new ≡ record self.old { position = position; handled = handled; failed = true } }
-    {
-        self.position = position;
-        self.handled = handled;
-        self.failed = true;
     }
 }

@@ -200,16 +200,24 @@ enum Step {
     Wrong,
 }
 
-// A step: the engine stands one past the second that it worked, and where memory is wanting it
-// stands where it was and has failed.
+// Whether an engine stands where it stood, or one past the next event second, with that one counted:
+// there its starts found no room.
+fn stands<A: Allocator + Copy>(engine: &Engine<A>, was: (u64, u64), next: Option<u64>) -> bool {
+    let now = (engine.position(), engine.handled());
+    let counted = was.1.saturating_add(1);
+    now == was || next.is_some_and(|second| now == (second.saturating_add(1), counted))
+}
+
+// A step: where memory is wanting the engine has failed, where it stood, or behind the second that it
+// worked whole.
 fn work_one<A: Allocator + Copy>(engine: &mut Engine<A>) -> Step {
-    let (position, handled) = (engine.position(), engine.handled());
+    let was = (engine.position(), engine.handled());
+    let next = engine.next_event();
     match engine.step() {
         Ok(None) => Step::Done,
         Ok(Some(_)) => Step::Worked,
         Err(EngineFault::Memory) => {
-            let stands = engine.handled() == handled && engine.position() == position;
-            if stands && has_failed(engine) {
+            if stands(engine, was, next) && has_failed(engine) {
                 Step::Memory
             } else {
                 Step::Wrong

@@ -13,19 +13,19 @@ first-of (j ∷ js) job e = ap (λ (k : EffectiveJob). k ∷ js) (same j job e)
 pub arrive-requires-clause-absent : goal.arrive-requires-clause-absent
 arrive-requires-clause-absent g c =
     let here = c.in-Some.ensures.some.0 in
-    (can-arrive c.args.cluster.now.state c.jobs.cluster.state c.args.second c.args.row.now.items c.jobs.row.items (drop 1 c.jobs.row.items) c.in-Some.job c.jobs.invariant
+    (can-arrive c.args.cluster.now.state c.jobs.cluster.state c.args.second c.args.row.now.items c.jobs.row.items (drop 1 c.jobs.row.items) c.in-Some.job c.jobs.invariant.arriving
     (first-of c.jobs.row.items c.in-Some.job c.in-Some.ensures.some.1) (omega (arith, here)) c.requires.sound).0
 
 pub arrive-requires-clause-fits : goal.arrive-requires-clause-fits
 arrive-requires-clause-fits g c =
     let here = c.in-Some.ensures.some.0 in
-    (can-arrive c.args.cluster.now.state c.jobs.cluster.state c.args.second c.args.row.now.items c.jobs.row.items (drop 1 c.jobs.row.items) c.in-Some.job c.jobs.invariant
+    (can-arrive c.args.cluster.now.state c.jobs.cluster.state c.args.second c.args.row.now.items c.jobs.row.items (drop 1 c.jobs.row.items) c.in-Some.job c.jobs.invariant.arriving
     (first-of c.jobs.row.items c.in-Some.job c.in-Some.ensures.some.1) (omega (arith, here)) c.requires.sound).1
 
 pub returns-clause-state : goal.returns-clause-state
 returns-clause-state g c =
-    (arriving-done c.args.cluster.now.state c.jobs.cluster.state c.args.second c.args.row.now.items c.jobs.row.items c.jobs.invariant c.in_default.ensures.none).0
+    (arriving-done c.args.cluster.now.state c.jobs.cluster.state c.args.second c.args.row.now.items c.jobs.row.items c.jobs.invariant.arriving c.in_default.ensures.none).0
 
 pub returns-clause-row : goal.returns-clause-row
 returns-clause-row g c =
-    (arriving-done c.args.cluster.now.state c.jobs.cluster.state c.args.second c.args.row.now.items c.jobs.row.items c.jobs.invariant c.in_default.ensures.none).1
+    (arriving-done c.args.cluster.now.state c.jobs.cluster.state c.args.second c.args.row.now.items c.jobs.row.items c.jobs.invariant.arriving c.in_default.ensures.none).1

@@ -1,4 +1,5 @@
-use Rattle.std.proofs.Common.{arith}
+use Rattle.std.proofs.Common.{arith, sym}
+use Rattle.std.proofs.lemmas.Bool.{true≢false}
 use Rattle.easy_rule.specs.Simulation.{before}
 use Rattle.event_loop.proofs.engine.Engine.new.Goals as goal
 
@@ -10,4 +11,5 @@ invariant_of-result g c = record {
   state_is = rw c.new-plan.ensures.view (λ _. c.for_scenario.ensures);
   coming_is = λ _. rw c.view.ensures.same at c.at-coming.ensures.coming;
   known_is = λ _. tt;
+  failed_is = λ e. absurd (true≢false (sym e));
 }

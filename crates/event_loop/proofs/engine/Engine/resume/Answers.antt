@@ -3,6 +3,7 @@ use Rattle.std.specs.Arc.{arc_value}
 use Rattle.scenarios.specs.Plan.{Plan, plan_of}
 use Rattle.scenarios.specs.PlanView.{PlanView, plan_in}
 use Rattle.scenarios.specs.SoundPlan.{IsPlan}
+use Rattle.std.proofs.lemmas.Bool.{true≢false}
 use Rattle.easy_rule.specs.Simulation.{before}
 use Rattle.event_loop.proofs.Kept.{before-fits}
 use Rattle.event_loop.proofs.engine.Engine.resume.Goals as goal
@@ -25,4 +26,5 @@ invariant_of-result g c =
       state_is = λ _. (rw same at c.in_ok-cluster.ensures) ∙ (before-fits plan c.args.second c.args.snapshot.now sound c.requires).1 ∙ ap (λ (v : PlanView). before (plan_in v) c.args.second) (sym c.new-plan.ensures.view);
       coming_is = λ _. rw c.view.ensures.same at c.at-coming.ensures.coming;
       known_is = λ _. tt;
+      failed_is = λ e. absurd (true≢false (sym e));
     }

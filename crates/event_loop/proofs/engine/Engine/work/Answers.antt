@@ -9,7 +9,7 @@ use Rattle.timeline.proofs.Lemmas.{second-is, before-more}
 use Rattle.event_loop.specs.Events.{Progress}
 use Rattle.event_loop.specs.Stepped.{StartIn}
 use Rattle.event_loop.proofs.Kept.{start-in}
-use Rattle.event_loop.proofs.EventLemmas.{ready-at, sound-ready, known-settled, known-stands}
+use Rattle.event_loop.proofs.EventLemmas.{midway-at, ready-at, sound-ready, known-settled, known-stands}
 use Rattle.event_loop.proofs.engine.Engine.work.Goals as goal
 
 pub arrive-requires-clause-coming : goal.arrive-requires-clause-coming
@@ -50,6 +50,17 @@ decide_knowing-requires-clause-known g c =
     let going : c.self.inside.failed ≡ false = ap (λ (p : Progress). p.failed) c.self.view_is ∙ c.requires.going in
     known-stands plan c.self.inside.cluster.state c.arrive.new.cluster.state t c.self.inside.known c.standing_at-known.result r.is ready-is (c.self.invariant.known_is going) c.standing_at-known.ensures.known c.standing_at-known.ensures.stands
 
+pub invariant_of-self : goal.invariant_of-self
+invariant_of-self g c = record {
+  is_plan = c.self.invariant.is_plan;
+  counted = c.self.invariant.counted;
+  state_is = λ e. absurd (true≢false e);
+  coming_is = λ e. absurd (true≢false e);
+  known_is = λ e. absurd (true≢false e);
+  failed_is = λ _. midway-at c.args.self.now (plan_in c.self.inside.plan) c.self.inside.cluster.state c.finish_until.new.self.state c.arrive.new.cluster.state c.self.inside.coming c.self.inside.known c.self.inside.position c.self.inside.handled c.args.second c.self.inside.failed
+      c.self.view_is c.self.invariant c.requires.going c.requires.next c.finish_until.ensures.state c.arrive.ensures.running;
+}
+
 pub invariant_of-self-in_err-left : goal.invariant_of-self-in_err-left
 invariant_of-self-in_err-left g c = record {
   is_plan = c.self.invariant.is_plan;
@@ -57,6 +68,8 @@ invariant_of-self-in_err-left g c = record {
   state_is = λ e. absurd (true≢false e);
   coming_is = λ e. absurd (true≢false e);
   known_is = λ e. absurd (true≢false e);
+  failed_is = λ _. midway-at c.args.self.now (plan_in c.self.inside.plan) c.self.inside.cluster.state c.finish_until.new.self.state c.decide_knowing.new.cluster.state c.self.inside.coming c.self.inside.known c.self.inside.position c.self.inside.handled c.args.second c.self.inside.failed
+      c.self.view_is c.self.invariant c.requires.going c.requires.next c.finish_until.ensures.state (ap (λ (s : State). s.running) c.in_err-left.ensures.err ∙ c.arrive.ensures.running);
 }
 
 pub overflow_add-self : goal.overflow_add-self
@@ -90,6 +103,7 @@ invariant_of-self-2 g c =
       state_is = λ _. c.in_ok-left.ensures.state ∙ ap (λ (s : State). state_after s t) ready-is ∙ sym (before-more plan t);
       coming_is = λ _. rw c.view.ensures.same at c.in_ok-arrive.ensures.coming;
       known_is = λ _. c.in_ok-left.ensures.shadow;
+      failed_is = λ e. absurd (true≢false (sym e));
     }
 
 pub returns-clause-started : goal.returns-clause-started
