@@ -5,3 +5,5 @@ mod Calls
 mod Named
 mod Looking
 mod Sides
+mod Hearings
+mod Conversations

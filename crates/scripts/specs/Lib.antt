@@ -8,3 +8,5 @@ pub mod Replies
 pub mod Reports
 pub mod Looks
 pub mod Transcript
+pub mod Hearing
+pub mod Live

@@ -4,7 +4,9 @@
 
 mod analyst;
 mod answer;
+mod hearing;
 mod line;
+mod live;
 mod refusals;
 mod reply;
 mod run;
@@ -15,6 +17,7 @@ mod views;
 
 pub use answer::{Answer, Became, Refusal};
 pub use line::split_line;
+pub use live::{LiveFault, run_live};
 pub use reply::Reply;
 pub use run::run_lines;
 pub use saving::{bytes_of, scenario_of};

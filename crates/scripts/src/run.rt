@@ -50,7 +50,7 @@ impl<A: Allocator + Copy> Analyst<A> {
     }
 
     // Works a line of a script.
-    fn answer_line(
+    pub(crate) fn answer_line(
         &mut self,
         comments: &[Vec<u8, A>],
         line: u64,
@@ -67,7 +67,7 @@ impl<A: Allocator + Copy> Analyst<A> {
 }
 
 // Whether the script ends behind this line.
-fn is_quit<A: Allocator + Copy>(asked: &Result<Option<Command<A>>, CommandFault>) -> bool
+pub(crate) fn is_quit<A: Allocator + Copy>(asked: &Result<Option<Command<A>>, CommandFault>) -> bool
     ensures { result ≡ is_quit asked.now }
 {
     matches!(asked, Ok(Some(Command::Quit)))

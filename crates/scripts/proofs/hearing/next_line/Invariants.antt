@@ -1,0 +1,9 @@
+use Rattle.std.specs.Io.KnownBytes.{Consumes}
+use Rattle.scripts.specs.Hearing.{HasNoFeed}
+use Rattle.scripts.proofs.hearing.next_line.Given as goal
+
+abbrev pub invariant-loop : goal.invariant-loop
+invariant-loop g l = record {
+  read : Consumes (g.R.Read.remaining l.fn.reader) (g.R.Read.remaining l.reader) l.line.bytes.items;
+  one_line : HasNoFeed l.line.bytes.items;
+}

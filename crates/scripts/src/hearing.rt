@@ -1,0 +1,151 @@
+ghost use Rattle.std.specs.Prelude.{◌≡◌, ◌+◌, ◌≤◌, ◌++◌, [], IfOk, if◌then◌else◌, length, vec_capacity, vec_len};
+ghost use Rattle.scripts.specs.Hearing.{Grows, IsFront, IsHeard, IsPassed};
+ghost use Rattle.scripts.specs.declared.hearing.LineEnd.TheVariants.{Feed, Input, Open};
+
+use memchr::memchr;
+use std::alloc::{AllocError, Allocator};
+use std::io;
+use std::io::{BufRead, ErrorKind};
+use swf_text::LINE_LIMIT;
+
+/// The bytes of a line that are kept: one more than a line may have tells that it is too long.
+const KEPT: usize = LINE_LIMIT + 1;
+
+/// A reader answered an error.
+#[derive(Clone, Copy)]
+pub(crate) struct ReadFault;
+
+/// Where the reading of a line stands.
+#[derive(Clone, Copy)]
+pub(crate) enum LineEnd {
+    // Its line feed was read.
+    Feed,
+    // The input ended.
+    Input,
+    // It goes on.
+    Open,
+}
+
+/// A line that is being read, in a room of its own.
+#[derive(Drop)]
+pub(crate) struct Line<A: Allocator> {
+    bytes: Vec<u8, A>,
+    ghost within: { vec_len bytes ≤ 65537 },
+    ghost roomy: { 65537 ≤ vec_capacity bytes },
+}
+
+impl<A: Allocator> Line<A> {
+    // A line without bytes.
+    pub(crate) fn new(alloc: A) -> Result<Line<A>, AllocError> {
+        let bytes = Vec::with_capacity(alloc, KEPT)?;
+        Ok(Line { bytes })
+    }
+
+    pub(crate) fn as_slice(&self) -> &[u8]
+        ensures { result.now ≡ self.now.bytes.items }
+    {
+        self.bytes.as_slice()
+    }
+
+    fn clear(&mut self)
+        ensures { self.new.bytes.items ≡ [] }
+    {
+        self.bytes.clear();
+    }
+
+    // How many bytes more are kept.
+    fn room(&self) -> usize
+        ensures { result + length self.now.bytes.items ≡ 65537 }
+    {
+        KEPT - self.bytes.len()
+    }
+
+    fn add(&mut self, part: &[u8])
+        requires { length self.old.bytes.items + length part.now ≤ 65537 }
+        ensures { self.new.bytes.items ≡ self.old.bytes.items ++ part.now }
+    {
+        match self.bytes.extend_from_slice(part) {
+            Ok(()) => {}
+            Err(_) => unreachable!(),
+        }
+    }
+}
+
+// What of the bytes that a reader shows belongs to the line, how many of them that uses, and where
+// the line stands then.
+fn front_of(shown: &[u8], room: usize) -> (&[u8], usize, LineEnd)
+    ensures { IsFront shown.now room result.0.now result.1 result.2 }
+{
+    if shown.is_empty() {
+        return (shown, 0, LineEnd::Input);
+    }
+    let part = &shown[..shown.len().min(room)];
+    match memchr(b'\n', part) {
+        Some(at) => (&part[..at], at + 1, LineEnd::Feed),
+        None => (part, part.len(), LineEnd::Open),
+    }
+}
+
+// A read that a signal interrupts is tried again.
+fn unless_interrupted(error: io::Error) -> Result<LineEnd, ReadFault>
+    ensures { IfOk result (λ end. end ≡ Open) }
+{
+    match error.kind() {
+        ErrorKind::Interrupted => Ok(LineEnd::Open),
+        _ => Err(ReadFault),
+    }
+}
+
+// Reads a part of the line: what the reader shows of it, as far as there is room.
+fn read_part<R: BufRead, A: Allocator>(
+    reader: &mut R,
+    line: &mut Line<A>,
+) -> Result<LineEnd, ReadFault>
+    ensures { IfOk result (Grows (R.remaining reader.old) (R.remaining reader.new) line.old.bytes.items line.new.bytes.items) }
+{
+    let shown = match reader.fill_buf() {
+        Ok(shown) => shown,
+        Err(error) => return unless_interrupted(error),
+    };
+    let (bytes, used, end) = front_of(shown, line.room());
+    line.add(bytes);
+    reader.consume(used);
+    Ok(end)
+}
+
+/// Reads the next line, or of one that is too long the first bytes.
+pub(crate) fn next_line<R: BufRead, A: Allocator>(
+    reader: &mut R,
+    line: &mut Line<A>,
+) -> Result<LineEnd, ReadFault>
+    ensures { IfOk result (IsHeard (R.remaining reader.old) (R.remaining reader.new) line.new.bytes.items) }
+{
+    line.clear();
+    for _ in 0..u64::MAX {
+        if line.room() == 0 {
+            return Ok(LineEnd::Open);
+        }
+        match read_part(reader, line)? {
+            LineEnd::Open => {}
+            end => return Ok(end),
+        }
+    }
+    Err(ReadFault)
+}
+
+/// Passes over the rest of a line; whether it had a line feed.
+pub(crate) fn pass_line<R: BufRead, A: Allocator>(
+    reader: &mut R,
+    line: &mut Line<A>,
+) -> Result<bool, ReadFault>
+    ensures { IfOk result (λ fed. IsPassed (R.remaining reader.old) (R.remaining reader.new) (if fed then Feed else Input)) }
+{
+    for _ in 0..u64::MAX {
+        match next_line(reader, line)? {
+            LineEnd::Feed => return Ok(true),
+            LineEnd::Input => return Ok(false),
+            LineEnd::Open => {}
+        }
+    }
+    Err(ReadFault)
+}

@@ -1,0 +1,172 @@
+ghost use Rattle.std.specs.Prelude.{◌≡◌, ℕ, Option, List, IfOk, map};
+ghost use Rattle.std.specs.Io.KnownBytes.{Keeps};
+ghost use Rattle.commands.specs.Commands.{command_of_line};
+ghost use Rattle.swf_text.specs.Writing.{Writes};
+ghost use Rattle.version_book.specs.Book.{machine_of};
+ghost use Rattle.scripts.specs.Hearing.{MayFollow};
+ghost use Rattle.scripts.specs.Live.{IsSaid, Talks, Turns};
+ghost use Rattle.scripts.specs.Replies.{reply_text};
+ghost use Rattle.scripts.specs.Session.{Session};
+ghost use Rattle.scripts.specs.Transcript.{IsLine, is_quit};
+
+use crate::analyst::Analyst;
+use crate::hearing::{Line, LineEnd, ReadFault, next_line, pass_line};
+use crate::reply::Reply;
+use crate::run::is_quit;
+use commands::parse_command;
+use std::alloc::{AllocError, Allocator};
+use std::fmt;
+use std::io::{BufRead, Write};
+use swf_text::{Memory, WriteFault};
+use thiserror::Error;
+use version_book::Book;
+
+/// Why a conversation ended before its input did.
+#[derive(Clone, Copy, Debug, PartialEq, Eq, Error)]
+pub enum LiveFault {
+    /// The reader answered an error.
+    Read,
+    /// The writer answered an error, or took no byte.
+    Write,
+    /// A growth was refused before the first line was read.
+    Memory,
+}
+
+impl fmt::Display for LiveFault {
+    fn fmt<W: fmt::Write>(&self, f: &mut fmt::Formatter<W>) -> fmt::Result {
+        match self {
+            LiveFault::Read => f.write_str("Read"),
+            LiveFault::Write => f.write_str("Write"),
+            LiveFault::Memory => Memory.fmt(f),
+        }
+    }
+}
+
+impl From<ReadFault> for LiveFault {
+    ghost use Rattle.std.specs.Prelude.{◌≡◌};
+    ghost use Rattle.scripts.specs.declared.live.LiveFault.TheVariants.{Read as ReadFailed};
+
+    ghost from_gives = { λ _ fault. fault ≡ ReadFailed };
+
+    fn from(_fault: ReadFault) -> LiveFault {
+        LiveFault::Read
+    }
+}
+
+impl From<WriteFault> for LiveFault {
+    ghost use Rattle.std.specs.Prelude.{◌≡◌};
+    ghost use Rattle.scripts.specs.declared.live.LiveFault.TheVariants.{Write as WriteFailed};
+
+    ghost from_gives = { λ _ fault. fault ≡ WriteFailed };
+
+    fn from(_fault: WriteFault) -> LiveFault {
+        LiveFault::Write
+    }
+}
+
+impl From<AllocError> for LiveFault {
+    ghost use Rattle.std.specs.Prelude.{◌≡◌};
+    ghost use Rattle.scripts.specs.declared.live.LiveFault.TheVariants.{Memory as OutOfMemory};
+
+    ghost from_gives = { λ _ fault. fault ≡ OutOfMemory };
+
+    fn from(_error: AllocError) -> LiveFault {
+        LiveFault::Memory
+    }
+}
+
+// Writes what is answered, and sees that the writer keeps nothing of it back.
+fn say<W: Write, A: Allocator + Copy>(reply: &Reply<A>, writer: &mut W) -> Result<(), WriteFault>
+    ensures { Writes result (W.contents writer.old) (W.contents writer.new) (reply_text reply.now) }
+{
+    reply.write(writer)?;
+    match writer.flush() {
+        Ok(()) => Ok(()),
+        Err(_) => Err(WriteFault::Device),
+    }
+}
+
+// Works a line, and writes what it is answered; whether it is `quit`.
+fn answer<W: Write, A: Allocator + Copy>(
+    analyst: &mut Analyst<A>,
+    comments: &[Vec<u8, A>],
+    number: u64,
+    line: &[u8],
+    writer: &mut W,
+) -> Result<bool, WriteFault>
+    ensures told { (text : List ℕ) × IsLine (map (λ c. c.items) comments.now) analyst.old number (command_of_line {A = A} line.now) text analyst.new × Writes result (W.contents writer.old) (W.contents writer.new) text }
+    ensures quits { IfOk result (λ quits. quits ≡ is_quit (command_of_line {A = A} line.now)) }
+{
+    let asked = parse_command(analyst.alloc, line);
+    let quits = is_quit(&asked);
+    say(&analyst.answer_line(comments, number, asked), writer)?;
+    Ok(quits)
+}
+
+// Whether a line may follow: behind a line that is too long, its rest is passed over first.
+fn may_follow<R: BufRead, A: Allocator>(
+    reader: &mut R,
+    line: &mut Line<A>,
+    end: LineEnd,
+) -> Result<bool, ReadFault>
+    ensures { IfOk result (MayFollow (R.remaining reader.old) (R.remaining reader.new) end) }
+{
+    match end {
+        LineEnd::Feed => Ok(true),
+        LineEnd::Input => Ok(false),
+        LineEnd::Open => pass_line(reader, line),
+    }
+}
+
+// Works one turn: reads a line, and answers it before another is read; whether one may follow.
+fn turn<R: BufRead, W: Write, A: Allocator + Copy>(
+    analyst: &mut Analyst<A>,
+    comments: &[Vec<u8, A>],
+    number: u64,
+    line: &mut Line<A>,
+    reader: &mut R,
+    writer: &mut W,
+) -> Result<bool, LiveFault>
+    ensures { (first : Session) (from old : Option (List ℕ))
+        → IsSaid A (map (λ c. c.items) comments.now) first from (R.remaining reader.old) old (W.contents writer.old) analyst.old number
+        → Turns A (map (λ c. c.items) comments.now) first from (R.remaining reader.new) old (W.contents writer.new) analyst.new number result }
+{
+    let end = next_line(reader, line)?;
+    let quits = answer(analyst, comments, number, line.as_slice(), writer)?;
+    if quits {
+        return Ok(false);
+    }
+    let follows = may_follow(reader, line, end)?;
+    Ok(follows)
+}
+
+/// Holds a conversation on a book: reads line after line as they come, and answers each, the answer
+/// flushed, before it reads on, as `run_lines` answers a script's. It ends behind `quit` or at the
+/// end of the input, whose last line may lack its line feed. The comments are those of the log,
+/// which `save` writes.
+///
+/// A line of over 65,536 bytes is told TooLong when so many are read, and the rest of it is passed
+/// over. Of a conversation no more is kept than the book keeps, and the line that is being read.
+///
+/// Read where the reader answers an error: what was written is a transcript of the lines that were
+/// read by then. Write where the writer answers an error or takes no byte: what was written is a
+/// beginning of one. Memory where there is no room for a line, before the first is read.
+pub fn run_live<R: BufRead, W: Write, A: Allocator + Copy>(
+    alloc: A,
+    book: Book<A>,
+    comments: &[Vec<u8, A>],
+    reader: &mut R,
+    writer: &mut W,
+) -> Result<(), LiveFault>
+    ensures { Talks A (map (λ c. c.items) comments.now) (record { machine = machine_of book; seen = 0 }) (R.remaining reader.old) (W.contents writer.old) (W.contents writer.new) result }
+{
+    let mut line = Line::new(alloc)?;
+    let mut analyst = Analyst::new(alloc, book);
+    for number in 1..u64::MAX {
+        let follows = turn(&mut analyst, comments, number, &mut line, reader, writer)?;
+        if !follows {
+            return Ok(());
+        }
+    }
+    Err(LiveFault::Read)
+}
