@@ -21,6 +21,7 @@ pub use fault::ProgramFault;
 pub use input::read_input;
 pub use laws::words_law;
 pub use options::Options;
+pub use parallel_reader::read_parallel;
 pub use plain::run_plain;
 pub use program::run_words;
 pub use shared::{run_shared, run_shared_gated};

@@ -39,7 +39,7 @@ fn read_batches<R: Threads + Sync, A: Allocator + Copy>(
     'batches: while !ready.is_last(rest) {
         let Ok(after) = next.take(rest) else {
             return Err(SwfFault {
-                line,
+                line: 1,
                 kind: FaultKind::Memory,
             });
         };
@@ -55,9 +55,9 @@ fn read_batches<R: Threads + Sync, A: Allocator + Copy>(
 /// fault, but that memory may be wanting in other places.
 ///
 /// A fault of kind `Memory` comes where a growth was refused, and has the line that was being
-/// added then, or the first that was not yet added when more lines were taken; all lines before it
-/// are without faults. After a fault there is no value. A short log, and any log where there is one
-/// processor, is read by the thread that calls.
+/// added then, or line 1 where the growth was to hold lines that were cut, or what they are; all
+/// lines before it are without faults. After a fault there is no value. A short log, and any log
+/// where there is one processor, is read by the thread that calls.
 pub fn read_parallel<R: Threads + Sync, A: Allocator + Copy>(
     rt: &R,
     alloc: A,

@@ -153,17 +153,18 @@ fn told_by<A: Allocator + Copy>(read: Result<SwfText<A>, SwfFault>) -> Told {
 }
 
 // Whether this may be told where a growth was refused and the lines told so far reach to this one: a
-// later line, or the log, where there was no room for its entries ahead.
+// later line, or line 1, where there was no room for lines that were cut, or the log, where there was
+// none for its entries ahead.
 fn may_follow(told: Told, earlier: u64) -> bool {
     match told {
         Told::Read(entries) => entries == 1,
-        Told::MemoryAt(line) => earlier <= line && line <= MANY,
+        Told::MemoryAt(line) => line == 1 || (earlier <= line && line <= MANY),
         Told::Faulty => false,
     }
 }
 
-// Refuses each growth in turn: whether the lines told don't fall as the refusal comes later and reach
-// the last one, and the log is read at last.
+// Refuses each growth in turn: whether the lines told but line 1 don't fall as the refusal comes later
+// and reach the last one, and the log is read at last.
 fn tells_lines<R: Threads + Sync>(rt: &R, alloc: Global, bytes: &[u8]) -> bool {
     let mut last = 1;
     for nth in 1..GROWTHS {
@@ -176,7 +177,7 @@ fn tells_lines<R: Threads + Sync>(rt: &R, alloc: Global, bytes: &[u8]) -> bool {
             return false;
         }
         if let Told::MemoryAt(line) = told {
-            last = line;
+            last = last.max(line);
         }
     }
     false

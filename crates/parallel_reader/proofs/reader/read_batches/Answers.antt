@@ -2,7 +2,7 @@ use Rattle.std.proofs.Common.{◌≡◌, [], ◌++◌, List, ℕ, Bor, length, r
 use Rattle.std.proofs.lemmas.Bool.{eqb-true}
 use Rattle.std.proofs.lemmas.List.{length-append, length-map}
 use Rattle.swf_text.specs.Reading.{text_of}
-use Rattle.swf_text.specs.Text.{lines}
+use Rattle.swf_text.specs.Text.{empty, lines}
 use Rattle.swf_text.proofs.Lemmas.{read_none}
 use Rattle.parallel_reader.specs.Adding.{texts, read_texts}
 use Rattle.parallel_reader.proofs.Adding.{left_over, reached_first, batch_refused, batch_reached, batch_added, batch_split, gives_same, reached_same, some_left, smaller, none_left}
@@ -25,8 +25,9 @@ returns-in_default-clause-reached g c =
     let h = c.batches.invariant in
     let ready = c.batches.ready.lines.items in
     let rest = c.batches.rest.now in
-    reached_first (lines c.args.bytes.now) h.front (texts ready ++ lines rest) c.batches.text c.batches.line h.whole h.place h.done
-    (some_left ready rest (omega (arith, false-eqb _ 0 c.batches-test.ensures)))
+    let some = some_left ready rest (omega (arith, false-eqb _ 0 c.batches-test.ensures)) in
+    reached_first (lines c.args.bytes.now) [] (lines c.args.bytes.now) empty 1 refl refl (read_none empty refl)
+    (omega (arith, ap length h.whole, length-append h.front (texts ready ++ lines rest), some))
 
 pub returns-in_err-read_beside-clause-exact : goal.returns-in_err-read_beside-clause-exact
 returns-in_err-read_beside-clause-exact g c =
