@@ -1,10 +1,13 @@
-use crate::told::Told;
+// Decisions behind jobs that are known to wait.
+use crate::engines::are;
+use crate::logs::four_jobs;
 use cluster_state::Cluster;
 use easy_rule::laws::{arrivals_unsettle_nobody, easy_is_a_rule};
 use easy_rule::{Shadow, Start, add_starts, decide_behind, decide_into};
-use scenarios::{Job, Order, Scenario, effective};
+use refusing::Outcome;
+use scenarios::{Job, Order, Scenario};
 use std::alloc::Allocator;
-use swf_text::{Entry, Memory, read_swf};
+use swf_text::{Memory, read_swf};
 
 /// On ten processors job 2 waits for job 1, until 100; jobs 3 and 4 come at 2.
 const LOG: &[u8] = b"1 0 -1 100 6 -1 -1 6 100 -1 1 7 -1 -1 -1 -1 -1 -1
@@ -19,50 +22,35 @@ const NOTHING_LEFT: Shadow = Shadow {
     extra: 0,
 };
 
-// The four jobs.
-fn four_jobs<A: Allocator + Copy>(entries: &[Entry<A>], scenario: &Scenario) -> Option<[Job; 4]> {
-    let [first, second, third, fourth] = entries else {
-        return None;
-    };
-    Some([
-        effective(first, scenario).ok()?,
-        effective(second, scenario).ok()?,
-        effective(third, scenario).ok()?,
-        effective(fourth, scenario).ok()?,
-    ])
-}
-
 // Whether this job, which comes alone at second 0, starts then.
 fn begins_alone<A: Allocator + Copy>(
-    alloc: A,
     cluster: &mut Cluster<A>,
+    chosen: &mut Vec<Job, A>,
     job: Job,
 ) -> Result<bool, Memory> {
     if !cluster.can_arrive(&job) {
         return Ok(false);
     }
     cluster.arrive(job)?;
-    let mut chosen = Vec::new(alloc);
-    decide_into(cluster, &mut chosen, 0)?;
+    decide_into(cluster, chosen, 0)?;
     Ok(chosen.len() == 1)
 }
 
 // Decides second 1, at which the second job comes, and second 2, at which the two last come, behind
-// those that are known to wait; answers the starts of second 2 and what the second job leaves then.
-// The jobs of both seconds are left in one list.
+// those that are known to wait; answers what the second job leaves then. The jobs that start in the
+// last of these seconds are left in the list.
 fn decide_two_seconds<A: Allocator + Copy>(
-    alloc: A,
     cluster: &mut Cluster<A>,
+    chosen: &mut Vec<Job, A>,
     second: Job,
     third: Job,
     fourth: Job,
-) -> Result<Option<(Vec<Start, A>, Shadow)>, Memory> {
+) -> Result<Option<Shadow>, Memory> {
     if !cluster.can_arrive(&second) {
         return Ok(None);
     }
     cluster.arrive(second)?;
-    let mut chosen = Vec::new(alloc);
-    let Some(shadow) = decide_into(cluster, &mut chosen, 1)? else {
+    let Some(shadow) = decide_into(cluster, chosen, 1)? else {
         return Ok(None);
     };
     easy_is_a_rule();
@@ -76,54 +64,50 @@ fn decide_two_seconds<A: Allocator + Copy>(
     }
     cluster.arrive(fourth)?;
     arrivals_unsettle_nobody();
-    let left = decide_behind(cluster, &mut chosen, settled, shadow, 2)?;
-    let mut starts = Vec::new(alloc);
-    add_starts(&mut starts, &chosen, 2)?;
-    Ok(Some((starts, left)))
+    Ok(Some(decide_behind(cluster, chosen, settled, shadow, 2)?))
+}
+
+// Whether all goes so, with the starts of second 2 added to a list.
+fn goes_so<A: Allocator + Copy>(
+    cluster: &mut Cluster<A>,
+    chosen: &mut Vec<Job, A>,
+    starts: &mut Vec<Start, A>,
+    jobs: &[Job; 4],
+) -> Result<bool, Memory> {
+    if !begins_alone(cluster, chosen, jobs[0])? {
+        return Ok(false);
+    }
+    let left = decide_two_seconds(cluster, chosen, jobs[1], jobs[2], jobs[3])?;
+    add_starts(starts, chosen, 2)?;
+    Ok(left == Some(NOTHING_LEFT))
 }
 
 // Whether these jobs start at second 2, in their order.
-fn start_at_two(starts: &[Start], numbers: [u64; 2]) -> bool {
-    starts == numbers.map(|number| Start { number, at: 2 }).as_slice()
+fn start_at_two(starts: &[Start], order: Order) -> bool {
+    match order {
+        Order::Arrival => are(starts, &[(3, 2), (4, 2)]),
+        Order::Shortest => are(starts, &[(4, 2), (3, 2)]),
+    }
 }
 
-// What is told of the seconds 0 to 2 of four jobs, of which the last two start as told.
-fn decided<A: Allocator + Copy>(
-    alloc: A,
-    cluster: &mut Cluster<A>,
-    jobs: [Job; 4],
-    numbers: [u64; 2],
-) -> Told {
-    match begins_alone(alloc, cluster, jobs[0]) {
-        Ok(true) => {}
-        Ok(false) => return Told::Wrong,
-        Err(Memory) => return Told::Memory,
-    }
-    match decide_two_seconds(alloc, cluster, jobs[1], jobs[2], jobs[3]) {
-        Ok(Some((starts, shadow))) => {
-            Told::right_if(shadow == NOTHING_LEFT && start_at_two(&starts, numbers))
-        }
-        Ok(None) => Told::Wrong,
-        Err(Memory) => Told::Memory,
+// What is told of the seconds 0 to 2 of four jobs.
+fn decided<A: Allocator + Copy>(alloc: A, jobs: &[Job; 4], scenario: &Scenario) -> Outcome {
+    let mut cluster = Cluster::for_scenario(alloc, scenario);
+    let mut chosen = Vec::new(alloc);
+    let mut starts = Vec::new(alloc);
+    match goes_so(&mut cluster, &mut chosen, &mut starts, jobs) {
+        Ok(goes) => Outcome::right_if(goes && start_at_two(&starts, scenario.order())),
+        Err(Memory) => Outcome::Memory,
     }
 }
 
 /// The log's jobs 3 and 4 start behind job 2, in the order of backfills.
-pub(crate) fn decides_behind<A: Allocator + Copy>(alloc: A, order: Order) -> Told {
-    let Some(scenario) = Scenario::new(10, 1000) else {
-        return Told::Wrong;
-    };
+pub(crate) fn decides_behind<A: Allocator + Copy>(alloc: A, scenario: &Scenario) -> Outcome {
     let Ok(text) = read_swf(alloc, LOG) else {
-        return Told::Before;
+        return Outcome::Before;
     };
-    let scenario = scenario.ordered(order);
-    let Some(jobs) = four_jobs(text.entries(), &scenario) else {
-        return Told::Wrong;
-    };
-    let numbers = match order {
-        Order::Arrival => [3, 4],
-        Order::Shortest => [4, 3],
-    };
-    let mut cluster = Cluster::for_scenario(alloc, &scenario);
-    decided(alloc, &mut cluster, jobs, numbers)
+    match four_jobs(&text, scenario) {
+        Some(jobs) => decided(alloc, &jobs, scenario),
+        None => Outcome::Wrong,
+    }
 }

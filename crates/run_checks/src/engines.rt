@@ -1,23 +1,22 @@
-use crate::clusters::job_2_waits;
-use crate::logs::{add_line, shared_table};
+// The event loop, by all calls that let it go on.
+use crate::logs::{NOTED, shared_table};
+use cluster_state::Snapshot;
 use easy_rule::Start;
 use event_loop::{Engine, EngineFault};
 use job_table::JobTable;
+use refusing::Outcome;
 use scenarios::{Job, Scenario};
 use std::alloc::{Allocator, Global};
+use std::process::Abort;
 use std::sync::Arc;
 
-/// Four jobs; job 9 is too large for ten processors.
-const FIVE: &[u8] = b"; four jobs
-1 0 -1 100 6 -1 -1 6 100 -1 1 7 -1 -1 -1 -1 -1 -1
-9 0 -1 5 11 -1 -1 11 5 -1 1 7 -1 -1 -1 -1 -1 -1
-2 1 -1 50 8 -1 -1 8 50 -1 1 8 -1 -1 -1 -1 -1 -1
-3 2 -1 90 4 -1 -1 4 90 -1 1 7 -1 -1 -1 -1 -1 -1
-4 3 -1 500 2 -1 -1 2 500 -1 1 8 -1 -1 -1 -1 -1 -1
-";
-
-/// One job, a trillion seconds from the beginning.
-const FAR: &[u8] = b"1 1000000000000 -1 10 1 -1 -1 1 10 -1 1 7 -1 -1 -1 -1 -1 -1\n";
+/// How the engine of the log goes on.
+#[derive(Clone, Copy)]
+pub(crate) enum Way {
+    Steps,
+    StepsIntoOneList,
+    UpToThree,
+}
 
 /// Whether these jobs start at these seconds, in this order.
 pub(crate) fn are(starts: &[Start], wanted: &[(u64, u64)]) -> bool {
@@ -28,70 +27,29 @@ pub(crate) fn are(starts: &[Start], wanted: &[(u64, u64)]) -> bool {
             .all(|(start, want)| (start.number, start.at) == *want)
 }
 
-fn engine_of(alloc: Global, log: &[u8], procs: u64) -> Option<Engine<Global>> {
-    let scenario = Scenario::new(procs, 1000)?;
-    Some(Engine::new(alloc, shared_table(alloc, log)?, scenario))
-}
-
 // Whether the engine stands there, after so many event seconds.
-fn stands(engine: &Engine<Global>, position: u64, handled: u64) -> bool {
+fn stands<A: Allocator + Copy>(engine: &Engine<A>, position: u64, handled: u64) -> bool {
     engine.position() == position && engine.handled() == handled
 }
 
-// Whether these are the starts before a second.
-fn advances(engine: &mut Engine<Global>, second: u64, wanted: &[(u64, u64)]) -> bool {
-    if second < engine.position() {
-        return false;
-    }
-    match engine.advance_to(second) {
-        Ok(starts) => are(&starts, wanted),
-        Err(_) => false,
-    }
+// Whether the engine stands one past this second, and has counted one more than so many.
+fn stands_behind<A: Allocator + Copy>(engine: &Engine<A>, second: u64, handled: u64) -> bool {
+    stands(engine, second.saturating_add(1), handled.saturating_add(1))
 }
 
-// Whether these are all starts that are left.
-fn finishes(engine: &mut Engine<Global>, wanted: &[(u64, u64)]) -> bool {
-    match engine.finish() {
-        Ok(starts) => are(&starts, wanted),
-        Err(_) => false,
-    }
+// Whether an engine answers Failed where it should advance.
+fn has_failed_to_advance<A: Allocator + Copy>(engine: &mut Engine<A>) -> bool {
+    let here = engine.position();
+    engine.advance_to(here).err() == Some(EngineFault::Failed)
 }
 
-fn works_up_to_three(alloc: Global) -> Option<bool> {
-    let mut engine = engine_of(alloc, FIVE, 10)?;
-    let works = stands(&engine, 0, 0)
-        && advances(&mut engine, 3, &[(1, 0), (3, 2)])
-        && stands(&engine, 3, 3);
-    Some(works && job_2_waits(&engine.snapshot().ok()?, 0))
-}
-
-#[test]
-fn four_jobs_up_to_second_three(rt: HostRuntime) {
-    assert!(rt; works_up_to_three(rt.alloc()) == Some(true));
-}
-
-/// An engine resumed at second 3 from the snapshot of one that was advanced so far.
-pub(crate) fn resumed_at_three<A: Allocator + Copy>(
-    alloc: A,
-    table: Arc<JobTable<A>, A>,
-    scenario: Scenario,
-) -> Result<Engine<A>, EngineFault> {
-    let mut engine = Engine::new(alloc, table.clone()?, scenario);
-    engine.advance_to(3)?;
-    let snapshot = engine.snapshot()?;
-    Ok(Engine::resume(alloc, &snapshot, 3, table, scenario)?)
-}
-
-fn works_from_three_on(alloc: Global) -> Option<bool> {
-    let scenario = Scenario::new(10, 1000)?;
-    let mut engine = resumed_at_three(alloc, shared_table(alloc, FIVE)?, scenario).ok()?;
-    let stood = stands(&engine, 3, 0);
-    Some(stood && finishes(&mut engine, &[(4, 92), (2, 100)]) && stands(&engine, 593, 5))
-}
-
-#[test]
-fn four_jobs_from_second_three_on(rt: HostRuntime) {
-    assert!(rt; works_from_three_on(rt.alloc()) == Some(true));
+// Whether an engine answers Failed to all that goes on.
+fn has_failed<A: Allocator + Copy>(engine: &mut Engine<A>) -> bool {
+    has_failed_to_advance(engine)
+        && engine.snapshot().err() == Some(EngineFault::Failed)
+        && engine.step().err() == Some(EngineFault::Failed)
+        && engine.finish().err() == Some(EngineFault::Failed)
+        && engine.next_event().is_none()
 }
 
 /// The event seconds of the four jobs, and how many jobs start there.
@@ -106,141 +64,136 @@ const STEPS: [(u64, usize); 8] = [
     (592, 0),
 ];
 
-// Whether the next step works this second, and so many jobs start.
-fn steps(engine: &mut Engine<Global>, second: u64, count: usize) -> bool {
+// A step works this second, and so many jobs start; where memory is short the engine has failed, and
+// stands where it did, or behind that second where its starts alone found no room.
+fn steps_once<A: Allocator + Copy>(engine: &mut Engine<A>, second: u64, count: usize) -> Outcome {
+    let (position, handled) = (engine.position(), engine.handled());
     if engine.next_event() != Some(second) {
-        return false;
+        return Outcome::Wrong;
     }
     match engine.step() {
-        Ok(Some(stepped)) => stepped.second() == second && stepped.starts().len() == count,
-        _ => false,
+        Ok(Some(stepped)) => {
+            Outcome::right_if(stepped.second() == second && stepped.starts().len() == count)
+        }
+        Ok(None) => Outcome::Wrong,
+        Err(fault) => Outcome::memory_if(
+            fault == EngineFault::Memory
+                && (stands(engine, position, handled) || stands_behind(engine, second, handled))
+                && has_failed(engine),
+        ),
     }
 }
 
-// Whether there is no step more.
-fn is_done(engine: &mut Engine<Global>) -> bool {
-    match engine.step() {
-        Ok(None) => engine.handled() == 8,
-        _ => false,
-    }
-}
-
-fn works_step_by_step(alloc: Global) -> Option<bool> {
-    let mut engine = engine_of(alloc, FIVE, 10)?;
+// The event seconds are worked step by step.
+fn steps<A: Allocator + Copy>(engine: &mut Engine<A>) -> Outcome {
     for (second, count) in &STEPS {
-        if !steps(&mut engine, *second, *count) {
-            return None;
+        let told = steps_once(engine, *second, *count);
+        if told != Outcome::Right {
+            return told;
         }
     }
-    Some(is_done(&mut engine))
+    Outcome::right_if(stands(engine, 593, 8) && matches!(engine.step(), Ok(None)))
 }
 
-#[test]
-fn four_jobs_step_by_step(rt: HostRuntime) {
-    assert!(rt; works_step_by_step(rt.alloc()) == Some(true));
-}
-
-// Whether the next step works this second, and leaves so many jobs in the list.
-fn leaves(
-    engine: &mut Engine<Global>,
-    started: &mut Vec<Job, Global>,
-    second: u64,
+// The next step works this second, and leaves so many jobs in the list.
+fn leaves<A: Allocator + Copy>(
+    engine: &mut Engine<A>,
+    started: &mut Vec<Job, A>,
+    second: Option<u64>,
     count: usize,
-) -> bool {
+) -> Outcome {
     match engine.step_into(started) {
-        Ok(Some(worked)) => worked == second && started.len() == count,
-        _ => false,
+        Ok(worked) => Outcome::right_if(worked == second && started.len() == count),
+        Err(fault) => Outcome::memory_if(fault == EngineFault::Memory),
     }
 }
 
-// Whether there is no step more, which leaves no job.
-fn leaves_none(engine: &mut Engine<Global>, started: &mut Vec<Job, Global>) -> bool {
-    match engine.step_into(started) {
-        Ok(None) => engine.handled() == 8 && started.is_empty(),
-        _ => false,
-    }
-}
-
-fn works_into_a_list(alloc: Global) -> Option<bool> {
-    let mut engine = engine_of(alloc, FIVE, 10)?;
-    let mut started = Vec::new(alloc);
+// The event seconds are worked step by step, each into the same list.
+fn steps_into<A: Allocator + Copy>(engine: &mut Engine<A>, started: &mut Vec<Job, A>) -> Outcome {
     for (second, count) in &STEPS {
-        if !leaves(&mut engine, &mut started, *second, *count) {
-            return None;
+        let told = leaves(engine, started, Some(*second), *count);
+        if told != Outcome::Right {
+            return told;
         }
     }
-    Some(leaves_none(&mut engine, &mut started))
+    leaves(engine, started, None, 0)
 }
 
-#[test]
-fn four_jobs_into_one_list(rt: HostRuntime) {
-    assert!(rt; works_into_a_list(rt.alloc()) == Some(true));
+// Whether job 2 waits, and jobs 1 and 3 run since seconds 0 and 2.
+fn is_at_three<A: Allocator + Copy>(snapshot: &Snapshot<A>) -> bool {
+    let [one, other] = snapshot.running() else {
+        return false;
+    };
+    snapshot.waiting() == [2].as_slice()
+        && (one.number, one.start) == (1, 0)
+        && (other.number, other.start) == (3, 2)
 }
 
+// Whether this is all up to second 3.
+fn advances<A: Allocator + Copy>(engine: &mut Engine<A>) -> Result<bool, EngineFault> {
+    if engine.position() > 3 {
+        return Ok(false);
+    }
+    let starts = engine.advance_to(3)?;
+    Ok(are(&starts, &[(1, 0), (3, 2)]) && stands(engine, 3, 3) && is_at_three(&engine.snapshot()?))
+}
+
+// Whether these are all starts that are left, and so many event seconds in all.
+fn finishes<A: Allocator + Copy>(
+    engine: &mut Engine<A>,
+    wanted: &[(u64, u64)],
+    handled: u64,
+) -> Result<bool, EngineFault> {
+    let starts = engine.finish()?;
+    Ok(are(&starts, wanted) && engine.handled() == handled)
+}
+
+// What came of it; Failed is no answer to want of memory.
+fn outcome_of(answer: Result<bool, EngineFault>) -> Outcome {
+    match answer {
+        Ok(is_right) => Outcome::right_if(is_right),
+        Err(fault) => Outcome::memory_if(fault == EngineFault::Memory),
+    }
+}
+
+// The engine of a table goes on.
+fn goes_on<A: Allocator + Copy>(
+    alloc: A,
+    way: Way,
+    table: Arc<JobTable<A>, A>,
+    scenario: Scenario,
+) -> Outcome {
+    match way {
+        Way::Steps => steps(&mut Engine::new(alloc, table, scenario)),
+        Way::StepsIntoOneList => {
+            steps_into(
+                &mut Engine::new(alloc, table, scenario),
+                &mut Vec::new(alloc),
+            )
+        }
+        Way::UpToThree => outcome_of(advances(&mut Engine::new(alloc, table, scenario))),
+    }
+}
+
+/// The engine of the log goes on.
+pub(crate) fn goes<A: Allocator + Copy>(alloc: A, way: Way, scenario: Scenario) -> Outcome {
+    match shared_table(alloc, NOTED) {
+        Some(table) => goes_on(alloc, way, table, scenario),
+        None => Outcome::Before,
+    }
+}
+
+/// One job, a trillion seconds from the beginning.
+const FAR: &[u8] = b"1 1000000000000 -1 10 1 -1 -1 1 10 -1 1 7 -1 -1 -1 -1 -1 -1\n";
+
+// Whether its two event seconds are all that is worked.
 fn skips_quiet_seconds(alloc: Global) -> Option<bool> {
-    let mut engine = engine_of(alloc, FAR, 10)?;
-    let is_next = engine.next_event() == Some(1_000_000_000_000);
-    let finishes = finishes(&mut engine, &[(1, 1_000_000_000_000)]);
-    Some(is_next && finishes && stands(&engine, 1_000_000_000_011, 2))
+    let scenario = Scenario::new(10, 1000)?;
+    let mut engine = Engine::new(alloc, shared_table(alloc, FAR)?, scenario);
+    finishes(&mut engine, &[(1, 1_000_000_000_000)], 2).ok()
 }
 
 #[test]
 fn seconds_without_an_event_are_not_worked(rt: HostRuntime) {
     assert!(rt; skips_quiet_seconds(rt.alloc()) == Some(true));
-}
-
-fn does_nothing(alloc: Global) -> Option<bool> {
-    let mut engine = engine_of(alloc, b"; no job\n", 10)?;
-    let is_none = engine.next_event().is_none();
-    Some(is_none && advances(&mut engine, u64::MAX, &[]) && stands(&engine, u64::MAX, 0))
-}
-
-#[test]
-fn without_jobs_nothing_happens(rt: HostRuntime) {
-    assert!(rt; does_nothing(rt.alloc()) == Some(true));
-}
-
-/// What the line of a job of the crowd says after its submit second: one processor for 1,000 seconds.
-const CROWDED: &str = "-1 1000 1 -1 -1 1 1000 -1 1 7 -1 -1 -1 -1 -1 -1";
-
-// The submit second of a job of the crowd, by its number: two jobs of each second, but 70 of second 20.
-fn crowd_second(number: u64) -> u64 {
-    match number {
-        0..=40 => number.saturating_sub(1) / 2,
-        41..=110 => 20,
-        _ => (number - 69) / 2,
-    }
-}
-
-// The log of a crowd of 130 jobs.
-fn crowd_log(alloc: Global) -> Option<Vec<u8>> {
-    let mut log = Vec::new(alloc);
-    for number in 1..131 {
-        add_line(alloc, &mut log, number, crowd_second(number), CROWDED)?;
-    }
-    Some(log)
-}
-
-// Whether jobs 1, 2 and so on start in the seconds in which they are submitted.
-fn start_as_submitted(starts: &[Start]) -> bool {
-    starts.len() == 130
-        && (1u64..131).zip(starts).all(|(number, start)| (start.number, start.at)
-            == (number, crowd_second(number)))
-}
-
-fn finishes_as_submitted(engine: &mut Engine<Global>) -> bool {
-    match engine.finish() {
-        Ok(starts) => start_as_submitted(&starts),
-        Err(_) => false,
-    }
-}
-
-fn crowd_starts(alloc: Global) -> Option<bool> {
-    let mut engine = engine_of(alloc, &crowd_log(alloc)?, 1000)?;
-    Some(finishes_as_submitted(&mut engine) && stands(&engine, 1031, 62))
-}
-
-#[test]
-fn a_crowd_with_room_for_all_starts_as_it_is_submitted(rt: HostRuntime) {
-    assert!(rt; crowd_starts(rt.alloc()) == Some(true));
 }

@@ -1,9 +1,7 @@
-use indexmap::IndexMap;
+// The allocator that refuses a call.
 use linked_list_allocator::LocalHeap;
 use refusing::Refusing;
 use std::alloc::{AllocError, Allocator, Global};
-use std::collections::{HashMap, HashSet};
-use std::sync::{Mutex, Wait};
 use std::thread;
 use std::thread::Threads;
 
@@ -54,100 +52,6 @@ fn numbers<A: Allocator + Copy>(heap: A) -> Result<usize, AllocError> {
     Ok(numbers.len())
 }
 
-fn text<A: Allocator + Copy>(heap: A) -> Result<usize, AllocError> {
-    let mut text = String::new(heap);
-    for _ in 0..25 {
-        text.push_str("easy")?;
-    }
-    Ok(text.len())
-}
-
-fn squares<A: Allocator + Copy>(heap: A) -> Result<usize, AllocError> {
-    let mut squares = HashMap::new(heap);
-    for number in 0..100u64 {
-        squares.insert(number, number * number)?;
-    }
-    Ok(squares.len())
-}
-
-fn seen<A: Allocator + Copy>(heap: A) -> Result<usize, AllocError> {
-    let mut seen = HashSet::new(heap);
-    for number in 0..100u64 {
-        seen.insert(number)?;
-    }
-    Ok(seen.len())
-}
-
-fn arrivals<A: Allocator + Copy>(heap: A) -> Result<usize, AllocError> {
-    let mut arrivals = IndexMap::new(heap);
-    for number in 0..100u64 {
-        arrivals.insert(number, 2 * number)?;
-    }
-    Ok(arrivals.len())
-}
-
-// Each call for memory of five collections, one collection after the other.
-fn collections<A: Allocator + Copy>(heap: A) -> Result<[usize; 5], AllocError> {
-    Ok([
-        numbers(heap)?,
-        text(heap)?,
-        squares(heap)?,
-        seen(heap)?,
-        arrivals(heap)?,
-    ])
-}
-
-// Refuses each call of the collections in turn: whether each refusal is answered at once, and all
-// are filled once none is refused.
-fn answer_each_refusal(alloc: Global) -> bool {
-    for nth in 1..1000 {
-        let heap = Refusing::new(alloc, nth);
-        let answer = collections(&heap);
-        if !heap.refused() {
-            return heap.calls() == nth - 1 && answer == Ok([100, 100, 100, 100, 100]);
-        }
-        if answer != Err(AllocError) || heap.calls() != nth {
-            return false;
-        }
-    }
-    false
-}
-
-#[test]
-fn collections_answer_each_refusal(rt: HostRuntime) {
-    assert!(rt; answer_each_refusal(rt.alloc()));
-}
-
-// A list of one number, with room for ten.
-fn roomy<A: Allocator + Copy>(heap: A) -> Option<Vec<u64, A>> {
-    let mut numbers = Vec::with_capacity(heap, 10).ok()?;
-    numbers.push(7u64).ok()?;
-    Some(numbers)
-}
-
-// The room of the list after one shrink and after another, of which the heap refuses the first.
-fn shrink_twice<A: Allocator + Copy>(heap: A) -> Option<(usize, usize)> {
-    let mut numbers = roomy(heap)?;
-    numbers.shrink_to_fit();
-    let refused = numbers.capacity();
-    numbers.shrink_to_fit();
-    if numbers.as_slice() == [7].as_slice() {
-        Some((refused, numbers.capacity()))
-    } else {
-        None
-    }
-}
-
-fn shrinks(alloc: Global) -> bool {
-    let heap = Refusing::new(alloc, 2);
-    shrink_twice(&heap) == Some((10, 1)) && stands(&heap, 3, true)
-}
-
-#[test]
-fn a_refused_shrink_changes_nothing(rt: HostRuntime) {
-    assert!(rt; shrinks(rt.alloc()));
-}
-
 // Whether a heap with a refused call gives all memory back that it took of another one.
 fn gives_back(inner: &LocalHeap, nth: u64) -> bool {
     let heap = Refusing::new(inner, nth);
@@ -191,44 +95,4 @@ fn counts_over_two_threads(rt: HostRuntime) {
     for nth in [1, 100, 150, 200] {
         assert!(rt; refuses_one_of_two(&rt, rt.alloc(), nth), "call {nth}");
     }
-}
-
-fn push_all<R: Wait, A: Allocator>(rt: &R, numbers: &Mutex<Vec<u64, A>>) -> Result<(), AllocError> {
-    for number in 0..50u64 {
-        numbers.lock(rt).push(number)?;
-    }
-    Ok(())
-}
-
-// Two threads push under one lock. The memory may be asked for and given back by either.
-fn pushed_by_two<R: Threads + Wait + Sync, A: Allocator + Copy + Send + Sync>(
-    rt: &R,
-    heap: A,
-) -> Result<usize, AllocError> {
-    let numbers = Mutex::new(Vec::new(heap));
-    let (left, right) = thread::join(rt, || push_all(rt, &numbers), || push_all(rt, &numbers));
-    left?;
-    right?;
-    Ok(numbers.into_inner().len())
-}
-
-// Refuses each call of the two threads in turn: whether each refusal is answered, and all is pushed
-// once none is refused.
-fn threads_answer_each_refusal<R: Threads + Wait + Sync>(rt: &R, alloc: Global) -> bool {
-    for nth in 1..1000 {
-        let heap = Refusing::new(alloc, nth);
-        let answer = pushed_by_two(rt, &heap);
-        if !heap.refused() {
-            return answer == Ok(100);
-        }
-        if answer != Err(AllocError) {
-            return false;
-        }
-    }
-    false
-}
-
-#[test]
-fn two_threads_answer_each_refusal(rt: HostRuntime) {
-    assert!(rt; threads_answer_each_refusal(&rt, rt.alloc()));
 }

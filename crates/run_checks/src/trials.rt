@@ -1,0 +1,91 @@
+// Each call that takes memory, with each of its growths refused in turn.
+use crate::clusters::{decides, restores, starts_two};
+use crate::decisions::decides_behind;
+use crate::engines::{Way, goes};
+use crate::openings::{adds_a_scenario, opens_and_saves};
+use crate::plain::{WORKED, works};
+use crate::runs::{cuts_four, makes_up_the_whole};
+use crate::tables::{Kind, copies_a_table, copies_an_entry, edits};
+use crate::texts::{is_put_beside, is_reported};
+use refusing::{Outcome, Trial, survives_refusals};
+use scenarios::{Order, Scenario};
+use std::alloc::Allocator;
+
+/// A call that takes memory.
+#[derive(Clone, Copy)]
+enum Call {
+    CopyEntry,
+    CopyTable,
+    Edit(Kind),
+    AddScenario,
+    OpenAndSave,
+    Plan,
+    StartTwo,
+    Decide(Order),
+    DecideBehind(Order),
+    Restore(Order),
+    Go(Way),
+    Simulate,
+    MakeUp,
+    Report,
+    PutBeside,
+}
+
+/// All of them.
+const CALLS: [Call; 23] = [
+    Call::CopyEntry,
+    Call::CopyTable,
+    Call::Edit(Kind::Insertion),
+    Call::Edit(Kind::Removal),
+    Call::Edit(Kind::Move),
+    Call::Edit(Kind::Exchange),
+    Call::AddScenario,
+    Call::OpenAndSave,
+    Call::Plan,
+    Call::StartTwo,
+    Call::Decide(Order::Arrival),
+    Call::Decide(Order::Shortest),
+    Call::DecideBehind(Order::Arrival),
+    Call::DecideBehind(Order::Shortest),
+    Call::Restore(Order::Arrival),
+    Call::Restore(Order::Shortest),
+    Call::Go(Way::Steps),
+    Call::Go(Way::StepsIntoOneList),
+    Call::Go(Way::UpToThree),
+    Call::Simulate,
+    Call::MakeUp,
+    Call::Report,
+    Call::PutBeside,
+];
+
+impl Trial for Call {
+    fn outcome<A: Allocator + Copy>(&self, alloc: A) -> Outcome {
+        let Some(ten) = Scenario::new(10, 1000) else {
+            return Outcome::Wrong;
+        };
+        match *self {
+            Call::CopyEntry => copies_an_entry(alloc),
+            Call::CopyTable => copies_a_table(alloc),
+            Call::Edit(kind) => edits(alloc, kind),
+            Call::AddScenario => adds_a_scenario(alloc, ten),
+            Call::OpenAndSave => opens_and_saves(alloc),
+            Call::Plan => works(alloc, &WORKED, Order::Shortest),
+            Call::StartTwo => starts_two(alloc, &ten),
+            Call::Decide(order) => decides(alloc, &ten.ordered(order)),
+            Call::DecideBehind(order) => decides_behind(alloc, &ten.ordered(order)),
+            Call::Restore(order) => restores(alloc, &ten.ordered(order)),
+            Call::Go(way) => goes(alloc, way, ten),
+            Call::Simulate => cuts_four(alloc, ten, 2, 4),
+            Call::MakeUp => makes_up_the_whole(alloc, ten),
+            Call::Report => is_reported(alloc, ten),
+            Call::PutBeside => is_put_beside(alloc, ten),
+        }
+    }
+}
+
+#[test]
+fn calls_tell_memory(rt: HostRuntime) {
+    for (place, call) in CALLS.iter().enumerate() {
+        assert!(rt; survives_refusals(rt.alloc(), call), "call {place}");
+    }
+}
