@@ -12,14 +12,18 @@ use swf_text::{SwfText, read_swf};
 /// A job and the second at which it starts.
 pub(crate) type Placed = (PlainJob, u64);
 
+// The table of a log, to be shared.
+fn table_of(alloc: Global, text: &SwfText<Global>) -> Option<Arc<JobTable<Global>, Global>> {
+    Arc::new(alloc, JobTable::from_text(alloc, text).ok()?).ok()
+}
+
 // The starts of a log by the event loop.
 pub(crate) fn engine_starts(
     alloc: Global,
     text: &SwfText<Global>,
     scenario: &Scenario,
 ) -> Option<Vec<Start>> {
-    let table = JobTable::from_text(alloc, text).ok()?;
-    let table = Arc::new(alloc, table).ok()?;
+    let table = table_of(alloc, text)?;
     Engine::new(alloc, table, *scenario).finish().ok()
 }
 
@@ -30,24 +34,33 @@ pub(crate) fn run_of(
     scenario: &Scenario,
     spacing: u32,
 ) -> Option<Run<Global>> {
-    let table = JobTable::from_text(alloc, text).ok()?;
-    let table = Arc::new(alloc, table).ok()?;
+    let table = table_of(alloc, text)?;
     simulate(alloc, table, *scenario, spacing).ok()
 }
 
 // The second at which the job of this number starts.
 fn start_of(starts: &[Start], number: u64) -> Option<u64> {
-    let start = starts.iter().find(|start| start.number == number)?;
-    Some(start.at)
+    for start in starts {
+        if start.number == number {
+            return Some(start.at);
+        }
+    }
+    None
+}
+
+// Adds the jobs of a plan, with their starts; none where one does not start.
+fn add_placed(placed: &mut Vec<Placed>, jobs: &[PlainJob], starts: &[Start]) -> Option<()> {
+    for job in jobs {
+        let start = start_of(starts, job.number())?;
+        placed.push((*job, start)).ok()?;
+    }
+    Some(())
 }
 
 // The jobs of a plan, with their starts; none where one does not start.
 fn placed_of(alloc: Global, jobs: &[PlainJob], starts: &[Start]) -> Option<Vec<Placed>> {
     let mut placed = Vec::new(alloc);
-    for job in jobs {
-        let start = start_of(starts, job.number())?;
-        placed.push((*job, start)).ok()?;
-    }
+    add_placed(&mut placed, jobs, starts)?;
     Some(placed)
 }
 
@@ -74,7 +87,25 @@ fn runs_so(
 ) -> bool {
     match run_of(alloc, text, scenario, spacing) {
         None => false,
-        Some(run) => are_plain_sums(alloc, text, scenario, &run, jobs),
+        Some(run) => are_plain_sums(text, scenario, &run, jobs),
+    }
+}
+
+// Whether event loop and run agree with the plain program, which gives these jobs these starts.
+fn are_agreed(
+    alloc: Global,
+    text: &SwfText<Global>,
+    scenario: &Scenario,
+    spacing: u32,
+    jobs: &[PlainJob],
+    starts: &[Start],
+) -> bool {
+    match placed_of(alloc, jobs, starts) {
+        Some(placed) => {
+            starts_so(alloc, text, scenario, starts)
+                && runs_so(alloc, text, scenario, spacing, placed.as_slice())
+        }
+        None => false,
     }
 }
 
@@ -88,15 +119,24 @@ fn agreed_starts(
     plan: &LogPlan<Global>,
 ) -> Option<u64> {
     let starts = reference::simulate(alloc, plan).ok()?;
-    let jobs = placed_of(alloc, plan.jobs(), starts.as_slice())?;
-    let agreed = starts_so(alloc, text, scenario, starts.as_slice())
-        && runs_so(alloc, text, scenario, spacing, jobs.as_slice());
+    let jobs = plan.jobs();
+    let agreed = are_agreed(alloc, text, scenario, spacing, jobs, starts.as_slice());
     agreed.then_some(starts.len() as u64)
+}
+
+// The same, of a log that is read.
+fn agreed_text(
+    alloc: Global,
+    text: &SwfText<Global>,
+    scenario: &Scenario,
+    spacing: u32,
+) -> Option<u64> {
+    let plan = LogPlan::of(alloc, text, scenario).ok()?;
+    agreed_starts(alloc, text, scenario, spacing, &plan)
 }
 
 // How many starts product and plain program agree on, of a log; none where they differ.
 pub(crate) fn agreed(alloc: Global, log: &[u8], scenario: &Scenario, spacing: u32) -> Option<u64> {
     let text = read_swf(alloc, log).ok()?;
-    let plan = LogPlan::of(alloc, &text, scenario).ok()?;
-    agreed_starts(alloc, &text, scenario, spacing, &plan)
+    agreed_text(alloc, &text, scenario, spacing)
 }

@@ -2,7 +2,7 @@ ghost use Rattle.std.specs.Prelude.{◌≡◌, ◌<◌, IfSome, map};
 ghost use Rattle.job_table.specs.Accepted.{AreAccepted};
 ghost use Rattle.job_table.specs.Edit.{edit_of, log_after};
 
-use crate::logs::{edited_log, line_at};
+use crate::logs::{add_at, add_edited};
 use crate::words::Words;
 use job_table::{Edit, JobTable};
 use scenarios::{Scenario, effective};
@@ -49,11 +49,17 @@ struct Aim {
     place: u64,
 }
 
+// The table of a log.
+fn table_from(alloc: Global, log: &[u8]) -> Option<JobTable<Global>> {
+    let text = read_swf(alloc, log).ok()?;
+    JobTable::from_text(alloc, &text).ok()
+}
+
 // A generated table.
 pub(crate) fn table_of(alloc: Global, words: &mut Words) -> Option<JobTable<Global>> {
-    let log = edited_log(alloc, words).ok()?;
-    let text = read_swf(alloc, log.as_bytes()).ok()?;
-    JobTable::from_text(alloc, &text).ok()
+    let mut log = String::new(alloc);
+    add_edited(&mut log, words)?;
+    table_from(alloc, log.as_bytes())
 }
 
 // The last second in which a job is submitted.
@@ -101,9 +107,9 @@ fn entry_of(alloc: Global, line: &[u8]) -> Option<Entry<Global>> {
 // The edit by which a job joins, submitted at this second.
 fn insertion(alloc: Global, words: &mut Words, second: u64) -> Option<Edit<Global>> {
     let number = words.below(NUMBERS);
-    let line = line_at(alloc, words, number, second).ok()?;
-    let entry = entry_of(alloc, line.as_bytes())?;
-    Some(Edit::Insert(entry))
+    let mut line = String::new(alloc);
+    add_at(&mut line, words, number, second)?;
+    Some(Edit::Insert(entry_of(alloc, line.as_bytes())?))
 }
 
 // The value of a whole number.
@@ -178,18 +184,44 @@ fn aim_of(words: &mut Words, seed: u64, is_first: bool) -> Aim {
     }
 }
 
-// Makes an edit, where it is accepted.
-fn add_edit(
-    alloc: Global,
-    words: &mut Words,
-    aim: Aim,
-    scenario: &Scenario,
-    table: &mut JobTable<Global>,
-    edits: &mut Vec<Edit<Global>>,
-) -> Option<()> {
-    let edit = edit(alloc, words, aim, table, scenario)?;
-    table.apply(&edit).ok()?;
-    edits.push(edit).ok()
+/// A table that is edited, and its edits so far.
+#[derive(Drop)]
+struct Making {
+    table: JobTable<Global>,
+    edits: Vec<Edit<Global>>,
+}
+
+impl Making {
+    // Makes an edit; none where it is refused.
+    fn make(&mut self, edit: Edit<Global>) -> Option<()> {
+        self.table.apply(&edit).ok()?;
+        self.edits.push(edit).ok()
+    }
+
+    // Makes an edit of this aim, where there is one that is accepted.
+    fn add(&mut self, alloc: Global, words: &mut Words, aim: Aim, scenario: &Scenario) {
+        if let Some(edit) = edit(alloc, words, aim, &self.table, scenario) {
+            // An edit that is refused leaves the table as it was.
+            let _ = self.make(edit);
+        }
+    }
+
+    // Makes so many edits, or as many as there are in 32 tries.
+    fn grow(
+        &mut self,
+        alloc: Global,
+        words: &mut Words,
+        seed: u64,
+        scenario: &Scenario,
+        wanted: usize,
+    ) {
+        for _ in 0..32 {
+            if self.edits.len() < wanted {
+                let aim = aim_of(words, seed, self.edits.is_empty());
+                self.add(alloc, words, aim, scenario);
+            }
+        }
+    }
 }
 
 // One to four edits of a table, each of which is accepted after those before it.
@@ -201,15 +233,12 @@ pub(crate) fn edits_of(
     table: &JobTable<Global>,
 ) -> Option<Vec<Edit<Global>>> {
     let wanted = 1 + words.below(4) as usize;
-    let mut edited = table.copy().ok()?;
-    let mut edits = Vec::new(alloc);
-    for _ in 0..32 {
-        if edits.len() < wanted {
-            let aim = aim_of(words, seed, edits.is_empty());
-            let _ = add_edit(alloc, words, aim, scenario, &mut edited, &mut edits);
-        }
-    }
-    Some(edits)
+    let mut edited = Making {
+        table: table.copy().ok()?,
+        edits: Vec::new(alloc),
+    };
+    edited.grow(alloc, words, seed, scenario, wanted);
+    Some(edited.edits)
 }
 
 // The table after these edits; none where one is refused.

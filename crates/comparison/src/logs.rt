@@ -1,8 +1,6 @@
 ghost use Rattle.std.specs.Prelude.{◌≤◌};
 
 use crate::words::Words;
-use anyhow::Result;
-use std::alloc::Global;
 
 /// The users of the generated jobs, rising.
 pub(crate) const USERS: [i64; 3] = [-1, 3, 7];
@@ -107,8 +105,8 @@ fn large_line(words: &mut Words, number: u64, submit: u64, procs: u64) -> Line
     }
 }
 
-// The text of a job.
-fn text_of(alloc: Global, line: &Line) -> Result<String> {
+// Adds the line of a job; none where memory is short.
+fn add_line(log: &mut String, line: &Line) -> Option<()> {
     let Line {
         number,
         submit,
@@ -121,59 +119,53 @@ fn text_of(alloc: Global, line: &Line) -> Result<String> {
     } = *line;
     let run_tail = tail(line.run_tail);
     let estimate_tail = tail(line.estimate_tail);
-    Ok(format!(in alloc;
+    write!(
+        log,
         "{number} {submit} -1 {run}{run_tail} {given} -1 -1 {asked} {estimate}{estimate_tail} -1 1 {user} -1 -1 -1 -1 -1 -1\n"
-    )?)
+    )
+    .ok()
 }
 
-// A log of one to twelve jobs for ten processors, whose numbers do not rise, and of which the first
-// may be submitted at this second.
-pub(crate) fn small_log(alloc: Global, words: &mut Words, base: u64) -> Result<String> {
-    let mut log = String::new(alloc);
+// Adds one to twelve jobs for ten processors, whose numbers do not rise, and of which the first may be
+// submitted at this second.
+pub(crate) fn add_small(log: &mut String, words: &mut Words, base: u64) -> Option<()> {
     for place in 0..1 + words.below(12) {
         let line = small_line(words, place.wrapping_mul(7) % 13, base);
-        log.push_str(text_of(alloc, &line)?.as_str())?;
+        add_line(log, &line)?;
     }
-    Ok(log)
+    Some(())
 }
 
-// A log of 65 to 200 jobs for this machine, of which 65 or more are submitted at one second.
-pub(crate) fn large_log(alloc: Global, words: &mut Words, procs: u64) -> Result<String> {
+// Adds 65 to 200 jobs for this machine, of which 65 or more are submitted at one second.
+pub(crate) fn add_large(log: &mut String, words: &mut Words, procs: u64) -> Option<()> {
     let count = words.within(65, 200);
     let at_once = words.within(65, count);
     let second = words.below(300);
-    let mut log = String::new(alloc);
     for place in 0..count {
         let other = words.below(300);
         let submit = if place < at_once { second } else { other };
         let line = large_line(words, place.wrapping_mul(7) % 211, submit, procs.min(1000));
-        log.push_str(text_of(alloc, &line)?.as_str())?;
+        add_line(log, &line)?;
     }
-    Ok(log)
+    Some(())
 }
 
-// A log of up to forty jobs for ten processors, with numbers below 53. They come at once, or one
-// after another.
-pub(crate) fn edited_log(alloc: Global, words: &mut Words) -> Result<String> {
+// Adds up to forty jobs for ten processors, with numbers below 53. They come at once, or one after
+// another.
+pub(crate) fn add_edited(log: &mut String, words: &mut Words) -> Option<()> {
     let count = words.within(1, 40);
     let gap = [0, 5, 15, 25][words.below(4) as usize];
-    let mut log = String::new(alloc);
     for place in 0..count {
         let number = place.wrapping_mul(7) % 53;
         let line = small_line(words, number, place.wrapping_mul(gap));
-        log.push_str(text_of(alloc, &line)?.as_str())?;
+        add_line(log, &line)?;
     }
-    Ok(log)
+    Some(())
 }
 
-// The line of a job for ten processors that is submitted at this second.
-pub(crate) fn line_at(
-    alloc: Global,
-    words: &mut Words,
-    number: u64,
-    second: u64,
-) -> Result<String> {
+// Adds the line of a job for ten processors that is submitted at this second.
+pub(crate) fn add_at(log: &mut String, words: &mut Words, number: u64, second: u64) -> Option<()> {
     let mut line = small_line(words, number, 0);
     line.submit = second;
-    text_of(alloc, &line)
+    add_line(log, &line)
 }

@@ -4,6 +4,7 @@
 //! they differ; its status is 1 where one does.
 #![tactic(auto)]
 
+mod before;
 mod compared;
 mod edits;
 mod logs;
@@ -14,10 +15,9 @@ mod work_set;
 mod worked;
 
 use crate::compared::agreed;
-use crate::logs::{large_log, small_log};
+use crate::logs::{add_large, add_small};
 use crate::reruns::{Reruns, with_edits};
 use crate::words::words_of;
-use anyhow::Result;
 use scenarios::{Order, Scenario};
 use std::alloc::Global;
 use std::process::ExitCode;
@@ -97,103 +97,124 @@ fn scenario_of(kind: Kind, seed: u64) -> Option<Scenario> {
     }
 }
 
-// A generated log.
-fn log_of(alloc: Global, kind: Kind, seed: u64, scenario: &Scenario) -> Result<String> {
+// Adds the lines of a generated log; none where memory is short.
+fn add_log(log: &mut String, kind: Kind, seed: u64, scenario: &Scenario) -> Option<()> {
     let mut words = words_of(seed, 54);
     match kind {
-        Kind::Small => small_log(alloc, &mut words, 0),
-        Kind::Midnight => small_log(alloc, &mut words, BEFORE_MIDNIGHT),
-        Kind::Large => large_log(alloc, &mut words, scenario.procs()),
+        Kind::Small => add_small(log, &mut words, 0),
+        Kind::Midnight => add_small(log, &mut words, BEFORE_MIDNIGHT),
+        Kind::Large => add_large(log, &mut words, scenario.procs()),
     }
 }
 
-// What came before, with what a generated log gives in both orders.
-fn with_log(alloc: Global, kind: Kind, seed: u64, before: Found) -> Result<Found> {
-    let Some(scenario) = scenario_of(kind, seed) else {
-        return Ok(before.with(None));
-    };
-    let log = log_of(alloc, kind, seed, &scenario)?;
+// What came before, with what a log gives in both orders.
+fn with_orders(alloc: Global, log: &[u8], scenario: Scenario, seed: u64, before: Found) -> Found {
     let spacing = [1, 2, 7, 256][seed as usize % 4];
     let mut found = before;
     for order in [Order::Arrival, Order::Shortest] {
-        let scenario = scenario.ordered(order);
-        found = found.with(agreed(alloc, log.as_bytes(), &scenario, spacing));
+        found = found.with(agreed(alloc, log, &scenario.ordered(order), spacing));
     }
-    Ok(found)
+    found
 }
 
-// Compares all logs of a kind: whether nothing differs.
-fn compare<R: AllocGlobal + Print>(rt: &R, plan: Plan) -> Result<bool> {
+// What came before, with what a generated log gives in both orders.
+fn with_log(alloc: Global, kind: Kind, seed: u64, before: Found) -> Found {
+    let Some(scenario) = scenario_of(kind, seed) else {
+        return before.with(None);
+    };
+    let mut log = String::new(alloc);
+    if add_log(&mut log, kind, seed, &scenario).is_none() {
+        return before.with(None);
+    }
+    with_orders(alloc, log.as_bytes(), scenario, seed, before)
+}
+
+// Tells what the comparison of all logs of a kind gave: whether enough of them were compared, nothing
+// differs, and the lines are written.
+fn tell<R: Print>(rt: &R, plan: Plan, found: Found) -> bool {
     let Plan {
-        kind,
         name,
         logs,
         starts,
+        ..
     } = plan;
+    let differences = found.differences;
+    let is_told = println!(rt;
+        "{name} logs: {logs} compared in 2 orders, {differences} differences"
+    ).is_ok();
+    if found.starts < starts {
+        // Where this line cannot be written, the status still tells.
+        let _ = println!(rt; "{name} logs: fewer than {starts} jobs started");
+    }
+    is_told && differences == 0 && found.starts >= starts
+}
+
+// Compares all logs of a kind: whether nothing differs.
+fn compare<R: AllocGlobal + Print>(rt: &R, plan: Plan) -> bool {
+    let Plan { kind, name, .. } = plan;
     let mut found = Found {
         starts: 0,
         differences: 0,
     };
-    for seed in 0..logs {
+    for seed in 0..plan.logs {
         let before = found.differences;
-        found = with_log(rt.alloc(), kind, seed, found)?;
+        found = with_log(rt.alloc(), kind, seed, found);
         if found.differences > before {
-            println!(rt; "{name} log {seed} differs")?;
+            // Where this line cannot be written, the next one still tells.
+            let _ = println!(rt; "{name} log {seed} differs");
         }
     }
-    let differences = found.differences;
-    println!(rt; "{name} logs: {logs} compared in 2 orders, {differences} differences")?;
-    if found.starts < starts {
-        println!(rt; "{name} logs: fewer than {starts} jobs started")?;
+    tell(rt, plan, found)
+}
+
+// Tells what the reruns gave: whether they are enough, nothing differs, and the lines are written.
+fn tell_reruns<R: Print>(rt: &R, found: Reruns) -> bool {
+    let (logs, differences) = (reruns::LOGS, found.differences);
+    let is_told = println!(rt;
+        "reruns: {logs} logs edited, compared in 2 orders at 3 spacings, {differences} differences"
+    ).is_ok();
+    if !found.are_enough() {
+        // Where this line cannot be written, the status still tells.
+        let _ = println!(rt; "reruns: too few took over old segments");
     }
-    Ok(differences == 0 && found.starts >= starts)
+    is_told && differences == 0 && found.are_enough()
 }
 
 // Compares reruns after edits with runs from nothing: whether nothing differs.
-fn compare_reruns<R: AllocGlobal + Print>(rt: &R) -> Result<bool> {
+fn compare_reruns<R: AllocGlobal + Print>(rt: &R) -> bool {
     let mut found = Reruns::NONE;
     for seed in 0..reruns::LOGS {
         let before = found.differences;
         found = with_edits(rt.alloc(), seed, found);
         if found.differences > before {
-            println!(rt; "rerun {seed} differs")?;
+            // Where this line cannot be written, the last one still tells.
+            let _ = println!(rt; "rerun {seed} differs");
         }
     }
-    println!(rt;
-        "reruns: {} logs edited, compared in 2 orders at 3 spacings, {} differences",
-        reruns::LOGS,
-        found.differences
-    )?;
-    if !found.are_enough() {
-        println!(rt; "reruns: too few took over old segments")?;
-    }
-    Ok(found.differences == 0 && found.are_enough())
+    tell_reruns(rt, found)
+}
+
+// Counts the worked logs that are right: whether all are, and the line is written.
+fn compare_worked<R: AllocGlobal + Print>(rt: &R) -> bool {
+    let right = worked::count_right(rt.alloc());
+    let count = worked::COUNT;
+    let is_told = println!(rt; "worked logs: {right} of {count} right in both programs").is_ok();
+    is_told && right == count
 }
 
 // Compares all logs: whether nothing differs.
-fn run<R: AllocGlobal + Print>(rt: &R) -> Result<bool> {
-    let right = worked::count_right(rt.alloc());
-    println!(rt;
-        "worked logs: {right} of {} right in both programs",
-        worked::COUNT
-    )?;
-    let mut same = right == worked::COUNT;
+fn run<R: AllocGlobal + Print>(rt: &R) -> bool {
+    let mut is_same = compare_worked(rt);
     for plan in PLANS {
-        let is_same = compare(rt, plan)?;
-        same = same && is_same;
+        is_same = compare(rt, plan) && is_same;
     }
-    let is_same = compare_reruns(rt)?;
-    Ok(same && is_same)
+    compare_reruns(rt) && is_same
 }
 
 fn main(rt: HostRuntime) -> ExitCode {
-    match run(&rt) {
-        Ok(true) => ExitCode::SUCCESS,
-        Ok(false) => ExitCode::from(1),
-        Err(fault) => {
-            // Where even this line cannot be written, the status still tells.
-            let _ = eprintln!(rt; "comparison: {fault}");
-            ExitCode::from(1)
-        }
+    if run(&rt) {
+        ExitCode::SUCCESS
+    } else {
+        ExitCode::from(1)
     }
 }

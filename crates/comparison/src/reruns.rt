@@ -1,7 +1,7 @@
 use crate::edits::{edits_of, table_after, table_of};
-use crate::words::words_of;
+use crate::words::{Words, words_of};
 use crate::work_set::{Counts, counts_of};
-use checkpoints::{Run, simulate};
+use checkpoints::{Row, Run, simulate};
 use easy_rule::Start;
 use job_table::{Edit, JobTable};
 use rejoin::{Work, rerun};
@@ -77,15 +77,29 @@ fn rerun_of(
     edits: &[Edit<Global>],
     spacing: u32,
 ) -> Option<(Run<Global>, Work)> {
-    let table = table_after(was.table(), edits)?;
-    let table = Arc::new(alloc, table).ok()?;
+    let table = Arc::new(alloc, table_after(was.table(), edits)?).ok()?;
     rerun(alloc, was, edits, table, spacing).ok()
 }
 
-// Whether two runs have equal schedules.
-fn same_schedules(a: &Run<Global>, b: &Run<Global>) -> Option<bool> {
-    let rows = a.schedule().ok()?;
-    Some(rows.as_slice() == b.schedule().ok()?.as_slice())
+// Whether a run has these rows, and tells each row's start by its number.
+fn has_rows(run: &Run<Global>, rows: &[Row]) -> bool {
+    for row in rows {
+        if run.start_of(row.number) != Some(row.start) {
+            return false;
+        }
+    }
+    match run.schedule() {
+        Ok(others) => others.as_slice() == rows,
+        Err(_) => false,
+    }
+}
+
+// Whether two runs have equal schedules, and the second tells each row's start by its number.
+fn same_schedules(a: &Run<Global>, b: &Run<Global>) -> bool {
+    match a.schedule() {
+        Ok(rows) => has_rows(b, rows.as_slice()),
+        Err(_) => false,
+    }
 }
 
 // Whether two runs have equal tables.
@@ -93,15 +107,6 @@ fn same_tables(a: &Run<Global>, b: &Run<Global>) -> bool {
     a.tables().overall() == b.tables().overall()
         && a.tables().users() == b.tables().users()
         && a.tables().days() == b.tables().days()
-}
-
-// Whether a run tells each row's start by its number.
-fn finds_starts(run: &Run<Global>) -> Option<bool> {
-    let rows = run.schedule().ok()?;
-    Some(
-        rows.iter()
-            .all(|row| run.start_of(row.number) == Some(row.start)),
-    )
 }
 
 // The starts of a run's segments, joined.
@@ -113,25 +118,39 @@ fn starts_of(alloc: Global, run: &Run<Global>) -> Option<Vec<Start>> {
     Some(starts)
 }
 
-// Whether two runs have equal starts, in order.
-fn same_starts(alloc: Global, a: &Run<Global>, b: &Run<Global>) -> Option<bool> {
-    let starts = starts_of(alloc, a)?;
-    Some(starts.as_slice() == starts_of(alloc, b)?.as_slice())
+// Whether a run has these starts, in order.
+fn has_starts(alloc: Global, run: &Run<Global>, wanted: &[Start]) -> bool {
+    match starts_of(alloc, run) {
+        Some(starts) => starts.as_slice() == wanted,
+        None => false,
+    }
 }
 
-// Whether two runs have equal schedules, tables and starts.
+// Whether two runs have equal starts, in order.
+fn same_starts(alloc: Global, a: &Run<Global>, b: &Run<Global>) -> bool {
+    match starts_of(alloc, a) {
+        Some(starts) => has_starts(alloc, b, starts.as_slice()),
+        None => false,
+    }
+}
+
+// Whether two runs have equal schedules, tables and starts, and the second tells each start by number.
 fn are_same(alloc: Global, a: &Run<Global>, b: &Run<Global>) -> bool {
-    same_schedules(a, b) == Some(true)
-        && same_tables(a, b)
-        && same_starts(alloc, a, b) == Some(true)
-        && finds_starts(a) == Some(true)
+    same_schedules(a, b) && same_tables(a, b) && same_starts(alloc, a, b)
+}
+
+// The run of the same table from nothing.
+fn from_nothing(alloc: Global, run: &Run<Global>, spacing: u32) -> Option<Run<Global>> {
+    let table = run.table().clone().ok()?;
+    simulate(alloc, table, run.scenario(), spacing).ok()
 }
 
 // Whether a run is that of its table from nothing.
-fn is_from_nothing(alloc: Global, run: &Run<Global>, spacing: u32) -> Option<bool> {
-    let table = run.table().clone().ok()?;
-    let plain = simulate(alloc, table, run.scenario(), spacing).ok()?;
-    Some(are_same(alloc, run, &plain))
+fn is_from_nothing(alloc: Global, run: &Run<Global>, spacing: u32) -> bool {
+    match from_nothing(alloc, run, spacing) {
+        Some(plain) => are_same(alloc, &plain, run),
+        None => false,
+    }
 }
 
 // What is told of a rerun that took this work, by what there was to be worked and to be kept; none
@@ -147,20 +166,30 @@ fn told_by(work: Work, counts: Counts) -> Option<Told> {
     })
 }
 
-// What is told of the rerun of a log after these edits; none where it differs from a run from
-// nothing, or from the definitions.
+// What is told of a rerun that took this work; none where it differs from a run from nothing, or from
+// the definitions.
 fn told_with(
+    alloc: Global,
+    was: &Run<Global>,
+    again: &Run<Global>,
+    work: Work,
+    spacing: u32,
+) -> Option<Told> {
+    if !is_from_nothing(alloc, again, spacing) {
+        return None;
+    }
+    told_by(work, counts_of(alloc, was, again)?)
+}
+
+// The same, of the rerun of a log after these edits.
+fn told_after(
     alloc: Global,
     was: &Run<Global>,
     edits: &[Edit<Global>],
     spacing: u32,
 ) -> Option<Told> {
     let (again, work) = rerun_of(alloc, was, edits, spacing)?;
-    if is_from_nothing(alloc, &again, spacing) == Some(true) {
-        told_by(work, counts_of(alloc, was, &again)?)
-    } else {
-        None
-    }
+    told_with(alloc, was, &again, work, spacing)
 }
 
 // The same, of a table under a scenario.
@@ -172,7 +201,7 @@ fn told_of(
     spacing: u32,
 ) -> Option<Told> {
     let was = simulate(alloc, table.clone().ok()?, scenario, spacing).ok()?;
-    told_with(alloc, &was, edits, spacing)
+    told_after(alloc, &was, edits, spacing)
 }
 
 // What came before, with what the edits of a table give in both orders, at each spacing.
@@ -193,22 +222,31 @@ fn with_table(
     found
 }
 
-// The same, of a generated log and its edits; none where there are no edits.
-fn of_seed(alloc: Global, seed: u64, before: Reruns) -> Option<Reruns> {
+// What came before, with what a table and its edits give; none where memory is short, or there are no
+// edits.
+fn of_table(
+    alloc: Global,
+    words: &mut Words,
+    seed: u64,
+    table: &Arc<JobTable<Global>, Global>,
+    before: Reruns,
+) -> Option<Reruns> {
     let scenario = Scenario::new(10, 1000)?;
-    let mut words = words_of(seed, 77);
-    let table = table_of(alloc, &mut words)?;
-    let edits = edits_of(alloc, &mut words, seed, &scenario, &table)?;
-    if edits.is_empty() {
-        return None;
-    }
-    let table = Arc::new(alloc, table).ok()?;
-    Some(with_table(alloc, &table, edits.as_slice(), scenario, before))
+    let edits = edits_of(alloc, words, seed, &scenario, table)?;
+    let found = with_table(alloc, table, edits.as_slice(), scenario, before);
+    (!edits.is_empty()).then_some(found)
+}
+
+// The same, of a generated log.
+fn of_seed(alloc: Global, words: &mut Words, seed: u64, before: Reruns) -> Option<Reruns> {
+    let table = Arc::new(alloc, table_of(alloc, words)?).ok()?;
+    of_table(alloc, words, seed, &table, before)
 }
 
 // What came before, with what a generated log and its edits give.
 pub(crate) fn with_edits(alloc: Global, seed: u64, before: Reruns) -> Reruns {
-    match of_seed(alloc, seed, before) {
+    let mut words = words_of(seed, 77);
+    match of_seed(alloc, &mut words, seed, before) {
         None => before.with(None),
         Some(found) => found,
     }

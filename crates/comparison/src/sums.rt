@@ -1,6 +1,6 @@
 use crate::compared::Placed;
 use crate::logs::USERS;
-use checkpoints::Run;
+use checkpoints::{Row, Run};
 use metrics::{DayRow, Overall, Skips, UserRow};
 use reference::effective;
 use scenarios::{Scenario, Skip};
@@ -40,10 +40,13 @@ fn busy_in(placed: &Placed, day: u64) -> u64 {
     placed.0.size().wrapping_mul(seconds)
 }
 
-/// What is summed up over jobs.
+/// What is measured of jobs.
 #[derive(Clone, Copy)]
 enum Measure {
+    One,
     Killed,
+    Submit,
+    End,
     Wait,
     Length,
     Slowdown,
@@ -54,7 +57,10 @@ enum Measure {
 // The measure of one job.
 fn of_one(placed: &Placed, measure: Measure) -> u64 {
     match measure {
+        Measure::One => 1,
         Measure::Killed => u64::from(placed.0.killed()),
+        Measure::Submit => placed.0.submit(),
+        Measure::End => end(placed),
         Measure::Wait => wait(placed),
         Measure::Length => placed.0.length(),
         Measure::Slowdown => slowdown(placed),
@@ -72,137 +78,178 @@ fn total(jobs: &[Placed], measure: Measure) -> u64 {
     sum
 }
 
+// The sum of a measure over the jobs of a user.
+fn total_of(jobs: &[Placed], user: i64, measure: Measure) -> u64 {
+    let mut sum = 0u64;
+    for placed in jobs {
+        if placed.0.user() == user {
+            sum = sum.wrapping_add(of_one(placed, measure));
+        }
+    }
+    sum
+}
+
+// The greatest measure; 0 of no job.
+fn greatest(jobs: &[Placed], measure: Measure) -> u64 {
+    let mut most = 0u64;
+    for placed in jobs {
+        most = most.max(of_one(placed, measure));
+    }
+    most
+}
+
+// The seconds from the first submit to the last end; 0 of no job.
+fn span(jobs: &[Placed]) -> u64 {
+    let mut first = greatest(jobs, Measure::End);
+    for placed in jobs {
+        first = first.min(of_one(placed, Measure::Submit));
+    }
+    greatest(jobs, Measure::End).saturating_sub(first)
+}
+
 // The mean, cut down; 0 of none.
-fn mean(sum: u64, jobs: usize) -> u128 {
-    u128::from(sum.checked_div(jobs as u64).unwrap_or(0))
+fn mean(sum: u64, jobs: u64) -> u128 {
+    u128::from(sum.checked_div(jobs).unwrap_or(0))
 }
 
 // How many entries of a log are skipped for a reason.
 fn skipped(text: &SwfText<Global>, scenario: &Scenario, reason: Skip) -> u64 {
-    let entries = text.entries().iter();
-    entries
-        .filter(|entry| effective(entry, scenario).err() == Some(reason))
-        .count() as u64
+    let mut count = 0u64;
+    for entry in text.entries() {
+        if effective(entry, scenario).err() == Some(reason) {
+            count = count.saturating_add(1);
+        }
+    }
+    count
+}
+
+// How many entries of a log are skipped.
+fn skips(text: &SwfText<Global>, scenario: &Scenario) -> Skips {
+    Skips {
+        size: skipped(text, scenario, Skip::NoSize),
+        run: skipped(text, scenario, Skip::NoRun),
+        large: skipped(text, scenario, Skip::TooLarge),
+        long: skipped(text, scenario, Skip::TooLong),
+    }
 }
 
 // The numbers over all jobs.
-fn overall(text: &SwfText<Global>, scenario: &Scenario, jobs: &[Placed]) -> Overall {
-    let first = jobs.iter().map(|placed| placed.0.submit()).min();
-    let last = jobs.iter().map(end).max();
-    let span = last.unwrap_or(0).saturating_sub(first.unwrap_or(0));
+fn overall(skips: Skips, procs: u64, jobs: &[Placed]) -> Overall {
+    let count = total(jobs, Measure::One);
+    let span = span(jobs);
     let taken = total(jobs, Measure::Busy);
-    let room = scenario.procs().wrapping_mul(span);
+    let room = procs.wrapping_mul(span);
     Overall {
-        jobs: jobs.len() as u64,
+        jobs: count,
         killed: total(jobs, Measure::Killed),
-        skips: Skips {
-            size: skipped(text, scenario, Skip::NoSize),
-            run: skipped(text, scenario, Skip::NoRun),
-            large: skipped(text, scenario, Skip::TooLarge),
-            long: skipped(text, scenario, Skip::TooLong),
-        },
-        wait: mean(total(jobs, Measure::Wait), jobs.len()),
-        greatest_wait: jobs.iter().map(wait).max().unwrap_or(0),
-        length: mean(total(jobs, Measure::Length), jobs.len()),
-        slowdown: mean(total(jobs, Measure::Slowdown), jobs.len()),
+        skips,
+        wait: mean(total(jobs, Measure::Wait), count),
+        greatest_wait: greatest(jobs, Measure::Wait),
+        length: mean(total(jobs, Measure::Length), count),
+        slowdown: mean(total(jobs, Measure::Slowdown), count),
         busy: u128::from(taken),
         span,
         utilization: u128::from(taken.wrapping_mul(100_000).checked_div(room).unwrap_or(0)),
     }
 }
 
-// The row of a user, who has these jobs.
+// The row of a user.
 fn user_row(user: i64, jobs: &[Placed]) -> UserRow {
+    let count = total_of(jobs, user, Measure::One);
     UserRow {
         user,
-        jobs: jobs.len() as u64,
-        wait: mean(total(jobs, Measure::Wait), jobs.len()),
-        slowdown: mean(total(jobs, Measure::Slowdown), jobs.len()),
-        busy: u128::from(total(jobs, Measure::Busy)),
+        jobs: count,
+        wait: mean(total_of(jobs, user, Measure::Wait), count),
+        slowdown: mean(total_of(jobs, user, Measure::Slowdown), count),
+        busy: u128::from(total_of(jobs, user, Measure::Busy)),
     }
 }
 
-// The jobs of a user.
-fn jobs_of(alloc: Global, user: i64, jobs: &[Placed]) -> Option<Vec<Placed>> {
-    let mut theirs = Vec::new(alloc);
-    for placed in jobs {
-        if placed.0.user() == user {
-            theirs.push(*placed).ok()?;
-        }
-    }
-    Some(theirs)
-}
-
-// A row for each user who has a job.
-fn user_rows(alloc: Global, jobs: &[Placed]) -> Option<Vec<UserRow>> {
-    let mut rows = Vec::new(alloc);
+// Whether these are the rows of all users who have a job.
+fn are_users(rows: &[UserRow], jobs: &[Placed]) -> bool {
+    let mut left = rows;
     for user in USERS {
-        let theirs = jobs_of(alloc, user, jobs)?;
-        if !theirs.is_empty() {
-            rows.push(user_row(user, theirs.as_slice())).ok()?;
+        let row = user_row(user, jobs);
+        if row.jobs > 0 {
+            let Some((first, rest)) = left.split_first() else {
+                return false;
+            };
+            if *first != row {
+                return false;
+            }
+            left = rest;
         }
     }
-    Some(rows)
+    left.is_empty()
 }
 
-// A row for each day in which a processor-second is taken.
-fn day_rows(alloc: Global, procs: u64, jobs: &[Placed]) -> Option<Vec<DayRow>> {
-    let room = procs.wrapping_mul(DAY).max(1);
-    let mut rows = Vec::new(alloc);
+// The row of a day, of a machine with so many processor-seconds a day.
+fn day_row(day: u64, room: u64, jobs: &[Placed]) -> DayRow {
+    let taken = total(jobs, Measure::BusyIn(day));
+    DayRow {
+        day,
+        busy: u128::from(taken),
+        utilization: u128::from(taken.wrapping_mul(100_000) / room.max(1)),
+    }
+}
+
+// Whether these are the rows of all days in which a processor-second is taken.
+fn are_days(rows: &[DayRow], room: u64, jobs: &[Placed]) -> bool {
+    let mut left = rows;
     for day in 0..3 {
-        let taken = total(jobs, Measure::BusyIn(day));
-        if taken > 0 {
-            rows.push(DayRow {
-                day,
-                busy: u128::from(taken),
-                utilization: u128::from(taken.wrapping_mul(100_000) / room),
-            })
-            .ok()?;
+        let row = day_row(day, room, jobs);
+        if row.busy > 0 {
+            let Some((first, rest)) = left.split_first() else {
+                return false;
+            };
+            if *first != row {
+                return false;
+            }
+            left = rest;
         }
     }
-    Some(rows)
+    left.is_empty()
 }
 
-// Whether a run has these starts, by its schedule and by each job's number.
-fn has_starts(run: &Run<Global>, jobs: &[Placed]) -> bool {
-    let Ok(rows) = run.schedule() else {
-        return false;
-    };
-    let same = rows.iter().zip(jobs).all(|(row, placed)| {
-        row.number == placed.0.number() && row.start == placed.1 && row.end == end(placed)
-    });
-    let found = jobs
-        .iter()
-        .all(|placed| run.start_of(placed.0.number()) == Some(placed.1));
-    rows.len() == jobs.len() && same && found
-}
-
-// Whether a run has rows of users that are plain sums.
-fn has_users(alloc: Global, run: &Run<Global>, jobs: &[Placed]) -> bool {
-    match user_rows(alloc, jobs) {
-        None => false,
-        Some(rows) => run.tables().users() == rows.as_slice(),
+// Whether these rows are those of jobs with their starts, in this order.
+fn are_placed(rows: &[Row], jobs: &[Placed]) -> bool {
+    for (row, placed) in rows.iter().zip(jobs) {
+        if row.number != placed.0.number() || row.start != placed.1 || row.end != end(placed) {
+            return false;
+        }
     }
+    rows.len() == jobs.len()
 }
 
-// Whether a run has rows of days that are plain sums.
-fn has_days(alloc: Global, run: &Run<Global>, procs: u64, jobs: &[Placed]) -> bool {
-    match day_rows(alloc, procs, jobs) {
-        None => false,
-        Some(rows) => run.tables().days() == rows.as_slice(),
+// Whether a run tells each job's start by its number.
+fn finds_starts(run: &Run<Global>, jobs: &[Placed]) -> bool {
+    for placed in jobs {
+        if run.start_of(placed.0.number()) != Some(placed.1) {
+            return false;
+        }
+    }
+    true
+}
+
+// Whether a run has these starts by its schedule.
+fn has_rows(run: &Run<Global>, jobs: &[Placed]) -> bool {
+    match run.schedule() {
+        Ok(rows) => are_placed(rows.as_slice(), jobs),
+        Err(_) => false,
     }
 }
 
 // Whether a run of a log has these jobs with these starts, and tables that are plain sums over them.
 pub(crate) fn are_plain_sums(
-    alloc: Global,
     text: &SwfText<Global>,
     scenario: &Scenario,
     run: &Run<Global>,
     jobs: &[Placed],
 ) -> bool {
-    has_starts(run, jobs)
-        && run.tables().overall() == overall(text, scenario, jobs)
-        && has_users(alloc, run, jobs)
-        && has_days(alloc, run, scenario.procs(), jobs)
+    let procs = scenario.procs();
+    has_rows(run, jobs)
+        && finds_starts(run, jobs)
+        && run.tables().overall() == overall(skips(text, scenario), procs, jobs)
+        && are_users(run.tables().users(), jobs)
+        && are_days(run.tables().days(), procs.wrapping_mul(DAY), jobs)
 }

@@ -1,8 +1,8 @@
 ghost use Rattle.std.specs.Prelude.{◌<◌, length};
 
+use crate::before::{is_before, stands};
 use crate::edits::NUMBERS;
 use checkpoints::{Row, Run, Segment};
-use cluster_state::Snapshot;
 use job_table::JobTable;
 use scenarios::{Job, Scenario, effective};
 use std::alloc::Global;
@@ -50,20 +50,23 @@ fn job_of(table: &JobTable<Global>, scenario: &Scenario, number: u64) -> Option<
     effective(table.get(number)?, scenario).ok()
 }
 
-// The numbers whose jobs differ in two tables.
-fn touched_of(alloc: Global, was: &Run<Global>, is: &Run<Global>) -> Option<Vec<Touched>> {
+// The second in which a job is submitted.
+fn submit_of(job: Option<Job>) -> Option<u64> {
+    Some(job?.submit())
+}
+
+// Adds the numbers whose jobs differ in the tables of two runs.
+fn add_touched(touched: &mut Vec<Touched>, was: &Run<Global>, is: &Run<Global>) -> Option<()> {
     let scenario = was.scenario();
-    let mut touched = Vec::new(alloc);
     for number in 0..NUMBERS {
         let old = job_of(was.table(), &scenario, number);
         let new = job_of(is.table(), &scenario, number);
         if old != new {
-            let was = old.map(|job| job.submit());
-            let is = new.map(|job| job.submit());
+            let (was, is) = (submit_of(old), submit_of(new));
             touched.push(Touched { number, was, is }).ok()?;
         }
     }
-    Some(touched)
+    Some(())
 }
 
 // Adds a second that is not yet there.
@@ -74,14 +77,13 @@ fn add(seconds: &mut Vec<u64>, second: u64) -> Option<()> {
     seconds.push(second).ok()
 }
 
-// The event seconds of a schedule, each once.
-fn events_of(alloc: Global, rows: &[Row]) -> Option<Vec<u64>> {
-    let mut events = Vec::new(alloc);
+// Adds the event seconds of a schedule, each once.
+fn add_events(events: &mut Vec<u64>, rows: &[Row]) -> Option<()> {
     for row in rows {
-        add(&mut events, row.submit)?;
-        add(&mut events, row.end)?;
+        add(events, row.submit)?;
+        add(events, row.end)?;
     }
-    Some(events)
+    Some(())
 }
 
 // Whether a segment of the plan may begin at a second.
@@ -90,48 +92,6 @@ fn may_begin(events: &[u64], first: u64) -> bool {
         None => true,
         Some(last) => events.contains(&last),
     }
-}
-
-// Whether a job waits before a second.
-fn waits(row: &Row, second: u64) -> bool {
-    row.submit < second && row.start >= second
-}
-
-// Whether a job runs before a second, when those that end at it have not yet ended.
-fn runs(row: &Row, second: u64) -> bool {
-    row.start < second && row.end >= second
-}
-
-// Whether just the jobs of a schedule that wait before a second wait there, in the same order.
-fn waits_so(rows: &[Row], waiting: &[u64], second: u64) -> bool {
-    let count = rows.iter().filter(|row| waits(row, second)).count();
-    let here = rows.iter().filter(|row| waits(row, second));
-    count == waiting.len() && here.zip(waiting).all(|(row, number)| row.number == *number)
-}
-
-// Whether a job of a schedule runs before a second, since this start.
-fn runs_since(rows: &[Row], number: u64, start: u64, second: u64) -> bool {
-    rows.iter().any(|row| row.number == number && row.start == start && runs(row, second))
-}
-
-// Whether just the jobs of a schedule that run before a second run there, since the same starts.
-fn runs_so(rows: &[Row], there: &Snapshot<Global>, second: u64) -> bool {
-    let count = rows.iter().filter(|row| runs(row, second)).count();
-    let running = there.running();
-    count == running.len()
-        && running
-            .iter()
-            .all(|r| runs_since(rows, r.number, r.start, second))
-}
-
-// Whether a snapshot is what a schedule has before a second.
-fn is_before(rows: &[Row], there: &Snapshot<Global>, second: u64) -> bool {
-    waits_so(rows, there.waiting(), second) && runs_so(rows, there, second)
-}
-
-// Whether a number waits or runs there.
-fn stands(there: &Snapshot<Global>, number: u64) -> bool {
-    there.waiting().contains(&number) || there.running().iter().any(|r| r.number == number)
 }
 
 impl Stretch {
@@ -143,19 +103,43 @@ impl Stretch {
         }
     }
 
-    // Whether a touched number is submitted in the stretch.
-    fn meets(self, touched: &Touched) -> bool {
-        touched.was.is_some_and(|second| self.has(second))
-            || touched.is.is_some_and(|second| self.has(second))
+    // Whether a second, if there is one, lies in the stretch.
+    fn has_one(self, second: Option<u64>) -> bool {
+        match second {
+            None => false,
+            Some(second) => self.has(second),
+        }
     }
+
+    // Whether it ends behind its first second.
+    fn is_filled(self) -> bool {
+        match self.next {
+            None => true,
+            Some(next) => self.first < next,
+        }
+    }
+}
+
+// Whether a touched number stands before an old segment, or is submitted in its stretch.
+fn is_touched(old: &Segment<Global>, stretch: Stretch, touched: &[Touched]) -> bool {
+    for one in touched {
+        if stands(old.before(), one.number) || stretch.has_one(one.was) || stretch.has_one(one.is) {
+            return true;
+        }
+    }
+    false
 }
 
 // Whether an old segment with this stretch is kept.
 fn is_kept(old: &Segment<Global>, stretch: Stretch, plan: &Plan<'_>) -> bool {
     may_begin(plan.events, stretch.first)
         && is_before(plan.rows, old.before(), stretch.first)
-        && !plan.touched.iter().any(|t| stands(old.before(), t.number))
-        && !plan.touched.iter().any(|t| stretch.meets(t))
+        && !is_touched(old, stretch, plan.touched)
+}
+
+// The first second of the segment at this place; none where there is no such segment.
+fn first_at(segments: &[Arc<Segment<Global>, Global>], place: usize) -> Option<u64> {
+    Some(segments.get(place)?.first())
 }
 
 // The stretch of the segment at this place.
@@ -164,42 +148,58 @@ fn stretch_at(segments: &[Arc<Segment<Global>, Global>], place: usize) -> Stretc
 {
     Stretch {
         first: segments[place].first(),
-        next: segments.get(place + 1).map(|segment| segment.first()),
+        next: first_at(segments, place + 1),
     }
 }
 
-// The stretches of the old segments that are kept.
-fn kept_of(
-    alloc: Global,
+// Adds the stretches of the old segments that are kept.
+fn add_kept(
+    kept: &mut Vec<Stretch>,
     segments: &[Arc<Segment<Global>, Global>],
     plan: &Plan<'_>,
-) -> Option<Vec<Stretch>> {
-    let mut kept = Vec::new(alloc);
+) -> Option<()> {
     for place in 0..segments.len() {
         let stretch = stretch_at(segments, place);
         if is_kept(&segments[place], stretch, plan) {
             kept.push(stretch).ok()?;
         }
     }
-    Some(kept)
+    Some(())
+}
+
+// Whether a second lies in one of these stretches.
+fn is_inside(second: u64, kept: &[Stretch]) -> bool {
+    for stretch in kept {
+        if stretch.has(second) {
+            return true;
+        }
+    }
+    false
 }
 
 // How many seconds lie in none of these stretches.
 fn count_outside(seconds: &[u64], kept: &[Stretch]) -> u64 {
-    seconds
-        .iter()
-        .filter(|second| !kept.iter().any(|stretch| stretch.has(**second)))
-        .count() as u64
+    let mut count = 0u64;
+    for second in seconds {
+        if !is_inside(*second, kept) {
+            count = count.saturating_add(1);
+        }
+    }
+    count
 }
 
 // Whether the last old segment is among the kept ones.
 fn ends_kept(kept: &[Stretch]) -> bool {
-    kept.last().is_some_and(|stretch| stretch.next.is_none())
+    match kept.last() {
+        None => false,
+        Some(stretch) => stretch.next.is_none(),
+    }
 }
 
 // What there is to be worked and to be kept of an old run, by a new plan.
 fn counts_by(alloc: Global, was: &Run<Global>, plan: &Plan<'_>) -> Option<Counts> {
-    let kept = kept_of(alloc, was.segments(), plan)?;
+    let mut kept = Vec::new(alloc);
+    add_kept(&mut kept, was.segments(), plan)?;
     Some(Counts {
         events: plan.events.len() as u64,
         work: count_outside(plan.events, kept.as_slice()),
@@ -208,13 +208,23 @@ fn counts_by(alloc: Global, was: &Run<Global>, plan: &Plan<'_>) -> Option<Counts
     })
 }
 
+// Whether all starts of a segment lie in its stretch.
+fn starts_inside(segment: &Segment<Global>, stretch: Stretch) -> bool {
+    for start in segment.starts() {
+        if !stretch.has(start.at) {
+            return false;
+        }
+    }
+    true
+}
+
 // Whether a segment of the new plan may begin where it does, tells who waits and runs before it, and
 // has starts of its stretch alone.
 fn is_segment(segment: &Segment<Global>, stretch: Stretch, plan: &Plan<'_>) -> bool {
     may_begin(plan.events, stretch.first)
         && is_before(plan.rows, segment.before(), stretch.first)
-        && segment.starts().iter().all(|start| stretch.has(start.at))
-        && stretch.next.is_none_or(|next| stretch.first < next)
+        && starts_inside(segment, stretch)
+        && stretch.is_filled()
 }
 
 // Whether the new plan is cut into these segments: the first begins at 0, each later one a second
@@ -231,8 +241,21 @@ fn is_cut(segments: &[Arc<Segment<Global>, Global>], plan: &Plan<'_>) -> bool {
     }
 }
 
-// The counts of an old and a new run, of which the new one has these rows and event seconds; none
-// where its segments are no cut.
+// The counts of an old and a new run, by the new plan; none where its segments are no cut.
+fn counts_in(
+    alloc: Global,
+    was: &Run<Global>,
+    is: &Run<Global>,
+    plan: &Plan<'_>,
+) -> Option<Counts> {
+    if is_cut(is.segments(), plan) {
+        counts_by(alloc, was, plan)
+    } else {
+        None
+    }
+}
+
+// The same, where the new run has these rows and event seconds.
 fn counts_at(
     alloc: Global,
     was: &Run<Global>,
@@ -240,22 +263,20 @@ fn counts_at(
     rows: &[Row],
     events: &[u64],
 ) -> Option<Counts> {
-    let touched = touched_of(alloc, was, is)?;
+    let mut touched = Vec::new(alloc);
+    add_touched(&mut touched, was, is)?;
     let plan = Plan {
         rows,
         events,
         touched: touched.as_slice(),
     };
-    if is_cut(is.segments(), &plan) {
-        counts_by(alloc, was, &plan)
-    } else {
-        None
-    }
+    counts_in(alloc, was, is, &plan)
 }
 
 // The same, of a new run with these rows.
 fn counts_with(alloc: Global, was: &Run<Global>, is: &Run<Global>, rows: &[Row]) -> Option<Counts> {
-    let events = events_of(alloc, rows)?;
+    let mut events = Vec::new(alloc);
+    add_events(&mut events, rows)?;
     counts_at(alloc, was, is, rows, events.as_slice())
 }
 

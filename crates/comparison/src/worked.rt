@@ -1,5 +1,4 @@
 use crate::compared::engine_starts;
-use anyhow::Result;
 use easy_rule::Start;
 use reference::{LogPlan, simulate};
 use scenarios::{Order, Scenario};
@@ -102,21 +101,23 @@ const OF_FIVE: [Worked<5>; 4] = [
     },
 ];
 
-// The log of these jobs.
-fn log_of(alloc: Global, rows: &[Row]) -> Result<String> {
-    let mut log = String::new(alloc);
+// Adds the lines of these jobs; none where memory is short.
+fn add_lines(log: &mut String, rows: &[Row]) -> Option<()> {
     for row in rows {
         let (number, submit, size, run, estimate) = *row;
-        log.push_str(&format!(in alloc;
+        write!(
+            log,
             "{number} {submit} -1 {run} -1 -1 -1 {size} {estimate} -1 1 7 -1 -1 -1 -1 -1 -1\n"
-        )?)?;
+        )
+        .ok()?;
     }
-    Ok(log)
+    Some(())
 }
 
 // The text of the log of these jobs.
 fn text_of(alloc: Global, rows: &[Row]) -> Option<SwfText<Global>> {
-    let log = log_of(alloc, rows).ok()?;
+    let mut log = String::new(alloc);
+    add_lines(&mut log, rows)?;
     read_swf(alloc, log.as_bytes()).ok()
 }
 
@@ -127,26 +128,40 @@ fn plain_starts(alloc: Global, text: &SwfText<Global>, scenario: &Scenario) -> O
 }
 
 // Whether these are the starts that are wanted, in order.
-fn are(starts: Option<Vec<Start>>, wanted: &[Started]) -> bool {
-    let Some(starts) = starts else {
-        return false;
-    };
-    let mut pairs = starts.iter().zip(wanted);
+fn are(starts: &[Start], wanted: &[Started]) -> bool {
+    for (start, pair) in starts.iter().zip(wanted) {
+        if start.number != pair.0 || start.at != pair.1 {
+            return false;
+        }
+    }
     starts.len() == wanted.len()
-        && pairs.all(|(start, pair)| start.number == pair.0 && start.at == pair.1)
+}
+
+// Whether a program gave these starts.
+fn gave(starts: Option<Vec<Start>>, wanted: &[Started]) -> bool {
+    match starts {
+        Some(starts) => are(starts.as_slice(), wanted),
+        None => false,
+    }
+}
+
+// Whether both programs start the jobs of a log so.
+fn are_right(
+    alloc: Global,
+    text: &SwfText<Global>,
+    scenario: &Scenario,
+    wanted: &[Started],
+) -> bool {
+    gave(plain_starts(alloc, text, scenario), wanted)
+        && gave(engine_starts(alloc, text, scenario), wanted)
 }
 
 // Whether both programs start these jobs so.
 fn is_right(alloc: Global, order: Order, rows: &[Row], wanted: &[Started]) -> bool {
-    let Some(scenario) = Scenario::new(10, 1000) else {
-        return false;
-    };
-    let scenario = scenario.ordered(order);
-    let Some(text) = text_of(alloc, rows) else {
-        return false;
-    };
-    are(plain_starts(alloc, &text, &scenario), wanted)
-        && are(engine_starts(alloc, &text, &scenario), wanted)
+    match (Scenario::new(10, 1000), text_of(alloc, rows)) {
+        (Some(scenario), Some(text)) => are_right(alloc, &text, &scenario.ordered(order), wanted),
+        _ => false,
+    }
 }
 
 // How many of the worked logs are right in both programs.

@@ -1,0 +1,77 @@
+// Who waits and runs before a second, by a schedule.
+use checkpoints::Row;
+use cluster_state::Snapshot;
+use std::alloc::Global;
+
+// Whether a job waits before a second.
+fn waits(row: &Row, second: u64) -> bool {
+    row.submit < second && row.start >= second
+}
+
+// Whether a job runs before a second, when those that end at it have not yet ended.
+fn runs(row: &Row, second: u64) -> bool {
+    row.start < second && row.end >= second
+}
+
+// Whether just the jobs of a schedule that wait before a second wait there, in the same order.
+fn waits_so(rows: &[Row], waiting: &[u64], second: u64) -> bool {
+    let mut left = waiting;
+    for row in rows {
+        if waits(row, second) {
+            let Some((number, rest)) = left.split_first() else {
+                return false;
+            };
+            if *number != row.number {
+                return false;
+            }
+            left = rest;
+        }
+    }
+    left.is_empty()
+}
+
+// Whether a job of a schedule runs before a second, since this start.
+fn runs_since(rows: &[Row], number: u64, start: u64, second: u64) -> bool {
+    for row in rows {
+        if row.number == number && row.start == start && runs(row, second) {
+            return true;
+        }
+    }
+    false
+}
+
+// How many jobs of a schedule run before a second.
+fn count_running(rows: &[Row], second: u64) -> usize {
+    let mut count = 0usize;
+    for row in rows {
+        if runs(row, second) {
+            count = count.saturating_add(1);
+        }
+    }
+    count
+}
+
+// Whether just the jobs of a schedule that run before a second run there, since the same starts.
+fn runs_so(rows: &[Row], there: &Snapshot<Global>, second: u64) -> bool {
+    for running in there.running() {
+        if !runs_since(rows, running.number, running.start, second) {
+            return false;
+        }
+    }
+    count_running(rows, second) == there.running().len()
+}
+
+// Whether a snapshot is what a schedule has before a second.
+pub(crate) fn is_before(rows: &[Row], there: &Snapshot<Global>, second: u64) -> bool {
+    waits_so(rows, there.waiting(), second) && runs_so(rows, there, second)
+}
+
+// Whether a number waits or runs there.
+pub(crate) fn stands(there: &Snapshot<Global>, number: u64) -> bool {
+    for running in there.running() {
+        if running.number == number {
+            return true;
+        }
+    }
+    there.waiting().contains(&number)
+}
