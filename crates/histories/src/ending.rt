@@ -2,13 +2,29 @@
 use crate::player::Player;
 use crate::versions::{are_never_falling, logs_of};
 use crate::wrong::Wrong;
-use checkpoints::{Run, simulate};
+use checkpoints::{Row, Run, simulate};
 use job_table::JobTable;
 use plain_book::first_wrong;
 use scenarios::{Scenario, ScenarioId};
 use std::alloc::Global;
 use std::sync::Arc;
 use version_book::Published;
+
+// Whether a run has these rows.
+fn has_rows(run: &Run<Global>, rows: &[Row]) -> bool {
+    match run.schedule() {
+        Ok(others) => others.as_slice() == rows,
+        Err(_) => false,
+    }
+}
+
+// Whether two runs have equal schedules.
+fn same_schedules(one: &Run<Global>, two: &Run<Global>) -> bool {
+    match one.schedule() {
+        Ok(rows) => has_rows(two, rows.as_slice()),
+        Err(_) => false,
+    }
+}
 
 // Whether two runs have equal tables.
 fn same_tables(one: &Run<Global>, two: &Run<Global>) -> bool {
@@ -17,11 +33,15 @@ fn same_tables(one: &Run<Global>, two: &Run<Global>) -> bool {
         && one.tables().days() == two.tables().days()
 }
 
-// Whether two runs have equal schedules and tables.
-fn are_same(one: &Run<Global>, two: &Run<Global>) -> Result<bool, Wrong> {
-    let rows = one.schedule()?;
-    let others = two.schedule()?;
-    Ok(rows.as_slice() == others.as_slice() && same_tables(one, two))
+// The run of a log under a scenario; none where memory is short.
+fn run_of(
+    alloc: Global,
+    log: &JobTable<Global>,
+    scenario: Scenario,
+    spacing: u32,
+) -> Option<Run<Global>> {
+    let log = Arc::new(alloc, log.copy().ok()?).ok()?;
+    simulate(alloc, log, scenario, spacing).ok()
 }
 
 // Whether a run is that of this log under this scenario.
@@ -31,52 +51,57 @@ fn is_run_of(
     log: &JobTable<Global>,
     scenario: Scenario,
     spacing: u32,
-) -> Result<bool, Wrong> {
+) -> bool {
     if run.scenario() != scenario || !run.table().same(log) {
-        return Ok(false);
+        return false;
     }
-    let log = Arc::new(alloc, log.copy()?)?;
-    match simulate(alloc, log, scenario, spacing) {
-        Ok(plain) => are_same(run, &plain),
-        Err(_) => Err(Wrong::Input),
+    match run_of(alloc, log, scenario, spacing) {
+        Some(plain) => same_schedules(run, &plain) && same_tables(run, &plain),
+        None => false,
     }
 }
 
-impl Player {
+// What is wrong with the whole journal, if the plain program does not agree with it.
+fn first_wrong_note(player: &Player<'_>) -> Option<Wrong> {
+    let Ok(opening) = player.opening.copy() else {
+        return Some(Wrong::Memory);
+    };
+    match first_wrong(player.alloc, opening, player.book.journal()) {
+        Ok(None) => None,
+        Ok(Some(_)) => Some(Wrong::Journal),
+        Err(_) => Some(Wrong::Memory),
+    }
+}
+
+impl Player<'_> {
     // Whether what is shown of a scenario is the run of its version's log.
     fn is_right(
         &self,
         shown: &Published<Global>,
         scenario: Scenario,
         logs: &[JobTable<Global>],
-    ) -> Result<bool, Wrong> {
+    ) -> bool {
         match logs.get(shown.version() as usize) {
             Some(log) => { is_run_of(self.alloc, shown.run(), log, scenario, self.book.spacing()) }
-            None => Ok(false),
+            None => false,
         }
     }
 
     // Looks at a scenario, and at the run that is shown.
-    fn look(
-        &mut self,
-        id: ScenarioId,
-        scenario: Scenario,
-        logs: &[JobTable<Global>],
-    ) -> Result<(), Wrong> {
-        match self.show(0, id, 0)? {
-            Some(shown) if !self.is_right(&shown, scenario, logs)? => Err(Wrong::Published),
-            _ => Ok(()),
+    fn look(&mut self, id: ScenarioId, scenario: Scenario, logs: &[JobTable<Global>]) {
+        if let Some(shown) = self.show(0, id, 0) {
+            let is_right = self.is_right(&shown, scenario, logs);
+            self.expect(is_right, Wrong::Published);
         }
     }
 
     // Looks at all scenarios.
-    fn look_at_all(&mut self, logs: &[JobTable<Global>]) -> Result<(), Wrong> {
+    fn look_at_all(&mut self, logs: &[JobTable<Global>]) {
         for place in 0..self.book.scenarios().len() {
             if let Some((_, id, scenario)) = self.book.scenarios().at(place) {
-                self.look(id, scenario, logs)?;
+                self.look(id, scenario, logs);
             }
         }
-        Ok(())
     }
 
     // Whether the book's log and version are those after all edits.
@@ -99,34 +124,27 @@ impl Player {
         true
     }
 
-    // Whether the plain program agrees with the whole journal.
-    fn is_judged(&self) -> Result<bool, Wrong> {
-        let opening = self.opening.copy()?;
-        let wrong = first_wrong(self.alloc, opening, self.book.journal())?;
-        Ok(wrong.is_none())
-    }
-
     // Compares the logs and what is shown.
-    fn end_logs(&mut self) -> Result<(), Wrong> {
-        let logs = logs_of(self.alloc, &self.opening, self.book.journal())?;
-        if !self.is_last(logs.as_slice()) {
-            return Err(Wrong::Log);
+    fn end_logs(&mut self) {
+        match logs_of(self.alloc, &self.opening, self.book.journal()) {
+            Some(logs) => {
+                let is_last = self.is_last(logs.as_slice());
+                self.expect(is_last, Wrong::Log);
+                self.look_at_all(logs.as_slice());
+            }
+            None => self.fail(Wrong::Log),
         }
-        self.look_at_all(logs.as_slice())
     }
 
     // Compares all that is to hold at the end of a list.
-    pub(crate) fn end(&mut self) -> Result<(), Wrong> {
-        self.end_logs()?;
-        if !self.is_settled_alike() {
-            return Err(Wrong::Settled);
+    pub(crate) fn end(&mut self) {
+        self.end_logs();
+        let is_settled_alike = self.is_settled_alike();
+        self.expect(is_settled_alike, Wrong::Settled);
+        if let Some(wrong) = first_wrong_note(self) {
+            self.fail(wrong);
         }
-        if !self.is_judged()? {
-            return Err(Wrong::Journal);
-        }
-        if !are_never_falling(self.alloc, self.book.journal())? {
-            return Err(Wrong::Fell);
-        }
-        Ok(())
+        let are_never_falling = are_never_falling(self.alloc, self.book.journal());
+        self.expect(are_never_falling, Wrong::Fell);
     }
 }

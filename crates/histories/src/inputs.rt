@@ -1,6 +1,5 @@
-// What is made up by chance: logs, edits, names and scenarios.
+// What is made up by chance: logs, edits, names and scenarios. None where memory is short.
 use crate::words::Words;
-use crate::wrong::Wrong;
 use job_table::{Edit, JobTable};
 use scenarios::{Order, Scenario, ScenarioId, ScenarioList};
 use std::alloc::Global;
@@ -28,40 +27,38 @@ const VALUES: [&[u8]; 8] = [b"-1", b"0", b"1", b"2", b"3.5", b"7", b"20", b"35"]
 /// What the estimates are multiplied by, in thousandths.
 const FACTORS: [u64; 3] = [500, 1000, 1500];
 
-// A line of the log.
-fn line(alloc: Global, words: &mut Words, number: u64) -> Result<String, Wrong> {
+// Adds a line of the log.
+fn add_line(log: &mut String, words: &mut Words, number: u64) -> Option<()> {
     let submit = 5 * words.below(8);
     let run = 5 * words.below(7);
     let size = 1 + words.below(11);
     let estimate = 5 * words.below(9);
     let user = words.below(3);
-    let text = format!(in alloc;
+    write!(
+        log,
         "{number} {submit} -1 {run} -1 -1 -1 {size} {estimate} -1 1 {user} -1 -1 -1 -1 -1 -1\n"
-    )?;
-    Ok(text)
+    )
+    .ok()
 }
 
-// The text of a log of no job to eight.
-fn log(alloc: Global, words: &mut Words) -> Result<String, Wrong> {
-    let count = words.below(9);
-    let mut log = String::new(alloc);
-    for number in 0..count {
-        log.push_str(line(alloc, words, number)?.as_str())?;
+// Adds no line to eight.
+fn add_lines(log: &mut String, words: &mut Words) -> Option<()> {
+    for number in 0..words.below(9) {
+        add_line(log, words, number)?;
     }
-    Ok(log)
+    Some(())
 }
 
 // The table of a log.
-pub(crate) fn table_of(alloc: Global, log: &[u8]) -> Result<JobTable<Global>, Wrong> {
-    match read_swf(alloc, log) {
-        Ok(text) => Ok(JobTable::from_text(alloc, &text)?),
-        Err(_) => Err(Wrong::Input),
-    }
+pub(crate) fn table_of(alloc: Global, log: &[u8]) -> Option<JobTable<Global>> {
+    let text = read_swf(alloc, log).ok()?;
+    JobTable::from_text(alloc, &text).ok()
 }
 
 // A log of no job to eight.
-pub(crate) fn opening(alloc: Global, words: &mut Words) -> Result<JobTable<Global>, Wrong> {
-    let log = log(alloc, words)?;
+pub(crate) fn opening(alloc: Global, words: &mut Words) -> Option<JobTable<Global>> {
+    let mut log = String::new(alloc);
+    add_lines(&mut log, words)?;
     table_of(alloc, log.as_bytes())
 }
 
@@ -72,50 +69,45 @@ fn entry_of(alloc: Global, line: &[u8]) -> Option<Entry<Global>> {
 }
 
 // An edit by which a job joins, whose number may stand already.
-fn insertion(alloc: Global, words: &mut Words) -> Result<Edit<Global>, Wrong> {
+fn insertion(alloc: Global, words: &mut Words) -> Option<Edit<Global>> {
     let number = words.below(12);
-    let line = line(alloc, words, number)?;
-    match entry_of(alloc, line.as_bytes()) {
-        Some(entry) => Ok(Edit::Insert(entry)),
-        None => Err(Wrong::Input),
-    }
+    let mut line = String::new(alloc);
+    add_line(&mut line, words, number)?;
+    Some(Edit::Insert(entry_of(alloc, line.as_bytes())?))
 }
 
 // A change of a field.
-fn change(words: &mut Words) -> Result<Edit<Global>, Wrong> {
+fn change(words: &mut Words) -> Option<Edit<Global>> {
     let number = words.below(10);
     let field = FIELDS[words.below(8) as usize];
-    match Value::from_bytes(VALUES[words.below(8) as usize]) {
-        Some(value) => Ok(Edit::Change {
-            number,
-            field,
-            value,
-        }),
-        None => Err(Wrong::Input),
-    }
+    let value = Value::from_bytes(VALUES[words.below(8) as usize])?;
+    Some(Edit::Change {
+        number,
+        field,
+        value,
+    })
 }
 
 // An edit, which may have a fault.
-pub(crate) fn edit(alloc: Global, words: &mut Words) -> Result<Edit<Global>, Wrong> {
+pub(crate) fn edit(alloc: Global, words: &mut Words) -> Option<Edit<Global>> {
     match words.below(6) {
-        0 => Ok(Edit::Remove(words.below(10))),
+        0 => Some(Edit::Remove(words.below(10))),
         1 | 2 => insertion(alloc, words),
         _ => change(words),
     }
 }
 
 // A name, good or bad; where there are to be many scenarios, one of eighty good ones.
-pub(crate) fn name(alloc: Global, words: &mut Words, is_crowded: bool) -> Result<String, Wrong> {
+pub(crate) fn name(alloc: Global, words: &mut Words, is_crowded: bool) -> Option<String> {
     if is_crowded {
         let number = words.below(80);
-        let text = format!(in alloc; "s{number}")?;
-        return Ok(text);
+        return format!(in alloc; "s{number}").ok();
     }
-    Ok(String::from_str(alloc, NAMES[words.below(8) as usize])?)
+    String::from_str(alloc, NAMES[words.below(8) as usize]).ok()
 }
 
 // A scenario on 4 to 16 processors.
-pub(crate) fn scenario(words: &mut Words) -> Result<Scenario, Wrong> {
+pub(crate) fn scenario(words: &mut Words) -> Option<Scenario> {
     let procs = 4 + words.below(13);
     let factor = FACTORS[words.below(3) as usize];
     let order = if words.below(2) == 0 {
@@ -123,23 +115,22 @@ pub(crate) fn scenario(words: &mut Words) -> Result<Scenario, Wrong> {
     } else {
         Order::Shortest
     };
-    match Scenario::new(procs, factor) {
-        Some(scenario) => Ok(scenario.ordered(order)),
-        None => Err(Wrong::Input),
+    Some(Scenario::new(procs, factor)?.ordered(order))
+}
+
+// Adds the ids that a list gives to eight scenarios.
+fn add_ids(ids: &mut Vec<ScenarioId>, list: &mut ScenarioList<Global>) -> Option<()> {
+    let scenario = Scenario::new(10, 1000)?;
+    for name in ["a", "b", "c", "d", "e", "f", "g", "h"] {
+        ids.push(list.add(name, scenario).ok()?).ok()?;
     }
+    Some(())
 }
 
 // The ids 1 to 8, which a book gives to its first scenarios.
-pub(crate) fn ids(alloc: Global) -> Result<Vec<ScenarioId>, Wrong> {
-    let Some(scenario) = Scenario::new(10, 1000) else {
-        return Err(Wrong::Input);
-    };
+pub(crate) fn ids(alloc: Global) -> Option<Vec<ScenarioId>> {
     let mut list = ScenarioList::new(alloc);
     let mut ids = Vec::new(alloc);
-    for name in ["a", "b", "c", "d", "e", "f", "g", "h"] {
-        if let Ok(id) = list.add(name, scenario) {
-            ids.push(id)?;
-        }
-    }
-    Ok(ids)
+    add_ids(&mut ids, &mut list)?;
+    Some(ids)
 }

@@ -1,7 +1,8 @@
-use crate::player::Player;
+use crate::player::{Player, new_player};
 use crate::tally::Tally;
 use crate::words::{Words, words_of};
 use crate::wrong::Wrong;
+use scenarios::ScenarioId;
 use std::alloc::Global;
 
 /// A list of calls that is made up: the seed of its chances, and how many calls it has, of which the
@@ -22,7 +23,7 @@ pub(crate) struct Difference {
 }
 
 // A call that fills the book with scenarios and tickets.
-fn crowd(player: &mut Player, words: &mut Words) -> Result<(), Wrong> {
+fn crowd(player: &mut Player<'_>, words: &mut Words) {
     match words.below(20) {
         0 => player.edit(words),
         1..=7 => player.add(words, true),
@@ -31,7 +32,7 @@ fn crowd(player: &mut Player, words: &mut Words) -> Result<(), Wrong> {
 }
 
 // Any call.
-fn call(player: &mut Player, words: &mut Words, is_crowded: bool) -> Result<(), Wrong> {
+fn call(player: &mut Player<'_>, words: &mut Words, is_crowded: bool) {
     match words.below(40) {
         0..=8 => player.edit(words),
         9..=12 => player.add(words, is_crowded),
@@ -44,40 +45,52 @@ fn call(player: &mut Player, words: &mut Words, is_crowded: bool) -> Result<(), 
     }
 }
 
-// Makes the calls of a list, and counts the replies.
-fn play(
-    player: &mut Player,
+// Makes the calls of a list, up to the first one that is wrong.
+fn play(player: &mut Player<'_>, words: &mut Words, list: List) {
+    for place in 0..list.calls {
+        if player.wrong.is_some() {
+            return;
+        }
+        if place < list.crowding {
+            crowd(player, words);
+        } else {
+            call(player, words, list.crowding > 0);
+        }
+    }
+    player.end();
+}
+
+// Makes the calls of a list and counts the replies: what is wrong, if something is.
+fn play_and_count(
+    player: &mut Player<'_>,
     words: &mut Words,
     list: List,
     tally: &mut Tally,
-) -> Result<(), Wrong> {
-    for place in 0..list.calls {
-        if place < list.crowding {
-            crowd(player, words)?;
-        } else {
-            call(player, words, list.crowding > 0)?;
-        }
-    }
-    player.end()?;
+) -> Option<Wrong> {
+    play(player, words, list);
     tally.add(player.book.journal());
-    Ok(())
+    player.wrong
 }
 
 // Plays a list, and tells where it differs.
-pub(crate) fn differs(alloc: Global, list: List, tally: &mut Tally) -> Option<Difference> {
+pub(crate) fn differs(
+    alloc: Global,
+    ids: &[ScenarioId],
+    list: List,
+    tally: &mut Tally,
+) -> Option<Difference> {
     let mut words = words_of(list.seed);
     let spacing = 1 + (list.seed % 3) as u32;
-    match Player::new(alloc, &mut words, spacing) {
-        Ok(player) => {
-            let mut player = player;
-            let played = play(&mut player, &mut words, list, tally);
+    match new_player(alloc, &mut words, ids, spacing) {
+        Some(mut player) => {
+            let wrong = play_and_count(&mut player, &mut words, list, tally)?;
             let calls = player.calls as u64;
-            played.err().map(|wrong| Difference { list, calls, wrong })
+            Some(Difference { list, calls, wrong })
         }
-        Err(wrong) => Some(Difference {
+        None => Some(Difference {
             list,
             calls: 0,
-            wrong,
+            wrong: Wrong::Input,
         }),
     }
 }

@@ -20,7 +20,7 @@ mod wrong;
 
 use crate::lists::{Difference, List, differs};
 use crate::tally::{KINDS, Tally};
-use anyhow::Result;
+use scenarios::ScenarioId;
 use std::alloc::Global;
 use std::process::ExitCode;
 
@@ -54,58 +54,85 @@ fn list_of(seed: u64) -> List {
     }
 }
 
+/// How many calls were made, and how often each kind of replies came.
+#[derive(Clone, Copy)]
+struct Counts {
+    calls: u64,
+    tally: Tally,
+}
+
 // Plays all lists up to the first difference, and counts calls and replies.
-fn play_all(alloc: Global, calls: &mut u64, tally: &mut Tally) -> Option<Difference> {
+fn play_all(alloc: Global, ids: &[ScenarioId], counts: &mut Counts) -> Option<Difference> {
     for seed in 0..LISTS + CROWDED {
         let list = list_of(seed);
-        let difference = differs(alloc, list, tally);
+        let difference = differs(alloc, ids, list, &mut counts.tally);
         if difference.is_some() {
             return difference;
         }
-        *calls = calls.saturating_add(list.calls);
+        counts.calls = counts.calls.saturating_add(list.calls);
     }
     None
 }
 
-// Plays all lists, and tells what was found: whether nothing differs.
-fn run<R: AllocGlobal + Print + Eprint>(rt: &R) -> Result<bool> {
-    let mut calls = 0u64;
-    let mut tally = Tally::NONE;
-    if let Some(difference) = play_all(rt.alloc(), &mut calls, &mut tally) {
-        eprintln!(rt;
-            "histories: list {} differs after {} calls: {}",
-            difference.list.seed,
-            difference.calls,
-            difference.wrong.text()
-        )?;
-        return Ok(false);
-    }
-    println!(rt;
-        "{} lists of calls, {calls} calls, no difference",
-        LISTS + CROWDED
-    )?;
-    let fewest = tally.fewest();
+// Tells where a list differs.
+fn tell_difference<R: Eprint>(rt: &R, difference: Difference) {
+    let Difference { list, calls, wrong } = difference;
+    // Where even this line cannot be written, the status still tells.
+    let _ = eprintln!(rt;
+        "histories: list {} differs after {calls} calls: {}",
+        list.seed,
+        wrong.text()
+    );
+}
+
+// Tells how many calls were played, and how often each kind of replies surely came: whether it did.
+fn tell_counts<R: Print + Eprint>(rt: &R, counts: Counts) -> bool {
+    let (lists, calls) = (LISTS + CROWDED, counts.calls);
+    let is_told = println!(rt; "{lists} lists of calls, {calls} calls, no difference").is_ok();
+    let fewest = counts.tally.fewest();
     if fewest < FEWEST {
-        eprintln!(rt; "histories: a kind of replies came {fewest} times")?;
-        return Ok(false);
+        let _ = eprintln!(rt; "histories: a kind of replies came {fewest} times");
+        return false;
     }
-    println!(rt; "{KINDS} kinds of replies, each {FEWEST} times or more")?;
-    if let Err(wrong) = nearly::are_refused(rt.alloc()) {
-        eprintln!(rt; "histories: a log with another field: {}", wrong.text())?;
-        return Ok(false);
+    is_told && println!(rt; "{KINDS} kinds of replies, each {FEWEST} times or more").is_ok()
+}
+
+// Plays all lists, and tells what was found: whether nothing differs.
+fn run_lists<R: AllocGlobal + Print + Eprint>(rt: &R, ids: &[ScenarioId]) -> bool {
+    let mut counts = Counts {
+        calls: 0,
+        tally: Tally::NONE,
+    };
+    match play_all(rt.alloc(), ids, &mut counts) {
+        Some(difference) => {
+            tell_difference(rt, difference);
+            false
+        }
+        None => tell_counts(rt, counts),
     }
-    println!(rt; "runs of logs with one other field: strangers, each of 17")?;
-    Ok(true)
+}
+
+// Hands in runs of logs with another field, and tells what was found: whether all are refused.
+fn run_nearly<R: AllocGlobal + Print + Eprint>(rt: &R) -> bool {
+    if !nearly::are_refused(rt.alloc()) {
+        let _ = eprintln!(rt; "histories: a log with another field is not refused");
+        return false;
+    }
+    println!(rt; "runs of logs with one other field: strangers, each of 17").is_ok()
+}
+
+// Does both: whether all is right.
+fn run<R: AllocGlobal + Print + Eprint>(rt: &R) -> bool {
+    match inputs::ids(rt.alloc()) {
+        Some(ids) => run_lists(rt, ids.as_slice()) && run_nearly(rt),
+        None => false,
+    }
 }
 
 fn main(rt: HostRuntime) -> ExitCode {
-    match run(&rt) {
-        Ok(true) => ExitCode::SUCCESS,
-        Ok(false) => ExitCode::from(1),
-        Err(fault) => {
-            // Where even this line cannot be written, the status still tells.
-            let _ = eprintln!(rt; "histories: {fault}");
-            ExitCode::from(1)
-        }
+    if run(&rt) {
+        ExitCode::SUCCESS
+    } else {
+        ExitCode::from(1)
     }
 }

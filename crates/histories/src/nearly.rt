@@ -1,7 +1,6 @@
 // Runs that are handed in for a ticket and are of logs that are equal to the ticket's in all but one
 // field of one job, and tickets that never stood.
 use crate::inputs;
-use crate::wrong::Wrong;
 use checkpoints::{Run, simulate};
 use job_table::{Edit, JobTable};
 use scenarios::Scenario;
@@ -23,95 +22,129 @@ const NO_TICKETS: [u64; 3] = [0, 2, u64::MAX];
 const SPACING: u32 = 1;
 
 // The log with another value in this field of the second job.
-fn other_log(table: &JobTable<Global>, field: u8) -> Result<JobTable<Global>, Wrong> {
-    let Some(value) = Value::from_bytes(OTHER) else {
-        return Err(Wrong::Input);
-    };
-    let number = 2;
-    let mut other = table.copy()?;
-    match other.apply(&Edit::Change {
-        number,
+fn other_log(table: &JobTable<Global>, field: u8) -> Option<JobTable<Global>> {
+    let edit = Edit::Change {
+        number: 2,
         field,
-        value,
-    }) {
-        Ok(()) => Ok(other),
-        Err(_) => Err(Wrong::Input),
-    }
+        value: Value::from_bytes(OTHER)?,
+    };
+    let mut other = table.copy().ok()?;
+    other.apply(&edit).ok()?;
+    Some(other)
 }
 
 // The run of a log.
 fn run_of(
     alloc: Global,
-    table: Arc<JobTable<Global>, Global>,
+    table: JobTable<Global>,
     scenario: Scenario,
-) -> Result<Arc<Run<Global>, Global>, Wrong> {
-    match simulate(alloc, table, scenario, SPACING) {
-        Ok(run) => Ok(Arc::new(alloc, run)?),
-        Err(_) => Err(Wrong::Input),
-    }
+) -> Option<Arc<Run<Global>, Global>> {
+    let table = Arc::new(alloc, table).ok()?;
+    Arc::new(alloc, simulate(alloc, table, scenario, SPACING).ok()?).ok()
 }
 
-// A book of the log, with one scenario, and the ticket of its first claim.
-fn claimed(alloc: Global) -> Result<(Book<Global>, Task<Global>), Wrong> {
-    let Ok(mut book) = Book::new(alloc, inputs::table_of(alloc, LOG)?, SPACING) else {
-        return Err(Wrong::Input);
-    };
-    let Some(scenario) = Scenario::new(10, 1000) else {
-        return Err(Wrong::Input);
-    };
-    if book.add_scenario(0, "base", scenario).is_err() {
-        return Err(Wrong::Input);
-    }
+// The run of the log with another value in a field.
+fn other_run(alloc: Global, task: &Task<Global>, field: u8) -> Option<Arc<Run<Global>, Global>> {
+    run_of(alloc, other_log(task.table(), field)?, task.scenario())
+}
+
+/// A book of the log, with one scenario, and the task of its first claim.
+#[derive(Drop)]
+struct Claimed {
+    book: Book<Global>,
+    task: Task<Global>,
+}
+
+// The book of the log, with one scenario.
+fn book_of(alloc: Global) -> Option<Book<Global>> {
+    let mut book = Book::new(alloc, inputs::table_of(alloc, LOG)?, SPACING).ok()?;
+    book.add_scenario(0, "base", Scenario::new(10, 1000)?).ok()?;
+    Some(book)
+}
+
+// The book, and the task of its first claim.
+fn first_claim(alloc: Global) -> Option<Claimed> {
+    let mut book = book_of(alloc)?;
     match book.claim(1) {
-        Ok(Some(task)) => Ok((book, task)),
-        _ => Err(Wrong::Due),
+        Ok(Some(task)) => Some(Claimed { book, task }),
+        _ => None,
     }
 }
 
-// A run for the ticket, where this field is another, is refused to the worker who claimed it and to
-// another one.
-fn refuse_field(
-    alloc: Global,
+// Whether a run is refused to a worker as a stranger.
+fn is_stranger(
     book: &mut Book<Global>,
-    task: &Task<Global>,
-    field: u8,
-) -> Result<(), Wrong> {
-    let table = Arc::new(alloc, other_log(task.table(), field)?)?;
-    let run = run_of(alloc, table, task.scenario())?;
-    for worker in [1, 2] {
-        if book.finish(worker, task.ticket(), run.clone()?) != Err(FinishRefusal::Stranger) {
-            return Err(Wrong::Answer);
+    worker: u64,
+    ticket: u64,
+    run: &Arc<Run<Global>, Global>,
+) -> bool {
+    match run.clone() {
+        Ok(run) => book.finish(worker, ticket, run) == Err(FinishRefusal::Stranger),
+        Err(_) => false,
+    }
+}
+
+// Whether a ticket that never stood is unknown, with the right run and without one.
+fn is_unknown(book: &mut Book<Global>, ticket: u64, run: &Arc<Run<Global>, Global>) -> bool {
+    match run.clone() {
+        Ok(run) => {
+            book.finish(1, ticket, run) == Err(FinishRefusal::UnknownTicket)
+                && book.give_up(1, ticket) == Err(GiveUpRefusal::UnknownTicket)
+        }
+        Err(_) => false,
+    }
+}
+
+impl Claimed {
+    // Whether a run for the ticket, where this field is another, is refused to the worker who claimed it
+    // and to another one.
+    fn is_field_refused(&mut self, alloc: Global, field: u8) -> bool {
+        match other_run(alloc, &self.task, field) {
+            Some(run) => {
+                let ticket = self.task.ticket();
+                is_stranger(&mut self.book, 1, ticket, &run)
+                    && is_stranger(&mut self.book, 2, ticket, &run)
+            }
+            None => false,
         }
     }
-    Ok(())
+
+    // Whether that holds of each field.
+    fn are_fields_refused(&mut self, alloc: Global) -> bool {
+        for field in 2..19u8 {
+            if !self.is_field_refused(alloc, field) {
+                return false;
+            }
+        }
+        true
+    }
+
+    // Whether tickets that never stood are unknown.
+    fn are_unknown(&mut self, run: &Arc<Run<Global>, Global>) -> bool {
+        for ticket in NO_TICKETS {
+            if !is_unknown(&mut self.book, ticket, run) {
+                return false;
+            }
+        }
+        true
+    }
+
+    // Whether the ticket's own run is refused for such tickets, and then taken.
+    fn is_run_taken(&mut self) -> bool {
+        match self.task.work() {
+            Ok((run, _work)) => {
+                self.are_unknown(&run) && self.book.finish(2, self.task.ticket(), run) == Ok(0)
+            }
+            Err(_) => false,
+        }
+    }
 }
 
-// A ticket that never stood is unknown, with the right run and without one.
-fn refuse_ticket(
-    book: &mut Book<Global>,
-    run: &Arc<Run<Global>, Global>,
-    ticket: u64,
-) -> Result<(), Wrong> {
-    if book.finish(1, ticket, run.clone()?) != Err(FinishRefusal::UnknownTicket)
-        || book.give_up(1, ticket) != Err(GiveUpRefusal::UnknownTicket)
-    {
-        return Err(Wrong::Answer);
+// Whether each such run is a stranger and each such ticket unknown, and then the ticket's own run is
+// taken.
+pub(crate) fn are_refused(alloc: Global) -> bool {
+    match first_claim(alloc) {
+        Some(mut claimed) => claimed.are_fields_refused(alloc) && claimed.is_run_taken(),
+        None => false,
     }
-    Ok(())
-}
-
-// Each such run is a stranger and each such ticket unknown, and then the ticket's own run is taken.
-pub(crate) fn are_refused(alloc: Global) -> Result<(), Wrong> {
-    let (mut book, task) = claimed(alloc)?;
-    for field in 2..19u8 {
-        refuse_field(alloc, &mut book, &task, field)?;
-    }
-    let (run, _work) = task.work()?;
-    for ticket in NO_TICKETS {
-        refuse_ticket(&mut book, &run, ticket)?;
-    }
-    if book.finish(2, task.ticket(), run) != Ok(0) {
-        return Err(Wrong::Answer);
-    }
-    Ok(())
 }

@@ -9,9 +9,10 @@ use std::alloc::Global;
 use std::sync::Arc;
 use version_book::{Book, Task};
 
-/// A book that is played on, with the plain program beside it.
+/// A book that is played on, with the plain program beside it. The first thing that is wrong is kept, and
+/// nothing is to be called from then on.
 #[derive(Drop)]
-pub(crate) struct Player {
+pub(crate) struct Player<'a> {
     pub(crate) alloc: Global,
     pub(crate) opening: Arc<JobTable<Global>, Global>,
     pub(crate) book: Book<Global>,
@@ -19,87 +20,109 @@ pub(crate) struct Player {
     /// The tasks of all claims, also of those whose tickets are closed.
     pub(crate) tasks: Vec<Task<Global>>,
     /// Some ids, of which the book may have given none.
-    pub(crate) ids: Vec<ScenarioId>,
+    pub(crate) ids: &'a [ScenarioId],
     /// How many calls were made.
     pub(crate) calls: usize,
+    pub(crate) wrong: Option<Wrong>,
 }
 
-// The book of a log.
-fn book_of(alloc: Global, table: JobTable<Global>, spacing: u32) -> Result<Book<Global>, Wrong> {
-    match Book::new(alloc, table, spacing) {
-        Ok(book) => Ok(book),
-        Err(_) => Err(Wrong::Input),
-    }
-}
-
-// Whether the last note of a book is of this call, and whether the plain program replies so too.
-fn judge(
+// What is wrong with the last note of a book, if it is not of this call, or the plain program replies
+// otherwise.
+fn wrong_note(
     book: &Book<Global>,
     plain: &mut PlainBook<Global>,
     caller: Caller,
     call: &Call<Global>,
     reply: Reply,
-) -> Result<(), Wrong> {
+) -> Option<Wrong> {
     let Some(note) = book.journal().last() else {
-        return Err(Wrong::Growth);
+        return Some(Wrong::Growth);
     };
     if note.caller != caller || note.reply != reply || !note.call.same(call) {
-        return Err(Wrong::Note);
+        return Some(Wrong::Note);
     }
-    if plain.step(&note.call)? != reply {
-        return Err(Wrong::Answer);
+    match plain.step(&note.call) {
+        Ok(told) if told == reply => None,
+        Ok(_) => Some(Wrong::Answer),
+        Err(_) => Some(Wrong::Memory),
     }
-    Ok(())
 }
 
-impl Player {
-    // A book of this log, at this spacing.
-    fn of(alloc: Global, opening: JobTable<Global>, spacing: u32) -> Result<Player, Wrong> {
-        let book = book_of(alloc, opening.copy()?, spacing)?;
-        let plain = PlainBook::new(alloc, opening.copy()?);
-        let ids = inputs::ids(alloc)?;
-        let opening = Arc::new(alloc, opening)?;
-        Ok(Player {
-            alloc,
-            opening,
-            book,
-            plain,
-            tasks: Vec::new(alloc),
-            ids,
-            calls: 0,
-        })
+// The book of a log, at this spacing.
+fn book_of(alloc: Global, opening: &JobTable<Global>, spacing: u32) -> Option<Book<Global>> {
+    Book::new(alloc, opening.copy().ok()?, spacing).ok()
+}
+
+// The plain program over a log.
+fn plain_of(alloc: Global, opening: &JobTable<Global>) -> Option<PlainBook<Global>> {
+    Some(PlainBook::new(alloc, opening.copy().ok()?))
+}
+
+// A book that is played on, of this log; none where memory is short.
+fn player_of(
+    alloc: Global,
+    opening: Arc<JobTable<Global>, Global>,
+    ids: &[ScenarioId],
+    spacing: u32,
+) -> Option<Player<'_>> {
+    let plain = plain_of(alloc, &opening)?;
+    let book = book_of(alloc, &opening, spacing)?;
+    Some(Player {
+        alloc,
+        opening,
+        book,
+        plain,
+        tasks: Vec::new(alloc),
+        ids,
+        calls: 0,
+        wrong: None,
+    })
+}
+
+// A book of a log that is made up, at this spacing; none where memory is short.
+pub(crate) fn new_player<'a>(
+    alloc: Global,
+    words: &mut Words,
+    ids: &'a [ScenarioId],
+    spacing: u32,
+) -> Option<Player<'a>> {
+    let opening = Arc::new(alloc, inputs::opening(alloc, words)?).ok()?;
+    player_of(alloc, opening, ids, spacing)
+}
+
+impl Player<'_> {
+    // Keeps what is wrong, if nothing was before.
+    pub(crate) fn fail(&mut self, wrong: Wrong) {
+        if self.wrong.is_none() {
+            self.wrong = Some(wrong);
+        }
     }
 
-    // A book of a log that is made up, at this spacing.
-    pub(crate) fn new(alloc: Global, words: &mut Words, spacing: u32) -> Result<Player, Wrong> {
-        let opening = inputs::opening(alloc, words)?;
-        Player::of(alloc, opening, spacing)
+    // Keeps what is wrong, unless this holds.
+    pub(crate) fn expect(&mut self, holds: bool, wrong: Wrong) {
+        if !holds {
+            self.fail(wrong);
+        }
     }
 
     // Judges a call that was made, by what it answered.
-    pub(crate) fn judge(
-        &mut self,
-        caller: Caller,
-        call: &Call<Global>,
-        reply: Option<Reply>,
-    ) -> Result<(), Wrong> {
+    pub(crate) fn judge(&mut self, caller: Caller, call: &Call<Global>, reply: Option<Reply>) {
         let Some(reply) = reply else {
-            return Err(Wrong::Refused);
+            return self.fail(Wrong::Refused);
         };
         self.calls = self.calls.saturating_add(1);
-        if self.book.journal().len() != self.calls {
-            return Err(Wrong::Growth);
+        let is_grown = self.book.journal().len() == self.calls;
+        self.expect(is_grown, Wrong::Growth);
+        if let Some(wrong) = wrong_note(&self.book, &mut self.plain, caller, call, reply) {
+            self.fail(wrong);
         }
-        judge(&self.book, &mut self.plain, caller, call, reply)
     }
 
     // An id, which may stand, be dropped, or not be given yet.
-    pub(crate) fn id(&self, words: &mut Words) -> Result<ScenarioId, Wrong> {
+    pub(crate) fn id(&self, words: &mut Words) -> Option<ScenarioId> {
         let limit = if words.below(4) == 0 { 8 } else { 3 };
-        match self.ids.get(words.below(limit) as usize) {
-            Some(id) => Ok(*id),
-            None => Err(Wrong::Input),
-        }
+        let id = self.ids.get(words.below(limit) as usize)?;
+        Some(*id)
     }
 
     // The place of a task that was given: often of the last one, and else of any; none without tasks.

@@ -1,7 +1,6 @@
 // What the notes of a journal tell of versions.
-use crate::wrong::Wrong;
 use book_machine::{Call, Note, NotedEdit, Reply};
-use job_table::JobTable;
+use job_table::{Edit, JobTable};
 use scenarios::ScenarioId;
 use std::alloc::Global;
 
@@ -13,39 +12,44 @@ fn accepted(note: &Note<Global>) -> Option<&NotedEdit<Global>> {
     }
 }
 
-// A log after an edit.
-fn edited(log: &JobTable<Global>, noted: &NotedEdit<Global>) -> Result<JobTable<Global>, Wrong> {
-    let edit = noted.edit()?;
-    let mut log = log.copy()?;
-    match log.apply(&edit) {
-        Ok(()) => Ok(log),
-        Err(_) => Err(Wrong::Log),
-    }
-}
-
 // Adds the log after an edit behind the others.
-fn add_edited(logs: &mut Vec<JobTable<Global>>, noted: &NotedEdit<Global>) -> Result<(), Wrong> {
-    let Some(last) = logs.last() else {
-        return Err(Wrong::Log);
-    };
-    let log = edited(last, noted)?;
-    Ok(logs.push(log)?)
+fn add_edited(logs: &mut Vec<JobTable<Global>>, edit: &Edit<Global>) -> Option<()> {
+    let mut log = logs.last()?.copy().ok()?;
+    log.apply(edit).ok()?;
+    logs.push(log).ok()
 }
 
-// The logs of all versions: the opening one, and one more after each accepted edit.
+// Adds the log after a noted edit.
+fn add_noted(logs: &mut Vec<JobTable<Global>>, noted: &NotedEdit<Global>) -> Option<()> {
+    let edit = noted.edit().ok()?;
+    add_edited(logs, &edit)
+}
+
+// Adds the opening log, and one more after each accepted edit.
+fn add_all(
+    logs: &mut Vec<JobTable<Global>>,
+    opening: &JobTable<Global>,
+    notes: &[Note<Global>],
+) -> Option<()> {
+    logs.push(opening.copy().ok()?).ok()?;
+    for note in notes {
+        if let Some(edit) = accepted(note) {
+            add_noted(logs, edit)?;
+        }
+    }
+    Some(())
+}
+
+// The logs of all versions: the opening one, and one more after each accepted edit. None where memory is
+// short, or such an edit is refused.
 pub(crate) fn logs_of(
     alloc: Global,
     opening: &JobTable<Global>,
     notes: &[Note<Global>],
-) -> Result<Vec<JobTable<Global>>, Wrong> {
+) -> Option<Vec<JobTable<Global>>> {
     let mut logs = Vec::new(alloc);
-    logs.push(opening.copy()?)?;
-    for note in notes {
-        if let Some(edit) = accepted(note) {
-            add_edited(&mut logs, edit)?;
-        }
-    }
-    Ok(logs)
+    add_all(&mut logs, opening, notes)?;
+    Some(logs)
 }
 
 /// A ticket, and the scenario for which it was claimed.
@@ -90,33 +94,52 @@ fn is_newest(known: &[Shown], id: ScenarioId, version: u64) -> bool {
     true
 }
 
-// Notes the ticket of a claim.
-fn add_claim(claims: &mut Vec<Claimed>, reply: &Reply) -> Result<(), Wrong> {
-    if let Reply::Claimed { ticket, id, .. } = reply {
-        claims.push((*ticket, *id))?;
-    }
-    Ok(())
+/// The claims and the published versions of a journal, up to some note.
+#[derive(Drop)]
+struct Known {
+    claims: Vec<Claimed>,
+    shown: Vec<Shown>,
 }
 
-// Adds a published version behind those that are known: whether none of its scenario is newer.
-fn add_shown(known: &mut Vec<Shown>, shown: Option<Shown>) -> Result<bool, Wrong> {
-    let Some((id, version)) = shown else {
-        return Ok(true);
-    };
-    let is_newest = is_newest(known.as_slice(), id, version);
-    known.push((id, version))?;
-    Ok(is_newest)
-}
-
-// Whether no scenario's published version falls from note to note.
-pub(crate) fn are_never_falling(alloc: Global, notes: &[Note<Global>]) -> Result<bool, Wrong> {
-    let mut claims = Vec::new(alloc);
-    let mut known = Vec::new(alloc);
-    for note in notes {
-        add_claim(&mut claims, &note.reply)?;
-        if !add_shown(&mut known, shown_in(note, claims.as_slice()))? {
-            return Ok(false);
+impl Known {
+    // Notes the ticket of a claim: whether there is memory for it.
+    fn add_claim(&mut self, reply: &Reply) -> bool {
+        match reply {
+            Reply::Claimed { ticket, id, .. } => self.claims.push((*ticket, *id)).is_ok(),
+            _ => true,
         }
     }
-    Ok(true)
+
+    // Adds a published version: whether none of its scenario is newer, and there is memory for it.
+    fn add_shown(&mut self, id: ScenarioId, version: u64) -> bool {
+        is_newest(self.shown.as_slice(), id, version) && self.shown.push((id, version)).is_ok()
+    }
+
+    // Adds what a note tells: whether no published version falls by it.
+    fn add(&mut self, note: &Note<Global>) -> bool {
+        let has_room = self.add_claim(&note.reply);
+        match shown_in(note, self.claims.as_slice()) {
+            Some((id, version)) => has_room && self.add_shown(id, version),
+            None => has_room,
+        }
+    }
+
+    // Adds what these notes tell: whether no published version falls.
+    fn add_all(&mut self, notes: &[Note<Global>]) -> bool {
+        for note in notes {
+            if !self.add(note) {
+                return false;
+            }
+        }
+        true
+    }
+}
+
+// Whether no scenario's published version falls from note to note; it is also false where memory is short.
+pub(crate) fn are_never_falling(alloc: Global, notes: &[Note<Global>]) -> bool {
+    let mut known = Known {
+        claims: Vec::new(alloc),
+        shown: Vec::new(alloc),
+    };
+    known.add_all(notes)
 }

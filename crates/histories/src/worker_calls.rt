@@ -36,23 +36,21 @@ fn id_of(task: Option<&Task<Global>>) -> Option<ScenarioId> {
     }
 }
 
-// A run of this log.
+// A run of this log; none where memory is short.
 fn run_of(
     alloc: Global,
     table: &Arc<JobTable<Global>, Global>,
     scenario: Scenario,
     spacing: u32,
-) -> Result<Arc<Run<Global>, Global>, Wrong> {
-    match simulate(alloc, table.clone()?, scenario, spacing) {
-        Ok(run) => Ok(Arc::new(alloc, run)?),
-        Err(_) => Err(Wrong::Input),
-    }
+) -> Option<Arc<Run<Global>, Global>> {
+    let table = table.clone().ok()?;
+    Arc::new(alloc, simulate(alloc, table, scenario, spacing).ok()?).ok()
 }
 
-// The run that a task asks for.
-fn worked(task: &Task<Global>) -> Result<Arc<Run<Global>, Global>, Wrong> {
-    let (run, _work) = task.work()?;
-    Ok(run)
+// The run that a task asks for; none where memory is short.
+fn worked(task: &Task<Global>) -> Option<Arc<Run<Global>, Global>> {
+    let (run, _work) = task.work().ok()?;
+    Some(run)
 }
 
 // Whether a run is of a task's log and scenario.
@@ -60,41 +58,37 @@ fn fits(task: &Task<Global>, run: &Run<Global>) -> bool {
     run.scenario() == task.scenario() && run.table().same(task.table())
 }
 
-impl Player {
+impl Player<'_> {
     // A claim, which gives the scenario that is due.
-    pub(crate) fn claim(&mut self, words: &mut Words) -> Result<(), Wrong> {
+    pub(crate) fn claim(&mut self, words: &mut Words) {
         let worker = worker(words);
         let due = self.book.due();
         let told = self.book.claim(worker);
         let reply = answers::of_claim(&told);
-        self.judge(Caller::Worker(worker), &Call::Claim, reply)?;
-        self.keep(due, told.ok().flatten())
+        self.judge(Caller::Worker(worker), &Call::Claim, reply);
+        self.keep(due, told.ok().flatten());
     }
 
     // Keeps a task, which is to be of this scenario.
-    fn keep(&mut self, due: Option<ScenarioId>, task: Option<Task<Global>>) -> Result<(), Wrong> {
-        if id_of(task.as_ref()) != due {
-            return Err(Wrong::Due);
-        }
+    fn keep(&mut self, due: Option<ScenarioId>, task: Option<Task<Global>>) {
+        let is_due = id_of(task.as_ref()) == due;
+        self.expect(is_due, Wrong::Due);
         if let Some(task) = task {
-            self.tasks.push(task)?;
+            let is_kept = self.tasks.push(task).is_ok();
+            self.expect(is_kept, Wrong::Memory);
         }
-        Ok(())
     }
 
     // A run for a task: mostly its own, but also that of another task, or of the task's log under
     // another scenario, or of the opening log under the task's scenario.
-    fn run_for(
-        &self,
-        words: &mut Words,
-        task: &Task<Global>,
-    ) -> Result<Arc<Run<Global>, Global>, Wrong> {
+    fn run_for(&self, words: &mut Words, task: &Task<Global>) -> Option<Arc<Run<Global>, Global>> {
         let spacing = self.book.spacing();
         match words.below(16) {
-            0 => match self.tasks.get(self.place(words).unwrap_or(0)) {
-                Some(other) => worked(other),
-                None => worked(task),
-            },
+            0 => worked(
+                self.tasks
+                    .get(self.place(words).unwrap_or(0))
+                    .unwrap_or(task),
+            ),
             1 => run_of(self.alloc, task.table(), inputs::scenario(words)?, spacing),
             2 => run_of(self.alloc, &self.opening, task.scenario(), spacing),
             _ => worked(task),
@@ -102,9 +96,9 @@ impl Player {
     }
 
     // A run of the opening log, for a ticket that never stood.
-    fn unknown(&self, words: &mut Words) -> Result<HandedIn, Wrong> {
+    fn unknown(&self, words: &mut Words) -> Option<HandedIn> {
         let scenario = inputs::scenario(words)?;
-        Ok(HandedIn {
+        Some(HandedIn {
             ticket: NO_TICKET,
             run: run_of(self.alloc, &self.opening, scenario, self.book.spacing())?,
             fits: false,
@@ -112,18 +106,18 @@ impl Player {
     }
 
     // A run for the ticket of a task.
-    fn known(&self, words: &mut Words, task: &Task<Global>) -> Result<HandedIn, Wrong> {
+    fn known(&self, words: &mut Words, task: &Task<Global>) -> Option<HandedIn> {
         let run = self.run_for(words, task)?;
         let fits = fits(task, &run);
-        Ok(HandedIn {
+        Some(HandedIn {
             ticket: task.ticket(),
             run,
             fits,
         })
     }
 
-    // A run for a ticket that stands, stood or never stood.
-    fn handed_in(&self, words: &mut Words) -> Result<HandedIn, Wrong> {
+    // A run for a ticket that stands, stood or never stood; none where memory is short.
+    fn handed_in(&self, words: &mut Words) -> Option<HandedIn> {
         if words.below(20) == 0 {
             return self.unknown(words);
         }
@@ -140,30 +134,38 @@ impl Player {
         }
     }
 
-    // Hands a run in. Of a ticket that does not stand the note says that nothing fits it.
-    fn hand_in(&mut self, words: &mut Words, handed: HandedIn) -> Result<(), Wrong> {
-        let HandedIn { ticket, run, fits } = handed;
-        let worker = worker(words);
-        let reply = answers::of_finish(self.book.finish(worker, ticket, run));
+    // Judges a run that was handed in, by what it was answered. Of a ticket that does not stand the note
+    // says that nothing fits it.
+    fn judge_run(&mut self, words: &mut Words, call: (u64, u64, bool), reply: Option<Reply>) {
+        let (worker, ticket, fits) = call;
         let fits = fits && reply != Some(Reply::UnknownTicket);
         self.judge(
             Caller::Worker(worker),
             &Call::Finish { ticket, fits },
             reply,
-        )?;
+        );
         if fits {
             self.forget(words, ticket);
         }
-        Ok(())
+    }
+
+    // Hands a run in.
+    fn hand_in(&mut self, words: &mut Words, handed: HandedIn) {
+        let HandedIn { ticket, run, fits } = handed;
+        let worker = worker(words);
+        let reply = answers::of_finish(self.book.finish(worker, ticket, run));
+        self.judge_run(words, (worker, ticket, fits), reply);
     }
 
     // A run for a ticket; mostly a claim, where there is no task.
-    pub(crate) fn finish(&mut self, words: &mut Words) -> Result<(), Wrong> {
+    pub(crate) fn finish(&mut self, words: &mut Words) {
         if self.tasks.is_empty() && words.below(4) > 0 {
             return self.claim(words);
         }
-        let handed = self.handed_in(words)?;
-        self.hand_in(words, handed)
+        match self.handed_in(words) {
+            Some(handed) => self.hand_in(words, handed),
+            None => self.fail(Wrong::Input),
+        }
     }
 
     // The ticket of a task, or one that never stood.
@@ -175,12 +177,11 @@ impl Player {
     }
 
     // A ticket without a run.
-    pub(crate) fn give_up(&mut self, words: &mut Words) -> Result<(), Wrong> {
+    pub(crate) fn give_up(&mut self, words: &mut Words) {
         let ticket = self.ticket(words);
         let worker = worker(words);
         let reply = answers::of_give_up(self.book.give_up(worker, ticket));
-        self.judge(Caller::Worker(worker), &Call::GiveUp { ticket }, reply)?;
+        self.judge(Caller::Worker(worker), &Call::GiveUp { ticket }, reply);
         self.forget(words, ticket);
-        Ok(())
     }
 }

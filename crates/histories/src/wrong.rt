@@ -1,8 +1,5 @@
-use std::alloc::{AllocError, AllocFailed};
-use swf_text;
-
 /// What differs between the book and the plain program, or what keeps them from being compared.
-#[derive(Clone, Copy, Debug, PartialEq, Eq)]
+#[derive(Clone, Copy)]
 pub(crate) enum Wrong {
     /// A call was refused for its journal or for memory.
     Refused,
@@ -47,23 +44,5 @@ impl Wrong {
             Wrong::Input => "the call could not be made up",
             Wrong::Memory => "a growth was refused",
         }
-    }
-}
-
-impl From<swf_text::Memory> for Wrong {
-    fn from(_memory: swf_text::Memory) -> Wrong {
-        Wrong::Memory
-    }
-}
-
-impl From<AllocError> for Wrong {
-    fn from(_error: AllocError) -> Wrong {
-        Wrong::Memory
-    }
-}
-
-impl<T: Drop> From<AllocFailed<T>> for Wrong {
-    fn from(_error: AllocFailed<T>) -> Wrong {
-        Wrong::Memory
     }
 }
