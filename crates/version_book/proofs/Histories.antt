@@ -109,6 +109,7 @@ called old new who call (told r) h room does journal =
         ap (λ (j : List Noted). machine_at (length j) new.state) journal ∙ step-machine old new.state who call r does,
         journal,
         does.spacing,
+        does.runs,
       ),
     )
 

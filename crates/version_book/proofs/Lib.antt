@@ -1,5 +1,6 @@
 mod Lists
 mod Changing
+mod Keeping
 mod Logs
 mod Ids
 mod Stepping

@@ -1,5 +1,5 @@
 -- Tests, look-ups and counts over a mapped list.
-use Rattle.std.proofs.Common.{◌≡◌, ℕ, ◌≤◌, ◌<◌, ◌||◌, length, List, [], ◌∷◌, map, zero, suc, set, get_or, refl, sym, ◌∙◌, ap, ap₂, subst, Bool, true, false, cond, arith}
+use Rattle.std.proofs.Common.{◌≡◌, ℕ, ◌≤◌, ◌<◌, ◌||◌, length, List, [], ◌∷◌, map, zero, suc, get_or, refl, sym, ◌∙◌, ap, ap₂, subst, Bool, true, false, cond, arith}
 use Rattle.std.specs.Prelude.{Some, find, filter, count_by}
 use Rattle.std.specs.List.{list_any, position, All}
 use Rattle.std.specs.Option.{option_map}

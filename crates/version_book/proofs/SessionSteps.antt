@@ -23,6 +23,7 @@ use Rattle.version_book.specs.Answers.{add_answer, refusal_of}
 use Rattle.version_book.specs.Steps.{IsStep, Does}
 use Rattle.version_book.specs.Lookups.{has_id, unmarking, with_change}
 use Rattle.version_book.specs.Tasks.{IsShownFor}
+use Rattle.version_book.proofs.Keeping.{keeps-added, keeps-change, keeps-left, keeps-same}
 use Rattle.version_book.proofs.Lists.{filter-map, find-All, length-filter-le}
 use Rattle.version_book.proofs.Logs.{AreAccepted-append, log_after-append, log_at-stays}
 use Rattle.version_book.proofs.Ids.{ids-push, ids-without, listed-push, listed-without, without-none}
@@ -75,6 +76,7 @@ edit-step s e h one is =
       reply = λ n. sym (ap (edit_replied (length s.edits)) now);
       state = λ n. sym (ap (edit_changed e (machine_at n s)) now);
       spacing = refl;
+      runs = keeps-same s (edited_state s e (applied e s.current)) (reply.Edited (length s.edits + 1)) refl;
       sound = edit-sound s e h one is;
     }
 
@@ -146,6 +148,7 @@ add-step s name setting h is = record {
   reply = λ n. sym (ap (add_replied s.listing.next) is);
   state = λ n. ap (λ (ps : List Progress). let m : Machine = record (machine_at n s) { listing = with_scenario name setting s.listing; progress = ps } in m) (map-append progress_of_shown s.shown (fresh_shown s.listing.next setting ∷ [])) ∙ sym (ap (add_changed name setting (machine_at n s)) is);
   spacing = refl;
+  runs = keeps-added s (added_state s name setting) (reply.Added s.listing.next) (fresh_shown s.listing.next setting) refl refl;
   sound = add-sound s name setting h;
 }
 
@@ -200,6 +203,7 @@ drop-step s name id h is = record {
   reply = λ n. sym (ap drop_replied is);
   state = λ n. ap₂ (λ ps ts. let m : Machine = record (machine_at n s) { listing = without_scenario name s.listing; progress = ps; tickets = ts } in m) (sym (filter-map progress_of_shown (λ p. not (p.id == id)) s.shown)) (sym (filter-map ticket_of_view (λ t. not (t.id == id)) s.tickets)) ∙ sym (ap (drop_changed name (machine_at n s)) is);
   spacing = refl;
+  runs = keeps-left s (dropped_state s name id) (reply.Dropped id) id refl;
   sound = drop-sound s name id h is;
 }
 
@@ -238,6 +242,7 @@ retry-step s id x h is =
       reply = λ n. sym (ap retry_replied some);
       state = λ n. ap (λ (ps : List Progress). let m : Machine = record (machine_at n s) { progress = ps } in m) (change-progress id unmarking unmarked (λ y. refl) s.shown);
       spacing = refl;
+      runs = keeps-change s (record s { shown = with_change id unmarking s.shown }) reply.Retried id unmarking (λ y. refl) (λ y. refl) refl;
       sound = change-sound s id unmarking s.tickets h (λ y. refl) (all-always (λ (x : ShownView). has_id id x ≡ true → IfSome x.published (IsOfItsVersion s.opening s.edits x.setting) → IfSome x.published (IsOfItsVersion s.opening s.edits x.setting)) (λ y _ k. k) s.shown) (λ P k. k) (omega arith);
     }
 

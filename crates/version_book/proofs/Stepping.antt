@@ -11,7 +11,6 @@ use Rattle.job_table.specs.Table.{IsTable}
 use Rattle.checkpoints.specs.Spacing.{IsSpacing}
 use Rattle.std.proofs.lemmas.List.Elements.{All-nil, All-cons, All-head, All-tail, All-weaker}
 use Rattle.scenarios.specs.ScenarioList.{Listing, add_fault, empty, id_of}
-use Rattle.scenarios.specs.declared.list_fault.AddFault.{AddFault}
 use Rattle.scenarios.specs.declared.list_fault.AddFault.TheVariants.{BadName, NameTaken, TooMany}
 use Rattle.scenarios.specs.Name.{is_name}
 use Rattle.book_machine.specs.declared.reply.Reply.{Reply}
@@ -21,11 +20,12 @@ use Rattle.version_book.specs.Book.{ShownView, TicketView, StateView, machine_at
 use Rattle.version_book.specs.Sound.{IsSound, IsOfItsVersion, IsTicketOfItsVersion, IsTicketOfItsScenario, AreListed, Under, under_of_listed, under_of_shown}
 use Rattle.version_book.specs.Steps.{Answer, Does, IsStep, opening_state}
 use Rattle.version_book.specs.Lookups.{has_id, has_number, with_change, version_shown}
+use Rattle.version_book.proofs.Keeping.{keeps-same}
 use Rattle.version_book.proofs.Lists.{find-map}
 
 -- a call that changes nothing
 pub still : (s : StateView) (call : BookCall) (r : Reply) → IsSound s → ((n : ℕ) → r ≡ reply_to call (machine_at n s)) → ((n : ℕ) → machine_at n s ≡ changed_by call (machine_at n s)) → IsStep s s call r
-still s call r sound told same = record { reply = told; state = same; spacing = refl; sound = sound }
+still s call r sound told same = record { reply = told; state = same; spacing = refl; runs = keeps-same s s r refl; sound = sound }
 
 -- ---- look-ups, as the machine makes them
 

@@ -1,6 +1,6 @@
 -- The steps of the workers' calls.
 use Rattle.std.proofs.Common.{◌≡◌, ℕ, ◌+◌, ◌≤◌, ◌<◌, ◌==◌, ◌&&◌, List, [], ◌∷◌, ◌++◌, length, map, refl, sym, ◌∙◌, ap, ap₂, subst, Bool, true, false, not, cond, arith}
-use Rattle.std.specs.Prelude.{Option, None, Some, Result, Ok, Err, IfSome, find, filter, is_some, unwrap_or}
+use Rattle.std.specs.Prelude.{Option, None, Some, Result, Ok, Err, IfOk, IfSome, find, filter, is_some, unwrap_or}
 use Rattle.std.specs.List.{All}
 use Rattle.std.specs.Option.{option_map}
 use Rattle.std.proofs.lemmas.Bool.{eqb-true, eq-eqb, ne_eqb}
@@ -14,12 +14,13 @@ use Rattle.book_machine.specs.Call.{Claim, Finish, GiveUp}
 use Rattle.book_machine.specs.Machine.{Machine, Progress, Ticket, version, is_below, is_due, due, are_all_out, changed, closed, publish, marked, finish_reply_at, ticket_of}
 use Rattle.version_book.specs.Book.{PublishedView, ShownView, TicketView, StateView, machine_at, progress_of_shown, ticket_of_view, published_version}
 use Rattle.version_book.specs.Sound.{IsSound, IsOfItsVersion, IsTicketOfItsVersion, IsTicketOfItsScenario}
-use Rattle.version_book.specs.Steps.{Does, IsStep}
+use Rattle.version_book.specs.Steps.{Does, IsStep, Publishes}
 use Rattle.version_book.specs.Answers.{TakesWhatFits, TellsFit, finish_answer, fitted}
 use Rattle.version_book.specs.declared.worker_refusal.FinishRefusal.{FinishRefusal}
 use Rattle.version_book.specs.declared.worker_refusal.FinishRefusal.TheVariants as finish
-use Rattle.version_book.specs.Tasks.{Fits, HasThoseOf, due_shown}
+use Rattle.version_book.specs.Tasks.{Fits, HasThoseOf, PublishesFitting, due_shown}
 use Rattle.version_book.specs.Lookups.{has_id, has_number, is_mark, is_due_at, marking, publishing, version_shown, with_change}
+use Rattle.version_book.proofs.Keeping.{keeps-change, keeps-put, keeps-same}
 use Rattle.version_book.proofs.Lists.{find-map, filter-map, list_any-map, find-All, length-filter-le}
 use Rattle.version_book.proofs.Logs.{log_at-now}
 use Rattle.version_book.proofs.Ids.{ids-alike, ids-given, ids-below}
@@ -94,6 +95,7 @@ stale-step s n t h is above = record {
   reply = λ k. sym (ap (λ (b : Bool). cond b (reply.Finished t.version) (reply.Stale (unwrap_or (version_shown t.id s.shown) 0))) above) ∙ finish-said s n t k is;
   state = λ k. ap₂ (with_both s k) (stale-progress s t.id t.version h above) (sym (closed-left n s.tickets)) ∙ sym (ap (finish_changed n (machine_at k s) true) (there s n (Some t) k is));
   spacing = refl;
+  runs = keeps-same s (record s { tickets = left n s.tickets }) (reply.Stale (unwrap_or (version_shown t.id s.shown) 0)) refl;
   sound = tickets-sound s n h;
 }
 
@@ -124,6 +126,7 @@ finish-step s n t run h is below sound log setting =
       reply = λ k. sym (ap (λ (b : Bool). cond b (reply.Finished t.version) (reply.Stale (unwrap_or (version_shown t.id s.shown) 0))) below) ∙ finish-said s n t k is;
       state = λ k. ap₂ (with_both s k) (put-progress s t.id p h below) (sym (closed-left n s.tickets)) ∙ sym (ap (finish_changed n (machine_at k s) true) (there s n (Some t) k is));
       spacing = refl;
+      runs = keeps-put s (record s { shown = with_change t.id (publishing p) s.shown; tickets = left n s.tickets }) t.id t.version p refl refl;
       sound = change-sound s t.id (publishing p) (left n s.tickets) h (λ x. refl) (put-run s n t run h is sound log setting) (left-part n s.tickets) (length-filter-le (λ (u : TicketView). not (has_number n u)) s.tickets);
     }
 
@@ -153,6 +156,7 @@ other-step s n t h is other =
       reply = λ k. sym (ap give_up_replied (there s n (Some t) k is));
       state = λ k. ap₂ (with_both s k) (sym (ap (mark_now t.id t.version (map progress_of_shown s.shown)) test)) (sym (closed-left n s.tickets)) ∙ sym (ap (give_up_changed n (machine_at k s)) (there s n (Some t) k is));
       spacing = refl;
+      runs = keeps-same s (record s { tickets = left n s.tickets }) reply.GivenUp refl;
       sound = tickets-sound s n h;
     }
 
@@ -166,6 +170,7 @@ now-step s n t h is now =
       reply = λ k. sym (ap give_up_replied (there s n (Some t) k is));
       state = λ k. ap₂ (with_both s k) (change-progress t.id (marking t.version) (λ (p : Progress). record p { mark = Some t.version }) (λ x. refl) s.shown ∙ sym (ap (mark_now t.id t.version (map progress_of_shown s.shown)) test)) (sym (closed-left n s.tickets)) ∙ sym (ap (give_up_changed n (machine_at k s)) (there s n (Some t) k is));
       spacing = refl;
+      runs = keeps-change s (record s { shown = with_change t.id (marking t.version) s.shown; tickets = left n s.tickets }) reply.GivenUp t.id (marking t.version) (λ x. refl) (λ x. refl) refl;
       sound = change-sound s t.id (marking t.version) (left n s.tickets) h (λ x. refl) (all-always (λ (x : ShownView). has_id t.id x ≡ true → IfSome x.published (IsOfItsVersion s.opening s.edits x.setting) → IfSome x.published (IsOfItsVersion s.opening s.edits x.setting)) (λ x _ r. r) s.shown) (left-part n s.tickets) (length-filter-le (λ (u : TicketView). not (has_number n u)) s.tickets);
     }
 
@@ -241,6 +246,7 @@ claim-step s x h is lt = record {
   reply = λ k. sym (ap (claim_replied (machine_at k s)) (due-is s k (Some x) is) ∙ ap (λ (b : Bool). cond b reply.TooManyTickets (reply.Claimed s.next_ticket x.id (length s.edits) (published_version x))) (not-all-out s k lt));
   state = λ k. ap (λ (ts : List Ticket). let m : Machine = record (machine_at k s) { tickets = ts; next_ticket = s.next_ticket + 1 } in m) (map-append ticket_of_view s.tickets (new_ticket s x ∷ [])) ∙ sym (ap (claim_changed (machine_at k s)) (due-is s k (Some x) is) ∙ ap (λ (b : Bool). cond b (machine_at k s) (record (machine_at k s) { tickets = (machine_at k s).tickets ++ record { number = s.next_ticket; id = x.id; version = length s.edits } ∷ []; next_ticket = s.next_ticket + 1 })) (not-all-out s k lt));
   spacing = refl;
+  runs = keeps-same s (record s { tickets = s.tickets ++ new_ticket s x ∷ []; next_ticket = s.next_ticket + 1 }) (reply.Claimed s.next_ticket x.id (length s.edits) (published_version x)) refl;
   sound = claim-sound s x h is lt;
 }
 
@@ -288,6 +294,29 @@ tells-fit F (Err finish.UnknownTicket) fits is = cc
 tells-fit F (Err finish.Stranger) fits is = cc
 tells-fit F (Err (finish.Stale published)) fits is = fits
 tells-fit F (Err finish.Memory) fits is = tt
+
+-- ---- what is published
+
+pub publishes : {s v : StateView} (new : StateView) (n : ℕ) (t : TicketView) (id w : ℕ) (run : RunView) → s ≡ v → find (has_number n) s.tickets ≡ Some t → id ≡ t.id → new.shown ≡ with_change id (publishing (record { version = w; run = run })) s.shown → Publishes v new n w run
+publishes {s} {v} new n t id w run is some same put = subst (λ (x : StateView). Publishes x new n w run) is (record { ticket = t; stood = some; shown = put ∙ ap (λ i. with_change i (publishing (record { version = w; run = run })) s.shown) same })
+
+pub published-as : {s v : StateView} (new : StateView) (n : ℕ) (run : RunView) (r : Result ℕ FinishRefusal) → s ≡ v → IfOk r (λ w. Publishes s new n w run) → IfOk r (λ w. Publishes v new n w run)
+published-as {s} {v} new n run r is h = subst (λ (x : StateView). IfOk r (λ w. Publishes x new n w run)) is h
+
+-- some run that fits
+pub fitting-some : {s v : StateView} (new : StateView) (n : ℕ) (run : RunView) (r : Result ℕ FinishRefusal) → s ≡ v → Fits s n run → IfOk r (λ w. Publishes s new n w run) → IfOk r (λ w. PublishesFitting v new n w)
+fitting-some {s} {v} new n run (Ok w) is fits h = subst (λ (x : StateView). PublishesFitting x new n w) is (run, fits, h)
+fitting-some {s} {v} new n run (Err e) is fits h = tt
+
+-- the run that was handed in, which fits where it is taken
+pub fitting-told : {s v : StateView} (new : StateView) (n : ℕ) (run : RunView) (r : Result ℕ FinishRefusal) → s ≡ v → TellsFit (Fits s n run) r → IfOk r (λ w. Publishes s new n w run) → IfOk r (λ w. PublishesFitting v new n w)
+fitting-told {s} {v} new n run (Ok w) is fits h = subst (λ (x : StateView). PublishesFitting x new n w) is (run, fits, h)
+fitting-told {s} {v} new n run (Err e) is fits h = tt
+
+pub fitting-as : {s v : StateView} (new : StateView) (n : ℕ) (r : Result ℕ FinishRefusal) → s ≡ v → IfOk r (λ w. PublishesFitting s new n w) → IfOk r (λ w. PublishesFitting v new n w)
+fitting-as {s} {v} new n r is h = subst (λ (x : StateView). IfOk r (λ w. PublishesFitting x new n w)) is h
+
+-- ---- what a run that fits is told
 
 pub takes-told : (F : Type 0) (r : Result ℕ FinishRefusal) → TellsFit F r → TakesWhatFits F r
 takes-told F (Ok version) told = tt

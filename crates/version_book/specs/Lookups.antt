@@ -39,6 +39,10 @@ marking v x = record x { mark = Some v }
 abbrev pub unmarking : ShownView → ShownView
 unmarking x = record x { mark = None }
 
+-- what is published for the scenario with this id
+abbrev pub published_for : ℕ → List ShownView → Option PublishedView
+published_for id shown = elim (find (has_id id) shown) [ None ↦ None | Some x ↦ x.published ]
+
 -- no two scenarios have one id
 abbrev pub AreApart : List ShownView → Type 0
 AreApart shown = AllPairs (λ (x y : ShownView). x.id < y.id) shown

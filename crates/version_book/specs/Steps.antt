@@ -1,5 +1,5 @@
 -- What a call does with a book: a step of the machine, or nothing.
-use Rattle.std.specs.Prelude.{◌≡◌, ℕ, ◌<◌, List, [], ◌∷◌, ◌++◌, length, Option, None, Some}
+use Rattle.std.specs.Prelude.{◌≡◌, ℕ, ◌<◌, ◌⊎◌, List, [], ◌∷◌, ◌++◌, length, find, Option, None, Some}
 use Rattle.swf_text.specs.Entry.{LogEntry}
 use Rattle.scenarios.specs.ScenarioList.{empty}
 use Rattle.checkpoints.specs.Spacing.{IsSpacing}
@@ -7,10 +7,13 @@ use Rattle.version_book.specs.declared.book_fault.BookFault.{BookFault}
 use Rattle.version_book.specs.declared.book_fault.BookFault.TheVariants as faults
 use Rattle.book_machine.specs.declared.caller.Caller.{Caller}
 use Rattle.book_machine.specs.declared.reply.Reply.{Reply}
+use Rattle.book_machine.specs.declared.reply.Reply.TheVariants as replies
 use Rattle.book_machine.specs.Call.{BookCall}
 use Rattle.book_machine.specs.Machine.{reply_to, changed_by, after, note_limit}
 use Rattle.book_machine.specs.History.{Noted}
-use Rattle.version_book.specs.Book.{StateView, BookView, machine_at, machine_of}
+use Rattle.checkpoints.specs.RunView.{RunView}
+use Rattle.version_book.specs.Book.{PublishedView, TicketView, StateView, BookView, machine_at, machine_of}
+use Rattle.version_book.specs.Lookups.{has_number, published_for, publishing, with_change}
 use Rattle.version_book.specs.Sound.{IsSound}
 
 -- what a call answers: the journal is full, a growth was refused, or the reply that is noted
@@ -33,14 +36,20 @@ abbrev pub notes_of : Caller → BookCall → Option Reply → List Noted
 notes_of who call None = []
 notes_of who call (Some reply) = note_of who call reply ∷ []
 
+-- Each run that is published was published for its scenario before, but for one of the version that is told to be finished.
+abbrev pub KeepsRuns : StateView → StateView → Reply → Type 0
+KeepsRuns old new answer =
+    (id : ℕ) (p : PublishedView) → published_for id new.shown ≡ Some p → (published_for id old.shown ≡ Some p) ⊎ (answer ≡ replies.Finished p.version)
+
 -- Where the journal has 1,000,000 notes the call answers so, and otherwise a refused growth, and nothing changes; or it
 -- answers exactly what the machine replies, the book is then the machine's next state, and the journal has this note more.
+-- What is published stays the same run, but for what a finish publishes.
 abbrev pub Answers : BookView → BookView → Caller → BookCall → Answer → Type 0
 Answers old new who call full = (length old.journal ≡ note_limit) × (new ≡ old)
 Answers old new who call memory = (length old.journal < note_limit) × (new ≡ old)
 Answers old new who call (told reply) =
     (length old.journal < note_limit) × (reply ≡ reply_to call (machine_of old)) × (machine_of new ≡ after call (machine_of old))
-    × (new.journal ≡ old.journal ++ note_of who call reply ∷ []) × (new.state.spacing ≡ old.state.spacing)
+    × (new.journal ≡ old.journal ++ note_of who call reply ∷ []) × (new.state.spacing ≡ old.state.spacing) × KeepsRuns old.state new.state reply
 
 -- ---- the same, apart from the journal
 
@@ -49,12 +58,19 @@ pub record IsStep (old new : StateView) (call : BookCall) (answer : Reply) : Typ
   pub reply : (n : ℕ) → answer ≡ reply_to call (machine_at n old)
   pub state : (n : ℕ) → machine_at n new ≡ changed_by call (machine_at n old)
   pub spacing : new.spacing ≡ old.spacing
+  pub runs : KeepsRuns old new answer
   pub sound : IsSound new
 
 abbrev pub Does : StateView → StateView → BookCall → Answer → Type 0
 Does old new call full = ⊥
 Does old new call memory = new ≡ old
 Does old new call (told reply) = IsStep old new call reply
+
+-- The ticket of this number stood, and its scenario now shows this run at this version; all else that is shown is as it was.
+pub record Publishes (old new : StateView) (number version : ℕ) (run : RunView) : Type 0 where
+  pub ticket : TicketView
+  pub stood : find (has_number number) old.tickets ≡ Some ticket
+  pub shown : new.shown ≡ with_change ticket.id (publishing (record { version = version; run = run })) old.shown
 
 -- a log that was just opened: version 0, without scenarios
 abbrev pub opening_state : List LogEntry → ℕ → StateView

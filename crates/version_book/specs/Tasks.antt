@@ -16,6 +16,7 @@ use Rattle.book_machine.specs.Machine.{is_due, are_all_out}
 use Rattle.version_book.specs.Book.{PublishedView, ShownView, TicketView, StateView, machine_at, progress_of_shown}
 use Rattle.version_book.specs.Sound.{IsOfItsVersion}
 use Rattle.version_book.specs.Lookups.{has_id}
+use Rattle.version_book.specs.Steps.{Publishes}
 use Rattle.version_book.specs.declared.worker_refusal.ClaimRefusal.{ClaimRefusal}
 use Rattle.version_book.specs.declared.worker_refusal.ClaimRefusal.TheVariants as claim
 
@@ -93,6 +94,10 @@ HasThoseOf (Some t) run = (run.log ≡ t.log) × (run.setting ≡ t.setting)
 -- a ticket of this number stands, and the run has its log and its setting
 abbrev pub Fits : StateView → ℕ → RunView → Type 0
 Fits s number run = HasThoseOf (find (λ (t : TicketView). t.number == number) s.tickets) run
+
+-- some run that has the log and the setting of the ticket of this number is published for the ticket
+abbrev pub PublishesFitting : StateView → StateView → ℕ → ℕ → Type 0
+PublishesFitting old new number version = (run : RunView) × Fits old number run × Publishes old new number version run
 
 -- the ticket of a task, with the log and the setting that its run is to have
 abbrev pub ticket_for : TaskView → TicketView

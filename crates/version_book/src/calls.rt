@@ -8,8 +8,8 @@ ghost use Rattle.book_machine.specs.declared.caller.Caller.TheVariants as caller
 ghost use Rattle.book_machine.specs.Call.{AddScenario, Claim, DropScenario, Edit as Edits, Finish, GiveUp, Retry, View};
 ghost use Rattle.version_book.specs.Answers.{TakesWhatFits, TellsFit, add_answer, claim_answer, drop_answer, edit_answer, finish_answer, fitted, give_up_answer, retry_answer, view_answer};
 ghost use Rattle.version_book.specs.Sound.{IsBook};
-ghost use Rattle.version_book.specs.Steps.{Answers};
-ghost use Rattle.version_book.specs.Tasks.{Fits, IsOut, IsShownFor, due_shown, task_for};
+ghost use Rattle.version_book.specs.Steps.{Answers, Publishes};
+ghost use Rattle.version_book.specs.Tasks.{Fits, IsOut, IsShownFor, PublishesFitting, due_shown, task_for};
 
 use crate::book::Book;
 use crate::journal::{is_full, make_room, note};
@@ -170,7 +170,8 @@ impl<A: Allocator + Copy> Book<A> {
         told
     }
 
-    /// Hands in a run for a ticket, and answers the version at which it is published.
+    /// Hands in a run for a ticket, publishes it, and answers the version at which it is published. No
+    /// other published run changes.
     ///
     /// JournalFull where there are 1,000,000 notes; UnknownTicket where no such ticket stands,
     /// whoever asks; Stranger where the run's log or scenario is not the ticket's, which then
@@ -184,6 +185,7 @@ impl<A: Allocator + Copy> Book<A> {
     ) -> Result<u64, FinishRefusal>
         ensures answer { Answers self.old self.new (caller.Worker worker) (Finish ticket (fitted result)) (finish_answer result) }
         ensures fits { TellsFit (Fits self.old.state ticket (arc_value run)) result }
+        ensures published { IfOk result (λ version. Publishes self.old.state self.new.state ticket version (arc_value run)) }
     {
         if is_full(&self.journal) {
             return Err(FinishRefusal::JournalFull);
@@ -202,7 +204,7 @@ impl<A: Allocator + Copy> Book<A> {
     }
 
     /// Hands in the run that the ticket's task has left there by `Task::deliver`, or this one where it has
-    /// left none, and answers as `finish`.
+    /// left none, and answers as `finish`. No other published run changes.
     ///
     /// What a task has left is of its ticket's log and scenario, so it is not compared with them entry by
     /// entry, as `finish` does.
@@ -214,6 +216,7 @@ impl<A: Allocator + Copy> Book<A> {
     ) -> Result<u64, FinishRefusal>
         ensures answer { Answers self.old self.new (caller.Worker worker) (Finish ticket (fitted result)) (finish_answer result) }
         ensures fits { TakesWhatFits (Fits self.old.state ticket (arc_value run)) result }
+        ensures published { IfOk result (PublishesFitting self.old.state self.new.state ticket) }
     {
         if is_full(&self.journal) {
             return Err(FinishRefusal::JournalFull);

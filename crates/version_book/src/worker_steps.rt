@@ -6,8 +6,8 @@ ghost use Rattle.job_table.specs.Edit.{edit_of};
 ghost use Rattle.book_machine.specs.Call.{Claim, Finish, GiveUp};
 ghost use Rattle.version_book.specs.Answers.{TakesWhatFits, TellsFit, claim_answer, finish_answer, fitted, give_up_answer};
 ghost use Rattle.version_book.specs.Sound.{IsOfItsVersion};
-ghost use Rattle.version_book.specs.Steps.{Does};
-ghost use Rattle.version_book.specs.Tasks.{Fits, IsNext, base_since, bases_since, due_shown, task_for, ticket_for};
+ghost use Rattle.version_book.specs.Steps.{Does, Publishes};
+ghost use Rattle.version_book.specs.Tasks.{Fits, IsNext, PublishesFitting, base_since, bases_since, due_shown, task_for, ticket_for};
 
 use crate::lookups::{close, first_due, mark, publish, published_version, take_run, ticket_of};
 use crate::published::Published;
@@ -119,6 +119,7 @@ impl<A: Allocator + Copy> State<A> {
         requires { Fits self.old number (arc_value run) }
         ensures does { Does self.old self.new (Finish number true) (finish_answer result) }
         ensures fits { fitted result ≡ true }
+        ensures published { IfOk result (λ version. Publishes self.old self.new number version (arc_value run)) }
     {
         let Some(ticket) = ticket_of(self.tickets.as_slice(), number) else {
             unreachable!()
@@ -141,6 +142,7 @@ impl<A: Allocator + Copy> State<A> {
     pub(crate) fn finish(&mut self, number: u64, run: Arc<Run<A>, A>) -> Result<u64, FinishRefusal>
         ensures does { Does self.old self.new (Finish number (fitted result)) (finish_answer result) }
         ensures fits { TellsFit (Fits self.old number (arc_value run)) result }
+        ensures published { IfOk result (λ version. Publishes self.old self.new number version (arc_value run)) }
     {
         let Some(ticket) = ticket_of(self.tickets.as_slice(), number) else {
             return Err(FinishRefusal::UnknownTicket);
@@ -159,6 +161,7 @@ impl<A: Allocator + Copy> State<A> {
     ) -> Result<u64, FinishRefusal>
         ensures does { Does self.old self.new (Finish number (fitted result)) (finish_answer result) }
         ensures fits { TakesWhatFits (Fits self.old number (arc_value run)) result }
+        ensures published { IfOk result (PublishesFitting self.old self.new number) }
     {
         match take_run(&mut self.tickets, number) {
             Some(delivered) => self.accept(number, delivered),

@@ -1,5 +1,6 @@
 use Rattle.std.proofs.Common.{rules, ◌≡◌, length, map, refl, ap}
 use Rattle.std.specs.Prelude.{Err, true, false, nat_le}
+use Rattle.std.specs.Arc.{arc_value}
 use Rattle.book_machine.specs.declared.caller.Caller.TheVariants as caller
 use Rattle.book_machine.specs.Call.{Finish}
 use Rattle.book_machine.specs.Machine.{note_limit}
@@ -8,6 +9,7 @@ use Rattle.version_book.specs.declared.worker_refusal.FinishRefusal.TheVariants 
 use Rattle.version_book.specs.Book.{BookView}
 use Rattle.version_book.specs.Answers.{finish_answer, fitted}
 use Rattle.version_book.proofs.Histories.{called, answered, is-full, has-room, journal-is, as-it-was}
+use Rattle.version_book.proofs.WorkerSteps.{published-as}
 use Rattle.version_book.proofs.book.Book.finish.Goals as goal
 
 pub returns-then-is_full-clause-answer : goal.returns-then-is_full-clause-answer
@@ -36,3 +38,6 @@ returns-clause-answer g c =
     let journal = journal-is noted_of c.self.inside.journal.items _ _ (caller.Worker c.args.worker) _ (Finish c.args.ticket (fitted c.finish-told.result)) _ _ c.note.ensures c.in_ok-make_room.ensures.items (ap (Finish c.args.ticket) c.fitted-fits.ensures) c.finish_reply-reply.ensures in
     let room = has-room noted_of c.self.inside.journal.items test in
     answered new (caller.Worker c.args.worker) (Finish c.args.ticket (fitted c.finish-told.result)) _ c.self.view_is c.self.invariant room c.finish-told.ensures.does journal
+
+pub returns-clause-published : goal.returns-clause-published
+returns-clause-published g c = published-as c.finish-told.new.self c.args.ticket (arc_value c.args.run) c.finish-told.result (ap (λ (b : BookView). b.state) c.self.view_is) c.finish-told.ensures.published

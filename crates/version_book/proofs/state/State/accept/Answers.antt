@@ -7,7 +7,7 @@ use Rattle.version_book.specs.Book.{PublishedView}
 use Rattle.version_book.specs.Lookups.{has_number, publishing, version_shown, with_change}
 use Rattle.version_book.proofs.Ids.{ids-apart}
 use Rattle.version_book.proofs.Stepping.{seen-as}
-use Rattle.version_book.proofs.WorkerSteps.{finish-with, stale-with, none-fits, those-of}
+use Rattle.version_book.proofs.WorkerSteps.{finish-with, publishes, stale-with, none-fits, those-of}
 use Rattle.version_book.proofs.state.State.accept.Goals as goal
 
 pub unreachable-requires : goal.unreachable-requires
@@ -51,3 +51,9 @@ returns-clause-does g c =
     let found : c.published_version-found.result ≡ version_shown c.id-id.result c.self.inside.shown.items = search rules in
     let above : is_below c.published_version-found.result c.version-version.result ≡ false = search rules in
     seen-as c.self.view_is (stale-with _ c.args.number _ _ _ _ _ _ c.self.invariant.0 some c.id-id.ensures c.version-version.ensures found above c.close.ensures.tickets c.unwrap_or.ensures)
+
+pub returns-then-is_below-clause-published : goal.returns-then-is_below-clause-published
+returns-then-is_below-clause-published g c =
+    let some : find (has_number c.args.number) c.self.inside.tickets.items ≡ Some c.in-Some.ticket.now = search rules in
+    let shown = c.publish.ensures.shown ∙ ap (λ (p : PublishedView). with_change c.id-id.result (publishing p) c.self.inside.shown.items) c.new.ensures in
+    publishes _ c.args.number c.in-Some.ticket.now c.id-id.result c.version-version.result (arc_value c.args.run) c.self.view_is some c.id-id.ensures shown

@@ -42,3 +42,6 @@ returns-clause-fits g c =
     let some : find (has_number c.args.number) c.self.inside.tickets.items ≡ Some c.in-Some.ticket.now = search rules in
     let those = subst (HasThoseOf (Some c.in-Some.ticket.now)) c.deref.ensures (c.fits.ensures.0 c.if-not-fits.false) in
     tells-fit _ _ (fits-of c.args.number c.in-Some.ticket.now (arc_value c.args.run) c.self.view_is some those.0 those.1) c.accept.ensures.fits
+
+pub returns-clause-published : goal.returns-clause-published
+returns-clause-published g c = c.accept.ensures.published
