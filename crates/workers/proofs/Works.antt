@@ -5,6 +5,7 @@ use Rattle.std.proofs.lemmas.Bool.Decides.{nat_tests}
 use Rattle.book_machine.specs.Call.{BookCall, Claim, Finish, GiveUp}
 use Rattle.book_machine.specs.declared.reply.Reply.{Reply}
 use Rattle.book_machine.specs.declared.reply.Reply.TheVariants as reply
+use Rattle.checkpoints.specs.RunView.{RunView}
 use Rattle.version_book.specs.Answers.{finish_answer, fitted, give_up_answer}
 use Rattle.version_book.specs.declared.worker_refusal.FinishRefusal.{FinishRefusal}
 use Rattle.version_book.specs.declared.worker_refusal.FinishRefusal.TheVariants as finish
@@ -13,7 +14,7 @@ use Rattle.version_book.specs.declared.worker_refusal.GiveUpRefusal.TheVariants 
 use Rattle.workers.specs.declared.worker.WorkerEnd.{WorkerEnd}
 use Rattle.workers.specs.declared.worker.WorkerEnd.TheVariants as ends
 use Rattle.workers.specs.Lists.{Exchanged, exchanged, Gains}
-use Rattle.workers.specs.Work.{HandsIn, held_after, held_after_call, HandsInOnce, WorksOn, WorksThrough, end_of_finish, end_of_give_up}
+use Rattle.workers.specs.Work.{HandsIn, HandsInWhat, held_after, held_after_call, HandsInOnce, WorksOn, WorksThrough, end_of_finish, end_of_give_up}
 
 pub through_stays : (old new : List Exchanged) → new ≡ old → WorksThrough old new
 through_stays old new is = ([], is ∙ sym (append-nil old), refl)
@@ -109,10 +110,10 @@ pub goes_on : (old mid new : List Exchanged) (t id v : ℕ) (base : Option ℕ) 
 goes_on old mid new t id v base end is (inl f) = finished old mid new t end (held_claimed old mid t id v base is) f.0 f.1 f.2
 goes_on old mid new t id v base end is (inr g) = given_up old mid new t end (held_claimed old mid t id v base is) g.0 g.1 g.2
 
-handed_in : {R E : Type 0} (t : ℕ) (made : Result R E) (old new : List Exchanged) (end : Option WorkerEnd) → HandsIn t made old new end → HandsInOnce t old new end
-handed_in t (Ok run) old new end h = inl h
-handed_in t (Err refused) old new end h = inr h
+handed_in : (t : ℕ) (made : Option RunView) (old new : List Exchanged) (end : Option WorkerEnd) → HandsIn t made old new end → HandsInOnce t old new end
+handed_in t (Some run) old new end h = inl h
+handed_in t None old new end h = inr h
 
 -- what came of a task's work was handed in for its ticket
-pub hands_in : {R E : Type 0} (t of : ℕ) (made : Result R E) (old new : List Exchanged) (end : Option WorkerEnd) → t ≡ of → HandsIn t made old new end → HandsInOnce of old new end
-hands_in t of made old new end is h = subst (λ (n : ℕ). HandsInOnce n old new end) is (handed_in t made old new end h)
+pub hands_in : (gives : Option RunView → Type 0) (t of : ℕ) (old new : List Exchanged) (end : Option WorkerEnd) → t ≡ of → HandsInWhat gives t old new end → HandsInOnce of old new end
+hands_in gives t of old new end is h = subst (λ (n : ℕ). HandsInOnce n old new end) is (handed_in t h.0 old new end h.2)

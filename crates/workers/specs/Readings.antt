@@ -1,10 +1,15 @@
 -- What is read of the book under the lock. It is a book at every moment at which the lock is got.
-use Rattle.std.specs.Prelude.{◌≡◌, ℕ, length}
+use Rattle.std.specs.Prelude.{◌≡◌, ◌&&◌, ℕ, Bool, is_none, length, not}
 use Rattle.std.specs.Arc.{arc_value}
-use Rattle.version_book.specs.Book.{BookView, PublishedView}
+use Rattle.book_machine.specs.Machine.{note_limit}
+use Rattle.version_book.specs.Book.{BookView, PublishedView, StateView}
 use Rattle.version_book.specs.Sound.{IsBook}
-use Rattle.version_book.specs.Tasks.{IsShownFor}
+use Rattle.version_book.specs.Tasks.{IsShownFor, free_due}
 use Rattle.workers.specs.declared.current.Current.{Current}
+
+-- a worker has nothing to do and is not to end: the desk isn't stopped, and no ticket is to be had
+abbrev pub is_idle : Bool → StateView → Bool
+is_idle stopped s = not stopped && is_none (free_due s)
 
 -- this is where the book stands
 pub record IsCurrentOf {A : Type 0} (b : BookView) (c : Current A) : Type 0 where
@@ -20,3 +25,7 @@ IsCurrentOnce c = (b : BookView) × IsBook b × IsCurrentOf b c
 -- one seen, and the simulation, second by second, of that version's log under the scenario.
 abbrev pub IsShownOnce : ℕ → ℕ → PublishedView → Type 0
 IsShownOnce id seen p = (b : BookView) × IsBook b × IsShownFor b.state id seen p
+
+-- At some moment the journal of a book was full.
+abbrev pub WasFull : Type 0
+WasFull = (b : BookView) × IsBook b × (length b.journal ≡ note_limit)

@@ -1,14 +1,22 @@
 -- What a worker's list may hold: claims, each of a ticket followed by what became of it.
-use Rattle.std.specs.Prelude.{◌≡◌, ℕ, ◌==◌, if◌then◌else◌, List, [], ◌∷◌, ◌++◌, Option, None, Some, Result, Ok, Err, ◌⊎◌}
+use Rattle.std.specs.Prelude.{◌≡◌, ℕ, ◌==◌, if◌then◌else◌, Bool, true, false, List, [], ◌∷◌, ◌++◌, Option, None, Some, IfSome, is_some, Result, Ok, Err, ◌⊎◌}
+use Rattle.std.specs.Option.{option_map}
+use Rattle.book_machine.specs.declared.caller.Caller.{Caller}
 use Rattle.book_machine.specs.Call.{BookCall, Claim, Finish, GiveUp}
 use Rattle.book_machine.specs.declared.reply.Reply.{Reply}
 use Rattle.book_machine.specs.declared.reply.Reply.TheVariants as reply
-use Rattle.version_book.specs.Answers.{finish_answer, fitted, give_up_answer}
+use Rattle.checkpoints.specs.RunView.{RunView}
+use Rattle.version_book.specs.Answers.{claim_answer, finish_answer, fitted, give_up_answer}
+use Rattle.version_book.specs.Book.{BookView}
+use Rattle.version_book.specs.Steps.{Answers, full, memory}
+use Rattle.version_book.specs.Tasks.{TaskView, due_shown, free_due, task_for}
 use Rattle.version_book.specs.declared.worker_refusal.FinishRefusal.{FinishRefusal}
 use Rattle.version_book.specs.declared.worker_refusal.FinishRefusal.TheVariants as finish
 use Rattle.version_book.specs.declared.worker_refusal.GiveUpRefusal.{GiveUpRefusal}
 use Rattle.version_book.specs.declared.worker_refusal.GiveUpRefusal.TheVariants as give_up
 use Rattle.workers.specs.Lists.{Exchanged, Gains}
+use Rattle.workers.specs.declared.next.Next.{Next}
+use Rattle.workers.specs.declared.next.Next.TheVariants as next
 use Rattle.workers.specs.declared.worker.WorkerEnd.{WorkerEnd}
 use Rattle.workers.specs.declared.worker.WorkerEnd.TheVariants as ends
 
@@ -41,6 +49,29 @@ WorksOn old new = (added : List Exchanged) × (held : Option ℕ) × (new ≡ ol
 abbrev pub WorksThrough : List Exchanged → List Exchanged → Type 0
 WorksThrough old new = (added : List Exchanged) × (new ≡ old ++ added) × (held_after None added ≡ Some None)
 
+-- ---- how a ticket is had
+
+-- What a worker finds under the lock. Where the desk is stopped, or no ticket is to be had, nothing is claimed; otherwise a
+-- claim gives it the task, or isn't noted, since the journal is full or memory was refused.
+abbrev pub Finds : {A : Type 0} → Next A → Bool → Caller → BookView → BookView → Type 0
+Finds next.Stopped stopped who old new = (stopped ≡ true) × (new ≡ old)
+Finds next.Idle stopped who old new = (stopped ≡ false) × (free_due old.state ≡ None) × (new ≡ old)
+Finds (next.Claimed task) stopped who old new =
+    (stopped ≡ false) × (is_some (free_due old.state) ≡ true) × Answers old new who Claim (claim_answer (Ok (Some task)))
+    × (Some task ≡ option_map (task_for old.state) (due_shown old.state))
+Finds next.Full stopped who old new = (stopped ≡ false) × (is_some (free_due old.state) ≡ true) × Answers old new who Claim full
+Finds next.Memory stopped who old new = (stopped ≡ false) × (is_some (free_due old.state) ≡ true) × Answers old new who Claim memory
+
+-- the list gains the claim of a task, and nothing otherwise
+abbrev pub GainsTask : {A : Type 0} → Next A → List Exchanged → List Exchanged → Type 0
+GainsTask (next.Claimed task) old new = Gains old new Claim (claim_answer (Ok (Some task)))
+GainsTask other old new = new ≡ old
+
+-- the same, of what a worker is given: a task, or the reason to end
+abbrev pub GainsClaim : Result TaskView WorkerEnd → List Exchanged → List Exchanged → Type 0
+GainsClaim (Ok task) old new = Gains old new Claim (claim_answer (Ok (Some task)))
+GainsClaim (Err end) old new = new ≡ old
+
 -- ---- how a ticket is handed in
 
 -- a worker ends at a full journal and at want of memory; all else that a finish is told is passed over
@@ -68,10 +99,18 @@ abbrev pub GivesUp : ℕ → List Exchanged → List Exchanged → Option Worker
 GivesUp ticket old new end =
     (answer : Result (Unit {0}) GiveUpRefusal) × Gains old new (GiveUp ticket) (give_up_answer answer) × (end ≡ end_of_give_up answer)
 
--- a run that was made is handed in; one that was refused for memory is given up
-abbrev pub HandsIn : {R E : Type 0} → ℕ → Result R E → List Exchanged → List Exchanged → Option WorkerEnd → Type 0
-HandsIn ticket (Ok run) old new end = Finishes ticket old new end
-HandsIn ticket (Err refused) old new end = GivesUp ticket old new end
+-- a run that was made is one of the task's log and setting
+abbrev pub IsWanted : TaskView → Option RunView → Type 0
+IsWanted task made = IfSome made (λ (run : RunView). (run.log ≡ task.log) × (run.setting ≡ task.setting))
+
+-- a run that was made is handed in, and where none was the ticket is given up
+abbrev pub HandsIn : ℕ → Option RunView → List Exchanged → List Exchanged → Option WorkerEnd → Type 0
+HandsIn ticket (Some run) old new end = Finishes ticket old new end
+HandsIn ticket None old new end = GivesUp ticket old new end
+
+-- what came of the work is what may come of it, and is handed in
+abbrev pub HandsInWhat : (Option RunView → Type 0) → ℕ → List Exchanged → List Exchanged → Option WorkerEnd → Type 0
+HandsInWhat gives ticket old new end = (made : Option RunView) × gives made × HandsIn ticket made old new end
 
 -- one of the two
 abbrev pub HandsInOnce : ℕ → List Exchanged → List Exchanged → Option WorkerEnd → Type 0

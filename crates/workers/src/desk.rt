@@ -1,5 +1,7 @@
-ghost use Rattle.std.specs.Prelude.{◌≡◌, length, IfSome};
+ghost use Rattle.std.specs.Prelude.{◌≡◌, false, length, IfSome};
+ghost use Rattle.std.specs.Sync.Mutex.{mutex_guard_value};
 ghost use Rattle.workers.specs.Callers.{IsNewSession, IsNewWorker};
+ghost use Rattle.workers.specs.Readings.{is_idle};
 
 use crate::session::Session;
 use crate::shared::Shared;
@@ -57,7 +59,9 @@ impl<A: Allocator + Copy> Desk<A> {
     }
 
     // The lock, got while a scenario is due or the desk is stopped; until then it sleeps.
-    pub(crate) fn when_busy<R: Wait>(&self, rt: &R) -> MutexGuard<'_, Shared<A>> {
+    pub(crate) fn when_busy<R: Wait>(&self, rt: &R) -> MutexGuard<'_, Shared<A>>
+        ensures { is_idle (mutex_guard_value result).stopped (mutex_guard_value result).book.state ≡ false }
+    {
         self.changed
             .wait_while(rt, self.shared.lock(rt), |shared| shared.is_idle())
     }

@@ -8,6 +8,8 @@ mod current;
 mod desk;
 mod exchange;
 mod gate;
+mod making;
+mod next;
 mod parts;
 mod session;
 mod session_steps;

@@ -1,12 +1,11 @@
-ghost use Rattle.std.specs.Prelude.{◌≡◌, ◌&&◌, true, false, not, is_none, length, IfOk};
+ghost use Rattle.std.specs.Prelude.{◌≡◌, true, false, length, IfOk};
 ghost use Rattle.scenarios.specs.ScenarioList.{id_of};
 ghost use Rattle.book_machine.specs.Machine.{settled};
 ghost use Rattle.version_book.specs.Book.{machine_of};
 ghost use Rattle.version_book.specs.Sound.{IsBook};
-ghost use Rattle.version_book.specs.Tasks.{free_due};
 ghost use Rattle.workers.specs.Callers.{next_caller, opened_after};
 ghost use Rattle.workers.specs.Lists.{reply_behind};
-ghost use Rattle.workers.specs.Readings.{IsCurrentOf};
+ghost use Rattle.workers.specs.Readings.{IsCurrentOf, is_idle};
 ghost use Rattle.workers.specs.Settling.{told_settled};
 
 use crate::current::Current;
@@ -74,7 +73,7 @@ impl<A: Allocator + Copy> Shared<A> {
 
     // Whether a worker has nothing to do and is not to end.
     pub(crate) fn is_idle(&self) -> bool
-        ensures { result ≡ (not self.now.stopped && is_none (free_due self.now.book.state)) }
+        ensures { result ≡ is_idle self.now.stopped self.now.book.state }
     {
         !self.stopped && self.book.due().is_none()
     }
@@ -143,8 +142,10 @@ impl<A: Allocator + Copy> Shared<A> {
 
     // How many calls were noted.
     pub(crate) fn notes(&self) -> usize
-        ensures { result ≡ length self.now.book.journal }
+        ensures count { result ≡ length self.now.book.journal }
+        ensures book { IsBook self.now.book }
     {
+        let _version = self.book.version();
         self.book.journal().len()
     }
 

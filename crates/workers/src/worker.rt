@@ -1,21 +1,19 @@
-ghost use Rattle.std.specs.Prelude.{◌≡◌, IfNone, IfOk, MatchOption, Some};
-ghost use Rattle.std.specs.Arc.{arc_value};
-ghost use Rattle.book_machine.specs.Call.{Claim};
-ghost use Rattle.version_book.specs.Answers.{claim_answer};
+ghost use Rattle.std.specs.Prelude.{◌≡◌, Err, IfNone, Some};
 ghost use Rattle.workers.specs.Callers.{new_worker};
 ghost use Rattle.workers.specs.declared.worker.WorkerEnd.TheVariants as ends;
-ghost use Rattle.workers.specs.Lists.{Gains};
-ghost use Rattle.workers.specs.Work.{Finishes, GivesUp, HandsIn, HandsInOnce, WorksOn, WorksThrough, end_of_finish, end_of_give_up};
+ghost use Rattle.workers.specs.Readings.{WasFull};
+ghost use Rattle.workers.specs.Work.{Finishes, GainsClaim, GivesUp, HandsInOnce, HandsInWhat, WorksOn, WorksThrough, end_of_finish, end_of_give_up};
 
 use crate::desk::Desk;
 use crate::exchange::{Exchange, make_room};
 use crate::gate::Gate;
+use crate::making::Making;
+use crate::next::Next;
 use checkpoints::Run;
 use std::alloc::Allocator;
 use std::marker::Model;
 use std::sync::{Arc, Wait};
-use swf_text::Memory;
-use version_book::{ClaimRefusal, FinishRefusal, GiveUpRefusal, Task};
+use version_book::{FinishRefusal, GiveUpRefusal, Task};
 
 /// Why a worker ended.
 #[derive(Clone, Copy, Debug, PartialEq, Eq)]
@@ -67,15 +65,6 @@ fn end_of_give_up(told: Result<(), GiveUpRefusal>) -> Option<WorkerEnd>
     }
 }
 
-// The run that a task wants, which is left with its ticket too.
-fn run_for<A: Allocator + Copy>(task: &mut Task<A>) -> Result<Arc<Run<A>, A>, Memory>
-    ensures log { IfOk result (λ run. (arc_value run).log ≡ task.old.log) }
-    ensures setting { IfOk result (λ run. (arc_value run).setting ≡ task.old.setting) }
-{
-    let (run, _work) = task.deliver()?;
-    Ok(run)
-}
-
 impl<A: Allocator + Copy> Worker<A> {
     ghost use Rattle.std.specs.Prelude.{map};
     ghost use Rattle.workers.specs.Lists.{exchanged_of};
@@ -104,23 +93,23 @@ impl<A: Allocator + Copy> Worker<A> {
         self.list.as_slice()
     }
 
-    // Waits until a scenario is due or the desk is stopped, and claims; None where it is stopped.
-    fn claim<R: Wait>(
-        &mut self,
-        rt: &R,
-        desk: &Desk<A>,
-    ) -> Option<Result<Option<Task<A>>, ClaimRefusal>>
-        ensures list { MatchOption result (self.new ≡ self.old) (λ told. Gains self.old.list self.new.list Claim (claim_answer told)) }
+    // Waits until a scenario is due or the desk is stopped, and claims; or why the worker ends.
+    fn claim<R: Wait>(&mut self, rt: &R, desk: &Desk<A>) -> Result<Task<A>, WorkerEnd>
+        ensures list { GainsClaim result self.old.list self.new.list }
+        ensures full { result ≡ Err ends.Full → WasFull }
         ensures number { self.new.number ≡ self.old.number }
     {
         if make_room(&mut self.list).is_err() {
-            return Some(Err(ClaimRefusal::Memory));
+            return Err(WorkerEnd::Memory);
         }
         let mut shared = desk.when_busy(rt);
-        if shared.stopped {
-            return None;
+        match shared.next_for(self.number, &mut self.list) {
+            Next::Claimed(task) => Ok(task),
+            Next::Stopped => Err(WorkerEnd::Stopped),
+            Next::Full => Err(WorkerEnd::Full),
+            Next::Memory => Err(WorkerEnd::Memory),
+            Next::Idle => unreachable!(),
         }
-        Some(shared.claim_for(self.number, &mut self.list))
     }
 
     // Hands in the run for a ticket, and wakes whoever waits.
@@ -132,6 +121,7 @@ impl<A: Allocator + Copy> Worker<A> {
         run: Arc<Run<A>, A>,
     ) -> Option<WorkerEnd>
         ensures list { Finishes ticket self.old.list self.new.list result }
+        ensures full { result ≡ Some ends.Full → WasFull }
         ensures number { self.new.number ≡ self.old.number }
     {
         if make_room(&mut self.list).is_err() {
@@ -148,6 +138,7 @@ impl<A: Allocator + Copy> Worker<A> {
     // Gives a ticket up, and wakes whoever waits.
     fn give_up<R: Wait>(&mut self, rt: &R, desk: &Desk<A>, ticket: u64) -> Option<WorkerEnd>
         ensures list { GivesUp ticket self.old.list self.new.list result }
+        ensures full { result ≡ Some ends.Full → WasFull }
         ensures number { self.new.number ≡ self.old.number }
     {
         if make_room(&mut self.list).is_err() {
@@ -161,24 +152,31 @@ impl<A: Allocator + Copy> Worker<A> {
         end_of_give_up(told)
     }
 
-    // Hands in what came of the work for a ticket: the run, or that none came for want of memory.
-    fn hand_in<R: Wait>(
+    // Makes the run for a ticket without the lock, and hands it in; or gives the ticket up, where a
+    // growth was refused.
+    fn make<R: Wait, G: Gate, M: Making<A>>(
         &mut self,
         rt: &R,
         desk: &Desk<A>,
+        gate: &G,
         ticket: u64,
-        made: Result<Arc<Run<A>, A>, Memory>,
+        making: &mut M,
     ) -> Option<WorkerEnd>
-        ensures list { HandsIn ticket made self.old.list self.new.list result }
+        ensures list { HandsInWhat (M.gives making.old) ticket self.old.list self.new.list result }
+        ensures full { result ≡ Some ends.Full → WasFull }
         ensures number { self.new.number ≡ self.old.number }
     {
-        match made {
-            Ok(run) => self.finish(rt, desk, ticket, run),
+        gate.before_work(ticket);
+        match making.make() {
+            Ok(run) => {
+                gate.before_finish(ticket);
+                self.finish(rt, desk, ticket, run)
+            }
             Err(_) => self.give_up(rt, desk, ticket),
         }
     }
 
-    // Works a task without the lock, and hands in what came of it.
+    // Works a task, and hands in what came of it.
     fn work<R: Wait, G: Gate>(
         &mut self,
         rt: &R,
@@ -187,15 +185,11 @@ impl<A: Allocator + Copy> Worker<A> {
         mut task: Task<A>,
     ) -> Option<WorkerEnd>
         ensures list { HandsInOnce task.ticket self.old.list self.new.list result }
+        ensures full { result ≡ Some ends.Full → WasFull }
         ensures number { self.new.number ≡ self.old.number }
     {
         let ticket = task.ticket();
-        gate.before_work(ticket);
-        let made = run_for(&mut task);
-        if made.is_ok() {
-            gate.before_finish(ticket);
-        }
-        self.hand_in(rt, desk, ticket, made)
+        self.make(rt, desk, gate, ticket, &mut task)
     }
 
     // One round: waits, claims, works, hands in. None where another round is to come.
@@ -203,15 +197,12 @@ impl<A: Allocator + Copy> Worker<A> {
         ensures on { WorksOn self.old.list self.new.list }
         ensures through { IfNone result (WorksThrough self.old.list self.new.list) }
         ensures stopped { result ≡ Some ends.Stopped → WorksThrough self.old.list self.new.list }
+        ensures full { result ≡ Some ends.Full → WasFull }
         ensures number { self.new.number ≡ self.old.number }
     {
         match self.claim(rt, desk) {
-            None => Some(WorkerEnd::Stopped),
-            Some(Ok(Some(task))) => self.work(rt, desk, gate, task),
-            Some(Ok(None)) => None,
-            Some(Err(ClaimRefusal::TooManyTickets)) => None,
-            Some(Err(ClaimRefusal::JournalFull)) => Some(WorkerEnd::Full),
-            Some(Err(ClaimRefusal::Memory)) => Some(WorkerEnd::Memory),
+            Ok(task) => self.work(rt, desk, gate, task),
+            Err(end) => Some(end),
         }
     }
 
@@ -223,6 +214,7 @@ impl<A: Allocator + Copy> Worker<A> {
     pub fn run<R: Wait, G: Gate>(&mut self, rt: &R, desk: &Desk<A>, gate: &G) -> WorkerEnd
         ensures list { WorksOn self.old.list self.new.list }
         ensures stopped { result ≡ ends.Stopped → WorksThrough self.old.list self.new.list }
+        ensures full { result ≡ ends.Full → WasFull }
         ensures number { self.new.number ≡ self.old.number }
     {
         for _ in rt.forever() {

@@ -1,5 +1,5 @@
 // What a worker does while it holds the lock: one call of the book, which its list then gains.
-ghost use Rattle.std.specs.Prelude.{◌≡◌, ◌<◌, map, IfOk, vec_len, vec_capacity};
+ghost use Rattle.std.specs.Prelude.{◌≡◌, ◌<◌, map, IfOk, Some, vec_len, vec_capacity};
 ghost use Rattle.std.specs.Option.{option_map};
 ghost use Rattle.std.specs.Arc.{arc_value};
 ghost use Rattle.book_machine.specs.declared.caller.Caller.TheVariants as caller;
@@ -7,9 +7,15 @@ ghost use Rattle.book_machine.specs.Call.{Claim, Finish, GiveUp};
 ghost use Rattle.version_book.specs.Answers.{TakesWhatFits, claim_answer, finish_answer, fitted, give_up_answer};
 ghost use Rattle.version_book.specs.Steps.{Answers};
 ghost use Rattle.version_book.specs.Tasks.{Fits, due_shown, task_for};
+ghost use Rattle.version_book.specs.Sound.{IsBook};
 ghost use Rattle.workers.specs.Lists.{Gains, exchanged_of};
+ghost use Rattle.workers.specs.Readings.{WasFull};
+ghost use Rattle.workers.specs.Work.{Finds, GainsTask, end_of_finish, end_of_give_up};
+ghost use Rattle.workers.specs.declared.next.Next.TheVariants as next;
+ghost use Rattle.workers.specs.declared.worker.WorkerEnd.TheVariants as ends;
 
 use crate::exchange::{Exchange, keep};
+use crate::next::Next;
 use crate::shared::Shared;
 use book_machine::Call;
 use checkpoints::Run;
@@ -35,11 +41,34 @@ impl<A: Allocator + Copy> Shared<A> {
         ensures book { Answers self.old.book self.new.book (caller.Worker worker) Claim (claim_answer result) }
         ensures list { Gains (map exchanged_of list.old.items) (map exchanged_of list.new.items) Claim (claim_answer result) }
         ensures task { IfOk result (λ task. task ≡ option_map (task_for self.old.book.state) (due_shown self.old.book.state)) }
+        ensures is_book { IsBook self.old.book }
     {
         let notes = self.notes();
         let told = self.book.claim(worker);
         keep(list, Call::Claim, self.reply_behind(notes));
         told
+    }
+
+    // What a worker finds, which claims where a scenario is due and the desk isn't stopped.
+    pub(crate) fn next_for(&mut self, worker: u64, list: &mut Vec<Exchange<A>, A>) -> Next<A>
+        requires room { vec_len list.old < vec_capacity list.old }
+        ensures book { Finds result self.old.stopped (caller.Worker worker) self.old.book self.new.book }
+        ensures list { GainsTask result (map exchanged_of list.old.items) (map exchanged_of list.new.items) }
+        ensures full { result ≡ next.Full → WasFull }
+    {
+        if self.stopped {
+            return Next::Stopped;
+        }
+        if self.book.due().is_none() {
+            return Next::Idle;
+        }
+        match self.claim_for(worker, list) {
+            Ok(Some(task)) => Next::Claimed(task),
+            Ok(None) => unreachable!(),
+            Err(ClaimRefusal::TooManyTickets) => unreachable!(),
+            Err(ClaimRefusal::JournalFull) => Next::Full,
+            Err(ClaimRefusal::Memory) => Next::Memory,
+        }
     }
 
     // The run that a ticket's task has delivered, or this one.
@@ -54,6 +83,7 @@ impl<A: Allocator + Copy> Shared<A> {
         ensures book { Answers self.old.book self.new.book (caller.Worker worker) (Finish ticket (fitted result)) (finish_answer result) }
         ensures list { Gains (map exchanged_of list.old.items) (map exchanged_of list.new.items) (Finish ticket (fitted result)) (finish_answer result) }
         ensures fits { TakesWhatFits (Fits self.old.book.state ticket (arc_value run)) result }
+        ensures full { end_of_finish result ≡ Some ends.Full → WasFull }
     {
         let notes = self.notes();
         let told = self.book.finish_delivered(worker, ticket, run);
@@ -76,6 +106,7 @@ impl<A: Allocator + Copy> Shared<A> {
         requires room { vec_len list.old < vec_capacity list.old }
         ensures book { Answers self.old.book self.new.book (caller.Worker worker) (GiveUp ticket) (give_up_answer result) }
         ensures list { Gains (map exchanged_of list.old.items) (map exchanged_of list.new.items) (GiveUp ticket) (give_up_answer result) }
+        ensures full { end_of_give_up result ≡ Some ends.Full → WasFull }
     {
         let notes = self.notes();
         let told = self.book.give_up(worker, ticket);

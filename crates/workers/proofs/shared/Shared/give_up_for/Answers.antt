@@ -3,4 +3,4 @@ use Rattle.workers.proofs.Gaining.{gains}
 use Rattle.workers.proofs.shared.Shared.give_up_for.Goals as goal
 
 pub returns-clause-list : goal.returns-clause-list
-returns-clause-list g c = gains _ _ _ _ _ _ _ _ _ _ c.give_up-told.ensures c.notes-notes.ensures c.reply_behind.ensures refl c.keep.ensures
+returns-clause-list g c = gains _ _ _ _ _ _ _ _ _ _ c.give_up-told.ensures c.notes-notes.ensures.count c.reply_behind.ensures refl c.keep.ensures

@@ -6,32 +6,26 @@ use Rattle.workers.specs.Lists.{exchanged}
 use Rattle.workers.proofs.Works.{goes_on, on_stays, through_stays}
 use Rattle.workers.proofs.worker.Worker.round.Goals as goal
 
-pub returns-in-None-clause-on : goal.returns-in-None-clause-on
-returns-in-None-clause-on g c = on_stays _ _ (search rules)
-
-pub returns-in-None-clause-stopped : goal.returns-in-None-clause-stopped
-returns-in-None-clause-stopped g c = λ e. through_stays _ _ (search rules)
-
-pub returns-in-Some-Ok-Some-clause-on : goal.returns-in-Some-Ok-Some-clause-on
-returns-in-Some-Ok-Some-clause-on g c =
-    let t = c.in-Some-Ok-Some.task in
+pub returns-in-Ok-clause-on : goal.returns-in-Ok-clause-on
+returns-in-Ok-clause-on g c =
+    let t = c.in-Ok.task in
     let is : c.claim.new.self.list ≡ c.args.self.now.list ++ exchanged Claim (reply.Claimed t.ticket t.id t.version (option_map (λ b. b.version) t.base)) ∷ [] = search rules in
     (goes_on _ _ _ t.ticket t.id t.version _ _ is c.work.ensures.list).0
 
-pub returns-in-Some-Ok-Some-clause-through : goal.returns-in-Some-Ok-Some-clause-through
-returns-in-Some-Ok-Some-clause-through g c =
-    let t = c.in-Some-Ok-Some.task in
+pub returns-in-Ok-clause-through : goal.returns-in-Ok-clause-through
+returns-in-Ok-clause-through g c =
+    let t = c.in-Ok.task in
     let is : c.claim.new.self.list ≡ c.args.self.now.list ++ exchanged Claim (reply.Claimed t.ticket t.id t.version (option_map (λ b. b.version) t.base)) ∷ [] = search rules in
     (goes_on _ _ _ t.ticket t.id t.version _ _ is c.work.ensures.list).1
 
-pub returns-in-Some-Ok-Some-clause-stopped : goal.returns-in-Some-Ok-Some-clause-stopped
-returns-in-Some-Ok-Some-clause-stopped g c =
-    let t = c.in-Some-Ok-Some.task in
+pub returns-in-Ok-clause-stopped : goal.returns-in-Ok-clause-stopped
+returns-in-Ok-clause-stopped g c =
+    let t = c.in-Ok.task in
     let is : c.claim.new.self.list ≡ c.args.self.now.list ++ exchanged Claim (reply.Claimed t.ticket t.id t.version (option_map (λ b. b.version) t.base)) ∷ [] = search rules in
     (goes_on _ _ _ t.ticket t.id t.version _ _ is c.work.ensures.list).2
 
-pub returns-in-Some-Err-JournalFull-clause-on : goal.returns-in-Some-Err-JournalFull-clause-on
-returns-in-Some-Err-JournalFull-clause-on g c = on_stays _ _ (search rules)
+pub returns-in-Err-clause-on : goal.returns-in-Err-clause-on
+returns-in-Err-clause-on g c = on_stays _ _ (search rules)
 
-pub returns-in-Some-Err-Memory-clause-on : goal.returns-in-Some-Err-Memory-clause-on
-returns-in-Some-Err-Memory-clause-on g c = on_stays _ _ (search rules)
+pub returns-in-Err-clause-stopped : goal.returns-in-Err-clause-stopped
+returns-in-Err-clause-stopped g c = λ e. through_stays _ _ (search rules)

@@ -1,0 +1,32 @@
+use checkpoints::Run;
+use std::alloc::Allocator;
+use std::sync::Arc;
+use swf_text::Memory;
+use version_book::Task;
+
+// What makes the run that a ticket is for.
+pub(crate) trait Making<A: Allocator + Copy> {
+    ghost use Rattle.std.specs.Prelude.{Option, None, Some, IfOk, OnErr};
+    ghost use Rattle.std.specs.Arc.{arc_value};
+    ghost use Rattle.checkpoints.specs.RunView.{RunView};
+
+    // What may come of it: this run, or none.
+    ghost gives: { Self → Option RunView → Type 0 };
+
+    // The run, or that a growth was refused.
+    fn make(&mut self) -> Result<Arc<Run<A>, A>, Memory>
+        ensures run { IfOk result (λ run. gives self.old (Some (arc_value run))) }
+        ensures none { OnErr result (gives self.old None) };
+}
+
+impl<A: Allocator + Copy> Making<A> for Task<A> {
+    ghost use Rattle.workers.specs.Work.{IsWanted};
+
+    ghost gives = { IsWanted };
+
+    // The run is left with its ticket too.
+    fn make(&mut self) -> Result<Arc<Run<A>, A>, Memory> {
+        let (run, _work) = self.deliver()?;
+        Ok(run)
+    }
+}
