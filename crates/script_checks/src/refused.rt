@@ -1,5 +1,5 @@
-use crate::told::TEN;
-use crate::transcripts::FOUR;
+// What the commands of a session are answered where one growth after another is refused.
+use crate::logs::{FOUR, TEN};
 use easybook::{ProgramFault, run_alone};
 use refusing::Refusing;
 use std::alloc::Global;
