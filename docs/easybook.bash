@@ -17,7 +17,7 @@ _easybook() {
     esac
     case $word in
     -*)
-        options='--procs --spacing --workers'
+        options='--procs --spacing --workers --live'
         for each in "${COMP_WORDS[@]:1:COMP_CWORD-1}" "${COMP_WORDS[@]:COMP_CWORD+1}"; do
             options=${options/"${each%%=*}"/}
         done

@@ -1,5 +1,5 @@
 -- What the words choose, in each form in which they may name a machine and a spacing.
-use Rattle.std.proofs.Common.{◌≡◌, ℕ, zero, suc, ◌+◌, ◌-◌, ◌<◌, ◌≤◌, true, Option, Some, None, List, [], ◌∷◌, length, codes, nat_lt, refl, subst, arith}
+use Rattle.std.proofs.Common.{◌≡◌, ℕ, zero, suc, ◌+◌, ◌-◌, ◌<◌, ◌≤◌, true, Option, Some, None, List, [], ◌∷◌, length, codes, nat_lt, refl, subst, arith, false}
 use Rattle.std.specs.List.{list_all}
 use Rattle.std.specs.Option.{option_map}
 use Rattle.std.specs.Char.{is_ascii_digit}
@@ -8,7 +8,7 @@ use Rattle.clap.proofs.OnLiterals.{clap_on_literals}
 use Rattle.swf_text.specs.Number.{are_digits}
 use Rattle.swf_text.proofs.Lemmas.{and_first, and_second}
 use Rattle.commands.specs.Words.{machine, number_between}
-use Rattle.easybook.specs.Forms.{JoinedSpacingChooses, JoinedWordChooses, JoinedWorkersChoose, NextSpacingChooses, NextWordChooses, NoWordChooses, ScriptsAreChosen, on_machine, with_spacing, with_workers}
+use Rattle.easybook.specs.Forms.{JoinedSpacingChooses, JoinedWordChooses, JoinedWorkersChoose, LiveIsChosen, NextSpacingChooses, NextWordChooses, NoWordChooses, ScriptsAreChosen, on_machine, with_spacing, with_workers}
 use Rattle.easybook.specs.Words.{Choice, choice, chosen}
 
 pub no_word : NoWordChooses
@@ -16,15 +16,15 @@ unfolding clap_on_literals
 no_word name = refl
 
 -- no number of a machine, and none of a spacing, is no choice
-no-choice : (wanted : Option ℕ) → choice None (option_map Some wanted) (Some 256) (Some 2) (Some []) ≡ option_map on_machine wanted
+no-choice : (wanted : Option ℕ) → choice None (option_map Some wanted) (Some 256) (Some 2) (Some []) false ≡ option_map on_machine wanted
 no-choice None = refl
 no-choice (Some n) = refl
 
-no-spacing : (wanted : Option ℕ) → choice None (Some None) wanted (Some 2) (Some []) ≡ option_map with_spacing wanted
+no-spacing : (wanted : Option ℕ) → choice None (Some None) wanted (Some 2) (Some []) false ≡ option_map with_spacing wanted
 no-spacing None = refl
 no-spacing (Some n) = refl
 
-no-workers : (wanted : Option ℕ) → choice None (Some None) (Some 256) wanted (Some []) ≡ option_map with_workers wanted
+no-workers : (wanted : Option ℕ) → choice None (Some None) (Some 256) wanted (Some []) false ≡ option_map with_workers wanted
 no-workers None = refl
 no-workers (Some n) = refl
 
@@ -35,6 +35,10 @@ joined_workers name number = no-workers (number_between 1 64 number)
 pub two_scripts : ScriptsAreChosen
 unfolding clap_on_literals
 two_scripts name one other = refl
+
+pub live_chosen : LiveIsChosen
+unfolding clap_on_literals
+live_chosen name one = (refl, refl, refl)
 
 pub joined_word : JoinedWordChooses
 unfolding clap_on_literals

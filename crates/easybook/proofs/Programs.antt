@@ -7,7 +7,7 @@ use Rattle.easybook.specs.declared.fault.ProgramFault.{ProgramFault}
 use Rattle.easybook.specs.declared.fault.ProgramFault.TheVariants as faults
 use Rattle.easybook.proofs.Alones.{alone_of_log, alone_of_script}
 
-of_all : (file : Option (List ℕ)) (front : List ℕ) (P : List ℕ → Type 0) → ((all : List ℕ) → front ≡ take (log_limit + 1) all → P front → P all) → IfSome file (λ all. front ≡ take (log_limit + 1) all) → P front → OfAll file P
+pub of_all : (file : Option (List ℕ)) (front : List ℕ) (P : List ℕ → Type 0) → ((all : List ℕ) → front ≡ take (log_limit + 1) all → P front → P all) → IfSome file (λ all. front ≡ take (log_limit + 1) all) → P front → OfAll file P
 of_all None front P step is p = (front, tt, p)
 of_all (Some all) front P step is p = (all, refl, step all is p)
 

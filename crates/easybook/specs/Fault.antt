@@ -4,6 +4,8 @@ use Rattle.swf_text.specs.declared.fault.FaultKind.{FaultKind}
 use Rattle.swf_text.specs.declared.fault.FaultKind.TheVariants as kinds
 use Rattle.commands.specs.declared.opening_fault.OpenTextFault.{OpenTextFault}
 use Rattle.commands.specs.declared.opening_fault.OpenTextFault.TheVariants as openings
+use Rattle.scripts.specs.declared.live.LiveFault.{LiveFault}
+use Rattle.scripts.specs.declared.live.LiveFault.TheVariants as live
 use Rattle.shared_scripts.specs.declared.fault.SharedFault.{SharedFault}
 use Rattle.shared_scripts.specs.declared.fault.SharedFault.TheVariants as shared
 use Rattle.easybook.specs.declared.fault.ProgramFault.{ProgramFault}
@@ -27,3 +29,9 @@ fault_of_opening openings.Memory = faults.Memory
 abbrev pub fault_of_scripts : SharedFault → ProgramFault
 fault_of_scripts (shared.Close fault) = faults.Close fault
 fault_of_scripts shared.Memory = faults.Memory
+
+-- why a conversation ended before its input did
+abbrev pub fault_of_talk : LiveFault → ProgramFault
+fault_of_talk live.Read = faults.Read
+fault_of_talk live.Write = faults.Write
+fault_of_talk live.Memory = faults.Memory

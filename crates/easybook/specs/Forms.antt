@@ -1,5 +1,5 @@
 -- The forms in which words name a machine and a spacing.
-use Rattle.std.specs.Prelude.{◌≡◌, ℕ, List, [], ◌∷◌, ◌++◌, Some, None, codes, true}
+use Rattle.std.specs.Prelude.{◌≡◌, ℕ, List, [], ◌∷◌, ◌++◌, Some, None, codes, true, false}
 use Rattle.std.specs.Option.{option_map}
 use Rattle.swf_text.specs.Number.{are_digits}
 use Rattle.commands.specs.Words.{machine, number_between}
@@ -8,19 +8,23 @@ use Rattle.easybook.specs.Words.{Choice, chosen}
 
 -- on this machine, with the spacing that holds where none is named, with the log on standard input
 abbrev pub on_machine : ℕ → Choice
-on_machine procs = record { log = None; procs = Some procs; spacing = 256; workers = 2; scripts = [] }
+on_machine procs = record { log = None; procs = Some procs; spacing = 256; workers = 2; scripts = []; live = false }
 
 -- with this spacing, where no machine is named, with the log on standard input
 abbrev pub with_spacing : ℕ → Choice
-with_spacing spacing = record { log = None; procs = None; spacing = spacing; workers = 2; scripts = [] }
+with_spacing spacing = record { log = None; procs = None; spacing = spacing; workers = 2; scripts = []; live = false }
 
 -- with so many workers, where nothing else is named
 abbrev pub with_workers : ℕ → Choice
-with_workers workers = record { log = None; procs = None; spacing = 256; workers = workers; scripts = [] }
+with_workers workers = record { log = None; procs = None; spacing = 256; workers = workers; scripts = []; live = false }
+
+-- with the log in this file, where nothing else is named
+abbrev pub on_log : List ℕ → Choice
+on_log file = record { log = Some file; procs = None; spacing = 256; workers = 2; scripts = []; live = false }
 
 -- with these scripts, where nothing else is named
 abbrev pub with_scripts : List (List ℕ) → Choice
-with_scripts scripts = record { log = None; procs = None; spacing = 256; workers = 2; scripts = scripts }
+with_scripts scripts = record { log = None; procs = None; spacing = 256; workers = 2; scripts = scripts; live = false }
 
 -- the program's name alone chooses no log, no machine, and 256 event seconds
 abbrev pub NoWordChooses : Type 0
@@ -54,3 +58,11 @@ JoinedWorkersChoose =
 abbrev pub ScriptsAreChosen : Type 0
 ScriptsAreChosen =
     (name one other : List ℕ) → chosen (name ∷ (codes "--script=" ++ one) ∷ (codes "--script=" ++ other) ∷ []) ≡ Some (with_scripts (one ∷ other ∷ []))
+
+-- `LOG --live` chooses a conversation on the log; without a log, and with a script beside it, it is bad
+abbrev pub LiveIsChosen : Type 0
+LiveIsChosen =
+    (name one : List ℕ)
+    → (chosen (name ∷ codes "month.swf" ∷ codes "--live" ∷ []) ≡ Some (record (on_log (codes "month.swf")) { live = true }))
+    × (chosen (name ∷ codes "--live" ∷ []) ≡ None)
+    × (chosen (name ∷ codes "month.swf" ∷ codes "--live" ∷ (codes "--script=" ++ one) ∷ []) ≡ None)

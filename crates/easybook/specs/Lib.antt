@@ -3,6 +3,7 @@ pub mod Book
 pub mod Fault
 pub mod Forms
 pub mod Input
+pub mod Live
 pub mod Opened
 pub mod Plain
 pub mod Program

@@ -1,9 +1,10 @@
 -- What the program does: what its words choose, its whole input, and what it writes of them.
-use Rattle.std.specs.Prelude.{◌≡◌, ℕ, ◌+◌, ◌<◌, List, [], ◌∷◌, length, Option, Some, None, IfSome, Result, Ok, Err, ◌⊎◌}
+use Rattle.std.specs.Prelude.{◌≡◌, ℕ, ◌+◌, ◌<◌, List, [], ◌∷◌, length, Option, Some, None, IfSome, Result, Ok, Err, ◌⊎◌, Bool, true, false}
 use Rattle.std.specs.declared.alloc.Global.{Global}
 use Rattle.std.specs.Io.KnownBytes.{Keeps}
 use Rattle.clap.specs.Walk.{Text}
 use Rattle.easybook.specs.Alone.{RunsAlone}
+use Rattle.easybook.specs.Live.{RunsLive}
 use Rattle.easybook.specs.Plain.{Answers}
 use Rattle.easybook.specs.Shared.{RunsShared}
 use Rattle.easybook.specs.Split.{IsCut}
@@ -29,6 +30,14 @@ abbrev pub EndsOnFile : {X : Type 0} → Type 0 → Option (List ℕ) → Option
 EndsOnFile A file procs known old new (Err faults.Read) = Keeps old new
 EndsOnFile A file procs known old new (Err faults.Memory) = Keeps old new
 EndsOnFile A file procs known old new result = OfAll file (λ log. RunsAlone A log procs known old new result)
+
+-- ---- the log in a file, a conversation on standard input
+
+-- The conversation is held on the log. Where that cannot be read, or memory is short, nothing is written.
+abbrev pub EndsOnTalk : {X : Type 0} → Type 0 → Option (List ℕ) → Option ℕ → Option (List ℕ) → Option (List ℕ) → Option (List ℕ) → Result X ProgramFault → Type 0
+EndsOnTalk {X = X} A file procs known old new (Err faults.Read) = Keeps old new ⊎ OfAll file (λ log. RunsLive {X = X} A log procs known old new (Err faults.Read))
+EndsOnTalk A file procs known old new (Err faults.Memory) = Keeps old new
+EndsOnTalk A file procs known old new result = OfAll file (λ log. RunsLive A log procs known old new result)
 
 -- ---- both on standard input
 
@@ -66,11 +75,12 @@ EndsOnScripts count procs known old new result =
 
 -- ---- the program
 
--- With a log named, the file's bytes are not known. Without one, all that standard input has is the log, and the script if
--- it holds one.
-abbrev pub EndsFrom : {X : Type 0} → Option Text → Option ℕ → Option (List ℕ) → Option (List ℕ) → Option (List ℕ) → Result X ProgramFault → Type 0
-EndsFrom (Some file) procs known old new result = EndsOnFile Global None procs known old new result
-EndsFrom None procs known old new result = EndsOnInput Global procs known old new result
+-- With a log named, the file's bytes are not known; a conversation is held on it where the words ask for one, otherwise a
+-- script is worked. Without one, all that standard input has is the log, and the script if it holds one.
+abbrev pub EndsFrom : {X : Type 0} → Option Text → Bool → Option ℕ → Option (List ℕ) → Option (List ℕ) → Option (List ℕ) → Result X ProgramFault → Type 0
+EndsFrom (Some file) true procs known old new result = EndsOnTalk Global None procs known old new result
+EndsFrom (Some file) false procs known old new result = EndsOnFile Global None procs known old new result
+EndsFrom None live procs known old new result = EndsOnInput Global procs known old new result
 
 -- what standard input has of the log, where scripts are named: nothing where a file is named, otherwise all
 abbrev pub log_known : Option Text → Option (List ℕ) → Option (List ℕ)
@@ -78,13 +88,13 @@ log_known (Some file) known = None
 log_known None known = known
 
 -- scripts that are named are worked side by side; where none is, one session works alone, or none
-abbrev pub EndsWith : {X : Type 0} → List Text → Option Text → Option ℕ → Option (List ℕ) → Option (List ℕ) → Option (List ℕ) → Result X ProgramFault → Type 0
-EndsWith [] log procs known old new result = EndsFrom log procs known old new result
-EndsWith (script ∷ scripts) log procs known old new result = EndsOnScripts (length scripts + 1) procs (log_known log known) old new result
+abbrev pub EndsWith : {X : Type 0} → List Text → Option Text → Bool → Option ℕ → Option (List ℕ) → Option (List ℕ) → Option (List ℕ) → Result X ProgramFault → Type 0
+EndsWith [] log live procs known old new result = EndsFrom log live procs known old new result
+EndsWith (script ∷ scripts) log live procs known old new result = EndsOnScripts (length scripts + 1) procs (log_known log known) old new result
 
 -- the words are taken, and what they choose is run
 abbrev pub EndsBy : {X : Type 0} → List Text → Option (List ℕ) → Option (List ℕ) → Option (List ℕ) → Result X ProgramFault → Type 0
-EndsBy words known old new result = (choice : Choice) × (chosen words ≡ Some choice) × EndsWith choice.scripts choice.log choice.procs known old new result
+EndsBy words known old new result = (choice : Choice) × (chosen words ≡ Some choice) × EndsWith choice.scripts choice.log choice.live choice.procs known old new result
 
 -- what the program wrote, by how it ends: where the words are bad, nothing
 abbrev pub Ends : {X : Type 0} → List Text → Option (List ℕ) → Option (List ℕ) → Option (List ℕ) → Result X Stop → Type 0

@@ -1,12 +1,13 @@
 -- The words of the program: which are taken, and what they choose.
-use Rattle.std.specs.Prelude.{◌≡◌, ℕ, nat_le, List, [], length, Option, Some, None, unwrap_or, map, codes, if◌then◌else◌}
+use Rattle.std.specs.Prelude.{◌≡◌, ℕ, nat_le, ◌==◌, Bool, false, ◌&&◌, ◌||◌, not, is_some, List, [], length, Option, Some, None, unwrap_or, map, codes, if◌then◌else◌}
 use Rattle.std.specs.Option.{option_map}
+use Rattle.std.specs.Str.{bytes_eq}
 use Rattle.clap.specs.Walk.{Rule, Text, all_of, first_of, is_empty}
 use Rattle.clap.specs.Simple.{App, matches_of, new_app, new_rule, with_rule}
 use Rattle.clap.specs.Faults.{fault_of}
 use Rattle.clap.specs.Matches.{matched_of, raw_values}
 use Rattle.clap.specs.declared.parser.matches.Found.{Found}
-use Rattle.clap.specs.declared.builder.action.ArgAction.TheVariants.{Append, Set}
+use Rattle.clap.specs.declared.builder.action.ArgAction.TheVariants.{Append, Set, SetTrue}
 use Rattle.commands.specs.Words.{machine, number_between}
 use Rattle.checkpoints.specs.Spacing.{spacing_limit}
 use Rattle.easybook.specs.declared.words.Words.{Words}
@@ -14,13 +15,14 @@ use Rattle.easybook.specs.declared.words.WordsFault.{WordsFault}
 use Rattle.easybook.specs.declared.words.WordsFault.TheVariants.{BadWords, Memory}
 
 -- what the words choose: the file that holds the log, if any, the machine's processors, if they tell them, the most event
--- seconds of a segment, how many workers there are, and the files that hold the scripts
+-- seconds of a segment, how many workers there are, the files that hold the scripts, and whether a conversation is held
 pub record Choice : Type 0 where
   pub log : Option Text
   pub procs : Option ℕ
   pub spacing : ℕ
   pub workers : ℕ
   pub scripts : List Text
+  pub live : Bool
 
 -- a word that stands alone names the log
 abbrev pub log_rule : Rule
@@ -34,14 +36,18 @@ option_rule name = record (new_rule name) { long = Some name; action = Some Set 
 abbrev pub script_rule : Rule
 script_rule = record (new_rule (codes "script")) { long = Some (codes "script"); action = Some Append }
 
+-- the option that stands without a value
+abbrev pub live_rule : Rule
+live_rule = record (new_rule (codes "live")) { long = Some (codes "live"); action = Some SetTrue }
+
 -- the options with a number behind them
 abbrev pub with_numbers : App → App
 with_numbers app = with_rule (with_rule (with_rule app (option_rule (codes "procs"))) (option_rule (codes "spacing"))) (option_rule (codes "workers"))
 
--- the words that the program takes: its name, and a log, `--procs`, `--spacing` and `--workers` once or not at all, and
--- `--script` any number of times
+-- the words that the program takes: its name, and a log, `--procs`, `--spacing`, `--workers` and `--live` once or not at
+-- all, and `--script` any number of times
 abbrev pub command_line : App
-command_line = with_rule (with_numbers (with_rule (new_app (codes "easybook")) log_rule)) script_rule
+command_line = with_rule (with_rule (with_numbers (with_rule (new_app (codes "easybook")) log_rule)) script_rule) live_rule
 
 -- the value that the words give to one of these, where they do
 abbrev pub value_of : Text → List Text → Option Text
@@ -74,21 +80,32 @@ workers_of (Some text) = number_between 1 64 text
 abbrev pub scripts_of : List Text → Option (List Text)
 scripts_of paths = if nat_le (length paths) 64 then Some paths else None
 
+-- the value of `--live` is the word `true` where it stands
+abbrev pub is_live : Option Text → Bool
+is_live None = false
+is_live (Some text) = bytes_eq text (codes "true")
+
+-- a conversation is on a log in a file, with no script beside it
+abbrev pub is_allowed : Bool → Option Text → ℕ → Bool
+is_allowed live log scripts = not live || (is_some log && scripts == 0)
+
 -- a choice, unless a value is bad
-abbrev pub choice : Option Text → Option (Option ℕ) → Option ℕ → Option ℕ → Option (List Text) → Option Choice
-choice log None spacing workers scripts = None
-choice log (Some procs) None workers scripts = None
-choice log (Some procs) (Some spacing) None scripts = None
-choice log (Some procs) (Some spacing) (Some workers) None = None
-choice log (Some procs) (Some spacing) (Some workers) (Some scripts) =
-    Some (record { log = log; procs = procs; spacing = spacing; workers = workers; scripts = scripts })
+abbrev pub choice : Option Text → Option (Option ℕ) → Option ℕ → Option ℕ → Option (List Text) → Bool → Option Choice
+choice log None spacing workers scripts live = None
+choice log (Some procs) None workers scripts live = None
+choice log (Some procs) (Some spacing) None scripts live = None
+choice log (Some procs) (Some spacing) (Some workers) None live = None
+choice log (Some procs) (Some spacing) (Some workers) (Some scripts) live =
+    if is_allowed live log (length scripts)
+    then Some (record { log = log; procs = procs; spacing = spacing; workers = workers; scripts = scripts; live = live })
+    else None
 
 -- what the words choose; None where they are bad
 abbrev pub chosen : List Text → Option Choice
 chosen words =
     if is_empty (fault_of command_line words)
     then choice (value_of (codes "LOG") words) (procs_of (value_of (codes "procs") words)) (spacing_of (value_of (codes "spacing") words))
-    (workers_of (value_of (codes "workers") words)) (scripts_of (values_of (codes "script") words))
+    (workers_of (value_of (codes "workers") words)) (scripts_of (values_of (codes "script") words)) (is_live (value_of (codes "live") words))
     else None
 
 -- why words choose nothing: they are bad, or memory was short, which says nothing of them
@@ -104,4 +121,5 @@ choice_of w = record {
   spacing = w.options.spacing;
   workers = w.options.workers;
   scripts = map (λ s. s.now) w.scripts.items;
+  live = w.live;
 }

@@ -2,6 +2,7 @@ ghost use Rattle.std.specs.Prelude.{◌≡◌};
 ghost use Rattle.easybook.specs.declared.fault.ProgramFault.TheVariants.{Memory as OutOfMemory, Write as WriteFailed};
 
 use commands::OpenTextFault;
+use scripts::LiveFault;
 use shared_scripts::SharedFault;
 use std::alloc::{AllocError, AllocFailed};
 use std::fmt;
@@ -89,6 +90,21 @@ impl From<SharedFault> for ProgramFault {
         match fault {
             SharedFault::Close(fault) => ProgramFault::Close(fault),
             SharedFault::Memory => ProgramFault::Memory,
+        }
+    }
+}
+
+impl From<LiveFault> for ProgramFault {
+    ghost use Rattle.std.specs.Prelude.{◌≡◌};
+    ghost use Rattle.easybook.specs.Fault.{fault_of_talk};
+
+    ghost from_gives = { λ fault given. given ≡ fault_of_talk fault };
+
+    fn from(fault: LiveFault) -> ProgramFault {
+        match fault {
+            LiveFault::Read => ProgramFault::Read,
+            LiveFault::Write => ProgramFault::Write,
+            LiveFault::Memory => ProgramFault::Memory,
         }
     }
 }

@@ -1,12 +1,13 @@
-ghost use Rattle.std.specs.Prelude.{◌≡◌, IfErr, IfOk, IfSome, length, map, vec_len};
+ghost use Rattle.std.specs.Prelude.{◌≡◌, IfErr, IfOk, IfSome, Some, length, map, vec_len};
 ghost use Rattle.std.specs.Option.{option_map};
 ghost use Rattle.easybook.specs.Input.{IsNotHad, IsReadFault};
 ghost use Rattle.easybook.specs.Plain.{Answers};
-ghost use Rattle.easybook.specs.Program.{Ends, EndsOnFile, EndsOnInput, EndsOnScripts, log_known};
+ghost use Rattle.easybook.specs.Program.{Ends, EndsFrom, EndsOnFile, EndsOnInput, EndsOnScripts, log_known};
 
 use crate::alone::{SCRIPT_LIMIT, run_alone};
 use crate::fault::ProgramFault;
 use crate::input::{read_front, read_input};
+use crate::live::talk_on_file;
 use crate::opened::{LOG_LIMIT, opening_of};
 use crate::options::Options;
 use crate::plain::write_first;
@@ -148,12 +149,31 @@ fn open<F: Files>(files: &F, path: &str) -> Result<F::File, ProgramFault>
     }
 }
 
+// Opens the log in a file, and holds a conversation on it, or works the script that the reader holds.
+fn run_named<F: Files + Threads + Sync, R: Read + Drop, W: Write>(
+    alloc: Global,
+    files: &F,
+    path: &str,
+    words: &Words<'_>,
+    reader: R,
+    writer: &mut W,
+) -> Result<(), ProgramFault>
+    ensures { EndsFrom (Some path.now) words.now.live words.now.options.procs (R.remaining reader) (W.contents writer.old) (W.contents writer.new) result }
+{
+    let log = open(files, path)?;
+    if words.live {
+        return talk_on_file(files, alloc, log, reader, writer, words.options);
+    }
+    run_file(files, alloc, log, reader, writer, words.options)
+}
+
 /// Runs the program: its words, its name first, then its input.
 ///
 /// Where the words name scripts, these are worked side by side by `run_shared` on the log, which is the
 /// named file or all of the reader's bytes. Where they name none but a log, the reader's bytes are the
-/// script, which `run_alone` works. Where they don't, the reader's bytes are cut by `split_input`: a script in
-/// them is worked by `run_alone` on the log before it, and a log alone is run as by `run_plain`.
+/// script, which `run_alone` works, or with `--live` a conversation, which `run_live` holds. Where they
+/// don't, the reader's bytes are cut by `split_input`: a script in them is worked by `run_alone` on the log
+/// before it, and a log alone is run as by `run_plain`.
 ///
 /// The faults in their order: those of `read_words`; Read where the file cannot be opened or read;
 /// without a file TooLong where the reader has over 1,200,000,000 bytes; Read where the reader
@@ -175,14 +195,7 @@ pub fn run_words<F: Files + Threads + Wait + Sync, R: Read + Drop, W: Write>(
         return Ok(());
     }
     match words.log {
-        Some(path) => run_file(
-            files,
-            alloc,
-            open(files, path)?,
-            reader,
-            writer,
-            words.options,
-        )?,
+        Some(path) => run_named(alloc, files, path, &words, reader, writer)?,
         None => run_input(files, alloc, reader, writer, words.options)?,
     }
     Ok(())

@@ -1,10 +1,11 @@
 ghost use Rattle.std.specs.Prelude.{◌≡◌, ◌≤◌, IfOk, IfErr, IfSome, Some, Err, false, [], codes, map, vec_len};
+ghost use Rattle.std.specs.Option.{option_map};
 ghost use Rattle.clap.specs.Words.{app_of, fault_of, first_value, found_of, kind_of, matches_of, rows_of, rule_of, with_rule};
 ghost use Rattle.clap.specs.declared.error.kind.ErrorKind.TheVariants.{OutOfMemory};
 ghost use Rattle.commands.specs.Words.{number_between};
 ghost use Rattle.scenarios.specs.Limits.{procs_limit};
 ghost use Rattle.checkpoints.specs.Spacing.{spacing_limit};
-ghost use Rattle.easybook.specs.Words.{IsWordsFault, choice_of, chosen, command_line, found_scripts, option_rule, procs_of, script_rule, spacing_of, with_numbers, workers_of};
+ghost use Rattle.easybook.specs.Words.{IsWordsFault, choice_of, chosen, command_line, found_scripts, is_allowed, is_live, live_rule, option_rule, procs_of, script_rule, spacing_of, with_numbers, workers_of};
 ghost use Rattle.easybook.specs.declared.words.WordsFault.TheVariants.{BadWords};
 
 use crate::options::Options;
@@ -68,6 +69,8 @@ pub struct Words<'a> {
     pub options: Options,
     /// The files that hold the scripts, in order.
     pub scripts: Vec<&'a str>,
+    /// Whether a conversation is held.
+    pub live: bool,
 }
 
 // Why words are refused: want of memory is told as such.
@@ -99,6 +102,16 @@ fn script<'a>(alloc: Global) -> Arg<'a>
         .action(ArgAction::Append)
 }
 
+// The option that asks for a conversation.
+fn live<'a>(alloc: Global) -> Arg<'a>
+    ensures rule { rule_of result ≡ live_rule }
+    ensures local { result.global ≡ false }
+{
+    Arg::new(alloc, "live")
+        .long("live")
+        .action(ArgAction::SetTrue)
+}
+
 // The command with one more argument.
 fn with_argument<'a>(command: Command<'a>, arg: Arg<'a>) -> Result<Command<'a>, AllocError>
     requires { arg.global ≡ false }
@@ -123,7 +136,8 @@ fn command<'a>(alloc: Global) -> Result<Command<'a>, AllocError>
     let log = Arg::new(alloc, "LOG").action(ArgAction::Set);
     let command = with_argument(Command::new(alloc, "easybook"), log)?;
     let command = with_numbers(alloc, command)?;
-    with_argument(command, script(alloc))
+    let command = with_argument(command, script(alloc))?;
+    with_argument(command, live(alloc))
 }
 
 // What stands behind the words that the program takes.
@@ -198,14 +212,32 @@ fn scripts<'a>(alloc: Global, matches: &ArgMatches<'a>) -> Result<Vec<&'a str>, 
     }
 }
 
+// Whether the words ask for a conversation.
+fn is_live(matches: &ArgMatches<'_>) -> bool
+    ensures { result ≡ is_live (first_value (found_of matches.now) (codes "live")) }
+{
+    match matches.get_str("live") {
+        None => false,
+        Some(text) => text == "true",
+    }
+}
+
+// Whether a conversation may be asked for: on a log in a file, with no script beside it.
+fn is_allowed(live: bool, log: Option<&str>, scripts: usize) -> bool
+    ensures { result ≡ is_allowed live (option_map (λ t. t.now) log.entry) scripts }
+{
+    !live || (log.is_some() && scripts == 0)
+}
+
 /// Reads the program's words, its name first.
 ///
 /// LOG, a word that is no option and no option's value, is the file that holds the log. `--procs N`
 /// gives the machine's processors, digits from 1 to 16,777,216, and `--spacing N` the most event
 /// seconds to a segment of a run, digits from 1 to 65,536; it is 256 where none is given.
 /// `--workers N` gives the workers, digits from 1 to 64; they are 2 where none is given. Each
-/// `--script FILE` names a file that holds a script; they are at most 64. Any other word is a bad
-/// argument, as is one given twice. Want of memory is never told as bad words.
+/// `--script FILE` names a file that holds a script; they are at most 64. `--live` asks for a
+/// conversation, on a LOG and with no script. Any other word is a bad argument, as is one given twice.
+/// Want of memory is never told as bad words.
 pub fn read_words<'a>(alloc: Global, words: &'a [&'a str]) -> Result<Words<'a>, WordsFault>
     ensures chosen { IfOk result (λ w. chosen (map (λ w. w.now) words.now) ≡ Some (choice_of w)) }
     ensures refused { IfErr result (IsWordsFault (map (λ w. w.now) words.now)) }
@@ -227,13 +259,19 @@ pub fn read_words<'a>(alloc: Global, words: &'a [&'a str]) -> Result<Words<'a>, 
     if scripts.len() as u64 > CALLERS {
         return Err(WordsFault::BadWords);
     }
+    let log = matches.get_str("LOG");
+    let live = is_live(&matches);
+    if !is_allowed(live, log, scripts.len()) {
+        return Err(WordsFault::BadWords);
+    }
     Ok(Words {
-        log: matches.get_str("LOG"),
+        log,
         options: Options {
             procs,
             spacing,
             workers,
         },
         scripts,
+        live,
     })
 }

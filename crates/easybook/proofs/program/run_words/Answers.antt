@@ -13,11 +13,11 @@ returns-in_err-run_beside g c =
     let some : 0 < vec_len c.in_ok-words.words.scripts = grind (arith, nat_tests, c.is_empty.ensures, c.if-not-is_empty.ensures, c.if-not-is_empty.true) in
     let len : length choice.scripts ≡ vec_len c.in_ok-words.words.scripts = omega (arith, length-map c.in_ok-words.words.scripts.items (λ s. s.now), c.in_ok-words.words.scripts.ok.0) in
     ends_so c.from_residual-in_err-run_beside.result (map (λ w. w.now) c.args.words.now) choice c.in_err-run_beside.field-0.0 (g.R.Read.remaining c.args.reader) _ _ told c.in_ok-words.ensures.chosen
-    (ends_with choice.scripts (vec_len c.in_ok-words.words.scripts) choice.log choice.procs (g.R.Read.remaining c.args.reader) _ _ (Err c.in_err-run_beside.field-0.0) len some c.in_err-run_beside.ensures)
+    (ends_with choice.scripts (vec_len c.in_ok-words.words.scripts) choice.log choice.live choice.procs (g.R.Read.remaining c.args.reader) _ _ (Err c.in_err-run_beside.field-0.0) len some c.in_err-run_beside.ensures)
 
 pub returns-then-not-is_empty : goal.returns-then-not-is_empty
 returns-then-not-is_empty g c =
     let choice : Choice = choice_of c.in_ok-words.words in
     let some : 0 < vec_len c.in_ok-words.words.scripts = grind (arith, nat_tests, c.is_empty.ensures, c.if-not-is_empty.ensures, c.if-not-is_empty.true) in
     let len : length choice.scripts ≡ vec_len c.in_ok-words.words.scripts = omega (arith, length-map c.in_ok-words.words.scripts.items (λ s. s.now), c.in_ok-words.words.scripts.ok.0) in
-    (choice, c.in_ok-words.ensures.chosen, ends_with choice.scripts (vec_len c.in_ok-words.words.scripts) choice.log choice.procs (g.R.Read.remaining c.args.reader) _ _ _ len some c.in_ok-run_beside.ensures)
+    (choice, c.in_ok-words.ensures.chosen, ends_with choice.scripts (vec_len c.in_ok-words.words.scripts) choice.log choice.live choice.procs (g.R.Read.remaining c.args.reader) _ _ _ len some c.in_ok-run_beside.ensures)

@@ -1,0 +1,84 @@
+-- What a conversation leaves written, and what the program does with it.
+use Rattle.std.proofs.Common.{◌≡◌, ℕ, ◌+◌, ◌<◌, false, eqb, List, [], length, take, Option, IfSome, Result, Ok, Err, inl, inr, sym, ap, subst, ◌∙◌, arith}
+use Rattle.std.proofs.lemmas.Bool.{cases_lt, ne_eqb}
+use Rattle.std.specs.Io.Buffered.{reader_buffer, reader_capacity, reader_inner, reader_remaining}
+use Rattle.std.proofs.KnownBytes.{prepend_known-nil}
+use Rattle.std.specs.declared.io.buffered.BufReader.{BufReader}
+use Rattle.book_machine.specs.Machine.{Machine}
+use Rattle.version_book.specs.Book.{BookView, machine_of}
+use Rattle.scripts.specs.Live.{Talks}
+use Rattle.scripts.specs.declared.live.LiveFault.{LiveFault}
+use Rattle.scripts.specs.declared.live.LiveFault.TheVariants as live
+use Rattle.easybook.specs.Book.{IsBookOf}
+use Rattle.easybook.specs.Fault.{fault_of_talk}
+use Rattle.easybook.specs.Live.{IsHeld, RunsLive}
+use Rattle.easybook.specs.Plain.{log_limit}
+use Rattle.easybook.specs.Program.{EndsOnTalk}
+use Rattle.easybook.specs.declared.fault.ProgramFault.{ProgramFault}
+use Rattle.easybook.specs.declared.fault.ProgramFault.TheVariants as faults
+use Rattle.easybook.proofs.Inputs.{all_of_front, more_of_front}
+use Rattle.easybook.proofs.Programs.{of_all}
+use Rattle.easybook.proofs.Sessions.{keeps}
+
+-- a buffer that holds nothing has the bytes of the reader behind it
+pub fresh : {T A : Type 0} (remaining : T → Option (List ℕ)) (r : BufReader T A) (inner : T) → reader_inner r ≡ inner → reader_buffer r ≡ [] → reader_capacity r ≡ 8192 → reader_remaining remaining r ≡ remaining inner
+fresh remaining r inner is empty room =
+    let test : eqb (reader_capacity r) 0 ≡ false = ne_eqb (reader_capacity r) 0 (λ none. omega (arith, none, room)) in
+    rw (test, empty) (prepend_known-nil (remaining (reader_inner r)) ∙ ap remaining is)
+
+-- a conversation that was held on the book of a log
+pub held : {X : Type 0} (A : Type 0) (log : List ℕ) (procs : Option ℕ) (spacing : ℕ) (comments shown : List (List ℕ)) (book : BookView) (known heard old new : Option (List ℕ)) (result : Result X LiveFault)
+    → IsBookOf log procs spacing comments book → shown ≡ comments → heard ≡ known → Talks A shown (record { machine = machine_of book; seen = 0 }) heard old new result → IsHeld A log procs known old new result
+held A log procs spacing comments shown book known heard old new result b same is t =
+    let over : Talks A comments (record { machine = machine_of book; seen = 0 }) heard old new result = subst (λ (cs : List (List ℕ)). Talks A cs (record { machine = machine_of book; seen = 0 }) heard old new result) same t in
+    let of_known : Talks A comments (record { machine = machine_of book; seen = 0 }) known old new result = subst (λ (k : Option (List ℕ)). Talks A comments (record { machine = machine_of book; seen = 0 }) k old new result) is over in
+    record {
+      comments = comments;
+      table = b.table;
+      scenarios = b.scenarios;
+      is_opened = b.is_opened;
+      talks = subst (λ (m : Machine). Talks A comments (record { machine = m; seen = 0 }) known old new result) b.begins of_known;
+    }
+
+-- and that ended before its input did
+pub ended_so : {X : Type 0} (A : Type 0) (log : List ℕ) (procs : Option ℕ) (known old new : Option (List ℕ)) (fault : LiveFault) (told : Result X ProgramFault) → told ≡ Err (fault_of_talk fault) → IsHeld {X = X} A log procs known old new (Err fault) → RunsLive A log procs known old new told
+ended_so {X} A log procs known old new fault told is h = subst (λ (r : Result X ProgramFault). RunsLive A log procs known old new r) (sym is) (go fault h) where
+  go : (f : LiveFault) → IsHeld {X = X} A log procs known old new (Err f) → RunsLive {X = X} A log procs known old new (Err (fault_of_talk f))
+  go live.Read h = h
+  go live.Write h = h
+  go live.Memory h = (tt, h.talks)
+
+-- no conversation began for want of memory
+pub no_room : {X : Type 0} (A : Type 0) (log : List ℕ) (procs : Option ℕ) (known old : Option (List ℕ)) (told : Result X ProgramFault) → told ≡ Err faults.Memory → RunsLive A log procs known old old told
+no_room {X} A log procs known old told is =
+    let short : RunsLive {X = X} A log procs known old old (Err faults.Memory) = (tt, keeps old) in
+    subst (λ (r : Result X ProgramFault). RunsLive A log procs known old old r) (sym is) short
+
+-- of a log beyond its limit nothing but the length is told
+past : {X : Type 0} (A : Type 0) (front all : List ℕ) (procs : Option ℕ) (known old new : Option (List ℕ)) (result : Result X ProgramFault) → log_limit < length front → log_limit < length all → RunsLive A front procs known old new result → RunsLive A all procs known old new result
+past A front all procs known old new (Ok x) many more h = let within = h.is_opened.within in absurd (omega arith)
+past A front all procs known old new (Err faults.Write) many more h = let within = h.is_opened.within in absurd (omega arith)
+past A front all procs known old new (Err faults.Read) many more h = let within = h.is_opened.within in absurd (omega arith)
+past A front all procs known old new (Err faults.TooLong) many more h = (more, h.1)
+past A front all procs known old new (Err (faults.Log f)) many more h = let within = h.0.0 in absurd (omega arith)
+past A front all procs known old new (Err faults.NoMachine) many more h = let within = h.0.within in absurd (omega arith)
+past A front all procs known old new (Err faults.BadMachine) many more h = let within = h.0.within in absurd (omega arith)
+past A front all procs known old new (Err faults.Memory) many more h = h
+past A front all procs known old new (Err (faults.Close f)) many more h = absurd (h.0)
+
+of_log : {X : Type 0} (A : Type 0) (procs : Option ℕ) (known old new : Option (List ℕ)) (result : Result X ProgramFault) (front all : List ℕ) → front ≡ take (log_limit + 1) all → RunsLive A front procs known old new result → RunsLive A all procs known old new result
+of_log A procs known old new result front all is h = elim (cases_lt log_limit (length front)) [
+  | inl many ↦ past A front all procs known old new result many (more_of_front all front log_limit is many) h
+  | inr few ↦ subst (λ (log : List ℕ). RunsLive A log procs known old new result) (all_of_front all front log_limit is few) h
+]
+
+pub talk_ends : {X : Type 0} (A : Type 0) (file : Option (List ℕ)) (procs : Option ℕ) (known old new : Option (List ℕ)) (log : List ℕ) (result : Result X ProgramFault) → IfSome file (λ all. log ≡ take (log_limit + 1) all) → RunsLive A log procs known old new result → EndsOnTalk A file procs known old new result
+talk_ends {X} A file procs known old new log (Ok x) is h = of_all file log (λ l. RunsLive A l procs known old new (Ok x)) (λ all. of_log A procs known old new (Ok x) log all) is h
+talk_ends {X} A file procs known old new log (Err faults.Read) is h = inr (of_all file log (λ l. RunsLive {X = X} A l procs known old new (Err faults.Read)) (λ all. of_log {X = X} A procs known old new (Err faults.Read) log all) is h)
+talk_ends {X} A file procs known old new log (Err faults.Memory) is h = h.1
+talk_ends {X} A file procs known old new log (Err faults.Write) is h = of_all file log (λ l. RunsLive {X = X} A l procs known old new (Err faults.Write)) (λ all. of_log {X = X} A procs known old new (Err faults.Write) log all) is h
+talk_ends {X} A file procs known old new log (Err faults.TooLong) is h = of_all file log (λ l. RunsLive {X = X} A l procs known old new (Err faults.TooLong)) (λ all. of_log {X = X} A procs known old new (Err faults.TooLong) log all) is h
+talk_ends {X} A file procs known old new log (Err (faults.Log f)) is h = of_all file log (λ l. RunsLive {X = X} A l procs known old new (Err (faults.Log f))) (λ all. of_log {X = X} A procs known old new (Err (faults.Log f)) log all) is h
+talk_ends {X} A file procs known old new log (Err faults.NoMachine) is h = of_all file log (λ l. RunsLive {X = X} A l procs known old new (Err faults.NoMachine)) (λ all. of_log {X = X} A procs known old new (Err faults.NoMachine) log all) is h
+talk_ends {X} A file procs known old new log (Err faults.BadMachine) is h = of_all file log (λ l. RunsLive {X = X} A l procs known old new (Err faults.BadMachine)) (λ all. of_log {X = X} A procs known old new (Err faults.BadMachine) log all) is h
+talk_ends {X} A file procs known old new log (Err (faults.Close f)) is h = of_all file log (λ l. RunsLive {X = X} A l procs known old new (Err (faults.Close f))) (λ all. of_log {X = X} A procs known old new (Err (faults.Close f)) log all) is h

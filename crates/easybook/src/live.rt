@@ -1,0 +1,71 @@
+ghost use Rattle.std.specs.Prelude.{◌≡◌, IfOk};
+ghost use Rattle.std.specs.Io.Buffered.{reader_remaining};
+ghost use Rattle.easybook.specs.Live.{RunsLive};
+ghost use Rattle.easybook.specs.Program.{EndsOnTalk};
+
+use crate::book::{OpenedBook, opened_book};
+use crate::fault::ProgramFault;
+use crate::input::read_front;
+use crate::opened::LOG_LIMIT;
+use crate::options::Options;
+use std::alloc::Allocator;
+use std::io::{BufReader, Read, Write};
+use std::marker::Sync;
+use std::thread::Threads;
+use swf_text::Memory;
+
+// A reader whose bytes come through a buffer as it has them.
+fn buffered<R: Read + Drop, A: Allocator + Copy>(
+    alloc: A,
+    reader: R,
+) -> Result<BufReader<R, A>, Memory>
+    ensures { IfOk result (λ r. reader_remaining R.remaining r ≡ R.remaining reader) }
+{
+    match BufReader::new(alloc, reader) {
+        Ok(reader) => Ok(reader),
+        Err(_) => Err(Memory),
+    }
+}
+
+/// Holds a conversation on a log, as one session with one worker: reads a command as it comes, and
+/// answers it before it reads on. The log's scenarios are those of its comments, as
+/// `commands::open_text` opens it with `options.procs`; each is added to the book in its order, as
+/// session 0. The log's bytes are let go once it is opened.
+///
+/// The faults in their order: TooLong where the log has over 1,073,741,824 bytes; Log with its
+/// first faulty line; NoMachine where nothing names a scenario or the machine's processors;
+/// BadMachine where it has not 1 to 16,777,216; Memory where a growth is refused before the first
+/// command, while one refused later is an answer of the command. Nothing is written before them.
+/// Then Read where the reader answers an error, behind the answers to all lines read by then, and
+/// Write where the writer answers one or takes no byte, behind a beginning of them.
+pub fn run_live<R: Read + Drop, W: Write, T: Threads + Sync, A: Allocator + Copy>(
+    rt: &T,
+    alloc: A,
+    log: Vec<u8, A>,
+    reader: R,
+    writer: &mut W,
+    options: Options,
+) -> Result<(), ProgramFault>
+    ensures { RunsLive A log.items options.procs (R.remaining reader) (W.contents writer.old) (W.contents writer.new) result }
+{
+    let OpenedBook { book, comments } = opened_book(rt, alloc, log.as_slice(), options)?;
+    drop(log);
+    let mut reader = buffered(alloc, reader)?;
+    scripts::run_live(alloc, book, comments.as_slice(), &mut reader, writer)?;
+    Ok(())
+}
+
+// Reads a log, at most one byte past its limit, and holds a conversation on it. Read where the log
+// cannot be read.
+pub(crate) fn talk_on_file<
+    L: Read + Drop,
+    R: Read + Drop,
+    W: Write,
+    T: Threads + Sync,
+    A: Allocator + Copy,
+>(rt: &T, alloc: A, log: L, reader: R, writer: &mut W, options: Options) -> Result<(), ProgramFault>
+    ensures { EndsOnTalk A (L.remaining log) options.procs (R.remaining reader) (W.contents writer.old) (W.contents writer.new) result }
+{
+    let log = read_front(alloc, log, LOG_LIMIT as u64)?;
+    run_live(rt, alloc, log, reader, writer, options)
+}
