@@ -20,7 +20,7 @@ const FOUR: &[u8] = b"1 0 -1 100 6 -1 -1 6 100 -1 1 7 -1 -1 -1 -1 -1 -1
 ";
 
 /// Six jobs of the whole machine for 10 seconds each, every 100 seconds.
-const SIX: &[u8] = b"1 0 -1 10 10 -1 -1 10 10 -1 1 7 -1 -1 -1 -1 -1 -1
+pub(crate) const SIX: &[u8] = b"1 0 -1 10 10 -1 -1 10 10 -1 1 7 -1 -1 -1 -1 -1 -1
 2 100 -1 10 10 -1 -1 10 10 -1 1 7 -1 -1 -1 -1 -1 -1
 3 200 -1 10 10 -1 -1 10 10 -1 1 7 -1 -1 -1 -1 -1 -1
 4 300 -1 10 10 -1 -1 10 10 -1 1 7 -1 -1 -1 -1 -1 -1
@@ -29,7 +29,7 @@ const SIX: &[u8] = b"1 0 -1 10 10 -1 -1 10 10 -1 1 7 -1 -1 -1 -1 -1 -1
 ";
 
 /// The first three of them.
-const THREE: &[u8] = b"1 0 -1 10 10 -1 -1 10 10 -1 1 7 -1 -1 -1 -1 -1 -1
+pub(crate) const THREE: &[u8] = b"1 0 -1 10 10 -1 -1 10 10 -1 1 7 -1 -1 -1 -1 -1 -1
 2 100 -1 10 10 -1 -1 10 10 -1 1 7 -1 -1 -1 -1 -1 -1
 3 200 -1 10 10 -1 -1 10 10 -1 1 7 -1 -1 -1 -1 -1 -1
 ";
@@ -53,7 +53,7 @@ const SECOND: &[u8] = b"2 5 -1 10 10 -1 -1 10 10 -1 1 7 -1 -1 -1 -1 -1 -1\n";
 const THIRD: &[u8] = b"3 8 -1 20 10 -1 -1 10 20 -1 1 7 -1 -1 -1 -1 -1 -1\n";
 
 /// An edit, as it is written.
-enum Written {
+pub(crate) enum Written {
     /// A field of a job gets another value.
     Change(u64, u8, &'static [u8]),
     /// The entry of this line joins the log.
@@ -138,11 +138,17 @@ const ROWS: &[Row] = &[
     },
 ];
 
-// The run of a log on ten processors, with a segment for each event second.
-fn run_of(alloc: Global, log: &[u8], order: Order) -> Option<Run<Global>> {
+/// The run of a log on ten processors, in segments of so many event seconds.
+pub(crate) fn run_of(alloc: Global, log: &[u8], order: Order, spacing: u32) -> Option<Run<Global>> {
     let text = read_swf(alloc, log).ok()?;
     let table = Arc::new(alloc, JobTable::from_text(alloc, &text).ok()?).ok()?;
-    simulate(alloc, table, Scenario::new(10, 1000)?.ordered(order), 1).ok()
+    simulate(
+        alloc,
+        table,
+        Scenario::new(10, 1000)?.ordered(order),
+        spacing,
+    )
+    .ok()
 }
 
 // The entry of a line.
@@ -163,8 +169,8 @@ fn read_edit(alloc: Global, written: &Written) -> Option<Edit<Global>> {
     }
 }
 
-// The edits that are written so.
-fn edits_of(alloc: Global, written: &[Written]) -> Option<Vec<Edit<Global>>> {
+/// The edits that are written so.
+pub(crate) fn edits_of(alloc: Global, written: &[Written]) -> Option<Vec<Edit<Global>>> {
     let mut edits = Vec::new(alloc);
     for each in written {
         edits.push(read_edit(alloc, each)?).ok()?;
@@ -172,8 +178,8 @@ fn edits_of(alloc: Global, written: &[Written]) -> Option<Vec<Edit<Global>>> {
     Some(edits)
 }
 
-// The run's table after edits.
-fn table_after(
+/// The run's table after edits.
+pub(crate) fn table_after(
     alloc: Global,
     run: &Run<Global>,
     edits: &[Edit<Global>],
@@ -226,7 +232,7 @@ fn answers(alloc: Global, row: &Row, run: &Run<Global>, edits: &[Edit<Global>]) 
 
 // Whether a row holds in this order of backfills.
 fn holds(alloc: Global, row: &Row, order: Order) -> Option<bool> {
-    let run = run_of(alloc, row.log, order)?;
+    let run = run_of(alloc, row.log, order, 1)?;
     let edits = edits_of(alloc, row.edits)?;
     answers(alloc, row, &run, edits.as_slice())
 }
