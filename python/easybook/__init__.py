@@ -5,6 +5,10 @@
     print(run.table.mean_wait)
     for row in easybook.sweep(["month.swf"], [easybook.Scenario(it) for it in (512, 1024, 2048)]):
         print(row.scenario, row.mean_wait)
+    with easybook.open("month.swf") as log:
+        log.change(17, field=9, value=3600)
+        log.settle()
+        print(log.table("base").mean_wait)
 
 `python -m easybook` makes logs of Slurm's accounting (`sacct`), runs sweeps (`sweep`), and sets the waits that a log
 records beside the simulated ones (`waits`).
@@ -12,6 +16,8 @@ records beside the simulated ones (`waits`).
 
 from __future__ import annotations
 
+from .conversation import Conversation
+from .conversation import open as open  # not in __all__: an import of * leaves the builtin as it is
 from .errors import (
     BadField,
     BadValue,
@@ -34,16 +40,16 @@ from .errors import (
     TableFull,
     TooMany,
 )
-from .reports import Day, Start, Table, UnknownAnswer, User
+from .reports import Day, Entry, Missing, Side, Start, Table, UnknownAnswer, User
 from .runs import Failure, Row, Run, Scenario, simulate
 from .swf import Job, Log, parse, read
 from .sweeps import Rows, run, sweep
 from .waits import Group, Pair, Recorded, compare, recorded, summary
 
 __all__ = [
-    "BadField", "BadValue", "BadWord", "Behind", "Day", "DumpFault", "DuplicateJob", "EasybookError", "Ended", "Failure",
-    "Group", "Job", "JournalFull", "Log", "LogFault", "Memory", "NameTaken", "NoProgram", "NoSuchJob", "NoSuchScenario",
-    "NotYet", "Pair", "Recorded", "Refused", "Row", "Rows", "Run", "Scenario", "ScriptFault", "Start", "Table",
-    "TableFull", "TooMany", "UnknownAnswer", "User", "compare", "parse", "read", "recorded", "run", "simulate", "summary",
-    "sweep",
+    "BadField", "BadValue", "BadWord", "Behind", "Conversation", "Day", "DumpFault", "DuplicateJob", "EasybookError",
+    "Ended", "Entry", "Failure", "Group", "Job", "JournalFull", "Log", "LogFault", "Memory", "Missing", "NameTaken",
+    "NoProgram", "NoSuchJob", "NoSuchScenario", "NotYet", "Pair", "Recorded", "Refused", "Row", "Rows", "Run",
+    "Scenario", "ScriptFault", "Side", "Start", "Table", "TableFull", "TooMany", "UnknownAnswer", "User", "compare",
+    "parse", "read", "recorded", "run", "simulate", "summary", "sweep",
 ]

@@ -27,6 +27,19 @@ class BadWord(EasybookError, ValueError):
     """A name or a number that no command of the program takes; nothing was sent."""
 
 
+def shown(value: object) -> str:
+    """A value that is no good, in short, on one line.
+
+    >>> print(shown("a\\nb"))
+    'a\\nb'
+    """
+    try:
+        text = repr(value)
+    except ValueError:
+        return "a number of very many digits"
+    return text if len(text) <= 80 else f"{text[:80]}.."
+
+
 class LogFault(EasybookError):
     """The first faulty line of a log: its number from 1, the kind, and with `BadNumber` the field."""
 

@@ -1,4 +1,5 @@
-"""Finds the program easybook and runs it on a log with a script; whatever raises, no process stays behind."""
+"""Finds the program easybook and runs it on a log, with a script or as a conversation; whatever raises, no process stays
+behind."""
 
 from __future__ import annotations
 
@@ -8,6 +9,7 @@ import shutil
 import subprocess
 import tempfile
 import threading
+import weakref
 from typing import IO, Iterator, List, Optional, Set
 
 from .errors import EasybookError, Ended, NoProgram, fault
@@ -135,6 +137,65 @@ def answers(log: str, script: bytes, procs: Optional[int] = None, spacing: Optio
                 process.kill()
                 if stopper:
                     stopper.remove(process)
+
+
+def _finish(process: "subprocess.Popen[bytes]", said: IO[bytes]) -> None:
+    """Ends a program, if it hasn't, and lets go of all that belongs to it."""
+    process.kill()
+    process.wait()
+    assert process.stdin is not None and process.stdout is not None
+    with contextlib.suppress(OSError):  # a command that it never took
+        process.stdin.close()
+    process.stdout.close()
+    said.close()
+
+
+class Live:
+    """A program that answers each command before it reads the next. It is ended where nothing holds this any more, and
+    where Python ends."""
+
+    def __init__(self, log: str, procs: Optional[int] = None, spacing: Optional[int] = None,
+                 program: Optional[Path] = None) -> None:
+        words = [*_words(program, log, procs, spacing), "--live"]
+        said = tempfile.TemporaryFile()
+        try:
+            process = subprocess.Popen(words, stdin=subprocess.PIPE, stdout=subprocess.PIPE, stderr=said)
+        except BaseException as it:
+            said.close()
+            if isinstance(it, OSError):
+                raise NoProgram(f"{words[0]} could not be started: {it.strerror}") from None
+            raise
+        self._process = process
+        self.end = weakref.finalize(self, _finish, process, said)
+        self._why = lambda: _why(process, said)
+        assert process.stdout is not None
+        told = (line.decode("ascii", "surrogateescape") for line in process.stdout)
+        self.answers = Answers(told, self._why)
+
+    @property
+    def status(self) -> int:
+        """The exit status, once it is known; 0 before."""
+        return self._process.returncode or 0
+
+    def send(self, command: str) -> None:
+        """Sends a command, which is ASCII and has no line feed."""
+        assert self._process.stdin is not None
+        try:
+            self._process.stdin.write(command.encode("ascii") + b"\n")
+            self._process.stdin.flush()
+        except BrokenPipeError:
+            raise self._why() from None
+
+    def kill(self) -> None:
+        """Kills the program, so that whoever waits for its answer is told of its end."""
+        self._process.kill()
+
+    def quit(self) -> None:
+        """Has the program end by itself; raises where it doesn't end well."""
+        self.send("quit")
+        self.answers.words("bye")
+        if self._process.wait() != 0:
+            raise self._why()
 
 
 @contextlib.contextmanager

@@ -7,7 +7,7 @@ just the digits that the program writes.
 from __future__ import annotations
 
 from decimal import Decimal
-from typing import Callable, Iterator, List, NamedTuple, TypeVar, Union
+from typing import Callable, Iterator, List, NamedTuple, Optional, TypeVar, Union
 
 from .errors import EasybookError, ScriptFault, fault, refusal
 
@@ -89,6 +89,20 @@ class Missing(NamedTuple):
     why: str
 
 
+class Entry(NamedTuple):
+    """A job of the log as a scenario takes it, and whether it is killed at its estimate. One that isn't simulated has
+    its number and the reason alone: `NoSize`, `NoRun`, `TooLarge` or `TooLong`."""
+
+    number: int
+    submit: Optional[int] = None
+    processors: Optional[int] = None
+    estimate: Optional[int] = None
+    length: Optional[int] = None
+    user: Optional[int] = None
+    killed: Optional[bool] = None
+    skipped: Optional[str] = None
+
+
 Row = TypeVar("Row")
 
 
@@ -134,6 +148,10 @@ class Answers:
         if words[:1] in (["failed"], ["stopped"]):
             return -1
         raise UnknownAnswer(" ".join(words))
+
+    def version(self) -> int:
+        """The number of `version N`."""
+        return self._count("version")
 
     def _count(self, *begins: str) -> int:
         """The number at the end of a report's first line."""
@@ -188,8 +206,24 @@ class Answers:
         """The report `side`."""
         return self._rows(self._count("side", "scenarios"), _side)
 
+    def log(self, name: str) -> List[Entry]:
+        """The report `log`."""
+        return self._rows(self._count("log", name, "version"), _entry)
+
+    def save(self) -> bytes:
+        """What `save` writes behind its first line."""
+        lines = [self.line() for _ in range(self._count("save"))]
+        return "".join([f"{it}\n" for it in lines]).encode("ascii", "surrogateescape")
+
 
 def _side(it: List[str]) -> Union[Side, Missing]:
     if it[1:] in (["not", "yet"], ["behind"]):
         return Missing(it[0], " ".join(it[1:]))
     return Side(it[0], int(it[1]), int(it[2]), int(it[3]), Decimal(it[4]), _percent(it[5]))
+
+
+def _entry(it: List[str]) -> Entry:
+    if it[1] == "skipped":
+        return Entry(int(it[0]), skipped=it[2])
+    number, submit, procs, estimate, length, user = map(int, it[:6])
+    return Entry(number, submit, procs, estimate, length, user, {"ok": False, "kill": True}[it[6]])

@@ -9,7 +9,7 @@ from typing import Dict, Iterable, List, NamedTuple, Optional, Sequence, Tuple
 
 from . import program as _program
 from . import swf
-from .errors import BadWord, Ended, Memory
+from .errors import BadWord, Ended, Memory, shown
 from .reports import Answers, Day, Missing, Start, Table, UnknownAnswer, User
 from .swf import Path
 
@@ -36,12 +36,12 @@ class Scenario(NamedTuple):
     def check(self) -> None:
         """Raises `BadWord` where the program would not take this."""
         if self.procs is not None:
-            _whole(self.procs, "processors", MOST_PROCESSORS)
-        _whole(self.factor, "a factor in thousandths", MOST_FACTOR)
+            check_whole(self.procs, "processors", MOST_PROCESSORS)
+        check_whole(self.factor, "a factor in thousandths", MOST_FACTOR)
         if self.order not in ORDERS:
-            raise BadWord(f"an order is arrival or shortest, not {self.order!r}")
-        if self.name is not None and not (isinstance(self.name, str) and _NAME.fullmatch(self.name)):
-            raise BadWord(f"a name is 1 to 16 of a to z, 0 to 9, - and _, not {self.name!r}")
+            raise BadWord(f"an order is arrival or shortest, not {shown(self.order)}")
+        if self.name is not None:
+            check_name(self.name)
 
     def named(self, procs: int) -> "Scenario":
         """The scenario on a log whose own machine has these processors, with a name."""
@@ -55,9 +55,16 @@ class Scenario(NamedTuple):
         return self.name or f"{'own' if self.procs is None else self.procs}-{self.factor}{short}"
 
 
-def _whole(value: object, what: str, most: int) -> None:
+def check_name(name: object) -> None:
+    """Raises `BadWord` where this is no name of a scenario."""
+    if not (isinstance(name, str) and _NAME.fullmatch(name)):
+        raise BadWord(f"a name is 1 to 16 of a to z, 0 to 9, - and _, not {shown(name)}")
+
+
+def check_whole(value: object, what: str, most: int) -> None:
+    """Raises `BadWord` where this is no whole number from 1 to the most."""
     if not isinstance(value, int) or isinstance(value, bool) or not 1 <= value <= most:
-        raise BadWord(f"{what}: a whole number from 1 to {most}, not {value!r}")
+        raise BadWord(f"{what}: a whole number from 1 to {most}, not {shown(value)}")
 
 
 class Opening(NamedTuple):
