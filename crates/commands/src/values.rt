@@ -54,7 +54,7 @@ fn may_stand(place: u8, value: &Value) -> bool
 {
     match place {
         2 => value.millionths() >= 0,
-        11 => !matches!(value.millionths(), 2_000_000 | 3_000_000 | 4_000_000),
+        11 => !value.is_partial(),
         _ => true,
     }
 }

@@ -59,7 +59,7 @@ fn check_field(field: u8, value: &Value) -> Result<(), EditFault>
     if field == 2 && millionths < 0 {
         return Err(EditFault::BadValue);
     }
-    if field == 11 && matches!(millionths, 2_000_000 | 3_000_000 | 4_000_000) {
+    if field == 11 && value.is_partial() {
         return Err(EditFault::BadValue);
     }
     Ok(())

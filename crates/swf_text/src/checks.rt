@@ -31,13 +31,6 @@ pub(crate) fn is_below_zero(value: &Value) -> bool
     value.millionths() < 0
 }
 
-// Whether a status is that of a partial execution.
-pub(crate) fn is_partial(status: &Value) -> bool
-    ensures { result ≡ is_partial status.now }
-{
-    matches!(status.millionths(), 2_000_000 | 3_000_000 | 4_000_000)
-}
-
 // The job number of a line.
 pub(crate) fn job_number(fields: &Fields) -> Option<u64>
     ensures value { result ≡ whole_number (field fields.now.0 1) }
@@ -58,7 +51,7 @@ pub(crate) fn is_before_start(fields: &Fields) -> bool
 pub(crate) fn is_partial_line(fields: &Fields) -> bool
     ensures { result ≡ is_partial (field fields.now.0 11) }
 {
-    is_partial(&fields.0[10])
+    fields.0[10].is_partial()
 }
 
 // Whether a line is a partial line of the job with this number.

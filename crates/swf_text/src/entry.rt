@@ -2,9 +2,7 @@ ghost use Rattle.std.specs.Prelude.{◌≡◌, ◌++◌, ◌∷◌, ◌≤◌, �
 ghost use Rattle.swf_text.specs.Entry.{HasNumber, is_partial, field, values, entry_made, whole_number, IsEntry, number_of_entry, submit_of, field_change};
 ghost use Rattle.swf_text.specs.Number.{whole_of, is_below_zero};
 
-use crate::checks::{
-    are_parts, is_before_start, is_below_zero, is_partial, is_partial_line, job_number,
-};
+use crate::checks::{are_parts, is_before_start, is_below_zero, is_partial_line, job_number};
 use crate::fault::EntryFault;
 use crate::line::Fields;
 use crate::memory::Memory;
@@ -136,7 +134,7 @@ impl<A: Allocator + Copy> Entry<A> {
         if place == 2 && is_below_zero(&value) {
             return Err(EntryFault::BadSubmit);
         }
-        if place == 11 && is_partial(&value) {
+        if place == 11 && value.is_partial() {
             return Err(EntryFault::BadStatus);
         }
         self.main.0[place - 1] = value;

@@ -1,5 +1,6 @@
 ghost use Rattle.std.specs.Prelude.{◌≡◌, ◌≤◌, ℤ, IfSome, Some, nat_abs, pos};
 ghost use Rattle.std.specs.Coded.{coded_ℤ};
+ghost use Rattle.swf_text.specs.Entry.{is_partial};
 ghost use Rattle.swf_text.specs.Number.{Spells, whole_of, signed, greatest};
 
 use crate::number::number;
@@ -62,6 +63,14 @@ impl Value {
         ensures within { nat_abs result ≤ 1000000000000 }
     {
         (self.millionths + 500_000).div_euclid(1_000_000)
+    }
+
+    /// Whether it is the status of a partial line, which tells of one execution of a job that ran in
+    /// several: exactly 2, 3 or 4. Takes no memory.
+    pub fn is_partial(&self) -> bool
+        ensures { result ≡ is_partial self.now }
+    {
+        matches!(self.millionths, 2_000_000 | 3_000_000 | 4_000_000)
     }
 }
 
