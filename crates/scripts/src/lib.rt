@@ -5,7 +5,6 @@
 mod analyst;
 mod answer;
 mod hearing;
-mod line;
 mod live;
 mod refusals;
 mod reply;
@@ -16,7 +15,6 @@ mod view_report;
 mod views;
 
 pub use answer::{Answer, Became, Refusal};
-pub use line::split_line;
 pub use live::{LiveFault, run_live};
 pub use reply::Reply;
 pub use run::run_lines;

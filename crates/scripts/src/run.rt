@@ -6,14 +6,13 @@ ghost use Rattle.scripts.specs.Transcript.{IsLine, Tells, is_quit};
 
 use crate::analyst::Analyst;
 use crate::answer::Answer;
-use crate::line::split_line;
 use crate::reply::Reply;
 use crate::view_report::Report;
 use commands::{Command, CommandFault, parse_command};
 use job_table::Edit;
 use std::alloc::Allocator;
 use std::io::Write;
-use swf_text::WriteFault;
+use swf_text::{WriteFault, split_line};
 use version_book::Book;
 
 impl<A: Allocator + Copy> Analyst<A> {

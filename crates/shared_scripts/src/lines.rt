@@ -1,10 +1,10 @@
 use crate::seat::Seat;
 use commands::{Command, parse_command};
 use job_table::Edit;
-use scripts::{Answer, Reply, Report, split_line};
+use scripts::{Answer, Reply, Report};
 use std::alloc::Allocator;
 use std::sync::Wait;
-use swf_text::Memory;
+use swf_text::{Memory, split_line};
 use workers::Session;
 
 impl<'a, A: Allocator + Copy, R: Wait> Seat<'a, A, R> {
