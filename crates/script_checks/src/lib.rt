@@ -1,7 +1,10 @@
-//! Tests of the program's calls: what a session's commands are answered where memory is refused, and inputs
-//! and outputs that fail. What logs and scripts are answered otherwise the cases of tests/ show.
+//! Tests of the program's calls: what a session's commands are answered where memory is refused, inputs and
+//! outputs that fail, and a writer that holds back what is not flushed. What logs and scripts are answered
+//! otherwise the cases of tests/ show.
 #![tactic(auto)]
 
+#[cfg(test)]
+mod held;
 #[cfg(test)]
 mod inputs;
 #[cfg(test)]
