@@ -43,7 +43,7 @@ class Times(unittest.TestCase):
     def test_one_dump_in_three_times(self):
         epoch = row(Submit="1782900000", Eligible="1782900000", Start="1782900010", End="1782900040")
         utc = row(Submit="2026-07-01T10:00:00", Eligible="2026-07-01T10:00:00", Start="2026-07-01T10:00:10", End="2026-07-01T10:00:40")
-        paris = utc.replace("T10", "T12")
+        paris = row(Submit="2026-07-01T12:00:00", Eligible="2026-07-01T12:00:00", Start="2026-07-01T12:00:10", End="2026-07-01T12:00:40")
         self.assertEqual(jobs(epoch), jobs(utc))
         that = made(paris, zone=zone("Europe/Paris"), zone_name="Europe/Paris")
         self.assertEqual([tuple(it) for it in that.jobs], jobs(utc))

@@ -13,6 +13,8 @@ mod logs;
 #[cfg(test)]
 mod openings;
 #[cfg(test)]
+mod own_segments;
+#[cfg(test)]
 mod plain;
 #[cfg(test)]
 mod refusals;
@@ -24,3 +26,5 @@ mod tables;
 mod texts;
 #[cfg(test)]
 mod trials;
+#[cfg(test)]
+mod two_ends;

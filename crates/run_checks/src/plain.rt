@@ -1,7 +1,7 @@
 // The plain program of the definitions, on logs that are worked by hand.
-use crate::clusters::TWO_END;
 use crate::engines::are;
 use crate::logs::{NOTED, four_jobs};
+use crate::two_ends::TWO_END;
 use reference::{LogPlan, simulate};
 use refusing::Outcome;
 use scenarios::{Job, Order, Scenario};

@@ -63,8 +63,11 @@ fn are_tables<A: Allocator + Copy>(tables: &Tables<A>) -> bool {
     tables.overall() == OVERALL && tables.users() == USERS.as_slice() && tables.days().len() == 1
 }
 
-// Whether it is the run of the four jobs on ten processors, in so many segments.
-fn is_of_four<A: Allocator + Copy>(run: &Run<A>, segments: usize) -> Result<bool, Memory> {
+/// Whether it is the run of the four jobs on ten processors, in so many segments.
+pub(crate) fn is_of_four<A: Allocator + Copy>(
+    run: &Run<A>,
+    segments: usize,
+) -> Result<bool, Memory> {
     let has_setting = run.scenario().procs() == 10 && run.table().len() == 4;
     if !has_setting || run.segments().len() != segments || run.start_of(5).is_some() {
         return Ok(false);
@@ -72,8 +75,8 @@ fn is_of_four<A: Allocator + Copy>(run: &Run<A>, segments: usize) -> Result<bool
     Ok(are_tables(run.tables()) && are_rows(run, &run.schedule()?))
 }
 
-// What came of it, where no growth may be refused before.
-fn outcome_of(answer: Result<bool, Memory>) -> Outcome {
+/// What came of it, where no growth may be refused before.
+pub(crate) fn outcome_of(answer: Result<bool, Memory>) -> Outcome {
     match answer {
         Ok(is_right) => Outcome::right_if(is_right),
         Err(Memory) => Outcome::Memory,
@@ -127,7 +130,7 @@ fn four_jobs_at_each_spacing(rt: HostRuntime) {
 }
 
 /// Three jobs of the whole machine, one after another, with quiet seconds between.
-const THREE: &[u8] = b"1 0 -1 10 10 -1 -1 10 10 -1 1 7 -1 -1 -1 -1 -1 -1
+pub(crate) const THREE: &[u8] = b"1 0 -1 10 10 -1 -1 10 10 -1 1 7 -1 -1 -1 -1 -1 -1
 2 100 -1 10 10 -1 -1 10 10 -1 1 7 -1 -1 -1 -1 -1 -1
 3 200 -1 10 10 -1 -1 10 10 -1 1 7 -1 -1 -1 -1 -1 -1
 ";

@@ -1,12 +1,14 @@
 // Each call that takes memory, with each of its growths refused in turn.
-use crate::clusters::{decides, restores, starts_two};
+use crate::clusters::{decides, restores};
 use crate::decisions::decides_behind;
 use crate::engines::{Way, goes};
 use crate::openings::{adds_a_scenario, opens_and_saves};
+use crate::own_segments::makes_again;
 use crate::plain::{WORKED, works};
 use crate::runs::{cuts_four, makes_up_the_whole};
 use crate::tables::{Kind, copies_a_table, copies_an_entry, edits};
 use crate::texts::{is_put_beside, is_reported};
+use crate::two_ends::starts_two;
 use refusing::{Outcome, Trial, survives_refusals};
 use scenarios::{Order, Scenario};
 use std::alloc::Allocator;
@@ -26,13 +28,14 @@ enum Call {
     Restore(Order),
     Go(Way),
     Simulate,
+    MakeAgain,
     MakeUp,
     Report,
     PutBeside,
 }
 
 /// All of them.
-const CALLS: [Call; 23] = [
+const CALLS: [Call; 24] = [
     Call::CopyEntry,
     Call::CopyTable,
     Call::Edit(Kind::Insertion),
@@ -53,6 +56,7 @@ const CALLS: [Call; 23] = [
     Call::Go(Way::StepsIntoOneList),
     Call::Go(Way::UpToThree),
     Call::Simulate,
+    Call::MakeAgain,
     Call::MakeUp,
     Call::Report,
     Call::PutBeside,
@@ -76,6 +80,7 @@ impl Trial for Call {
             Call::Restore(order) => restores(alloc, &ten.ordered(order)),
             Call::Go(way) => goes(alloc, way, ten),
             Call::Simulate => cuts_four(alloc, ten, 2, 4),
+            Call::MakeAgain => makes_again(alloc, ten),
             Call::MakeUp => makes_up_the_whole(alloc, ten),
             Call::Report => is_reported(alloc, ten),
             Call::PutBeside => is_put_beside(alloc, ten),

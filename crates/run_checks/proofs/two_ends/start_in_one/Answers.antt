@@ -4,7 +4,7 @@ use Rattle.scenarios.specs.Job.{EffectiveJob}
 use Rattle.scenarios.specs.declared.placed.Placed.{Placed}
 use Rattle.cluster_state.specs.State.{State, free, started, without, CanStartAll}
 use Rattle.cluster_state.proofs.Lemmas.{sum_by-placed}
-use Rattle.run_checks.proofs.clusters.start_in_one.Goals as goal
+use Rattle.run_checks.proofs.two_ends.start_in_one.Goals as goal
 
 two : (w : List EffectiveJob) (a b : EffectiveJob) → length w ≡ 2 → a ≡ get_or w 0 a → b ≡ get_or w 1 b → w ≡ a ∷ b ∷ []
 two [] a b l p q = absurd (omega (arith, l))
