@@ -4,7 +4,7 @@ use Rattle.std.specs.Io.KnownBytes.{Appends}
 use Rattle.clap.specs.Walk.{Text}
 use Rattle.version_book.specs.Book.{BookView}
 use Rattle.easybook.specs.Book.{IsBookOf}
-use Rattle.easybook.specs.Program.{Ends, EndsOnScripts, EndsWith, log_known}
+use Rattle.easybook.specs.Program.{Ends, EndsOnScripts, EndsWith, Sources, log_known}
 use Rattle.easybook.specs.Shared.{AreWithin, RunsShared, headed}
 use Rattle.easybook.specs.Words.{Choice, chosen}
 use Rattle.easybook.specs.declared.fault.ProgramFault.{ProgramFault}
@@ -43,14 +43,12 @@ shared_unopened {X} told log procs scripts old fault is within h = subst (λ (r 
   go (faults.Close f) h = absurd h
 
 -- where scripts are named
-pub ends_with : {X : Type 0} (scripts : List Text) (count : ℕ) (log : Option Text) (live : Bool) (procs : Option ℕ) (known old new : Option (List ℕ)) (result : Result X ProgramFault) → length scripts ≡ count → 0 < count → EndsOnScripts count procs (log_known log known) old new result → EndsWith scripts log live procs known old new result
-ends_with [] count log live procs known old new result len some h = absurd (omega (arith, len, some))
-ends_with {X} (s ∷ ss) count log live procs known old new result len some h =
-    let same : count ≡ length ss + 1 = omega (arith, len) in
-    subst (λ (n : ℕ). EndsOnScripts {X = X} n procs (log_known log known) old new result) same h
+pub ends_with : {X : Type 0} (sources : Sources) (scripts : List Text) (log : Option Text) (live : Bool) (procs : Option ℕ) (known old new : Option (List ℕ)) (result : Result X ProgramFault) → 0 < length scripts → EndsOnScripts sources scripts procs (log_known sources log known) old new result → EndsWith sources scripts log live procs known old new result
+ends_with sources [] log live procs known old new result some h = absurd (omega (arith, some))
+ends_with sources (s ∷ ss) log live procs known old new result some h = h
 
 -- and a fault comes of them
-pub ends_so : {X : Type 0} (told : Result X Stop) (words : List Text) (choice : Choice) (fault : ProgramFault) (known old new : Option (List ℕ)) → told ≡ Err (Fault fault) → chosen words ≡ Some choice → EndsWith {X = X} choice.scripts choice.log choice.live choice.procs known old new (Err fault) → Ends words known old new told
-ends_so {X} told words choice fault known old new is taken h =
-    let stops : Ends {X = X} words known old new (Err (Fault fault)) = (choice, taken, h) in
-    subst (λ (r : Result X Stop). Ends words known old new r) (sym is) stops
+pub ends_so : {X : Type 0} (sources : Sources) (told : Result X Stop) (words : List Text) (choice : Choice) (fault : ProgramFault) (known old new : Option (List ℕ)) → told ≡ Err (Fault fault) → chosen words ≡ Some choice → EndsWith {X = X} sources choice.scripts choice.log choice.live choice.procs known old new (Err fault) → Ends sources words known old new told
+ends_so {X} sources told words choice fault known old new is taken h =
+    let stops : Ends {X = X} sources words known old new (Err (Fault fault)) = (choice, taken, h) in
+    subst (λ (r : Result X Stop). Ends sources words known old new r) (sym is) stops

@@ -1,11 +1,11 @@
 -- What the program does: what its words choose, its whole input, and what it writes of them.
-use Rattle.std.specs.Prelude.{◌≡◌, ℕ, ◌+◌, ◌<◌, List, [], ◌∷◌, length, Option, Some, None, IfSome, Result, Ok, Err, ◌⊎◌, Bool, true, false}
+use Rattle.std.specs.Prelude.{◌≡◌, ℕ, ◌+◌, ◌<◌, List, [], ◌∷◌, length, take, Option, Some, None, IfSome, Result, Ok, Err, ◌⊎◌, Bool, true, false}
 use Rattle.std.specs.declared.alloc.Global.{Global}
 use Rattle.std.specs.Io.KnownBytes.{Keeps}
 use Rattle.clap.specs.Walk.{Text}
-use Rattle.easybook.specs.Alone.{RunsAlone}
+use Rattle.easybook.specs.Alone.{RunsAlone, script_limit}
 use Rattle.easybook.specs.Live.{RunsLive}
-use Rattle.easybook.specs.Plain.{Answers}
+use Rattle.easybook.specs.Plain.{Answers, log_limit}
 use Rattle.easybook.specs.Shared.{RunsShared}
 use Rattle.easybook.specs.Split.{IsCut}
 use Rattle.easybook.specs.Words.{Choice, IsWordsFault, chosen}
@@ -13,6 +13,10 @@ use Rattle.easybook.specs.declared.fault.ProgramFault.{ProgramFault}
 use Rattle.easybook.specs.declared.fault.ProgramFault.TheVariants as faults
 use Rattle.easybook.specs.declared.stop.Stop.{Stop}
 use Rattle.easybook.specs.declared.stop.Stop.TheVariants.{Words, Fault}
+
+-- the bytes of what the words name, where they are known
+abbrev pub Sources : Type 0
+Sources = Text → Option (List ℕ)
 
 -- standard input has at most so many bytes where it holds the log
 abbrev pub input_limit : ℕ
@@ -64,40 +68,57 @@ EndsOnInput A procs known old new result = OfAll known (λ input. RunsInput A in
 
 -- ---- scripts in files, side by side
 
+-- these are the bytes of the sources with these names, one after another, as far as they are known
+abbrev pub AreOf : Sources → List Text → List (List ℕ) → Type 0
+AreOf sources [] scripts = scripts ≡ []
+AreOf sources (name ∷ names) scripts =
+    (first : List ℕ) × (others : List (List ℕ)) × (scripts ≡ first ∷ others) × IfSome (sources name) (λ all. first ≡ all) × AreOf sources names others
+
+-- what is read of each, which is at most one byte more than a script may have
+abbrev pub AreFronts : Sources → List Text → List (List ℕ) → Type 0
+AreFronts sources [] fronts = fronts ≡ []
+AreFronts sources (name ∷ names) fronts =
+    (first : List ℕ) × (others : List (List ℕ)) × (fronts ≡ first ∷ others) × IfSome (sources name) (λ all. first ≡ take (script_limit + 1) all) × AreFronts sources names others
+
+-- what is read of a log: all of it, or at most one byte more than it may have
+abbrev pub IsFront : List ℕ → List ℕ → Type 0
+IsFront front all = (front ≡ all) ⊎ (front ≡ take (log_limit + 1) all)
+
 -- The scripts are worked on the log. Where the log or one of them cannot be read, or memory is short for them, nothing is said
 -- of them and nothing is written; so too where one has too many bytes.
-abbrev pub EndsOnScripts : {X : Type 0} → ℕ → Option ℕ → Option (List ℕ) → Option (List ℕ) → Option (List ℕ) → Result X ProgramFault → Type 0
-EndsOnScripts count procs known old new (Err faults.Read) = Keeps old new
-EndsOnScripts count procs known old new (Err faults.Memory) = Keeps old new
-EndsOnScripts count procs known old new (Err faults.TooLong) = Keeps old new
-EndsOnScripts count procs known old new result =
-    OfAll known (λ log. (scripts : List (List ℕ)) × (length scripts ≡ count) × RunsShared log procs scripts old new result)
+abbrev pub EndsOnScripts : {X : Type 0} → Sources → List Text → Option ℕ → Option (List ℕ) → Option (List ℕ) → Option (List ℕ) → Result X ProgramFault → Type 0
+EndsOnScripts sources names procs known old new (Err faults.Read) = Keeps old new
+EndsOnScripts sources names procs known old new (Err faults.Memory) = Keeps old new
+EndsOnScripts sources names procs known old new (Err faults.TooLong) = Keeps old new
+EndsOnScripts sources names procs known old new (Err (faults.Close fault)) = Keeps old new
+EndsOnScripts sources names procs known old new result =
+    OfAll known (λ log. (scripts : List (List ℕ)) × AreOf sources names scripts × RunsShared log procs scripts old new result)
 
 -- ---- the program
 
--- With a log named, the file's bytes are not known; a conversation is held on it where the words ask for one, otherwise a
+-- With a log named, that source's bytes are the log; a conversation is held on it where the words ask for one, otherwise a
 -- script is worked. Without one, all that standard input has is the log, and the script if it holds one.
-abbrev pub EndsFrom : {X : Type 0} → Option Text → Bool → Option ℕ → Option (List ℕ) → Option (List ℕ) → Option (List ℕ) → Result X ProgramFault → Type 0
-EndsFrom (Some file) true procs known old new result = EndsOnTalk Global None procs known old new result
-EndsFrom (Some file) false procs known old new result = EndsOnFile Global None procs known old new result
-EndsFrom None live procs known old new result = EndsOnInput Global procs known old new result
+abbrev pub EndsFrom : {X : Type 0} → Sources → Option Text → Bool → Option ℕ → Option (List ℕ) → Option (List ℕ) → Option (List ℕ) → Result X ProgramFault → Type 0
+EndsFrom sources (Some name) true procs known old new result = EndsOnTalk Global (sources name) procs known old new result
+EndsFrom sources (Some name) false procs known old new result = EndsOnFile Global (sources name) procs known old new result
+EndsFrom sources None live procs known old new result = EndsOnInput Global procs known old new result
 
--- what standard input has of the log, where scripts are named: nothing where a file is named, otherwise all
-abbrev pub log_known : Option Text → Option (List ℕ) → Option (List ℕ)
-log_known (Some file) known = None
-log_known None known = known
+-- the bytes of the log, where scripts are named: those of the source that is named, otherwise all of standard input
+abbrev pub log_known : Sources → Option Text → Option (List ℕ) → Option (List ℕ)
+log_known sources (Some name) known = sources name
+log_known sources None known = known
 
 -- scripts that are named are worked side by side; where none is, one session works alone, or none
-abbrev pub EndsWith : {X : Type 0} → List Text → Option Text → Bool → Option ℕ → Option (List ℕ) → Option (List ℕ) → Option (List ℕ) → Result X ProgramFault → Type 0
-EndsWith [] log live procs known old new result = EndsFrom log live procs known old new result
-EndsWith (script ∷ scripts) log live procs known old new result = EndsOnScripts (length scripts + 1) procs (log_known log known) old new result
+abbrev pub EndsWith : {X : Type 0} → Sources → List Text → Option Text → Bool → Option ℕ → Option (List ℕ) → Option (List ℕ) → Option (List ℕ) → Result X ProgramFault → Type 0
+EndsWith sources [] log live procs known old new result = EndsFrom sources log live procs known old new result
+EndsWith sources (script ∷ scripts) log live procs known old new result = EndsOnScripts sources (script ∷ scripts) procs (log_known sources log known) old new result
 
 -- the words are taken, and what they choose is run
-abbrev pub EndsBy : {X : Type 0} → List Text → Option (List ℕ) → Option (List ℕ) → Option (List ℕ) → Result X ProgramFault → Type 0
-EndsBy words known old new result = (choice : Choice) × (chosen words ≡ Some choice) × EndsWith choice.scripts choice.log choice.live choice.procs known old new result
+abbrev pub EndsBy : {X : Type 0} → Sources → List Text → Option (List ℕ) → Option (List ℕ) → Option (List ℕ) → Result X ProgramFault → Type 0
+EndsBy sources words known old new result = (choice : Choice) × (chosen words ≡ Some choice) × EndsWith sources choice.scripts choice.log choice.live choice.procs known old new result
 
 -- what the program wrote, by how it ends: where the words are bad, nothing
-abbrev pub Ends : {X : Type 0} → List Text → Option (List ℕ) → Option (List ℕ) → Option (List ℕ) → Result X Stop → Type 0
-Ends words known old new (Ok x) = EndsBy words known old new (Ok x)
-Ends words known old new (Err (Words fault)) = IsWordsFault words fault × Keeps old new
-Ends {X = X} words known old new (Err (Fault fault)) = EndsBy {X = X} words known old new (Err fault)
+abbrev pub Ends : {X : Type 0} → Sources → List Text → Option (List ℕ) → Option (List ℕ) → Option (List ℕ) → Result X Stop → Type 0
+Ends sources words known old new (Ok x) = EndsBy sources words known old new (Ok x)
+Ends sources words known old new (Err (Words fault)) = IsWordsFault words fault × Keeps old new
+Ends {X = X} sources words known old new (Err (Fault fault)) = EndsBy {X = X} sources words known old new (Err fault)

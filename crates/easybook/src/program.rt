@@ -1,8 +1,8 @@
-ghost use Rattle.std.specs.Prelude.{◌≡◌, IfErr, IfOk, IfSome, Some, length, map, vec_len};
+ghost use Rattle.std.specs.Prelude.{◌≡◌, ◌<◌, ◌+◌, ◌^◌, IfErr, IfOk, IfSome, None, Some, map, take};
 ghost use Rattle.std.specs.Option.{option_map};
 ghost use Rattle.easybook.specs.Input.{IsNotHad, IsReadFault};
 ghost use Rattle.easybook.specs.Plain.{Answers};
-ghost use Rattle.easybook.specs.Program.{Ends, EndsFrom, EndsOnFile, EndsOnInput, EndsOnScripts, log_known};
+ghost use Rattle.easybook.specs.Program.{AreFronts, Ends, EndsFrom, EndsOnFile, EndsOnInput, EndsOnScripts, IsFront, log_known};
 
 use crate::alone::{SCRIPT_LIMIT, run_alone};
 use crate::fault::ProgramFault;
@@ -12,11 +12,11 @@ use crate::opened::{LOG_LIMIT, opening_of};
 use crate::options::Options;
 use crate::plain::write_first;
 use crate::shared::run_shared;
+use crate::sources::{NamedFiles, Sources};
 use crate::split::split_input;
 use crate::stop::Stop;
 use crate::words::{Words, read_words};
 use std::alloc::{Allocator, Global};
-use std::fs;
 use std::io::{ErrorKind, Read, Write};
 use std::marker::Sync;
 use std::rt::Files;
@@ -83,51 +83,67 @@ fn run_input<R: Read + Drop, W: Write, T: Threads + Sync, A: Allocator + Copy>(
     }
 }
 
-// Reads the scripts in these files, in their order, each at most one byte past its limit.
-fn read_scripts<F: Files>(
+// Reads the scripts with these names, in their order, each at most one byte past its limit.
+fn read_scripts<S: Sources>(
     alloc: Global,
-    files: &F,
-    paths: &[&str],
+    sources: &S,
+    names: &[&str],
 ) -> Result<Vec<Vec<u8>>, ProgramFault>
-    ensures count { IfOk result (λ scripts. vec_len scripts ≡ length paths.now) }
+    ensures fronts { IfOk result (λ scripts. AreFronts (S.known sources.now) (map (λ n. n.now) names.now) (map (λ s. s.items) scripts.items)) }
     ensures fault { IfErr result IsReadFault }
 {
-    let mut scripts = Vec::with_capacity(alloc, paths.len())?;
-    for path in paths {
-        scripts.push(read_front(alloc, open(files, path)?, SCRIPT_LIMIT)?)?;
+    let mut scripts = Vec::with_capacity(alloc, names.len())?;
+    for name in names {
+        let script = read_named(alloc, sources, name, SCRIPT_LIMIT)?;
+        scripts.push(script)?;
     }
     Ok(scripts)
 }
 
+// Reads what has this name, at most one byte past a limit.
+fn read_named<S: Sources>(
+    alloc: Global,
+    sources: &S,
+    name: &str,
+    limit: u64,
+) -> Result<Vec<u8>, ProgramFault>
+    requires { limit < 2 ^ 63 }
+    ensures front { IfOk result (λ bytes. IfSome (S.known sources.now name.now) (λ all. bytes.items ≡ take (limit + 1) all)) }
+    ensures fault { IfErr result IsReadFault }
+{
+    read_front(alloc, open(sources, name)?, limit)
+}
+
 // Reads a log, at most one byte past its limit, or all of the input where it is the log, which may
 // have 1,200,000,000 bytes.
-fn read_log<F: Files, R: Read + Drop>(
+fn read_log<S: Sources, R: Read + Drop>(
     alloc: Global,
-    files: &F,
-    path: Option<&str>,
+    sources: &S,
+    name: Option<&str>,
     reader: R,
 ) -> Result<Vec<u8>, ProgramFault>
-    ensures whole { IfOk result (λ bytes. IfSome (log_known (option_map (λ p. p.now) path.entry) (R.remaining reader)) (λ all. bytes.items ≡ all)) }
+    ensures front { IfOk result (λ bytes. IfSome (log_known (S.known sources.now) (option_map (λ n. n.now) name.entry) (R.remaining reader)) (IsFront bytes.items)) }
     ensures fault { IfErr result IsNotHad }
 {
-    match path {
-        Some(path) => read_front(alloc, open(files, path)?, LOG_LIMIT as u64),
+    match name {
+        Some(name) => read_named(alloc, sources, name, LOG_LIMIT as u64),
         None => read_input(alloc, reader, INPUT_LIMIT),
     }
 }
 
 // Reads a log and the scripts beside it, and works the scripts side by side.
-fn run_beside<F: Files + Threads + Wait + Sync, R: Read + Drop, W: Write>(
+fn run_beside<S: Sources, T: Threads + Wait + Sync, R: Read + Drop, W: Write>(
     alloc: Global,
-    rt: &F,
+    rt: &T,
+    sources: &S,
     words: &Words<'_>,
     reader: R,
     writer: &mut W,
 ) -> Result<(), ProgramFault>
-    ensures { EndsOnScripts (vec_len words.now.scripts) words.now.options.procs (log_known (option_map (λ p. p.now) words.now.log) (R.remaining reader)) (W.contents writer.old) (W.contents writer.new) result }
+    ensures { EndsOnScripts (S.known sources.now) (map (λ s. s.now) words.now.scripts.items) words.now.options.procs (log_known (S.known sources.now) (option_map (λ p. p.now) words.now.log) (R.remaining reader)) (W.contents writer.old) (W.contents writer.new) result }
 {
-    let log = read_log(alloc, rt, words.log, reader)?;
-    let scripts = read_scripts(alloc, rt, words.scripts.as_slice())?;
+    let log = read_log(alloc, sources, words.log, reader)?;
+    let scripts = read_scripts(alloc, sources, words.scripts.as_slice())?;
     run_shared(
         rt,
         alloc,
@@ -138,33 +154,35 @@ fn run_beside<F: Files + Threads + Wait + Sync, R: Read + Drop, W: Write>(
     )
 }
 
-// Opens a file.
-fn open<F: Files>(files: &F, path: &str) -> Result<F::File, ProgramFault>
-    ensures { IfErr result IsReadFault }
+// Opens what has this name.
+fn open<S: Sources>(sources: &S, name: &str) -> Result<S::Source, ProgramFault>
+    ensures known { IfOk result (λ source. IfSome (S.known sources.now name.now) (λ bytes. S.Source.remaining source ≡ Some bytes)) }
+    ensures fault { IfErr result IsReadFault }
 {
-    match fs::open(files, path) {
-        Ok(file) => Ok(file),
+    match sources.source(name) {
+        Ok(source) => Ok(source),
         Err(error) if error.kind() == ErrorKind::OutOfMemory => Err(ProgramFault::Memory),
         Err(_) => Err(ProgramFault::Read),
     }
 }
 
-// Opens the log in a file, and holds a conversation on it, or works the script that the reader holds.
-fn run_named<F: Files + Threads + Sync, R: Read + Drop, W: Write>(
+// Opens the log with this name, and holds a conversation on it, or works the script that the reader holds.
+fn run_on_named<S: Sources, T: Threads + Sync, R: Read + Drop, W: Write>(
     alloc: Global,
-    files: &F,
-    path: &str,
+    rt: &T,
+    sources: &S,
+    name: &str,
     words: &Words<'_>,
     reader: R,
     writer: &mut W,
 ) -> Result<(), ProgramFault>
-    ensures { EndsFrom (Some path.now) words.now.live words.now.options.procs (R.remaining reader) (W.contents writer.old) (W.contents writer.new) result }
+    ensures { EndsFrom (S.known sources.now) (Some name.now) words.now.live words.now.options.procs (R.remaining reader) (W.contents writer.old) (W.contents writer.new) result }
 {
-    let log = open(files, path)?;
+    let log = open(sources, name)?;
     if words.live {
-        return talk_on_file(files, alloc, log, reader, writer, words.options);
+        return talk_on_file(rt, alloc, log, reader, writer, words.options);
     }
-    run_file(files, alloc, log, reader, writer, words.options)
+    run_file(rt, alloc, log, reader, writer, words.options)
 }
 
 /// Runs the program: its words, its name first, then its input.
@@ -187,16 +205,31 @@ pub fn run_words<F: Files + Threads + Wait + Sync, R: Read + Drop, W: Write>(
     reader: R,
     writer: &mut W,
 ) -> Result<(), Stop>
-    ensures { Ends (map (λ w. w.now) words.now) (R.remaining reader) (W.contents writer.old) (W.contents writer.new) result }
+    ensures { Ends (λ _. None) (map (λ w. w.now) words.now) (R.remaining reader) (W.contents writer.old) (W.contents writer.new) result }
+{
+    run_named_words(alloc, files, &NamedFiles::new(files), words, reader, writer)
+}
+
+/// As `run_words`, where the words name these sources in the place of files: each script is read from
+/// the source that has its name, in the order of the words, and so is a log that is named.
+pub fn run_named_words<S: Sources, T: Threads + Wait + Sync, R: Read + Drop, W: Write>(
+    alloc: Global,
+    rt: &T,
+    sources: &S,
+    words: &[&str],
+    reader: R,
+    writer: &mut W,
+) -> Result<(), Stop>
+    ensures { Ends (S.known sources.now) (map (λ w. w.now) words.now) (R.remaining reader) (W.contents writer.old) (W.contents writer.new) result }
 {
     let words = read_words(alloc, words)?;
     if !words.scripts.is_empty() {
-        run_beside(alloc, files, &words, reader, writer)?;
+        run_beside(alloc, rt, sources, &words, reader, writer)?;
         return Ok(());
     }
     match words.log {
-        Some(path) => run_named(alloc, files, path, &words, reader, writer)?,
-        None => run_input(files, alloc, reader, writer, words.options)?,
+        Some(name) => run_on_named(alloc, rt, sources, name, &words, reader, writer)?,
+        None => run_input(rt, alloc, reader, writer, words.options)?,
     }
     Ok(())
 }

@@ -66,17 +66,19 @@ fn parts_of<A: Allocator + Copy, R: Wait>(
     Ok(parts)
 }
 
-// So many workers, at most 64.
+// So many workers. Memory too where the desk has no room for one more.
 fn workers_of<A: Allocator + Copy, R: Wait>(
     rt: &R,
     alloc: A,
     desk: &Desk<A>,
     count: u32,
-) -> Result<Vec<Worker<A>, A>, Memory> {
+) -> Result<Vec<Worker<A>, A>, Memory>
+    ensures { IfOk result (λ workers. vec_len workers ≡ count) }
+{
     let mut workers = Vec::with_capacity(alloc, count as usize)?;
     for _ in 0..count {
         let Some(worker) = desk.open_worker(rt) else {
-            return Ok(workers);
+            return Err(Memory);
         };
         workers.push(worker)?;
     }
@@ -149,7 +151,7 @@ fn keep_whole<A: Allocator + Copy>(
 /// each piece of work.
 ///
 /// Memory where a growth for this, or the start of a thread, is refused, or where there are more than
-/// 64 scripts; every thread has then ended.
+/// 64 scripts or workers; every thread has then ended.
 /// Close where the callers' lists are not the book's history, which does not happen.
 pub fn run_scripts<A: Allocator + Copy + Send + Sync, R: Threads + Wait + Sync, G: Gate + Sync>(
     rt: &R,
