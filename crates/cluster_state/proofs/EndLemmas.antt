@@ -1,11 +1,11 @@
 -- Running jobs in the order in which they are expected to end.
-use Rattle.std.proofs.Common.{◌≡◌, ◌≢◌, ℕ, zero, suc, ◌+◌, ◌≤◌, ◌<◌, Bool, true, false, cond, ◌||◌, ◌&&◌, ◌==◌, nat_eq, nat_lt, not, List, [], ◌∷◌, All, Any, get_or, take, filter, sum_by, count_by, length, insert, one-add, Option, Some, None, IfSome, IsNone, IsSomeAnd, slice_get, refl, sym, ◌∙◌, ap, arith, subst, inl, inr, ⊎_elim, ◌⊎◌}
+use Rattle.std.proofs.Common.{◌≡◌, ◌≢◌, ℕ, zero, suc, ◌+◌, ◌≤◌, ◌<◌, Bool, true, false, cond, ◌||◌, ◌&&◌, ◌==◌, nat_eq, nat_lt, not, List, [], ◌∷◌, All, Any, get_or, filter, sum_by, count_by, length, insert, one-add, Option, Some, None, IfSome, IsNone, IsSomeAnd, slice_get, refl, sym, ◌∙◌, ap, arith, subst, inl, inr, ⊎_elim, ◌⊎◌}
 use Rattle.std.specs.List.{position_or_len}
 use Rattle.std.specs.Option.{option_map}
-use Rattle.std.proofs.lemmas.List.Sums.{sum_by-cons, sum_by_more, get_or-le-sum_by}
+use Rattle.std.proofs.lemmas.List.Sums.{sum_by-cons, get_or-le-sum_by}
 use Rattle.std.specs.List.Sorted.{IsPermutation, IsPartitionedBy}
 use Rattle.std.proofs.lemmas.List.{nil_from_length}
-use Rattle.std.proofs.lemmas.List.Sorted.{sum_by_popped, sum_by_pushed, IsPermutation-refl, IsPermutation-cons, IsPermutation-trans, IsPermutation-insert}
+use Rattle.std.proofs.lemmas.List.Sorted.{sum_by_popped, IsPermutation-refl, IsPermutation-cons, IsPermutation-trans, IsPermutation-insert}
 use Rattle.std.proofs.lemmas.List.Elements.{All-cons, All-head, All-tail, All-nil, All-weaker, All-filter, All-get_or}
 use Rattle.std.proofs.lemmas.Bool.{cond_both, cond-true, cond-false, cases_Bool, cases_lt, lt-ltb, ltb-true, ltb-false, le-ltb, eq-eqb, eqb-true, and_from, and_parts, or_left, or_right, true≢false}
 use Rattle.scenarios.specs.Job.{EffectiveJob}
@@ -13,7 +13,7 @@ use Rattle.scenarios.specs.declared.placed.Placed.{Placed}
 use Rattle.scenarios.specs.Placed.{expected_end, real_end}
 use Rattle.cluster_state.specs.State.{State, IsSound, placed, waiting_job, ended_until}
 use Rattle.cluster_state.specs.Ends.{is_sooner, entered, by_end, EndsSooner, RisesByEnd}
-use Rattle.cluster_state.proofs.StateLemmas.{sum_by-placed, sum_by-without}
+use Rattle.cluster_state.proofs.StateLemmas.{sum_by-without}
 
 -- ---- the order
 abbrev pub Sooner : Placed → Placed → Type 0
@@ -23,7 +23,7 @@ Sooner a b = EndsSooner a b
 abbrev pub NotLater : Placed → Placed → Type 0
 NotLater a b = (expected_end a < expected_end b) ⊎ ((expected_end a ≡ expected_end b) × (a.job.number ≤ b.job.number))
 
-sooner-is : (a b : Placed) → is_sooner a b ≡ true → Sooner a b
+pub sooner-is : (a b : Placed) → is_sooner a b ≡ true → Sooner a b
 sooner-is a b h =
     let l = nat_lt (expected_end a) (expected_end b) in
     let e = expected_end a == expected_end b && nat_lt a.job.number b.job.number in
@@ -35,7 +35,7 @@ sooner-is a b h =
     inr (eqb-true (expected_end a) (expected_end b) p.0, ltb-true a.job.number b.job.number p.1))
     (cases_Bool l)
 
-is-sooner : (a b : Placed) → Sooner a b → is_sooner a b ≡ true
+pub is-sooner : (a b : Placed) → Sooner a b → is_sooner a b ≡ true
 is-sooner a b (inl l) = or_left (nat_lt (expected_end a) (expected_end b)) (expected_end a == expected_end b && nat_lt a.job.number b.job.number) (lt-ltb (expected_end a) (expected_end b) l)
 is-sooner a b (inr p) =
     or_right (nat_lt (expected_end a) (expected_end b)) (expected_end a == expected_end b && nat_lt a.job.number b.job.number)
@@ -64,21 +64,24 @@ sooner-never a b (inl l) (inr m) = let k = m.0 in omega (arith, k)
 sooner-never a b (inr l) (inl m) = let k = l.0 in omega (arith, k)
 sooner-never a b (inr l) (inr m) = let k = l.1 in let n = m.1 in omega (arith, k, n)
 
-not-sooner : (a b : Placed) → NotLater b a → is_sooner a b ≡ false
+pub not-sooner : (a b : Placed) → NotLater b a → is_sooner a b ≡ false
 not-sooner a b h = ⊎_elim (λ (y : is_sooner a b ≡ true). absurd (sooner-never a b (sooner-is a b y) h)) (λ (n : is_sooner a b ≡ false). n) (cases_Bool (is_sooner a b))
+
+pub sooner-itself : (r : Placed) → is_sooner r r ≡ false
+sooner-itself r = not-sooner r r (inr (refl, omega arith))
 
 -- of two numbers one is sooner
 strictly : (a b : Placed) → a.job.number ≢ b.job.number → NotLater a b → Sooner a b
 strictly a b ne (inl l) = inl l
 strictly a b ne (inr p) = inr (p.0, (let k = p.1 in ⊎_elim (λ (l : a.job.number < b.job.number). l) (λ (l : b.job.number ≤ a.job.number). absurd (ne (omega (arith, k)))) (cases_lt a.job.number b.job.number)))
 
-sooner-than : (a b c : Placed) → Sooner a b → NotLater b c → Sooner a c
+pub sooner-than : (a b c : Placed) → Sooner a b → NotLater b c → Sooner a c
 sooner-than a b c (inl l) (inl m) = inl (omega arith)
 sooner-than a b c (inl l) (inr m) = inl (let k = m.0 in omega (arith, k))
 sooner-than a b c (inr l) (inl m) = inl (let k = l.0 in omega (arith, k))
 sooner-than a b c (inr l) (inr m) = inr ((let k = l.0 in let n = m.0 in omega (arith, k, n)), (let k = l.1 in let n = m.1 in omega (arith, k, n)))
 
-weaker : (a b : Placed) → Sooner a b → NotLater a b
+pub weaker : (a b : Placed) → Sooner a b → NotLater a b
 weaker a b (inl l) = inl l
 weaker a b (inr p) = inr (p.0, (let k = p.1 in omega (arith, k)))
 
@@ -188,7 +191,7 @@ by_end-placed r (x ∷ rs) none =
     (λ _. ap (entered x) (by_end-placed r rs (omega (arith, none, k))) ∙ sym (entered-entered r x (by_end rs) other))
 
 -- ---- who ends leaves the row
-enters-first : (r : Placed) (xs : List Placed) → All (Sooner r) xs → entered r xs ≡ r ∷ xs
+pub enters-first : (r : Placed) (xs : List Placed) → All (Sooner r) xs → entered r xs ≡ r ∷ xs
 enters-first r [] a = refl
 enters-first r (x ∷ xs) a = enters-before r x xs (All-head (Sooner r) x xs a)
 
@@ -330,10 +333,6 @@ module _ {E : Type 0} (at : E → ℕ) where
       All-weaker (λ (r : Placed). nat_lt (real_end r) t ≡ false) (λ r. t ≤ real_end r) (λ r n. ltb-false (real_end r) t n) rs
       (none-adds (λ (r : Placed). nat_lt (real_end r) t) rs (sym (h f) ∙ zero'))
 
-  -- those that end by second t leave on both sides
-  pub ends-left : (ends ends' : List E) (rs : List Placed) (t : ℕ) → EndsOf ends rs → ((f : ℕ → ℕ) → sum_by (λ e. f (at e)) ends' ≡ sum_by (λ e. cond (nat_lt t (at e)) (f (at e)) 0) ends) → EndsOf ends' (filter (λ r. nat_lt t (real_end r)) rs)
-  ends-left ends ends' rs t h k = λ f. k f ∙ h (λ n. cond (nat_lt t n) (f n) 0) ∙ sym (sum_by-filter (λ r. f (real_end r)) (λ (r : Placed). nat_lt t (real_end r)) rs)
-
 -- the first of the heap
 pub first-is : {E : Type 0} (at : E → ℕ) (ends : List E) (x : E) (t : ℕ) → Some t ≡ option_map at (slice_get ends 0) → x ≡ get_or ends 0 x → at x ≡ t
 first-is at [] x t e i = cc
@@ -348,8 +347,8 @@ first-some at [] t e rs h = let k : None ≡ Some t = e in cc
 first-some at (y ∷ ys) t e rs h = let k : Some (at y) ≡ Some t = e in let same : at y ≡ t = cc in one-ends at (y ∷ ys) rs t 0 y h (omega arith) same
 
 -- a heap whose least second comes later than t is left as it is
-pub kept-later : {E : Type 0} (at : E → ℕ) (ends : List E) (t : ℕ) (f : ℕ → ℕ) → All (λ e. t < at e) ends → sum_by (λ e. cond (nat_lt t (at e)) (f (at e)) 0) ends ≡ sum_by (λ e. f (at e)) ends
-kept-later at ends t f a = sum_by-all (λ e. f (at e)) (λ e. nat_lt t (at e)) ends (All-weaker (λ e. t < at e) (λ e. nat_lt t (at e) ≡ true) (λ e l. lt-ltb t (at e) l) ends a)
+pub kept-later : {E : Type 0} (at f : E → ℕ) (ends : List E) (t : ℕ) → All (λ e. t < at e) ends → sum_by (λ e. cond (nat_lt t (at e)) (f e) 0) ends ≡ sum_by f ends
+kept-later at f ends t a = sum_by-all f (λ e. nat_lt t (at e)) ends (All-weaker (λ e. t < at e) (λ e. nat_lt t (at e) ≡ true) (λ e l. lt-ltb t (at e) l) ends a)
 
 -- who outlasts t stays
 pub filter-later : (t : ℕ) (rs : List Placed) → All (λ r. t < real_end r) rs → filter (λ r. nat_lt t (real_end r)) rs ≡ rs
@@ -402,37 +401,21 @@ nobody-ends s next t none least after = sym (ap (λ (rs : List Placed). let z : 
         let l : t < u = ⊎_elim (λ (m : t < u). m) (λ (m : u ≤ t). absurd (after m)) (cases_lt t u) in
         All-weaker (λ r. u ≤ real_end r) (λ r. t < real_end r) (λ r m. omega arith) s.running least
 
--- who starts joins the ends
-pub ends-joined : {E : Type 0} (at : E → ℕ) (ends ends' : List E) (r : Placed) (rs : List Placed) → EndsOf at ends rs → ((f : ℕ → ℕ) → sum_by (λ e. f (at e)) ends' ≡ f (real_end r) + sum_by (λ e. f (at e)) ends) → EndsOf at ends' (placed r rs)
-ends-joined at ends ends' r rs h k = λ f. (let a = k f in let b = h f in let c = sum_by-placed (λ r. f (real_end r)) r rs in omega (arith, a, b, c))
-
 -- ---- the steps of the heap
-pub step-left : {E : Type 0} (at : E → ℕ) (ends ends' : List E) (x : E) (t u : ℕ) (f : ℕ → ℕ) → Some u ≡ option_map at (slice_get ends 0) → u ≤ t → x ≡ get_or ends 0 x → IsPermutation ends (x ∷ ends')
-    → sum_by (λ e. cond (nat_lt t (at e)) (f (at e)) 0) ends' ≡ sum_by (λ e. cond (nat_lt t (at e)) (f (at e)) 0) ends
-step-left at ends ends' x t u f first by is p =
-    let here = first-is at ends x u first is in
-    let none = cond-false {A = ℕ} (nat_lt t (at x)) (f (at x)) 0 (le-ltb t (at x) (omega (arith, here))) in
-    let k = sum_by_popped (λ e. cond {A = ℕ} (nat_lt t (at e)) (f (at e)) 0) x ends ends' p in
+pub step-left : {E : Type 0} (at f : E → ℕ) (ends ends' : List E) (x : E) (t : ℕ) → at x ≤ t → IsPermutation ends (x ∷ ends')
+    → sum_by (λ e. cond (nat_lt t (at e)) (f e) 0) ends' ≡ sum_by (λ e. cond (nat_lt t (at e)) (f e) 0) ends
+step-left at f ends ends' x t by p =
+    let none = cond-false {A = ℕ} (nat_lt t (at x)) (f x) 0 (le-ltb t (at x) by) in
+    let k = sum_by_popped (λ e. cond {A = ℕ} (nat_lt t (at e)) (f e) 0) x ends ends' p in
     omega (arith, k, none)
 
-pub due : {E : Type 0} (at : E → ℕ) (ends ends' : List E) (x : E) (o : Option ℕ) (t : ℕ) → o ≡ option_map at (slice_get ends 0) → IsSomeAnd o (λ u. u ≤ t) → x ≡ get_or ends 0 x → IsPermutation ends (x ∷ ends') → (f : ℕ → ℕ)
-    → sum_by (λ e. cond (nat_lt t (at e)) (f (at e)) 0) ends' ≡ sum_by (λ e. cond (nat_lt t (at e)) (f (at e)) 0) ends
-due at ends ends' x None t e by is p f = absurd by
-due at ends ends' x (Some u) t e by is p f = step-left at ends ends' x t u f e by is p
-
-pub pushed : {E : Type 0} (at : E → ℕ) (ends ends' : List E) (x : E) (n : ℕ) (f : ℕ → ℕ) → IsPermutation (x ∷ ends) ends' → at x ≡ n → sum_by (λ e. f (at e)) ends' ≡ f n + sum_by (λ e. f (at e)) ends
-pushed at ends ends' x n f p here = (let k = sum_by_pushed (λ e. f (at e)) x ends ends' p in let e = ap f here in omega (arith, k, e))
-
-pub pushed-more : {E : Type 0} (at : E → ℕ) (ends ends' : List E) (x : E) (i : ℕ) (r : Placed) (rs : List Placed) (f : ℕ → ℕ) → sum_by (λ e. f (at e)) ends ≡ sum_by (λ r. f (real_end r)) (take i rs)
-    → IsPermutation (x ∷ ends) ends' → at x ≡ real_end r → i < length rs → r ≡ get_or rs i r → sum_by (λ e. f (at e)) ends' ≡ sum_by (λ r. f (real_end r)) (take (i + 1) rs)
-pushed-more at ends ends' x i r rs f h p here l is =
-    let a = pushed at ends ends' x (real_end r) f p here in
-    let b = sum_by_more (λ (r : Placed). f (real_end r)) rs i r l in
-    let e = ap (λ (r : Placed). f (real_end r)) is in
-    omega (arith, a, b, e, h)
+-- the first of the heap comes by second t
+pub first-by : {E : Type 0} (at : E → ℕ) (ends : List E) (x : E) (o : Option ℕ) (t : ℕ) → o ≡ option_map at (slice_get ends 0) → IsSomeAnd o (λ u. u ≤ t) → x ≡ get_or ends 0 x → at x ≤ t
+first-by at ends x None t e by is = absurd by
+first-by at ends x (Some u) t e by is = let here = first-is at ends x u e is in omega (arith, here, by)
 
 -- ---- no two of them tie
-strict-entered : (r : Placed) (xs : List Placed) → RisesByEnd xs → All (λ x. x.job.number ≢ r.job.number) xs → RisesByEnd (entered r xs)
+pub strict-entered : (r : Placed) (xs : List Placed) → RisesByEnd xs → All (λ x. x.job.number ≢ r.job.number) xs → RisesByEnd (entered r xs)
 strict-entered r [] h a = (All-nil (EndsSooner r), tt)
 strict-entered r (x ∷ xs) h a =
     ⊎_elim

@@ -1,8 +1,7 @@
 -- Running jobs and their numbers, in the order of the numbers.
-use Rattle.std.proofs.Common.{◌≡◌, ℕ, zero, suc, ◌≤◌, Bool, true, false, nat_lt, List, [], ◌∷◌, All, Option, Some, None, map, filter, refl, sym, arith, subst, ⊎_elim}
+use Rattle.std.proofs.Common.{◌≡◌, ℕ, ◌≤◌, Bool, true, false, nat_lt, List, [], ◌∷◌, All, Option, Some, None, map, filter, refl, sym, arith, subst, ⊎_elim}
 use Rattle.std.specs.List.{filter_map, cons_option}
 use Rattle.std.specs.Option.{option_map}
-use Rattle.std.specs.List.Sorted.{IsNonDecreasingBy}
 use Rattle.std.proofs.lemmas.List.Elements.{All-nil, All-cons, All-head, All-tail, All-weaker, All-filter}
 use Rattle.std.proofs.lemmas.Bool.{cond_both, cond-true, cond-false, cases_Bool, ltb-true, ltb-false}
 use Rattle.scenarios.specs.Job.{EffectiveJob}
@@ -40,14 +39,6 @@ rises-filter keeps (r ∷ rs) h =
     cond_both (keeps r) (r ∷ filter keeps rs) (filter keeps rs) RisesByNumber
     (λ _. (All-filter keeps (From r.job.number) rs h.0, rises-filter keeps rs h.1))
     (λ _. rises-filter keeps rs h.1)
-
--- the same by places
-pub rises-all : (rs : List Placed) → RisesByNumber rs → IsNonDecreasingBy (λ (r : Placed). r.job.number) rs
-rises-all [] h i j d le l = absurd (omega arith)
-rises-all (r ∷ rs) h zero zero d le l = omega arith
-rises-all (r ∷ rs) h zero (suc j) d le l = h.0 j d (omega arith)
-rises-all (r ∷ rs) h (suc i) zero d le l = absurd (omega arith)
-rises-all (r ∷ rs) h (suc i) (suc j) d le l = rises-all rs h.1 i j d (omega arith) (omega arith)
 
 -- their numbers, apart
 pub numbers-rise : (rs : List Placed) → RisesByNumber rs → NumbersRise (map number_of rs)

@@ -1,7 +1,12 @@
 -- The order in which running jobs are expected to end.
 use Rattle.std.specs.Prelude.{◌≡◌, ◌<◌, ◌⊎◌, ◌||◌, ◌&&◌, ◌==◌, Bool, nat_lt, if◌then◌else◌, List, [], ◌∷◌, All}
+use Rattle.std.specs.Ordering.{nat_cmp, ordering_then}
+use Rattle.std.specs.declared.cmp.Ordering.{Ordering}
+use Rattle.std.specs.declared.cmp.Reverse.{Reverse}
 use Rattle.scenarios.specs.declared.placed.Placed.{Placed}
-use Rattle.scenarios.specs.Placed.{expected_end}
+use Rattle.scenarios.specs.Placed.{expected_end, real_end}
+use Rattle.cluster_state.specs.declared.ends.End.{End}
+use Rattle.cluster_state.specs.State.{placed}
 
 -- a is expected to end earlier than b, or at the same second and has the smaller number
 abbrev pub is_sooner : Placed → Placed → Bool
@@ -25,3 +30,20 @@ EndsSooner a b = (expected_end a < expected_end b) ⊎ ((expected_end a ≡ expe
 abbrev pub RisesByEnd : List Placed → Type 0
 RisesByEnd [] = Unit {0}
 RisesByEnd (r ∷ rs) = All (EndsSooner r) rs × RisesByEnd rs
+
+-- running jobs in the order of their numbers
+abbrev pub by_number : List Placed → List Placed
+by_number [] = []
+by_number (r ∷ rs) = placed r (by_number rs)
+
+-- when a running job ends, and what it is found by
+abbrev pub end_of : Placed → End
+end_of r = record { end = real_end r; expected_end = expected_end r; number = r.job.number }
+
+-- whether a running job is expected to end sooner than the one that ends so
+abbrev pub is_before : Placed → End → Bool
+is_before r e = nat_lt (expected_end r) e.expected_end || (expected_end r == e.expected_end && nat_lt r.job.number e.number)
+
+-- the order in which a heap of ends keeps them: the first to end on top
+abbrev pub falling : Reverse End → Reverse End → Ordering
+falling a b = ordering_then (nat_cmp b.0.end a.0.end) (ordering_then (nat_cmp b.0.expected_end a.0.expected_end) (nat_cmp b.0.number a.0.number))

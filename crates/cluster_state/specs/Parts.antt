@@ -1,11 +1,10 @@
 -- The fields of a cluster and of its two rooms, as contracts see them.
-use Rattle.std.specs.Prelude.{◌≡◌, ℕ, ◌+◌, ◌-◌, ◌≤◌, min, drop, sum_by, vec_len, vec_capacity}
+use Rattle.std.specs.Prelude.{◌≡◌, ℕ, ◌+◌, ◌-◌, ◌≤◌, min, drop, sum_by, count_by, nat_eq, vec_len, vec_capacity}
 use Rattle.std.specs.BinaryHeap.{heap_items, heap_len, heap_capacity, IsHeap}
-use Rattle.std.specs.Ordering.{nat_cmp}
-use Rattle.scenarios.specs.Placed.{real_end}
-use Rattle.cluster_state.specs.State.{State, ClusterView, IsSound, busy, RisesByNumber}
+use Rattle.cluster_state.specs.State.{State, ClusterView, IsSound, busy}
 use Rattle.cluster_state.specs.Row.{row_of}
-use Rattle.cluster_state.specs.Ends.{by_end}
+use Rattle.cluster_state.specs.Ends.{by_number, end_of, falling, RisesByEnd}
+use Rattle.cluster_state.specs.declared.ends.End.{End}
 use Rattle.cluster_state.specs.Rooms.{LineView, QueueView, RunningView}
 use Rattle.cluster_state.specs.declared.cluster.Cluster.TheInside.{Inside}
 use Rattle.cluster_state.specs.declared.line.Line.TheInside as line
@@ -28,21 +27,21 @@ queue_of q = record { order = q.order; jobs = q.jobs.jobs }
 abbrev pub IsQueue : {A : Type 0} → queue.Inside A → Type 0
 IsQueue q = q.row.jobs ≡ row_of q.order q.jobs.jobs
 
--- the room for running jobs that is left: in the list, in the row by expected ends and in the heap of ends
+-- the room for running jobs that is left: in the row by expected ends and in the heap of ends
 abbrev pub spare_of : {A : Type 0} → set.Inside A → ℕ
-spare_of s = min (vec_capacity s.running - vec_len s.running) (min (vec_capacity s.by_end - vec_len s.by_end) (heap_capacity s.ends - heap_len s.ends))
+spare_of s = min (vec_capacity s.row - vec_len s.row) (heap_capacity s.ends - heap_len s.ends)
 
--- the running jobs, and this room
+-- the running jobs, rising by number, and this room
 abbrev pub running_of : {A : Type 0} → set.Inside A → RunningView
-running_of s = record { running = s.running.items; spare = spare_of s }
+running_of s = record { running = by_number s.row.items; spare = spare_of s }
 
--- what the fields of the running jobs keep: they rise by number, and stand once more by their expected ends, and a heap holds the seconds at
--- which they end: whatever is added up over these is added up over the running jobs
+-- what the fields of the running jobs keep: they have numbers of their own and stand by their expected ends, and a heap holds when each of
+-- them ends: whatever is added up over these ends is added up over the running jobs
 pub record IsRunningSet {A : Type 0} (s : set.Inside A) : Type 0 where
-  pub rises : RisesByNumber s.running.items
-  pub kept_by_end : s.by_end.items ≡ by_end s.running.items
-  pub heap : IsHeap (λ x y. nat_cmp y.0 x.0) (heap_items s.ends)
-  pub kept_ends : (f : ℕ → ℕ) → sum_by (λ e. f e.0) (heap_items s.ends) ≡ sum_by (λ r. f (real_end r)) s.running.items
+  pub once : (n : ℕ) → count_by (λ r. nat_eq r.job.number n) s.row.items ≤ 1
+  pub rises : RisesByEnd s.row.items
+  pub heap : IsHeap falling (heap_items s.ends)
+  pub kept_ends : (f : End → ℕ) → sum_by (λ e. f e.0) (heap_items s.ends) ≡ sum_by (λ r. f (end_of r)) s.row.items
 
 -- the state that a cluster's fields hold
 abbrev pub state_of : {A : Type 0} → Inside A → State

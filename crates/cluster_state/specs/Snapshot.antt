@@ -1,10 +1,10 @@
 -- A state as a log can tell it again: the numbers of its jobs, apart from their sizes and lengths.
-use Rattle.std.specs.Prelude.{◌≡◌, ℕ, ◌+◌, ◌≤◌, ◌<◌, nat_eq, List, [], ◌∷◌, Option, IsSome, Some, map, find, count_by, All}
+use Rattle.std.specs.Prelude.{◌≡◌, ℕ, ◌+◌, ◌≤◌, ◌<◌, nat_eq, List, [], ◌∷◌, Option, IsSome, Some, map, count_by, All}
 use Rattle.std.specs.List.{filter_map}
 use Rattle.std.specs.Option.{option_map}
 use Rattle.scenarios.specs.Limits.{seconds_end}
 use Rattle.scenarios.specs.Job.{EffectiveJob}
-use Rattle.scenarios.specs.Plan.{Plan}
+use Rattle.scenarios.specs.Plan.{Plan, job_numbered}
 use Rattle.scenarios.specs.declared.placed.Placed.{Placed}
 use Rattle.cluster_state.specs.declared.snapshot.RunningNumber.{RunningNumber}
 use Rattle.cluster_state.specs.State.{State, busy}
@@ -36,10 +36,6 @@ pub record IsSnapshot (p : Numbers) : Type 0 where
   pub once : (n : ℕ) → standing p n ≤ 1
   pub rising : NumbersRise p.running
   pub started : All (λ r. r.start < seconds_end) p.running
-
--- the first of these jobs that has the number
-abbrev pub job_numbered : List EffectiveJob → ℕ → Option EffectiveJob
-job_numbered jobs n = find (λ j. nat_eq j.number n) jobs
 
 -- the job of a running number, running since its start
 abbrev pub running_numbered : List EffectiveJob → RunningNumber → Option Placed

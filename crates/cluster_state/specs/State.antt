@@ -5,6 +5,7 @@ use Rattle.scenarios.specs.Limits.{procs_limit, seconds_end}
 use Rattle.scenarios.specs.Job.{EffectiveJob, IsWithinLimits}
 use Rattle.scenarios.specs.declared.order.Order.{Order}
 use Rattle.scenarios.specs.declared.placed.Placed.{Placed}
+use Rattle.scenarios.specs.Placed.{expected_end, real_end}
 
 -- A machine's processors, the order in which later jobs are looked at, the waiting jobs in order of arrival, and the
 -- running ones, with their starts, rising by number.
@@ -30,14 +31,6 @@ busy rs = sum_by (λ r. r.job.size) rs
 -- the processors that no running job holds
 abbrev pub free : State → ℕ
 free s = s.machine - busy s.running
-
--- the second by which a running job has surely ended
-abbrev pub expected_end : Placed → ℕ
-expected_end r = r.start + r.job.estimate
-
--- the second at which it ends
-abbrev pub real_end : Placed → ℕ
-real_end r = r.start + r.job.length
 
 -- the processors that a running job has given back by second t, if it runs as long as is expected
 abbrev pub back_by : ℕ → Placed → ℕ

@@ -18,7 +18,8 @@ impl<A: Allocator + Copy> Cluster<A> {
     pub fn can_arrive(&self, job: &Job) -> bool
         ensures { IsTrue result ↔ CanArrive self.now.state job.now }
     {
-        is_absent(self.queue.jobs(), self.running.jobs(), job.number()) && job.size() <= self.procs
+        is_absent(self.queue.jobs(), self.running.by_end(), job.number())
+            && job.size() <= self.procs
     }
 
     /// A job joins the queue, at its end.

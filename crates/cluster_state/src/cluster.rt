@@ -152,14 +152,6 @@ impl<A: Allocator + Copy> Cluster<A> {
         self.queue.row()
     }
 
-    /// The running jobs with their starts, rising by number.
-    pub fn running(&self) -> &[Placed]
-        ensures jobs { result.now ≡ self.now.state.running }
-        ensures sound { IsSound self.now.state }
-    {
-        self.running.jobs()
-    }
-
     /// The waiting job at this place of the queue, counted from 0; none past the end.
     pub fn waiting_at(&self, place: usize) -> Option<&Job>
         ensures { option_copied result ≡ slice_get self.now.state.waiting place }
@@ -204,6 +196,10 @@ impl<A: Allocator + Copy> Cluster<A> {
     pub fn snapshot(&self) -> Result<Snapshot<A>, Memory>
         ensures { IfOk result (λ s. s ≡ numbers_of self.now.state) }
     {
-        Snapshot::of(self.queue.allocator(), self.waiting(), self.running.jobs())
+        Snapshot::of(
+            self.queue.allocator(),
+            self.waiting(),
+            self.running.by_end(),
+        )
     }
 }

@@ -1,9 +1,8 @@
-ghost use Rattle.std.specs.Prelude.{◌≡◌, ◌≤◌, ◌<◌, ◌↔◌, ℕ, IfOk, IfSome, IsSomeAnd, IsTrue, All, slice_get, sum_by, nat_lt, if◌then◌else◌};
+ghost use Rattle.std.specs.Prelude.{◌≡◌, ◌≤◌, ◌<◌, ◌+◌, ◌↔◌, ℕ, IfOk, IfSome, IfNone, IsSomeAnd, IsTrue, All, slice_get, sum_by, nat_lt, if◌then◌else◌};
 ghost use Rattle.std.specs.Option.{option_map};
 ghost use Rattle.std.specs.BinaryHeap.{heap_items, heap_len, heap_capacity, IsHeap};
-ghost use Rattle.std.specs.Ordering.{nat_cmp};
 ghost use Rattle.scenarios.specs.Limits.{seconds_end};
-ghost use Rattle.scenarios.specs.Placed.{real_end};
+ghost use Rattle.cluster_state.specs.Ends.{end_of, falling};
 
 use scenarios::Placed;
 use std::alloc::Allocator;
@@ -11,15 +10,38 @@ use std::cmp::Reverse;
 use std::collections::BinaryHeap;
 use swf_text::Memory;
 
+// When a running job ends, and what it is found by in the row: the second by which it has surely
+// ended, and its number.
+#[derive(Clone, Copy, PartialEq, Eq, PartialOrd, Ord)]
+pub(crate) struct End {
+    pub(crate) end: u64,
+    pub(crate) expected_end: u64,
+    pub(crate) number: u64,
+}
+
+impl End {
+    // When this job ends.
+    pub(crate) fn of(r: &Placed) -> End
+        requires { r.now.start < seconds_end }
+        ensures { result ≡ end_of r.now }
+    {
+        End {
+            end: r.end(),
+            expected_end: r.expected_end(),
+            number: r.job.number(),
+        }
+    }
+}
+
 // The least of the seconds in a heap.
-pub(crate) fn first_end<A: Allocator>(ends: &BinaryHeap<Reverse<u64>, A>) -> Option<u64>
-    requires { IsHeap (λ x y. nat_cmp y.0 x.0) (heap_items ends.now) }
-    ensures first { result ≡ option_map (λ e. e.0) (slice_get (heap_items ends.now) 0) }
-    ensures least { IfSome result (λ t. All (λ e. t ≤ e.0) (heap_items ends.now)) }
+pub(crate) fn first_end<A: Allocator>(ends: &BinaryHeap<Reverse<End>, A>) -> Option<u64>
+    requires { IsHeap falling (heap_items ends.now) }
+    ensures first { result ≡ option_map (λ e. e.0.end) (slice_get (heap_items ends.now) 0) }
+    ensures least { IfSome result (λ t. All (λ e. t ≤ e.0.end) (heap_items ends.now)) }
 {
     match ends.peek() {
         None => None,
-        Some(first) => Some(first.0),
+        Some(first) => Some(first.0.end),
     }
 }
 
@@ -33,11 +55,29 @@ pub(crate) fn is_by(end: Option<u64>, t: u64) -> bool
     }
 }
 
-// Drops the seconds up to t.
-pub(crate) fn drop_until<A: Allocator>(ends: &mut BinaryHeap<Reverse<u64>, A>, t: u64)
-    requires { IsHeap (λ x y. nat_cmp y.0 x.0) (heap_items ends.old) }
-    ensures heap { IsHeap (λ x y. nat_cmp y.0 x.0) (heap_items ends.new) }
-    ensures left { (f : ℕ → ℕ) → sum_by (λ e. f e.0) (heap_items ends.new) ≡ sum_by (λ e. if nat_lt t e.0 then f e.0 else 0) (heap_items ends.old) }
+// Takes the first end out, where it comes by second t.
+pub(crate) fn pop_until<A: Allocator>(ends: &mut BinaryHeap<Reverse<End>, A>, t: u64) -> Option<End>
+    requires { IsHeap falling (heap_items ends.old) }
+    ensures heap { IsHeap falling (heap_items ends.new) }
+    ensures due { IfSome result (λ e. e.end ≤ t) }
+    ensures popped { IfSome result (λ e. (f : End → ℕ) → f e + sum_by (λ x. f x.0) (heap_items ends.new) ≡ sum_by (λ x. f x.0) (heap_items ends.old)) }
+    ensures later { IfNone result (All (λ x. t < x.0.end) (heap_items ends.old)) }
+    ensures kept { IfNone result (heap_items ends.new ≡ heap_items ends.old) }
+    ensures len { heap_len ends.new ≤ heap_len ends.old }
+    ensures capacity { heap_capacity ends.new ≡ heap_capacity ends.old }
+{
+    if !is_by(first_end(ends), t) {
+        return None;
+    }
+    let Reverse(first) = ends.pop()?;
+    Some(first)
+}
+
+// Drops the ends up to second t.
+pub(crate) fn drop_until<A: Allocator>(ends: &mut BinaryHeap<Reverse<End>, A>, t: u64)
+    requires { IsHeap falling (heap_items ends.old) }
+    ensures heap { IsHeap falling (heap_items ends.new) }
+    ensures left { (f : End → ℕ) → sum_by (λ e. f e.0) (heap_items ends.new) ≡ sum_by (λ e. if nat_lt t e.0.end then f e.0 else 0) (heap_items ends.old) }
     ensures len { heap_len ends.new ≤ heap_len ends.old }
     ensures capacity { heap_capacity ends.new ≡ heap_capacity ends.old }
 {
@@ -48,18 +88,18 @@ pub(crate) fn drop_until<A: Allocator>(ends: &mut BinaryHeap<Reverse<u64>, A>, t
     }
 }
 
-// The seconds at which these jobs end.
+// When these jobs end.
 pub(crate) fn heap_of_ends<A: Allocator>(
     alloc: A,
     running: &[Placed],
-) -> Result<BinaryHeap<Reverse<u64>, A>, Memory>
+) -> Result<BinaryHeap<Reverse<End>, A>, Memory>
     requires { All (λ r. r.start < seconds_end) running.now }
-    ensures heap { IfOk result (λ ends. IsHeap (λ x y. nat_cmp y.0 x.0) (heap_items ends)) }
-    ensures ends { IfOk result (λ ends. (f : ℕ → ℕ) → sum_by (λ e. f e.0) (heap_items ends) ≡ sum_by (λ r. f (real_end r)) running.now) }
+    ensures heap { IfOk result (λ ends. IsHeap falling (heap_items ends)) }
+    ensures ends { IfOk result (λ ends. (f : End → ℕ) → sum_by (λ e. f e.0) (heap_items ends) ≡ sum_by (λ r. f (end_of r)) running.now) }
 {
     let mut ends = BinaryHeap::with_capacity(alloc, running.len())?;
     for r in running {
-        ends.push(Reverse(r.end()))?;
+        ends.push(Reverse(End::of(r)))?;
     }
     Ok(ends)
 }

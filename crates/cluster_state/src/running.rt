@@ -1,10 +1,11 @@
-ghost use Rattle.std.specs.Prelude.{◌≡◌, ◌+◌, ◌-◌, ◌<◌, ◌≤◌, ◌^◌, ◌↔◌, [], OnOk, OnErr, IfOk, IsOk, length, not, nat_lt, position, filter, if◌then◌else◌, sum_by, vec_len, vec_capacity};
+ghost use Rattle.std.specs.Prelude.{◌≡◌, ◌+◌, ◌<◌, ◌≤◌, ◌^◌, ℕ, OnOk, OnErr, IfOk, IsOk, IsSomeAnd, Any, length, not, nat_eq, nat_lt, filter, if◌then◌else◌, slice_get, count_by, sum_by, vec_len, vec_capacity};
 ghost use Rattle.std.specs.List.{position_or_len};
-ghost use Rattle.std.specs.List.Sorted.{IsNonDecreasingBy, IsPartitionedBy};
+ghost use Rattle.std.specs.List.Sorted.{IsPartitionedBy};
 ghost use Rattle.scenarios.specs.Placed.{expected_end, real_end};
-ghost use Rattle.cluster_state.specs.State.{busy, placed};
-ghost use Rattle.cluster_state.specs.Ends.{by_end, entered, is_sooner};
+ghost use Rattle.cluster_state.specs.State.{busy};
+ghost use Rattle.cluster_state.specs.Ends.{by_end, end_of, entered, is_before, is_sooner, RisesByEnd};
 
+use crate::ends::End;
 use scenarios::Placed;
 use std::alloc::Allocator;
 use swf_text::Memory;
@@ -24,33 +25,6 @@ pub(crate) fn held(running: &[Placed]) -> u64
     running.iter().map(|r| r.job.size()).sum()
 }
 
-// The place of the first with a greater number, in a list in which numbers rise.
-fn place_by_number(running: &[Placed], number: u64) -> usize
-    requires { IsNonDecreasingBy (λ r. r.job.number) running.now }
-    ensures within { result ≤ length running.now }
-    ensures place { result ≡ position_or_len (λ r. nat_lt number r.job.number) running.now }
-{
-    running.partition_point(|r| r.job.number() <= number)
-}
-
-// Puts a running job in its place by number.
-pub(crate) fn put_by_number<A: Allocator>(
-    running: &mut Vec<Placed, A>,
-    r: Placed,
-) -> Result<(), Memory>
-    requires { IsNonDecreasingBy (λ r. r.job.number) running.old.items }
-    ensures ok { OnOk result (running.new.items ≡ placed r running.old.items) }
-    ensures err { OnErr result (running.new.items ≡ running.old.items) }
-    ensures len { OnOk result (vec_len running.new ≡ vec_len running.old + 1) }
-    ensures kept { OnErr result (vec_len running.new ≡ vec_len running.old) }
-    ensures capacity { vec_capacity running.old ≤ vec_capacity running.new }
-    ensures room { vec_len running.old < vec_capacity running.old → IsOk result }
-{
-    let place = place_by_number(running, r.job.number());
-    running.insert(place, r)?;
-    Ok(())
-}
-
 // The second by which it has surely ended, as a number that holds each such sum.
 fn expected_end_of(r: &Placed) -> u128
     ensures { result ≡ expected_end r.now }
@@ -68,6 +42,15 @@ fn is_sooner(a: &Placed, b: &Placed) -> bool
     end < other || end == other && a.job.number() < b.job.number()
 }
 
+// Whether it is expected to end before the one that ends so, in the same order.
+fn is_before(r: &Placed, other: &End) -> bool
+    ensures { result ≡ is_before r.now other.now }
+{
+    let end = expected_end_of(r);
+    let expected_end = u128::from(other.expected_end);
+    end < expected_end || end == expected_end && r.job.number() < other.number
+}
+
 // The place of the first that a running job is sooner than, where those behind it are so too.
 fn place_by_end(row: &[Placed], r: &Placed) -> usize
     requires { IsPartitionedBy (λ x. not (is_sooner r.now x)) row.now }
@@ -75,6 +58,16 @@ fn place_by_end(row: &[Placed], r: &Placed) -> usize
     ensures place { result ≡ position_or_len (λ x. is_sooner r.now x) row.now }
 {
     row.partition_point(|x| !is_sooner(r, x))
+}
+
+// The place of the one that ends so.
+pub(crate) fn place_of(row: &[Placed], end: &End) -> usize
+    requires rises { RisesByEnd row.now }
+    requires stands { Any (λ r. end_of r ≡ end.now) row.now }
+    ensures within { result < length row.now }
+    ensures ends { IsSomeAnd (slice_get row.now result) (λ r. end_of r ≡ end.now) }
+{
+    row.partition_point(|r| is_before(r, end))
 }
 
 // Puts a running job in its place by (start + estimate, number).
@@ -92,26 +85,15 @@ pub(crate) fn enter<A: Allocator>(row: &mut Vec<Placed, A>, r: Placed) -> Result
     Ok(())
 }
 
-// These jobs by (start + estimate, number).
-pub(crate) fn row_by_end<A: Allocator>(
-    alloc: A,
-    running: &[Placed],
+// These jobs, no two of one number, by (start + estimate, number).
+pub(crate) fn row_by_end<A: Allocator + Copy>(
+    mut running: Vec<Placed, A>,
 ) -> Result<Vec<Placed, A>, Memory>
-    ensures { IfOk result (λ row. row.items ≡ by_end running.now) }
+    requires { (n : ℕ) → count_by (λ r. nat_eq r.job.number n) running.items ≤ 1 }
+    ensures { IfOk result (λ row. row.items ≡ by_end running.items) }
 {
-    let mut row = Vec::with_capacity(alloc, running.len())?;
-    for i in 0..running.len() {
-        let r = running[running.len() - 1 - i];
-        enter(&mut row, r)?;
-    }
-    Ok(row)
-}
-
-// The place of the first that ends by second t.
-fn first_ended(running: &[Placed], t: u64) -> Option<usize>
-    ensures { result ≡ position (λ r. not (nat_lt t (real_end r))) running.now }
-{
-    running.iter().position(|r| !outlasts(r, t))
+    running.sort_by_key(|r| (expected_end_of(r), r.job.number()))?;
+    Ok(running)
 }
 
 // The processors that it gives back by second t.
@@ -132,35 +114,15 @@ fn given_back_by_all(running: &[Placed], t: u64) -> u64
     running.iter().map(|r| given_back(r, t)).sum()
 }
 
-// The processors that those hold who end by second t: there are `count` of them. Where it is one,
-// nobody behind it is looked at.
-pub(crate) fn held_by_ended(running: &[Placed], t: u64, count: usize) -> u64
-    requires count { count + length (filter (λ r. nat_lt t (real_end r)) running.now) ≡ length running.now }
-    requires sizes { busy running.now < 2 ^ 64 }
-    ensures { result + busy (filter (λ r. nat_lt t (real_end r)) running.now) ≡ busy running.now }
-{
-    if count > 1 {
-        return given_back_by_all(running, t);
-    }
-    match first_ended(running, t) {
-        None => 0,
-        Some(place) => running[place].job.size(),
-    }
-}
-
-// Drops those that end by second t: there are `count` of them. Where it is one, nobody behind it is
-// looked at.
-pub(crate) fn drop_ended<A: Allocator>(running: &mut Vec<Placed, A>, t: u64, count: usize)
-    requires { count + length (filter (λ r. nat_lt t (real_end r)) running.old.items) ≡ length running.old.items }
+// Drops those that end by second t: the processors that they give back.
+pub(crate) fn drop_ended<A: Allocator>(running: &mut Vec<Placed, A>, t: u64) -> u64
+    requires { busy running.old.items < 2 ^ 64 }
     ensures kept { running.new.items ≡ filter (λ r. nat_lt t (real_end r)) running.old.items }
+    ensures freed { result + busy running.new.items ≡ busy running.old.items }
     ensures len { vec_len running.new ≤ vec_len running.old }
     ensures capacity { vec_capacity running.new ≡ vec_capacity running.old }
 {
-    if count > 1 {
-        running.retain(move |r| outlasts(r, t));
-        return;
-    }
-    if let Some(place) = first_ended(running, t) {
-        running.remove(place);
-    }
+    let freed = given_back_by_all(running, t);
+    running.retain(move |r| outlasts(r, t));
+    freed
 }

@@ -2,11 +2,11 @@ ghost use Rattle.std.specs.Prelude.{◌≡◌, ◌+◌, ◌<◌, ◌≤◌, ◌^
 ghost use Rattle.scenarios.specs.Limits.{seconds_end};
 ghost use Rattle.scenarios.specs.Placed.{real_end};
 ghost use Rattle.cluster_state.specs.State.{busy, placed, RisesByNumber};
-ghost use Rattle.cluster_state.specs.Ends.{by_end};
+ghost use Rattle.cluster_state.specs.Ends.{by_end, by_number};
 ghost use Rattle.cluster_state.specs.Rooms.{all_placed};
 
-use crate::ends::{drop_until, first_end, heap_of_ends};
-use crate::running::{drop_ended, enter, held, held_by_ended, put_by_number, row_by_end};
+use crate::ends::{End, drop_until, first_end, heap_of_ends, is_by, pop_until};
+use crate::running::{drop_ended, enter, held, place_of, row_by_end};
 use scenarios::{Job, Placed};
 use std::alloc::Allocator;
 use std::cmp::Reverse;
@@ -14,13 +14,11 @@ use std::collections::BinaryHeap;
 use std::marker::Model;
 use swf_text::Memory;
 
-// The jobs that run: by number, once more by (start + estimate, number), and the seconds at which
-// they end.
+// The jobs that run, in a row by (start + estimate, number), and when each of them ends.
 #[derive(Drop)]
 pub(crate) struct RunningSet<A: Allocator + Copy> {
-    running: Vec<Placed, A>,
-    by_end: Vec<Placed, A>,
-    ends: BinaryHeap<Reverse<u64>, A>,
+    row: Vec<Placed, A>,
+    ends: BinaryHeap<Reverse<End>, A>,
 }
 
 impl<A: Allocator + Copy> Model for RunningSet<A> {
@@ -41,40 +39,29 @@ impl<A: Allocator + Copy> RunningSet<A> {
         ensures { result.running ≡ [] }
     {
         RunningSet {
-            running: Vec::new(alloc),
-            by_end: Vec::new(alloc),
+            row: Vec::new(alloc),
             ends: BinaryHeap::new(alloc),
         }
     }
 
-    // These jobs run.
+    // These jobs run, no two of one number.
     pub(crate) fn of(alloc: A, running: Vec<Placed, A>) -> Result<RunningSet<A>, Memory>
         requires starts { All (λ r. r.start < seconds_end) running.items }
         requires rises { RisesByNumber running.items }
+        requires once { (n : ℕ) → count_by (λ r. nat_eq r.job.number n) running.items ≤ 1 }
         ensures { IfOk result (λ s. s.running ≡ running.items) }
     {
-        let by_end = row_by_end(alloc, &running)?;
         let ends = heap_of_ends(alloc, &running)?;
-        Ok(RunningSet {
-            running,
-            by_end,
-            ends,
-        })
-    }
-
-    // The running jobs, rising by number.
-    pub(crate) fn jobs(&self) -> &[Placed]
-        ensures jobs { result.now ≡ self.now.running }
-        ensures rises { RisesByNumber self.now.running }
-    {
-        self.running.as_slice()
+        let row = row_by_end(running)?;
+        Ok(RunningSet { row, ends })
     }
 
     // The running jobs, rising by (start + estimate, number).
     pub(crate) fn by_end(&self) -> &[Placed]
-        ensures { result.now ≡ by_end self.now.running }
+        ensures row { result.now ≡ by_end self.now.running }
+        ensures by_number { by_number result.now ≡ self.now.running }
     {
-        self.by_end.as_slice()
+        self.row.as_slice()
     }
 
     // The processors that they hold.
@@ -82,17 +69,16 @@ impl<A: Allocator + Copy> RunningSet<A> {
         requires { busy self.now.running < 2 ^ 64 }
         ensures { result ≡ busy self.now.running }
     {
-        held(&self.running)
+        held(&self.row)
     }
 
-    // How many starts surely find room: in the list, in the row and in the heap.
+    // How many starts surely find room: in the row and in the heap.
     pub(crate) fn spare(&self) -> usize
         ensures { result ≡ self.now.spare }
     {
-        let running = self.running.capacity() - self.running.len();
-        let by_end = self.by_end.capacity() - self.by_end.len();
+        let row = self.row.capacity() - self.row.len();
         let ends = self.ends.capacity() - self.ends.len();
-        running.min(by_end.min(ends))
+        row.min(ends)
     }
 
     // Makes room for so many starts. Memory where a growth was refused; the room may then be greater
@@ -103,8 +89,7 @@ impl<A: Allocator + Copy> RunningSet<A> {
         ensures kept { self.old.spare ≤ self.new.spare }
         ensures room { count ≤ self.old.spare → IsOk result }
     {
-        self.running.reserve(count)?;
-        self.by_end.reserve(count)?;
+        self.row.reserve(count)?;
         self.ends.reserve(count)?;
         Ok(())
     }
@@ -117,11 +102,8 @@ impl<A: Allocator + Copy> RunningSet<A> {
         ensures running { self.new.running ≡ placed r self.old.running }
         ensures spare { self.old.spare ≤ self.new.spare + 1 }
     {
-        let end = r.end();
-        let Ok(()) = put_by_number(&mut self.running, r) else {
-            unreachable!()
-        };
-        let Ok(()) = enter(&mut self.by_end, r) else {
+        let end = End::of(&r);
+        let Ok(()) = enter(&mut self.row, r) else {
             unreachable!()
         };
         let Ok(()) = self.ends.push(Reverse(end)) else {
@@ -146,20 +128,24 @@ impl<A: Allocator + Copy> RunningSet<A> {
         }
     }
 
-    // The jobs that end by second t leave: the processors that they give back. Of those expected to
-    // end soonest one is found soonest.
+    // The jobs that end by second t leave: the processors that they give back. One alone is found in
+    // the row by its key, several leave in one pass.
     pub(crate) fn drop_until(&mut self, t: u64) -> u64
         requires { busy self.old.running < 2 ^ 64 }
         ensures running { self.new.running ≡ filter (λ r. nat_lt t (real_end r)) self.old.running }
         ensures freed { result + busy self.new.running ≡ busy self.old.running }
         ensures spare { self.old.spare ≤ self.new.spare }
     {
-        let before = self.ends.len();
-        drop_until(&mut self.ends, t);
-        let count = before - self.ends.len();
-        let freed = held_by_ended(&self.by_end, t, count);
-        drop_ended(&mut self.by_end, t, count);
-        drop_ended(&mut self.running, t, count);
+        let Some(first) = pop_until(&mut self.ends, t) else {
+            return 0;
+        };
+        if is_by(first_end(&self.ends), t) {
+            drop_until(&mut self.ends, t);
+            return drop_ended(&mut self.row, t);
+        }
+        let place = place_of(&self.row, &first);
+        let freed = self.row[place].job.size();
+        self.row.remove(place);
         freed
     }
 

@@ -1,6 +1,7 @@
-ghost use Rattle.std.specs.Prelude.{◌≡◌, ◌≤◌, ◌+◌, ◌↔◌, IfOk, IsTrue, map, count_by, nat_eq};
+ghost use Rattle.std.specs.Prelude.{◌≡◌, ◌≤◌, ◌+◌, ◌↔◌, ℕ, IfOk, IsTrue, map, count_by, nat_eq};
 ghost use Rattle.scenarios.specs.Job.{EffectiveJob};
 ghost use Rattle.cluster_state.specs.Snapshot.{number_of};
+ghost use Rattle.cluster_state.specs.Ends.{by_number};
 
 use crate::lookup::{can_run, have_jobs};
 use job_table::JobTable;
@@ -41,10 +42,10 @@ impl<A: Allocator + Copy> Snapshot<A> {
     ghost use Rattle.scenarios.specs.Plan.{plan_of};
     ghost use Rattle.cluster_state.specs.Snapshot.{Fits, IsSnapshot, standing};
 
-    // The numbers of these jobs.
+    // The numbers of these jobs, those of the running ones rising.
     pub(crate) fn of(alloc: A, waiting: &[Job], running: &[Placed]) -> Result<Snapshot<A>, Memory>
-        requires { IsSnapshot (record { waiting = map (λ (j : EffectiveJob). j.number) waiting.now; running = map number_of running.now }) }
-        ensures { IfOk result (λ s. s ≡ record { waiting = map (λ (j : EffectiveJob). j.number) waiting.now; running = map number_of running.now }) }
+        requires { IsSnapshot (record { waiting = map (λ (j : EffectiveJob). j.number) waiting.now; running = map number_of (by_number running.now) }) }
+        ensures { IfOk result (λ s. s ≡ record { waiting = map (λ (j : EffectiveJob). j.number) waiting.now; running = map number_of (by_number running.now) }) }
     {
         let waiting = numbers_of(alloc, waiting)?;
         let running = starts_of(alloc, running)?;
@@ -139,8 +140,21 @@ fn numbers_of<A: Allocator>(alloc: A, jobs: &[Job]) -> Result<Vec<u64, A>, Memor
     Ok(numbers)
 }
 
-// The numbers and starts of these running jobs.
-fn starts_of<A: Allocator>(alloc: A, running: &[Placed]) -> Result<Vec<RunningNumber, A>, Memory>
+// The numbers and starts of these running jobs, by number.
+fn starts_of<A: Allocator + Copy>(
+    alloc: A,
+    running: &[Placed],
+) -> Result<Vec<RunningNumber, A>, Memory>
+    requires { (n : ℕ) → count_by (λ r. nat_eq r.job.number n) running.now ≤ 1 }
+    ensures { IfOk result (λ numbers. numbers.items ≡ map number_of (by_number running.now)) }
+{
+    let mut numbers = listed(alloc, running)?;
+    numbers.sort_by_key(|r| r.number)?;
+    Ok(numbers)
+}
+
+// The numbers and starts of these running jobs, as they stand.
+fn listed<A: Allocator>(alloc: A, running: &[Placed]) -> Result<Vec<RunningNumber, A>, Memory>
     ensures { IfOk result (λ numbers. numbers.items ≡ map number_of running.now) }
 {
     let mut numbers = Vec::with_capacity(alloc, running.len())?;

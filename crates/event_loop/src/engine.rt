@@ -1,4 +1,4 @@
-ghost use Rattle.std.specs.Prelude.{◌≡◌, [], None, IfOk, IfErr, true, false};
+ghost use Rattle.std.specs.Prelude.{◌≡◌, None, IfOk, IfErr, true, false};
 ghost use Rattle.event_loop.specs.Events.{earlier};
 
 use crate::coming::Coming;
@@ -6,7 +6,7 @@ use crate::fault::EngineFault;
 use cluster_state::{Cluster, Snapshot};
 use easy_rule::Shadow;
 use job_table::JobTable;
-use scenarios::{Placed, Plan, Scenario};
+use scenarios::{Plan, Scenario};
 use std::alloc::Allocator;
 use std::marker::Model;
 use std::sync::Arc;
@@ -44,7 +44,6 @@ impl<A: Allocator + Copy> Engine<A> {
     ghost use Rattle.scenarios.specs.Plan.{plan_of};
     ghost use Rattle.cluster_state.specs.Snapshot.{numbers_of};
     ghost use Rattle.easy_rule.specs.Simulation.{before};
-    ghost use Rattle.scenarios.specs.SoundPlan.{IsPlan};
     ghost use Rattle.event_loop.specs.Events.{Progress, IsNextEvent, begun};
 
     /// An engine before second 0.
@@ -132,19 +131,6 @@ impl<A: Allocator + Copy> Engine<A> {
         }
         let snapshot = self.cluster.snapshot()?;
         Ok(snapshot)
-    }
-
-    /// The running jobs with their starts before the position, rising by number; none in an engine
-    /// that has failed.
-    pub fn running(&self) -> &[Placed]
-        ensures jobs { self.now.failed ≡ false → result.now ≡ (before self.now.plan self.now.position).running }
-        ensures failed { self.now.failed ≡ true → result.now ≡ [] }
-        ensures sound { IsPlan self.now.plan }
-    {
-        if self.failed {
-            return &[];
-        }
-        self.cluster.running()
     }
 }
 

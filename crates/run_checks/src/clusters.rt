@@ -19,7 +19,7 @@ struct Looks {
     next_end: Option<u64>,
     waiting: [Option<Job>; 4],
     row: [Option<Job>; 4],
-    running: [Option<Placed>; 4],
+    running: [Option<(u64, u64)>; 4],
     by_end: [Option<Placed>; 4],
 }
 
@@ -50,7 +50,12 @@ fn looks_of<A: Allocator + Copy>(cluster: &Cluster<A>) -> Looks {
         next_end: cluster.next_end(),
         waiting: four_of(cluster.waiting()),
         row: four_of(cluster.row()),
-        running: four_placed(cluster.running()),
+        running: [
+            runs_at(cluster, 0),
+            runs_at(cluster, 1),
+            runs_at(cluster, 2),
+            runs_at(cluster, 3),
+        ],
         by_end: four_placed(cluster.running_by_end()),
     }
 }

@@ -1,6 +1,7 @@
-use Rattle.std.proofs.Common.{◌-◌, length, drop}
-use Rattle.cluster_state.proofs.EndLemmas.{parted-by_end}
+use Rattle.std.proofs.Common.{rules}
+use Rattle.std.proofs.lemmas.List.Sorted.{answers_always}
+use Rattle.cluster_state.proofs.NumberLemmas.{key, sorted-row}
 use Rattle.cluster_state.proofs.running.row_by_end.Goals as goal
 
-pub enter-requires : goal.enter-requires
-enter-requires g c = parted-by_end c.index-running-running.result c.loop-i.row.items (drop (length c.args.running.now - c.loop-i.i) c.args.running.now) c.loop-i.invariant
+pub returns : goal.returns
+returns g c = sorted-row _ _ c.requires c.sort_by_key.ensures.permutation (c.in_ok-sort_by_key.ensures.sorted key (answers_always _ _ _ (λ f a r h k. search rules)))

@@ -1,6 +1,6 @@
 use Rattle.std.proofs.Common.{◌≡◌, map, take}
 use Rattle.cluster_state.specs.Snapshot.{number_of}
-use Rattle.cluster_state.proofs.snapshot.starts_of.Given as goal
+use Rattle.cluster_state.proofs.snapshot.listed.Given as goal
 
 abbrev pub invariant-loop-r : goal.invariant-loop-r
 invariant-loop-r g l = l.numbers.items ≡ map number_of (take l.r-index l.running)
