@@ -72,12 +72,12 @@ fn edit_of(alloc: Global, log: &JobTable<Global>, kind: Kind, place: u64) -> Opt
 
 // Works a task and publishes its run: what that took, unless it was made from nothing.
 fn publish(book: &mut Book<Global>, task: &mut Task<Global>) -> Result<Option<Work>, Fault> {
-    let Ok((run, work)) = task.deliver() else {
+    let Ok((_, work)) = task.deliver() else {
         return Err(Fault::Run);
     };
-    match book.finish_delivered(CALLER, task.ticket(), run) {
-        Ok(_) => Ok(work),
-        Err(_) => Err(Fault::Edit),
+    match book.finish_delivered(CALLER, task.ticket()) {
+        Ok(Some(_)) => Ok(work),
+        Ok(None) | Err(_) => Err(Fault::Edit),
     }
 }
 

@@ -1,6 +1,6 @@
 -- The steps of the workers' calls.
-use Rattle.std.proofs.Common.{◌≡◌, ℕ, ◌+◌, ◌≤◌, ◌<◌, ◌==◌, ◌&&◌, List, [], ◌∷◌, ◌++◌, length, map, refl, sym, ◌∙◌, ap, ap₂, subst, Bool, true, false, not, cond, arith}
-use Rattle.std.specs.Prelude.{Option, None, Some, Result, Ok, Err, IfOk, IfSome, find, filter, is_some, unwrap_or}
+use Rattle.std.proofs.Common.{◌≡◌, ℕ, ◌+◌, ◌≤◌, ◌<◌, ◌==◌, ◌&&◌, List, [], ◌∷◌, ◌++◌, length, map, refl, sym, ◌∙◌, ap, ap₂, subst, Bool, Bor, true, false, not, cond, arith}
+use Rattle.std.specs.Prelude.{Option, None, Some, Result, Ok, Err, IfOk, IfSome, IsTrue, find, filter, is_none, is_some, option_copied, unwrap_or}
 use Rattle.std.specs.List.{All}
 use Rattle.std.specs.Option.{option_map}
 use Rattle.std.proofs.lemmas.Bool.{eqb-true, eq-eqb, ne_eqb}
@@ -15,10 +15,10 @@ use Rattle.book_machine.specs.Machine.{Machine, Progress, Ticket, version, is_be
 use Rattle.version_book.specs.Book.{PublishedView, ShownView, TicketView, StateView, machine_at, progress_of_shown, ticket_of_view, published_version}
 use Rattle.version_book.specs.Sound.{IsSound, IsOfItsVersion, IsTicketOfItsVersion, IsTicketOfItsScenario}
 use Rattle.version_book.specs.Steps.{Does, IsStep, Publishes}
-use Rattle.version_book.specs.Answers.{TakesWhatFits, TellsFit, finish_answer, fitted}
+use Rattle.version_book.specs.Answers.{TellsFit, TellsStanding, finish_answer, fitted, told_of_run}
 use Rattle.version_book.specs.declared.worker_refusal.FinishRefusal.{FinishRefusal}
 use Rattle.version_book.specs.declared.worker_refusal.FinishRefusal.TheVariants as finish
-use Rattle.version_book.specs.Tasks.{Fits, HasThoseOf, PublishesFitting, due_shown}
+use Rattle.version_book.specs.Tasks.{Fits, HasThoseOf, PublishesFitting, Stands, due_shown}
 use Rattle.version_book.specs.Lookups.{has_id, has_number, is_mark, is_due_at, marking, publishing, version_shown, with_change}
 use Rattle.version_book.proofs.Keeping.{keeps-change, keeps-put, keeps-same}
 use Rattle.version_book.proofs.Lists.{find-map, filter-map, list_any-map, find-All, length-filter-le}
@@ -308,20 +308,40 @@ pub fitting-some : {s v : StateView} (new : StateView) (n : ℕ) (run : RunView)
 fitting-some {s} {v} new n run (Ok w) is fits h = subst (λ (x : StateView). PublishesFitting x new n w) is (run, fits, h)
 fitting-some {s} {v} new n run (Err e) is fits h = tt
 
--- the run that was handed in, which fits where it is taken
-pub fitting-told : {s v : StateView} (new : StateView) (n : ℕ) (run : RunView) (r : Result ℕ FinishRefusal) → s ≡ v → TellsFit (Fits s n run) r → IfOk r (λ w. Publishes s new n w run) → IfOk r (λ w. PublishesFitting v new n w)
-fitting-told {s} {v} new n run (Ok w) is fits h = subst (λ (x : StateView). PublishesFitting x new n w) is (run, fits, h)
-fitting-told {s} {v} new n run (Err e) is fits h = tt
-
 pub fitting-as : {s v : StateView} (new : StateView) (n : ℕ) (r : Result ℕ FinishRefusal) → s ≡ v → IfOk r (λ w. PublishesFitting s new n w) → IfOk r (λ w. PublishesFitting v new n w)
 fitting-as {s} {v} new n r is h = subst (λ (x : StateView). IfOk r (λ w. PublishesFitting x new n w)) is h
 
--- ---- what a run that fits is told
+-- ---- a ticket that stands
 
-pub takes-told : (F : Type 0) (r : Result ℕ FinishRefusal) → TellsFit F r → TakesWhatFits F r
-takes-told F (Ok version) told = tt
-takes-told F (Err finish.JournalFull) told = tt
-takes-told F (Err finish.UnknownTicket) told = told
-takes-told F (Err finish.Stranger) told = told
-takes-told F (Err (finish.Stale published)) told = tt
-takes-told F (Err finish.Memory) told = tt
+-- by whether one was found
+pub none-found : {T : Type 0} (o : Option (Bor T)) (p : Option T) → is_none o ≡ true → option_copied o ≡ p → p ≡ None
+none-found None p test is = sym is
+none-found (Some x) p test is = cc
+
+pub some-found : {T : Type 0} (o : Option (Bor T)) (p : Option T) → is_none o ≡ false → option_copied o ≡ p → is_some p ≡ true
+some-found None p test is = cc
+some-found (Some x) p test is = ap is_some (sym is)
+
+pub none-stands : {s v : StateView} (n : ℕ) → s ≡ v → find (has_number n) s.tickets ≡ None → Stands v n → ⊥
+none-stands {s} {v} n is none stands =
+    let same : IsTrue (is_some (find (has_number n) s.tickets)) = subst (λ (w : StateView). Stands w n) (sym is) stands in
+    let no : IsTrue false = subst (λ (o : Option TicketView). IsTrue (is_some o)) none same in
+    cc
+
+pub stands-as : {s v : StateView} (n : ℕ) → s ≡ v → is_some (find (has_number n) s.tickets) ≡ true → Stands v n
+stands-as {s} {v} n is some = subst (λ (w : StateView). Stands w n) is some
+
+pub stands-told : (S : Type 0) (r : Result ℕ FinishRefusal) → S → fitted r ≡ true → TellsStanding S (Some r)
+stands-told S (Ok version) stands is = stands
+stands-told S (Err finish.JournalFull) stands is = tt
+stands-told S (Err finish.UnknownTicket) stands is = cc
+stands-told S (Err finish.Stranger) stands is = cc
+stands-told S (Err (finish.Stale published)) stands is = stands
+stands-told S (Err finish.Memory) stands is = tt
+
+pub published-left : (P : ℕ → Type 0) (r : Result ℕ FinishRefusal) (q : Result (Option ℕ) FinishRefusal) → told_of_run q ≡ Some r → IfOk r P → IfOk q (λ version. IfSome version P)
+published-left P r (Ok None) is h = cc
+published-left P r (Ok (Some version)) is h =
+    let same : r ≡ Ok version = cc in
+    subst (λ (k : Result ℕ FinishRefusal). IfOk k P) same h
+published-left P r (Err refusal) is h = tt

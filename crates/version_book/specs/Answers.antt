@@ -1,9 +1,12 @@
 -- What the results of the book's calls say.
-use Rattle.std.specs.Prelude.{ℕ, Bool, true, false, Option, None, Some, Result, Ok, Err}
+use Rattle.std.specs.Prelude.{◌≡◌, ◌<◌, ℕ, Bool, true, false, length, Option, None, Some, Result, Ok, Err}
 use Rattle.std.specs.Option.{option_map}
 use Rattle.scenarios.specs.declared.list_fault.AddFault.{AddFault}
 use Rattle.scenarios.specs.declared.list_fault.AddFault.TheVariants as list
+use Rattle.book_machine.specs.declared.caller.Caller.{Caller}
 use Rattle.book_machine.specs.declared.reply.Reply.TheVariants as reply
+use Rattle.book_machine.specs.Call.{Finish}
+use Rattle.book_machine.specs.Machine.{note_limit}
 use Rattle.version_book.specs.declared.session_refusal.EditRefusal.{EditRefusal}
 use Rattle.version_book.specs.declared.session_refusal.EditRefusal.TheVariants as edit
 use Rattle.version_book.specs.declared.session_refusal.AddRefusal.{AddRefusal}
@@ -20,8 +23,8 @@ use Rattle.version_book.specs.declared.worker_refusal.FinishRefusal.{FinishRefus
 use Rattle.version_book.specs.declared.worker_refusal.FinishRefusal.TheVariants as finish
 use Rattle.version_book.specs.declared.worker_refusal.GiveUpRefusal.{GiveUpRefusal}
 use Rattle.version_book.specs.declared.worker_refusal.GiveUpRefusal.TheVariants as give_up
-use Rattle.version_book.specs.Book.{PublishedView}
-use Rattle.version_book.specs.Steps.{Answer, full, memory, told}
+use Rattle.version_book.specs.Book.{PublishedView, BookView}
+use Rattle.version_book.specs.Steps.{Answer, Answers, full, memory, told}
 use Rattle.version_book.specs.Tasks.{TaskView}
 
 abbrev pub edit_answer : Result ℕ EditRefusal → Answer
@@ -106,6 +109,28 @@ TakesWhatFits Fits (Err finish.UnknownTicket) = Fits → ⊥
 TakesWhatFits Fits (Err finish.Stranger) = Fits → ⊥
 TakesWhatFits Fits (Err (finish.Stale published)) = Unit {0}
 TakesWhatFits Fits (Err finish.Memory) = Unit {0}
+
+-- what is told of the run that a ticket's task has left, if it has left one
+abbrev pub told_of_run : Result (Option ℕ) FinishRefusal → Option (Result ℕ FinishRefusal)
+told_of_run (Ok None) = None
+told_of_run (Ok (Some version)) = Some (Ok version)
+told_of_run (Err refusal) = Some (Err refusal)
+
+-- the run that a ticket's task has left is finished; or it has left none, and nothing changes
+abbrev pub AnswersOfRun : BookView → BookView → Caller → ℕ → Option (Result ℕ FinishRefusal) → Type 0
+AnswersOfRun old new who ticket None = (length old.journal < note_limit) × (new ≡ old)
+AnswersOfRun old new who ticket (Some answer) = Answers old new who (Finish ticket (fitted answer)) (finish_answer answer)
+
+-- The ticket stood exactly where the answer tells so; of a call that is not noted nothing is said. What a task has left is
+-- no stranger's.
+abbrev pub TellsStanding : Type 0 → Option (Result ℕ FinishRefusal) → Type 0
+TellsStanding Stands None = Stands
+TellsStanding Stands (Some (Ok version)) = Stands
+TellsStanding Stands (Some (Err finish.JournalFull)) = Unit {0}
+TellsStanding Stands (Some (Err finish.UnknownTicket)) = Stands → ⊥
+TellsStanding Stands (Some (Err finish.Stranger)) = ⊥
+TellsStanding Stands (Some (Err (finish.Stale published))) = Stands
+TellsStanding Stands (Some (Err finish.Memory)) = Unit {0}
 
 abbrev pub give_up_answer : {U : Type 0} → Result U GiveUpRefusal → Answer
 give_up_answer (Ok _) = told reply.GivenUp

@@ -1,5 +1,5 @@
 -- Tasks: what a claim gives to a worker.
-use Rattle.std.specs.Prelude.{◌≡◌, ℕ, ◌==◌, ◌≤◌, ◌<◌, if◌then◌else◌, List, drop, length, Option, None, Some, Result, Ok, Err, IfSome, find}
+use Rattle.std.specs.Prelude.{◌≡◌, ℕ, ◌==◌, ◌≤◌, ◌<◌, if◌then◌else◌, List, drop, length, Option, None, Some, Result, Ok, Err, IfSome, IsTrue, is_some, find}
 use Rattle.std.specs.Option.{option_map}
 use Rattle.swf_text.specs.Entry.{LogEntry}
 use Rattle.job_table.specs.Accepted.{AreAccepted}
@@ -94,6 +94,10 @@ HasThoseOf (Some t) run = (run.log ≡ t.log) × (run.setting ≡ t.setting)
 -- a ticket of this number stands, and the run has its log and its setting
 abbrev pub Fits : StateView → ℕ → RunView → Type 0
 Fits s number run = HasThoseOf (find (λ (t : TicketView). t.number == number) s.tickets) run
+
+-- a ticket of this number stands
+abbrev pub Stands : StateView → ℕ → Type 0
+Stands s number = IsTrue (is_some (find (λ (t : TicketView). t.number == number) s.tickets))
 
 -- some run that has the log and the setting of the ticket of this number is published for the ticket
 abbrev pub PublishesFitting : StateView → StateView → ℕ → ℕ → Type 0

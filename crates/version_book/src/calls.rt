@@ -6,10 +6,10 @@ ghost use Rattle.std.specs.Arc.{arc_value};
 ghost use Rattle.job_table.specs.Edit.{edit_of};
 ghost use Rattle.book_machine.specs.declared.caller.Caller.TheVariants as caller;
 ghost use Rattle.book_machine.specs.Call.{AddScenario, Claim, DropScenario, Edit as Edits, Finish, GiveUp, Retry, View};
-ghost use Rattle.version_book.specs.Answers.{TakesWhatFits, TellsFit, add_answer, claim_answer, drop_answer, edit_answer, finish_answer, fitted, give_up_answer, retry_answer, view_answer};
+ghost use Rattle.version_book.specs.Answers.{AnswersOfRun, TellsFit, TellsStanding, add_answer, claim_answer, drop_answer, edit_answer, finish_answer, fitted, give_up_answer, retry_answer, told_of_run, view_answer};
 ghost use Rattle.version_book.specs.Sound.{IsBook};
 ghost use Rattle.version_book.specs.Steps.{Answers, Publishes};
-ghost use Rattle.version_book.specs.Tasks.{Fits, IsOut, IsShownFor, PublishesFitting, due_shown, task_for};
+ghost use Rattle.version_book.specs.Tasks.{Fits, IsOut, IsShownFor, PublishesFitting, Stands, due_shown, task_for};
 
 use crate::book::Book;
 use crate::journal::{is_full, make_room, note};
@@ -24,6 +24,16 @@ use job_table::Edit;
 use scenarios::{Scenario, ScenarioId};
 use std::alloc::Allocator;
 use std::sync::Arc;
+
+// What a call answers that finished a run which was left.
+fn of_left(told: Result<u64, FinishRefusal>) -> Result<Option<u64>, FinishRefusal>
+    ensures { told_of_run result ≡ Some told }
+{
+    match told {
+        Ok(version) => Ok(Some(version)),
+        Err(refusal) => Err(refusal),
+    }
+}
 
 impl<A: Allocator + Copy> Book<A> {
     /// Edits the log, and answers the new version, one more than before.
@@ -203,26 +213,29 @@ impl<A: Allocator + Copy> Book<A> {
         told
     }
 
-    /// Hands in the run that the ticket's task has left there by `Task::deliver`, or this one where it has
-    /// left none, and answers as `finish`. No other published run changes.
+    /// Hands in the run that the ticket's task has left there by `Task::deliver`, publishes it, and answers
+    /// the version at which it is published; None where the task has left none, and then nothing changes. No
+    /// other published run changes.
     ///
-    /// What a task has left is of its ticket's log and scenario, so it is not compared with them entry by
-    /// entry, as `finish` does.
+    /// It is refused as `finish` is, but never as a Stranger: what a task has left is of its ticket's log
+    /// and scenario, so it is not compared with them. JournalFull and UnknownTicket come before any run is
+    /// looked for, Stale only for one that is there.
     pub fn finish_delivered(
         &mut self,
         worker: u64,
         ticket: u64,
-        run: Arc<Run<A>, A>,
-    ) -> Result<u64, FinishRefusal>
-        ensures answer { Answers self.old self.new (caller.Worker worker) (Finish ticket (fitted result)) (finish_answer result) }
-        ensures fits { TakesWhatFits (Fits self.old.state ticket (arc_value run)) result }
-        ensures published { IfOk result (PublishesFitting self.old.state self.new.state ticket) }
+    ) -> Result<Option<u64>, FinishRefusal>
+        ensures answer { AnswersOfRun self.old self.new (caller.Worker worker) ticket (told_of_run result) }
+        ensures stands { TellsStanding (Stands self.old.state ticket) (told_of_run result) }
+        ensures published { IfOk result (λ version. IfSome version (PublishesFitting self.old.state self.new.state ticket)) }
     {
         if is_full(&self.journal) {
             return Err(FinishRefusal::JournalFull);
         }
         make_room(&mut self.journal)?;
-        let told = self.state.finish_delivered(ticket, run);
+        let Some(told) = self.state.finish_delivered(ticket) else {
+            return Ok(None);
+        };
         let reply = replies::finish_reply(&told);
         let fits = replies::fitted(&told);
         note(
@@ -231,7 +244,7 @@ impl<A: Allocator + Copy> Book<A> {
             Call::Finish { ticket, fits },
             reply,
         );
-        told
+        of_left(told)
     }
 
     /// Gives a ticket up. One of the current version marks its scenario, which is then not due

@@ -1,13 +1,13 @@
 // What the workers' calls change of where a book stands, and what they are told.
-ghost use Rattle.std.specs.Prelude.{◌≡◌, ◌≤◌, ◌<◌, [], ◌∷◌, ◌++◌, drop, length, map, option_copied, IfOk, IfSome, Some, None, true};
+ghost use Rattle.std.specs.Prelude.{◌≡◌, ◌≤◌, ◌<◌, [], ◌∷◌, ◌++◌, drop, length, map, option_copied, IfNone, IfOk, IfSome, Some, None, true};
 ghost use Rattle.std.specs.Option.{option_map};
 ghost use Rattle.std.specs.Arc.{arc_value};
 ghost use Rattle.job_table.specs.Edit.{edit_of};
 ghost use Rattle.book_machine.specs.Call.{Claim, Finish, GiveUp};
-ghost use Rattle.version_book.specs.Answers.{TakesWhatFits, TellsFit, claim_answer, finish_answer, fitted, give_up_answer};
+ghost use Rattle.version_book.specs.Answers.{TellsFit, TellsStanding, claim_answer, finish_answer, fitted, give_up_answer};
 ghost use Rattle.version_book.specs.Sound.{IsOfItsVersion};
 ghost use Rattle.version_book.specs.Steps.{Does, Publishes};
-ghost use Rattle.version_book.specs.Tasks.{Fits, IsNext, PublishesFitting, base_since, bases_since, due_shown, task_for, ticket_for};
+ghost use Rattle.version_book.specs.Tasks.{Fits, IsNext, PublishesFitting, Stands, base_since, bases_since, due_shown, task_for, ticket_for};
 
 use crate::lookups::{close, first_due, mark, publish, published_version, take_run, ticket_of};
 use crate::published::Published;
@@ -153,20 +153,18 @@ impl<A: Allocator + Copy> State<A> {
         self.accept(number, run)
     }
 
-    // Hands in the run that the task of a ticket has left there, or this one where it has left none.
-    pub(crate) fn finish_delivered(
-        &mut self,
-        number: u64,
-        run: Arc<Run<A>, A>,
-    ) -> Result<u64, FinishRefusal>
-        ensures does { Does self.old self.new (Finish number (fitted result)) (finish_answer result) }
-        ensures fits { TakesWhatFits (Fits self.old number (arc_value run)) result }
-        ensures published { IfOk result (PublishesFitting self.old self.new number) }
+    // Hands in the run that the task of a ticket has left there, if it has left one.
+    pub(crate) fn finish_delivered(&mut self, number: u64) -> Option<Result<u64, FinishRefusal>>
+        ensures does { IfSome result (λ told. Does self.old self.new (Finish number (fitted told)) (finish_answer told)) }
+        ensures stands { TellsStanding (Stands self.old number) result }
+        ensures none { IfNone result (self.new ≡ self.old) }
+        ensures published { IfSome result (λ told. IfOk told (PublishesFitting self.old self.new number)) }
     {
-        match take_run(&mut self.tickets, number) {
-            Some(delivered) => self.accept(number, delivered),
-            None => self.finish(number, run),
+        if ticket_of(self.tickets.as_slice(), number).is_none() {
+            return Some(Err(FinishRefusal::UnknownTicket));
         }
+        let run = take_run(&mut self.tickets, number)?;
+        Some(self.accept(number, run))
     }
 
     // Gives a ticket up.

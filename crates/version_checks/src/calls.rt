@@ -148,11 +148,11 @@ fn finishes<A: Allocator + Copy>(book: &mut Book<A>, task: &Task<A>) -> Told {
 
 // Hands in the run that the task has left with its ticket.
 fn finishes_delivered<A: Allocator + Copy>(book: &mut Book<A>, task: &mut Task<A>) -> Told {
-    let Ok((run, _work)) = task.deliver() else {
+    if task.deliver().is_err() {
         return Told::Before;
-    };
-    match book.finish_delivered(1, task.ticket(), run) {
-        Ok(version) => right_if(version == 1),
+    }
+    match book.finish_delivered(1, task.ticket()) {
+        Ok(version) => right_if(version == Some(1)),
         Err(refusal) => memory_if(refusal == FinishRefusal::Memory),
     }
 }

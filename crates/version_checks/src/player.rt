@@ -177,10 +177,11 @@ impl Player {
         }
     }
 
-    fn finish_delivered(&mut self, worker: u64, ticket: u64, handed: Handed) -> Told {
-        match self.run_for(ticket, handed) {
-            Some(run) => of_finish(self.book.finish_delivered(worker, ticket, run)),
-            None => Told::Other,
+    fn finish_delivered(&mut self, worker: u64, ticket: u64) -> Told {
+        match self.book.finish_delivered(worker, ticket) {
+            Ok(Some(version)) => Told::Finished(version),
+            Ok(None) => Told::NoRun,
+            Err(refusal) => of_finish(Err(refusal)),
         }
     }
 
@@ -192,9 +193,9 @@ impl Player {
         }
     }
 
-    fn deliver(&mut self, worker: u64, ticket: u64, handed: Handed) -> Told {
+    fn deliver(&mut self, worker: u64, ticket: u64) -> Told {
         if self.is_delivered(ticket) {
-            self.finish_delivered(worker, ticket, handed)
+            self.finish_delivered(worker, ticket)
         } else {
             Told::Other
         }
@@ -218,19 +219,18 @@ impl Player {
             Said::Retry(place) => self.retry(place),
             Said::Claim => self.claim(),
             Said::Finish(worker, ticket, handed) => self.finish(worker, ticket, handed),
-            Said::Undelivered(worker, ticket, handed) => {
-                self.finish_delivered(worker, ticket, handed)
-            }
-            Said::Delivered(worker, ticket, handed) => self.deliver(worker, ticket, handed),
+            Said::FinishLeft(worker, ticket) => self.finish_delivered(worker, ticket),
+            Said::Deliver(worker, ticket) => self.deliver(worker, ticket),
             Said::GiveUp(ticket) => self.give_up(ticket),
             Said::View(place, seen) => self.view(place, seen),
         }
     }
 
-    /// Whether this is told where this is said, and is noted once.
+    /// Whether this is told where this is said, and is noted once; not at all where no run was there.
     pub(crate) fn tells(&mut self, said: Said, told: Told) -> bool {
         let notes = self.book.journal().len();
-        self.told(said) == told && self.book.journal().len().wrapping_sub(notes) == 1
+        let noted = if told == Told::NoRun { 0 } else { 1 };
+        self.told(said) == told && self.book.journal().len().wrapping_sub(notes) == noted
     }
 
     /// Whether all this is told in turn.

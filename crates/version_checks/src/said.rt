@@ -30,10 +30,10 @@ pub(crate) enum Said {
     Claim,
     /// Worker, ticket and run.
     Finish(u64, u64, Handed),
-    /// The same, as a run that the ticket's task has delivered, which it has not.
-    Undelivered(u64, u64, Handed),
-    /// The same, once the ticket's task has delivered its own.
-    Delivered(u64, u64, Handed),
+    /// Worker and ticket, of the run that the ticket's task has left.
+    FinishLeft(u64, u64),
+    /// The same, once the task has left its run.
+    Deliver(u64, u64),
     GiveUp(u64),
     /// A scenario, and the version that was seen.
     View(usize, u64),
@@ -53,6 +53,8 @@ pub(crate) enum Told {
     Claimed(u64, u32, u64, Option<(u64, usize)>),
     TooManyTickets,
     Finished(u64),
+    /// The ticket's task has left none.
+    NoRun,
     UnknownTicket,
     Stranger,
     Stale(u64),

@@ -1,14 +1,17 @@
-use Rattle.std.proofs.Common.{rules, ◌≡◌, length, map, refl, ap}
-use Rattle.std.specs.Prelude.{Err, true, false, nat_le}
+use Rattle.std.proofs.Common.{rules, ◌≡◌, ℕ, length, map, refl, sym, ap, subst}
+use Rattle.std.specs.Prelude.{Option, Some, Result, Err, true, false, nat_le}
 use Rattle.book_machine.specs.declared.caller.Caller.TheVariants as caller
 use Rattle.book_machine.specs.Call.{Finish}
 use Rattle.book_machine.specs.Machine.{note_limit}
 use Rattle.book_machine.specs.Noted.{noted_of}
+use Rattle.version_book.specs.declared.worker_refusal.FinishRefusal.{FinishRefusal}
 use Rattle.version_book.specs.declared.worker_refusal.FinishRefusal.TheVariants as refusals
-use Rattle.version_book.specs.Book.{BookView}
-use Rattle.version_book.specs.Answers.{finish_answer, fitted}
+use Rattle.version_book.specs.Book.{BookView, StateView}
+use Rattle.version_book.specs.Answers.{AnswersOfRun, TellsStanding, finish_answer, fitted, told_of_run}
+use Rattle.version_book.specs.Steps.{Answers, memory}
+use Rattle.version_book.specs.Tasks.{PublishesFitting, Stands}
 use Rattle.version_book.proofs.Histories.{called, answered, is-full, has-room, journal-is, as-it-was}
-use Rattle.version_book.proofs.WorkerSteps.{fitting-as}
+use Rattle.version_book.proofs.WorkerSteps.{fitting-as, published-left}
 use Rattle.version_book.proofs.book.Book.finish_delivered.Goals as goal
 
 pub returns-then-is_full-clause-answer : goal.returns-then-is_full-clause-answer
@@ -20,23 +23,35 @@ pub returns-in_err-make_room-clause-answer : goal.returns-in_err-make_room-claus
 returns-in_err-make_room-clause-answer g c =
     let test : nat_le note_limit (length c.self.inside.journal.items) ≡ false = search rules in
     let told : c.from_residual.result ≡ Err refusals.Memory = search rules in
-    as-it-was noted_of c.self.inside.journal.items c.make_room.new.journal.items (caller.Worker c.args.worker) (Finish c.args.ticket (fitted c.from_residual.result)) _ c.self.view_is refl c.in_err-make_room.ensures.items test (ap finish_answer told)
+    let new : BookView = record { state = c.self.inside.state; journal = map noted_of c.make_room.new.journal.items } in
+    subst (λ (r : Result (Option ℕ) FinishRefusal). AnswersOfRun c.args.self.now new (caller.Worker c.args.worker) c.args.ticket (told_of_run r)) (sym told) (as-it-was noted_of c.self.inside.journal.items c.make_room.new.journal.items (caller.Worker c.args.worker) (Finish c.args.ticket false) memory c.self.view_is refl c.in_err-make_room.ensures.items test refl)
+
+pub returns-in_default-clause-answer : goal.returns-in_default-clause-answer
+returns-in_default-clause-answer g c =
+    let test : nat_le note_limit (length c.self.inside.journal.items) ≡ false = search rules in
+    let still = as-it-was noted_of c.self.inside.journal.items c.make_room.new.journal.items (caller.Worker c.args.worker) (Finish c.args.ticket false) memory c.self.view_is refl c.in_ok-make_room.ensures.items test refl in
+    subst (λ (s : StateView). Answers c.args.self.now (record { state = s; journal = map noted_of c.make_room.new.journal.items }) (caller.Worker c.args.worker) (Finish c.args.ticket false) memory) (sym c.in_default.ensures.none) still
 
 pub invariant_of-self-2 : goal.invariant_of-self-2
 invariant_of-self-2 g c =
     let test : nat_le note_limit (length c.self.inside.journal.items) ≡ false = search rules in
-    let new : BookView = record { state = c.finish_delivered-told.new.self; journal = map noted_of c.note.new.journal.items } in
-    let journal = journal-is noted_of c.self.inside.journal.items _ _ (caller.Worker c.args.worker) _ (Finish c.args.ticket (fitted c.finish_delivered-told.result)) _ _ c.note.ensures c.in_ok-make_room.ensures.items (ap (Finish c.args.ticket) c.fitted-fits.ensures) c.finish_reply-reply.ensures in
+    let new : BookView = record { state = c.finish_delivered.new.self; journal = map noted_of c.note.new.journal.items } in
+    let journal = journal-is noted_of c.self.inside.journal.items _ _ (caller.Worker c.args.worker) _ (Finish c.args.ticket (fitted c.in-Some.told)) _ _ c.note.ensures c.in_ok-make_room.ensures.items (ap (Finish c.args.ticket) c.fitted-fits.ensures) c.finish_reply-reply.ensures in
     let room = has-room noted_of c.self.inside.journal.items test in
-    (called _ new (caller.Worker c.args.worker) (Finish c.args.ticket (fitted c.finish_delivered-told.result)) _ c.self.invariant room c.finish_delivered-told.ensures.does journal).0
+    (called _ new (caller.Worker c.args.worker) (Finish c.args.ticket (fitted c.in-Some.told)) _ c.self.invariant room c.in-Some.ensures.does journal).0
 
 pub returns-clause-answer : goal.returns-clause-answer
 returns-clause-answer g c =
     let test : nat_le note_limit (length c.self.inside.journal.items) ≡ false = search rules in
-    let new : BookView = record { state = c.finish_delivered-told.new.self; journal = map noted_of c.note.new.journal.items } in
-    let journal = journal-is noted_of c.self.inside.journal.items _ _ (caller.Worker c.args.worker) _ (Finish c.args.ticket (fitted c.finish_delivered-told.result)) _ _ c.note.ensures c.in_ok-make_room.ensures.items (ap (Finish c.args.ticket) c.fitted-fits.ensures) c.finish_reply-reply.ensures in
+    let new : BookView = record { state = c.finish_delivered.new.self; journal = map noted_of c.note.new.journal.items } in
+    let journal = journal-is noted_of c.self.inside.journal.items _ _ (caller.Worker c.args.worker) _ (Finish c.args.ticket (fitted c.in-Some.told)) _ _ c.note.ensures c.in_ok-make_room.ensures.items (ap (Finish c.args.ticket) c.fitted-fits.ensures) c.finish_reply-reply.ensures in
     let room = has-room noted_of c.self.inside.journal.items test in
-    answered new (caller.Worker c.args.worker) (Finish c.args.ticket (fitted c.finish_delivered-told.result)) _ c.self.view_is c.self.invariant room c.finish_delivered-told.ensures.does journal
+    subst (AnswersOfRun c.args.self.now new (caller.Worker c.args.worker) c.args.ticket) (sym c.of_left.ensures) (answered new (caller.Worker c.args.worker) (Finish c.args.ticket (fitted c.in-Some.told)) _ c.self.view_is c.self.invariant room c.in-Some.ensures.does journal)
+
+pub returns-clause-stands : goal.returns-clause-stands
+returns-clause-stands g c =
+    let before : TellsStanding (Stands c.args.self.now.state c.args.ticket) (Some c.in-Some.told) = subst (λ (b : BookView). TellsStanding (Stands b.state c.args.ticket) (Some c.in-Some.told)) c.self.view_is c.in-Some.ensures.stands in
+    subst (TellsStanding (Stands c.args.self.now.state c.args.ticket)) (sym c.of_left.ensures) before
 
 pub returns-clause-published : goal.returns-clause-published
-returns-clause-published g c = fitting-as c.finish_delivered-told.new.self c.args.ticket c.finish_delivered-told.result (ap (λ (b : BookView). b.state) c.self.view_is) c.finish_delivered-told.ensures.published
+returns-clause-published g c = published-left _ c.in-Some.told c.of_left.result c.of_left.ensures (fitting-as c.finish_delivered.new.self c.args.ticket c.in-Some.told (ap (λ (b : BookView). b.state) c.self.view_is) c.in-Some.ensures.published)

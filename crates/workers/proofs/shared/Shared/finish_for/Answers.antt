@@ -4,4 +4,4 @@ use Rattle.workers.proofs.Gaining.{gains}
 use Rattle.workers.proofs.shared.Shared.finish_for.Goals as goal
 
 pub returns-clause-list : goal.returns-clause-list
-returns-clause-list g c = gains _ _ _ _ _ _ _ _ _ _ c.finish_delivered-told.ensures.answer c.notes-notes.ensures.count c.reply_behind.ensures (ap (λ f. Finish c.args.ticket f) c.is_fitting-fits.ensures) c.keep.ensures
+returns-clause-list g c = gains _ _ _ _ _ _ _ _ _ _ c.hand_in-told.ensures.answer c.notes-notes.ensures.count c.reply_behind.ensures (ap (λ f. Finish c.args.ticket f) c.is_fitting-fits.ensures) c.keep.ensures

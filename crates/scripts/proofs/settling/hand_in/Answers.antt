@@ -1,0 +1,13 @@
+use Rattle.std.proofs.Common.{ℕ, subst}
+use Rattle.std.specs.Prelude.{Option, None, Ok}
+use Rattle.book_machine.specs.declared.caller.Caller.TheVariants as caller
+use Rattle.book_machine.specs.Call.{Finish}
+use Rattle.version_book.specs.Answers.{AnswersOfRun, finish_answer, fitted, told_of_run}
+use Rattle.version_book.specs.Book.{BookView}
+use Rattle.version_book.specs.Steps.{Answers}
+use Rattle.scripts.proofs.settling.hand_in.Goals as goal
+
+pub returns-in-Ok-None-clause-answer : goal.returns-in-Ok-None-clause-answer
+returns-in-Ok-None-clause-answer g c =
+    let none : AnswersOfRun c.args.book.now c.finish_delivered.new.self (caller.Worker 0) c.args.ticket (told_of_run (Ok None)) = subst (λ (o : Option ℕ). AnswersOfRun c.args.book.now c.finish_delivered.new.self (caller.Worker 0) c.args.ticket (told_of_run (Ok o))) c.in-Ok-None.field-0-is c.in-Ok-None.ensures.answer in
+    subst (λ (b : BookView). Answers b c.finish.new.self (caller.Worker 0) (Finish c.args.ticket (fitted c.finish.result)) (finish_answer c.finish.result)) none.1 c.finish.ensures.answer
