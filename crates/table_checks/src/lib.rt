@@ -1,5 +1,6 @@
-//! Tests of `chunks` and `job_table`, in a crate of their own so that each of these libraries is
-//! proved once: lists in shared chunks, tables with their edits, and what these count.
+//! Tests of `chunks`, `blocks` and `job_table`, in a crate of their own so that each of these libraries
+//! is proved once: lists in shared chunks, rows in blocks, tables with their edits, and what these
+//! count.
 #![tactic(auto)]
 
 #[cfg(test)]
@@ -10,5 +11,7 @@ mod edits;
 mod lists;
 #[cfg(test)]
 mod many;
+#[cfg(test)]
+mod sorted;
 #[cfg(test)]
 mod tables;

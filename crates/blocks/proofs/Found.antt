@@ -1,0 +1,143 @@
+-- Items of a row in blocks, by their places.
+use Rattle.std.proofs.Common.{◌≡◌, ℕ, zero, suc, ◌+◌, ◌-◌, ◌<◌, ◌≤◌, Option, Some, None, List, [], ◌∷◌, ◌++◌, length, length-append, take, drop, find, get_or, insert, remove, slice_get, option_copied, Bor, Bool, true, false, refl, ap, sym, subst, ◌∙◌, arith, ⊎_elim, inl, inr}
+use Rattle.std.specs.Slice.{IsItemAt}
+use Rattle.std.proofs.lemmas.Bool.{cases_lt, false≢true}
+use Rattle.std.proofs.lemmas.List.{drop_all, drop_more, get_or_past, take_all}
+use Rattle.std.proofs.lemmas.Option.{get_or_from_slice_get, slice_get-get_or, slice_get_cases, slice_get_past, slice_get_within}
+use Rattle.blocks.specs.Rows.{AreFilled, Rises, entered, flat, is_at, passes, place_in, start, without_first}
+use Rattle.blocks.proofs.Changes.{flat_at, some_at}
+use Rattle.blocks.proofs.Edits.{item_is}
+use Rattle.blocks.proofs.Order.{entered_is, hit, miss}
+
+module _ {X : Type 0} where
+  -- what `get` lends
+  pub got_is : (xs : List X) (i : ℕ) (r : Option (Bor X)) → IsItemAt xs i r → option_copied r ≡ slice_get xs i
+  got_is xs i None h = sym (slice_get_past xs i h.3)
+  got_is xs i (Some x) h = sym (slice_get-get_or xs i x.now h.3.0 ∙ ap Some (sym (h.3.1 x.now)))
+
+  pub inside_flat : (k at : ℕ) (cs : List (List X)) → at < length (get_or cs k []) → start k cs + at < length (flat cs)
+  inside_flat k at cs lt =
+      omega (arith, ap length (flat_at k cs), length-append (flat (take k cs)) (get_or cs k [] ++ flat (drop (suc k) cs)), length-append (get_or cs k []) (flat (drop (suc k) cs)))
+
+  behind_is : (k : ℕ) (cs : List (List X)) → length cs ≤ k → start k cs ≡ length (flat cs)
+  behind_is k cs le = ap (λ (r : List (List X)). length (flat r)) (take_all k cs le)
+
+  -- the item at a place of a block, and none behind the last block
+  pub get_is : (k at : ℕ) (cs : List (List X)) → (k < length cs → at < length (get_or cs k [])) → slice_get (flat cs) (start k cs + at) ≡ slice_get (get_or cs k []) at
+  get_is k at cs there =
+      ⊎_elim
+      (λ (lt : k < length cs).
+      let within : at < length (get_or cs k []) = there lt in
+      ⊎_elim
+      (λ (h : (x : X) × (at < length (get_or cs k [])) × (slice_get (get_or cs k []) at ≡ Some x) × (get_or (get_or cs k []) at x ≡ x)).
+      slice_get-get_or (flat cs) (start k cs + at) h.0 (inside_flat k at cs within) ∙ ap Some (item_is k at cs h.0 lt within ∙ h.3) ∙ sym h.2)
+      (λ (h : (length (get_or cs k []) ≤ at) × (slice_get (get_or cs k []) at ≡ None)). absurd (omega (arith, h.0, within)))
+      (slice_get_cases (get_or cs k []) at).1)
+      (λ (le : length cs ≤ k).
+      let none : length (get_or cs k []) ≡ 0 = ap length (get_or_past cs k [] le) in
+      slice_get_past (flat cs) (start k cs + at) (omega (arith, behind_is k cs le)) ∙ sym (slice_get_past (get_or cs k []) at (omega (arith, none))))
+      (cases_lt k (length cs))
+
+  -- the first and the last item
+  pub first_is : (cs : List (List X)) → AreFilled cs → slice_get (get_or cs 0 []) 0 ≡ slice_get (flat cs) 0
+  first_is cs s = sym (get_is 0 0 cs (λ lt. some_at 0 cs s lt))
+
+  pub last_is : (k : ℕ) (cs : List (List X)) → AreFilled cs → k + 1 ≡ length cs → slice_get (get_or cs k []) (length (get_or cs k []) - 1) ≡ slice_get (flat cs) (length (flat cs) - 1)
+  last_is k cs s e =
+      let low : 1 ≤ length (get_or cs k []) = some_at k cs s (omega (arith, e)) in
+      let none : flat (drop (suc k) cs) ≡ [] = ap flat (drop_all (suc k) cs (omega (arith, e))) in
+      let all : start k cs + (length (get_or cs k []) - 1) ≡ length (flat cs) - 1
+      = omega (arith, ap length (flat_at k cs), length-append (flat (take k cs)) (get_or cs k [] ++ flat (drop (suc k) cs)), length-append (get_or cs k []) (flat (drop (suc k) cs)), ap length none, low) in
+      sym (get_is k (length (get_or cs k []) - 1) cs (λ lt. omega (arith, low))) ∙ ap (slice_get (flat cs)) all
+
+  -- ---- a walk over the blocks
+  get_left : (b xs : List X) (n : ℕ) → n < length b → slice_get (b ++ xs) n ≡ slice_get b n
+  get_left [] xs n lt = absurd (omega (arith, lt))
+  get_left (x ∷ b) xs zero lt = refl
+  get_left (x ∷ b) xs (suc n) lt = get_left b xs n (omega (arith, lt))
+
+  get_right : (b xs : List X) (n : ℕ) → length b ≤ n → slice_get (b ++ xs) n ≡ slice_get xs (n - length b)
+  get_right [] xs n le = let same : n ≡ n - 0 = omega arith in ap (slice_get xs) same
+  get_right (x ∷ b) xs zero le = absurd (omega (arith, le))
+  get_right (x ∷ b) xs (suc n) le = let same : n - length b ≡ suc n - suc (length b) = omega arith in get_right b xs n (omega (arith, le)) ∙ ap (slice_get xs) same
+
+  module _ (i n : ℕ) (cs : List (List X)) (b : List X) (lt : i < length cs) (read : b ≡ get_or cs i b) where
+    from_here : flat (drop i cs) ≡ b ++ flat (drop (i + 1) cs)
+    from_here = ap flat (drop_more cs i b lt) ∙ ap (λ (c : List X). c ++ flat (drop (i + 1) cs)) (sym read)
+
+    pub walk_ends : n < length b → slice_get b n ≡ slice_get (flat (drop i cs)) n
+    walk_ends le = sym (ap (λ (l : List X). slice_get l n) from_here ∙ get_left b (flat (drop (i + 1) cs)) n le)
+
+    pub walk_on : length b ≤ n → slice_get (flat (drop (i + 1) cs)) (n - length b) ≡ slice_get (flat (drop i cs)) n
+    walk_on le = sym (ap (λ (l : List X). slice_get l n) from_here ∙ get_right b (flat (drop (i + 1) cs)) n le)
+
+  pub walk_past : (i n : ℕ) (cs : List (List X)) → length cs ≤ i → slice_get (flat (drop i cs)) n ≡ None
+  walk_past i n cs le = slice_get_past (flat (drop i cs)) n (let none : length (flat (drop i cs)) ≡ 0 = ap (λ (r : List (List X)). length (flat r)) (drop_all i cs le) in omega (arith, none))
+
+  -- ---- the item that is taken out
+  pub taken_item : (k at : ℕ) (cs old : List (List X)) (x : X) (found : Option X) → cs ≡ old → k < length cs → at < length (get_or cs k []) → found ≡ slice_get (flat cs) (start k cs + at) → x ≡ get_or (flat old) (start k old + at) x → Some x ≡ found
+  taken_item k at cs old x found same lt le e read =
+      ap Some (read ∙ ap (λ (r : List (List X)). get_or (flat r) (start k r + at) x) (sym same)) ∙ sym (slice_get-get_or (flat cs) (start k cs + at) x (inside_flat k at cs le)) ∙ sym e
+
+  -- an item that was read stands in a block that there is
+  pub within_is : (k at : ℕ) (cs : List (List X)) (found : List X) (x : X) → found ≡ get_or cs k [] → slice_get found at ≡ Some x → (k < length cs) × (at < length (get_or cs k []))
+  within_is k at cs found x value e =
+      let within : at < length (get_or cs k []) = subst (λ (l : List X). at < length l) value (slice_get_within found at x e) in
+      ⊎_elim
+      (λ (lt : k < length cs). (lt, within))
+      (λ (le : length cs ≤ k). let none : length (get_or cs k []) ≡ 0 = ap length (get_or_past cs k [] le) in absurd (omega (arith, none, within)))
+      (cases_lt k (length cs))
+
+  -- ---- what is read and taken at a place that was found
+  pub read_item : (k at : ℕ) (cs again : List (List X)) (items : List X) (found got : Option X) → again ≡ cs → at < length (get_or cs k []) → found ≡ slice_get (flat cs) (start k cs + at) → items ≡ get_or again k [] → got ≡ slice_get items at → got ≡ found
+  read_item k at cs again items found got same le e value g = g ∙ ap (λ (l : List X). slice_get l at) (value ∙ ap (λ (r : List (List X)). get_or r k []) same) ∙ sym (get_is k at cs (λ _. le)) ∙ sym e
+
+  pub left_by : (test : X → Bool) (k at : ℕ) (cs old : List (List X)) (new : List X) → cs ≡ old → without_first test (flat cs) ≡ remove (flat cs) (start k cs + at) → new ≡ remove (flat old) (start k old + at) → new ≡ without_first test (flat old)
+  left_by test k at cs old new same left e = e ∙ ap (λ (r : List (List X)). remove (flat r) (start k r + at)) (sym same) ∙ sym left ∙ ap (λ (r : List (List X)). without_first test (flat r)) same
+
+  pub last_item : (cs : List (List X)) (block items : List X) (got : Option X) → AreFilled cs → Some block ≡ slice_get cs (length cs - 1) → items ≡ block → got ≡ slice_get items (length items - 1) → got ≡ slice_get (flat cs) (length (flat cs) - 1)
+  last_item cs block items got filled e value g =
+      let there : length cs - 1 < length cs = slice_get_within cs (length cs - 1) block (sym e) in
+      let same : items ≡ get_or cs (length cs - 1) [] = value ∙ sym (get_or_from_slice_get cs (length cs - 1) block [] (sym e)) in
+      g ∙ ap (λ (l : List X). slice_get l (length l - 1)) same ∙ last_is (length cs - 1) cs filled (omega (arith, there))
+
+module _ {X : Type 0} (major minor : X → ℕ) where
+  -- ---- an item at the place that a search found
+  pub entered_by : (item : X) (cs old : List (List X)) (new : List X) (a b k at : ℕ) → cs ≡ old → a ≡ major item → b ≡ minor item → start k cs + at ≡ place_in major minor a b (flat cs) → new ≡ insert (flat old) (start k old + at) item
+      → new ≡ entered major minor item (flat old)
+  entered_by item cs old new a b k at same one two place e =
+      e
+      ∙ ap (λ (n : ℕ). insert (flat old) n item)
+      (ap (λ (r : List (List X)). start k r + at) (sym same) ∙ place ∙ ap (λ (r : List (List X)). place_in major minor a b (flat r)) same ∙ ap (λ (n : ℕ). place_in major minor n b (flat old)) one
+      ∙ ap (λ (n : ℕ). place_in major minor (major item) n (flat old)) two)
+      ∙ entered_is major minor item (flat old)
+
+  -- ---- what a search by two numbers meets
+  module _ (a b k at : ℕ) (cs : List (List X)) (found : List X) (rises : Rises major minor (flat cs)) (there : k < length cs → at < length (get_or cs k [])) (value : found ≡ get_or cs k []) (place : start k cs + at ≡ place_in major minor a b (flat cs)) where
+    here : slice_get (flat cs) (start k cs + at) ≡ slice_get found at
+    here = get_is k at cs there ∙ ap (λ (l : List X). slice_get l at) (sym value)
+
+    spot : slice_get (flat cs) (place_in major minor a b (flat cs)) ≡ slice_get found at
+    spot = ap (slice_get (flat cs)) (sym place) ∙ here
+
+    abbrev test : X → Bool
+    test = is_at major minor a b
+
+    pub missed : passes test (slice_get found at) ≡ false → (find test (flat cs) ≡ None) × (without_first test (flat cs) ≡ flat cs)
+    missed p = miss major minor a b (flat cs) rises (λ x (e : slice_get (flat cs) (place_in major minor a b (flat cs)) ≡ Some x). ap (passes test) (sym (sym spot ∙ e)) ∙ p)
+
+    pub record IsMet : Type 0 where
+      pub block : k < length cs
+      pub within : at < length (get_or cs k [])
+      pub item : find test (flat cs) ≡ slice_get (flat cs) (start k cs + at)
+      pub left : without_first test (flat cs) ≡ remove (flat cs) (start k cs + at)
+
+    pub met : passes test (slice_get found at) ≡ true → IsMet
+    met p =
+        ⊎_elim
+        (λ (h : (x : X) × (at < length found) × (slice_get found at ≡ Some x) × (get_or found at x ≡ x)).
+        let r = hit major minor a b (flat cs) h.0 (spot ∙ h.2) (ap (passes test) (sym h.2) ∙ p) in
+        let w = within_is k at cs found h.0 value h.2 in
+        record { block = w.0; within = w.1; item = r.0 ∙ sym (here ∙ h.2); left = r.1 ∙ ap (remove (flat cs)) (sym place) })
+        (λ (h : (length found ≤ at) × (slice_get found at ≡ None)). absurd (false≢true (ap (passes test) (sym h.1) ∙ p)))
+        (slice_get_cases found at).1

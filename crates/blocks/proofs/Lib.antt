@@ -1,0 +1,7 @@
+mod Weights
+mod Changes
+mod Places
+mod Edits
+mod Rooms
+mod Order
+mod Found

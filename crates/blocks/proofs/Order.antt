@@ -1,0 +1,130 @@
+-- Items that rise by two numbers.
+use Rattle.std.proofs.Common.{◌≡◌, ℕ, zero, suc, ◌+◌, ◌<◌, ◌≤◌, Bool, true, false, cond, not, nat_lt, ◌==◌, ◌&&◌, ◌||◌, ◌⊎◌, inl, inr, Option, Some, None, List, [], ◌∷◌, length, find, slice_get, insert, remove, one-add, refl, ap, sym, subst, ◌∙◌, arith}
+use Rattle.std.specs.List.{All}
+use Rattle.std.specs.List.Sorted.{IsPartitionedBy}
+use Rattle.std.specs.Bool.{Decides}
+use Rattle.std.proofs.lemmas.Bool.{cases_Bool}
+use Rattle.std.proofs.lemmas.Bool.Decides.{Decides-and, Decides-eqb, Decides-ltb, Decides-or, nat_tests, not_from_Decides}
+use Rattle.std.proofs.lemmas.List.Elements.{All-cons, All-head, All-nil, All-tail, All-weaker}
+use Rattle.blocks.specs.Rows.{Rises, entered, is_at, place_in, stands, without_first}
+
+-- ---- pairs of numbers
+abbrev less : ℕ → ℕ → ℕ → ℕ → Bool
+less p q a b = nat_lt p a || (p == a && nat_lt q b)
+
+abbrev same : ℕ → ℕ → ℕ → ℕ → Bool
+same p q a b = p == a && q == b
+
+less-behind : (p q m n a b : ℕ) → less p q m n ≡ false → less p q a b ≡ true → less m n a b ≡ true
+less-behind p q m n a b h t = grind (arith, nat_tests)
+
+not-less : (p q m n a b : ℕ) → less m n a b ≡ false → less p q m n ≡ false → less p q a b ≡ false
+not-less p q m n a b h k = grind (arith, nat_tests)
+
+one-way : (p q a b : ℕ) → less p q a b ≡ true → less a b p q ≡ false
+one-way p q a b h = grind (arith, nat_tests)
+
+less-differs : (p q a b : ℕ) → less p q a b ≡ true → same p q a b ≡ false
+less-differs p q a b h = grind (arith, nat_tests)
+
+behind-differs : (p q m n a b : ℕ) → less p q m n ≡ false → less m n a b ≡ false → same m n a b ≡ false → same p q a b ≡ false
+behind-differs p q m n a b h k s = grind (arith, nat_tests)
+
+module _ {X : Type 0} (major minor : X → ℕ) where
+  -- x doesn't stand in front of y's place
+  abbrev IsBehind : X → X → Type 0
+  IsBehind x y = stands major minor (major x) (minor x) y ≡ false
+
+  -- ---- a search finds its way
+  pub parted : (a b : ℕ) (xs : List X) → Rises major minor xs → IsPartitionedBy (stands major minor a b) xs
+  parted a b [] s i j d le lt t = absurd (omega (arith, lt))
+  parted a b (x ∷ xs) s zero zero d le lt t = t
+  parted a b (x ∷ xs) s zero (suc j) d le lt t = less-behind _ _ (major x) (minor x) a b (s.0 j d (omega (arith, lt))) t
+  parted a b (x ∷ xs) s (suc i) zero d le lt t = absurd (omega (arith, le))
+  parted a b (x ∷ xs) s (suc i) (suc j) d le lt t = parted a b xs s.1 i j d (omega (arith, le)) (omega (arith, lt)) t
+
+  -- ---- one item more
+  pub entered_is : (r : X) (xs : List X) → insert xs (place_in major minor (major r) (minor r) xs) r ≡ entered major minor r xs
+  entered_is r [] = refl
+  entered_is r (x ∷ xs) =
+      elim (stands major minor (major r) (minor r) x) as (λ b. insert (x ∷ xs) (cond (not (not b)) (1 + place_in major minor (major r) (minor r) xs) 0) r ≡ cond b (x ∷ entered major minor r xs) (r ∷ x ∷ xs)) [
+        | true ↦ rw one-add (ap (λ (l : List X). x ∷ l) (entered_is r xs))
+        | false ↦ refl
+      ]
+
+  All-entered : (P : X → Type 0) (r : X) (xs : List X) → P r → All P xs → All P (entered major minor r xs)
+  All-entered P r [] p h = All-cons P r [] p h
+  All-entered P r (x ∷ xs) p h =
+      elim (stands major minor (major r) (minor r) x) as (λ b. All P (cond b (x ∷ entered major minor r xs) (r ∷ x ∷ xs))) [
+        | true ↦ All-cons P x (entered major minor r xs) (All-head P x xs h) (All-entered P r xs p (All-tail P x xs h))
+        | false ↦ All-cons P r (x ∷ xs) p h
+      ]
+
+  pub rises-entered : (r : X) (xs : List X) → Rises major minor xs → Rises major minor (entered major minor r xs)
+  rises-entered r [] s = (All-nil (IsBehind r), tt)
+  rises-entered r (x ∷ xs) s = go (stands major minor (major r) (minor r) x) refl (rises-entered r xs s.1)
+    where
+      go : (b : Bool) → stands major minor (major r) (minor r) x ≡ b → Rises major minor (entered major minor r xs) → Rises major minor (cond b (x ∷ entered major minor r xs) (r ∷ x ∷ xs))
+      go true t i = (All-entered (IsBehind x) r xs (one-way (major x) (minor x) (major r) (minor r) t) s.0, i)
+      go false t i =
+          (All-cons (IsBehind r) x xs t (All-weaker (IsBehind x) (IsBehind r) (λ y (k : IsBehind x y). not-less (major y) (minor y) (major x) (minor x) (major r) (minor r) t k) xs s.0), s)
+
+  -- ---- one item less
+  All-without : (P : X → Type 0) (test : X → Bool) (xs : List X) → All P xs → All P (without_first test xs)
+  All-without P test [] h = h
+  All-without P test (x ∷ xs) h =
+      elim (test x) as (λ b. All P (cond b xs (x ∷ without_first test xs))) [
+        | true ↦ All-tail P x xs h
+        | false ↦ All-cons P x (without_first test xs) (All-head P x xs h) (All-without P test xs (All-tail P x xs h))
+      ]
+
+  pub rises-without : (test : X → Bool) (xs : List X) → Rises major minor xs → Rises major minor (without_first test xs)
+  rises-without test [] s = tt
+  rises-without test (x ∷ xs) s =
+      elim (test x) as (λ b. Rises major minor (cond b xs (x ∷ without_first test xs))) [
+        | true ↦ s.1
+        | false ↦ (All-without (IsBehind x) test xs s.0, rises-without test xs s.1)
+      ]
+
+  -- ---- the first item with two numbers
+  module _ (a b : ℕ) where
+    pub hit : (xs : List X) (x : X) → slice_get xs (place_in major minor a b xs) ≡ Some x → is_at major minor a b x ≡ true
+        → (find (is_at major minor a b) xs ≡ Some x) × (without_first (is_at major minor a b) xs ≡ remove xs (place_in major minor a b xs))
+    hit [] x e t = cc
+    hit (y ∷ xs) x e t = go (stands major minor a b y) refl e (hit xs x)
+      where
+        go : (c : Bool) → stands major minor a b y ≡ c → slice_get (y ∷ xs) (cond (not (not c)) (1 + place_in major minor a b xs) 0) ≡ Some x
+            → (slice_get xs (place_in major minor a b xs) ≡ Some x → is_at major minor a b x ≡ true → (find (is_at major minor a b) xs ≡ Some x) × (without_first (is_at major minor a b) xs ≡ remove xs (place_in major minor a b xs)))
+            → (find (is_at major minor a b) (y ∷ xs) ≡ Some x) × (without_first (is_at major minor a b) (y ∷ xs) ≡ remove (y ∷ xs) (cond (not (not c)) (1 + place_in major minor a b xs) 0))
+        go true s e i =
+            let other : is_at major minor a b y ≡ false = less-differs (major y) (minor y) a b s in
+            let r = i (rw one-add at e) t in
+            rw (other, one-add) (r.0, ap (λ (l : List X). y ∷ l) r.1)
+        go false s e i =
+            let here : y ≡ x = cc in
+            let at : is_at major minor a b y ≡ true = ap (is_at major minor a b) here ∙ t in
+            rw at (ap Some here, refl)
+
+    none : (xs : List X) → All (λ x. is_at major minor a b x ≡ false) xs → (find (is_at major minor a b) xs ≡ None) × (without_first (is_at major minor a b) xs ≡ xs)
+    none [] h = (refl, refl)
+    none (x ∷ xs) h =
+        let other : is_at major minor a b x ≡ false = All-head (λ x. is_at major minor a b x ≡ false) x xs h in
+        let r = none xs (All-tail (λ x. is_at major minor a b x ≡ false) x xs h) in
+        rw other (r.0, ap (λ (l : List X). x ∷ l) r.1)
+
+    pub miss : (xs : List X) → Rises major minor xs → ((x : X) → slice_get xs (place_in major minor a b xs) ≡ Some x → is_at major minor a b x ≡ false)
+        → (find (is_at major minor a b) xs ≡ None) × (without_first (is_at major minor a b) xs ≡ xs)
+    miss [] s h = (refl, refl)
+    miss (y ∷ xs) s h = go (stands major minor a b y) refl h (miss xs s.1)
+      where
+        go : (c : Bool) → stands major minor a b y ≡ c → ((x : X) → slice_get (y ∷ xs) (cond (not (not c)) (1 + place_in major minor a b xs) 0) ≡ Some x → is_at major minor a b x ≡ false)
+            → (((x : X) → slice_get xs (place_in major minor a b xs) ≡ Some x → is_at major minor a b x ≡ false) → (find (is_at major minor a b) xs ≡ None) × (without_first (is_at major minor a b) xs ≡ xs))
+            → (find (is_at major minor a b) (y ∷ xs) ≡ None) × (without_first (is_at major minor a b) (y ∷ xs) ≡ y ∷ xs)
+        go true t h i =
+            let other : is_at major minor a b y ≡ false = less-differs (major y) (minor y) a b t in
+            let r = i (λ x (e : slice_get xs (place_in major minor a b xs) ≡ Some x). h x (rw one-add e)) in
+            rw other (r.0, ap (λ (l : List X). y ∷ l) r.1)
+        go false t h i =
+            none (y ∷ xs)
+            (All-cons (λ x. is_at major minor a b x ≡ false) y xs (h y refl)
+            (All-weaker (IsBehind y) (λ x. is_at major minor a b x ≡ false) (λ x (k : IsBehind y x). behind-differs (major x) (minor x) (major y) (minor y) a b k t (h y refl)) xs s.0))

@@ -1,0 +1,127 @@
+-- What a row keeps through each edit.
+use Rattle.std.proofs.Common.{◌≡◌, ℕ, zero, suc, ◌+◌, ◌-◌, ◌*◌, ◌^◌, ◌<◌, ◌≤◌, List, [], ◌∷◌, ◌++◌, length, take, drop, get_or, set, insert, remove, refl, ap, sym, subst, ◌∙◌, ◌⊎◌, inl, inr, arith}
+use Rattle.std.specs.List.{All, sum_by}
+use Rattle.std.proofs.lemmas.Bool.{cases_lt}
+use Rattle.std.proofs.lemmas.List.{length-set, length-take-le, length_push}
+use Rattle.std.proofs.lemmas.List.Edits.{length-insert, length-remove}
+use Rattle.std.proofs.lemmas.List.Elements.{All-push, All-take}
+use Rattle.std.proofs.lemmas.List.Sums.{get_or-le-sum_by, sum_by-cons, sum_by-le-sum_by, sum_by-remove, sum_by-set}
+use Rattle.blocks.specs.Rows.{AreFilled, IsFilled, IsRow, cut_at, flat, joined_at, over_of, room_of}
+use Rattle.blocks.proofs.Edits.{all_is, cut_filled, cut_flat, cut_length, cut_over, filled-remove, filled-set, filled_here, join_filled, join_flat, join_length, join_over}
+
+module _ {X : Type 0} where
+  abbrev IsClear : List X → Type 0
+  IsClear c = c ≡ []
+
+  most : (cs : List (List X)) → AreFilled cs → sum_by (λ (c : List X). length c) cs ≤ length cs * 128
+  most [] s = omega arith
+  most (c ∷ cs) s = omega (arith, sum_by-cons (λ (c : List X). length c) c cs, s.0.high, most cs s.1)
+
+  fewer : (c : List X) → over_of c ≤ length c
+  fewer c = omega arith
+
+  module _ (used empty : List (List X)) (over len ur er : ℕ) (row : IsRow used empty over len ur er) where
+    -- the blocks that stay empty when the last of them is taken
+    left_length : (rest : List (List X)) → 1 ≤ length empty → rest ≡ take (length empty - 1) empty → length rest + 1 ≡ length empty
+    left_length rest some e = omega (arith, ap length e, length-take-le (length empty - 1) empty (omega arith), some)
+
+    left_clear : (rest : List (List X)) → rest ≡ take (length empty - 1) empty → All IsClear rest
+    left_clear rest e = subst (All IsClear) (sym e) (All-take IsClear (length empty - 1) empty row.cleared)
+
+    more_clear : (rest : List (List X)) (c : List X) → c ≡ [] → rest ≡ empty ++ c ∷ [] → All IsClear rest
+    more_clear rest c none e = subst (All IsClear) (sym e) (All-push IsClear empty c row.cleared none)
+
+    more_length : (rest : List (List X)) (c : List X) → rest ≡ empty ++ c ∷ [] → length rest ≡ length empty + 1
+    more_length rest c e = ap length e ∙ length_push empty c
+
+    -- by how many items one block is over, and all blocks are
+    pub over_here : (k : ℕ) → k < length used → length (get_or used k []) - 65 ≤ over
+    over_here k lt = omega (arith, get_or-le-sum_by over_of used k [] lt, row.overs)
+
+    pub many : len ≤ 2 ^ 47
+    many = omega (arith, row.all, all_is used, most used row.filled, row.few)
+
+    pub over_many : over ≤ 2 ^ 47
+    over_many = omega (arith, row.overs, sum_by-le-sum_by over_of (λ (c : List X). length c) used (λ (c : List X). fewer c), most used row.filled, row.few)
+
+    -- a block has some of the items
+    pub here_all : (k : ℕ) → k < length used → length (get_or used k []) ≤ len
+    here_all k lt = omega (arith, row.all, all_is used, get_or-le-sum_by (λ (c : List X). length c) used k [] lt)
+
+    pub cut_row : (k : ℕ) (new rest : List (List X)) (ur' er' : ℕ) → k < length used → length (get_or used k []) ≡ 128 → 1 ≤ room_of (length used) (length empty) over → new ≡ cut_at k used → rest ≡ take (length empty - 1) empty → ur ≤ ur' → er' ≡ er → IsRow new rest (over - 63) len ur' er'
+    cut_row k new rest ur' er' lt full room e f wide same =
+        let some : 1 ≤ length empty = omega (arith, room) in
+        let fewer : length rest + 1 ≡ length empty = left_length rest some f in
+        let count : length new ≡ length used + 1 = ap length e ∙ cut_length k used lt in
+        record {
+          filled = subst AreFilled (sym e) (cut_filled k used lt row.filled full);
+          cleared = left_clear rest f;
+          overs = omega (arith, row.overs, ap (sum_by over_of) e, cut_over k used lt full);
+          owed = omega (arith, room);
+          all = row.all ∙ ap length (sym (ap flat e ∙ cut_flat k used lt));
+          few = omega (arith, row.few);
+          usable = omega (arith, row.usable);
+          returnable = omega (arith, row.returnable);
+        }
+
+    same_row : (k : ℕ) (block : List X) (new : List (List X)) (over' len' ur' er' : ℕ) → k < length used → IsFilled block → new ≡ set used k block → ur ≤ ur' → er' ≡ er
+        → over' ≤ 64 * length empty → over' + (length (get_or used k []) - 65) ≡ over + (length block - 65) → len' + length (get_or used k []) ≡ len + length block → IsRow new empty over' len' ur' er'
+    same_row k block new over' len' ur' er' lt full e wide same owed overs all =
+        let count : length new ≡ length used = ap length e ∙ length-set used k block in
+        record {
+          filled = subst AreFilled (sym e) (filled-set k used block row.filled full);
+          cleared = row.cleared;
+          overs = omega (arith, row.overs, ap (sum_by over_of) e, sum_by-set over_of used k block [] lt, overs);
+          owed = owed;
+          all = omega (arith, row.all, all_is used, all_is new, ap (sum_by (λ (c : List X). length c)) e, sum_by-set (λ (c : List X). length c) used k block [] lt, all);
+          few = omega (arith, row.few);
+          usable = omega (arith, row.usable);
+          returnable = omega (arith, row.returnable);
+        }
+
+    pub put_row : (k at n less more : ℕ) (new : List (List X)) (x : X) (ur' er' : ℕ) → k < length used → at ≤ length (get_or used k []) → length (get_or used k []) < 128 → (64 < length (get_or used k []) → 1 ≤ room_of (length used) (length empty) over) → n ≡ length (get_or used k []) → less ≡ n - 65 → more ≡ n + 1 - 65 → new ≡ set used k (insert (get_or used k []) at x) → ur ≤ ur' → er' ≡ er
+        → IsRow new empty (over - less + more) (len + 1) ur' er'
+    put_row k at n less more new x ur' er' lt le short room long down up e wide same =
+        let longer : length (insert (get_or used k []) at x) ≡ length (get_or used k []) + 1 = length-insert (get_or used k []) at x le in
+        same_row k (insert (get_or used k []) at x) new (over - less + more) (len + 1) ur' er' lt (record { low = omega arith; high = omega arith }) e wide same (owes (cases_lt 64 (length (get_or used k [])))) (omega (arith, over_here k lt)) (omega arith)
+      where
+        owes : (64 < length (get_or used k [])) ⊎ (length (get_or used k []) ≤ 64) → over - less + more ≤ 64 * length empty
+        owes (inl many) = let some = room many in omega (arith, row.owed, some)
+        owes (inr few) = omega (arith, row.owed)
+
+    pub taken_row : (k at n less more : ℕ) (new : List (List X)) (ur' er' : ℕ) → k < length used → at < length (get_or used k []) → 2 ≤ length (get_or used k []) → n ≡ length (get_or used k []) → less ≡ n - 65 → more ≡ n - 1 - 65 → new ≡ set used k (remove (get_or used k []) at) → ur ≤ ur' → er' ≡ er
+        → IsRow new empty (over - less + more) (len - 1) ur' er'
+    taken_row k at n less more new ur' er' lt le several long down up e wide same =
+        let shorter : length (remove (get_or used k []) at) + 1 ≡ length (get_or used k []) = length-remove (get_or used k []) at le in
+        let here : IsFilled (get_or used k []) = filled_here k used row.filled lt in
+        same_row k (remove (get_or used k []) at) new (over - less + more) (len - 1) ur' er' lt (record { low = omega arith; high = omega (arith, here.high) }) e wide same (omega (arith, row.owed, over_here k lt)) (omega (arith, over_here k lt)) (omega (arith, here_all k lt))
+
+    pub retired_row : (k : ℕ) (new rest : List (List X)) (c : List X) (ur' er' : ℕ) → k < length used → length (get_or used k []) ≡ 1 → new ≡ remove used k → c ≡ [] → rest ≡ empty ++ c ∷ [] → ur' ≡ ur → er ≤ er' → IsRow new rest over (len - 1) ur' er'
+    retired_row k new rest c ur' er' lt one e none f same wide =
+        let count : length new + 1 ≡ length used = ap (λ (r : List (List X)). length r + 1) e ∙ length-remove used k lt in
+        let more : length rest ≡ length empty + 1 = more_length rest c f in
+        record {
+          filled = subst AreFilled (sym e) (filled-remove k used row.filled);
+          cleared = more_clear rest c none f;
+          overs = omega (arith, row.overs, ap (sum_by over_of) e, sum_by-remove over_of used k [] lt, one);
+          owed = omega (arith, row.owed);
+          all = omega (arith, row.all, all_is used, all_is new, ap (sum_by (λ (c : List X). length c)) e, sum_by-remove (λ (c : List X). length c) used k [] lt, one);
+          few = omega (arith, row.few);
+          usable = omega (arith, row.usable);
+          returnable = omega (arith, row.returnable);
+        }
+
+    pub joined_row : (k : ℕ) (new rest : List (List X)) (c : List X) (ur' er' : ℕ) → k + 1 < length used → length (get_or used k []) + length (get_or used (k + 1) []) ≤ 64 → new ≡ joined_at k used → c ≡ [] → rest ≡ empty ++ c ∷ [] → ur' ≡ ur → er ≤ er' → IsRow new rest over len ur' er'
+    joined_row k new rest c ur' er' lt le e none f same wide =
+        let count : length new + 1 ≡ length used = ap (λ (r : List (List X)). length r + 1) e ∙ join_length k used lt in
+        let more : length rest ≡ length empty + 1 = more_length rest c f in
+        record {
+          filled = subst AreFilled (sym e) (join_filled k used lt row.filled le);
+          cleared = more_clear rest c none f;
+          overs = row.overs ∙ sym (ap (sum_by over_of) e ∙ join_over k used lt le);
+          owed = omega (arith, row.owed);
+          all = row.all ∙ ap length (sym (join_flat k used new lt e));
+          few = omega (arith, row.few);
+          usable = omega (arith, row.usable);
+          returnable = omega (arith, row.returnable);
+        }

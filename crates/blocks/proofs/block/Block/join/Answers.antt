@@ -1,0 +1,9 @@
+use Rattle.std.proofs.Common.{◌<◌, ◌^◌, arith}
+use Rattle.blocks.proofs.Weights.{block_join, block_light}
+use Rattle.blocks.proofs.block.Block.join.Goals as goal
+
+pub overflow_add-self : goal.overflow_add-self
+overflow_add-self g c =
+    let light : c.self.inside.weight < 2 ^ 80 = block_light g.T.Ranked.weight c.self.inside.weight _ c.self.inside.items.items c.self.invariant in
+    let more : c.next.inside.weight < 2 ^ 80 = block_light g.T.Ranked.weight c.next.inside.weight _ c.next.inside.items.items c.next.invariant in
+    omega arith

@@ -1,0 +1,127 @@
+ghost use Rattle.std.specs.Prelude.{◌≡◌, ◌≤◌, ◌<◌, ◌+◌, ◌++◌, ◌^◌, [], IfOk, length, sum_by, take, drop, slice_index_or};
+ghost use Rattle.std.specs.List.{insert, remove};
+
+use crate::ranked::Ranked;
+use std::alloc::Allocator;
+use std::marker::Model;
+use swf_text::Memory;
+
+/// The most items of a block.
+pub(crate) const BLOCK_LIMIT: usize = 128;
+
+/// How many of a full block's items stay in it when it is cut.
+pub(crate) const BLOCK_HALF: usize = 64;
+
+/// Up to 128 items, which have their room, and what they weigh together.
+#[derive(Drop)]
+pub(crate) struct Block<T: Ranked, A: Allocator + Copy> {
+    items: Vec<T, A>,
+    weight: u128,
+}
+
+impl<T: Ranked, A: Allocator + Copy> Model for Block<T, A> {
+    ghost use Rattle.std.specs.Prelude.{List, vec_capacity};
+    ghost use Rattle.blocks.specs.Rows.{IsBlock};
+
+    ghost Value = { List T };
+
+    ghost view = { λ b. b.items.items };
+
+    ghost invariant = { λ b. IsBlock T.weight b.weight (vec_capacity b.items) b.items.items };
+}
+
+// What these items weigh together.
+fn weight_of<T: Ranked>(items: &[T]) -> u128
+    requires { sum_by T.weight items.now < 2 ^ 128 }
+    ensures { result ≡ sum_by T.weight items.now }
+{
+    items.iter().map(|item| u128::from(item.weight())).sum()
+}
+
+impl<T: Ranked, A: Allocator + Copy> Block<T, A> {
+    // No items, with room for 128.
+    pub(crate) fn new(alloc: A) -> Result<Block<T, A>, Memory>
+        ensures { IfOk result (λ block. block ≡ []) }
+    {
+        Ok(Block {
+            items: Vec::with_capacity(alloc, BLOCK_LIMIT)?,
+            weight: 0,
+        })
+    }
+
+    // The items.
+    pub(crate) fn as_slice(&self) -> &[T]
+        ensures items { result.now ≡ self.now }
+        ensures most { length result.now ≤ 128 }
+    {
+        self.items.as_slice()
+    }
+
+    // What the items weigh together.
+    pub(crate) fn weight(&self) -> u128
+        ensures { result ≡ sum_by T.weight self.now }
+    {
+        self.weight
+    }
+
+    // Puts one item more at a place, where there is room.
+    pub(crate) fn insert(&mut self, at: usize, item: T)
+        requires within { at ≤ length self.old }
+        requires room { length self.old < 128 }
+        ensures { self.new ≡ insert self.old at item }
+    {
+        self.weight += u128::from(item.weight());
+        let Ok(()) = self.items.insert(at, item) else {
+            unreachable!()
+        };
+    }
+
+    // Takes the item at a place out.
+    pub(crate) fn remove(&mut self, at: usize) -> T
+        requires { at < length self.old }
+        ensures item { result ≡ slice_index_or self.old at result }
+        ensures left { self.new ≡ remove self.old at }
+    {
+        let item = self.items.remove(at);
+        self.weight -= u128::from(item.weight());
+        item
+    }
+
+    // Moves the items from the 65th on to an empty block.
+    pub(crate) fn cut(&mut self, high: &mut Block<T, A>)
+        requires long { 64 ≤ length self.old }
+        requires none { high.old ≡ [] }
+        ensures low { self.new ≡ take 64 self.old }
+        ensures high { high.new ≡ drop 64 self.old }
+    {
+        let back = &self.items.as_slice()[BLOCK_HALF..];
+        let weight = weight_of(back);
+        let Ok(()) = high.items.extend_from_slice(back) else {
+            unreachable!()
+        };
+        high.weight = weight;
+        self.items.truncate(BLOCK_HALF);
+        self.weight -= weight;
+    }
+
+    // Moves all items of another block behind its own.
+    pub(crate) fn join(&mut self, next: &mut Block<T, A>)
+        requires { length self.old + length next.old ≤ 128 }
+        ensures all { self.new ≡ self.old ++ next.old }
+        ensures none { next.new ≡ [] }
+    {
+        let Ok(()) = self.items.extend_from_slice(next.items.as_slice()) else {
+            unreachable!()
+        };
+        self.weight += next.weight;
+        next.clear();
+    }
+
+    // Lets all items go, and keeps their room.
+    pub(crate) fn clear(&mut self)
+        ensures { self.new ≡ [] }
+    {
+        self.items.clear();
+        self.weight = 0;
+    }
+}

@@ -1,0 +1,15 @@
+//! A sorted row in blocks, each of which knows what its items weigh together.
+#![tactic(auto)]
+
+mod block;
+mod block_row;
+mod growth;
+mod items;
+mod place;
+mod ranked;
+mod search;
+mod sorted;
+
+pub use items::Items;
+pub use ranked::Ranked;
+pub use sorted::Blocks;

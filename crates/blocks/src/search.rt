@@ -1,0 +1,132 @@
+ghost use Rattle.std.specs.Prelude.{◌≡◌, ◌≤◌, ◌<◌, ◌+◌, IfSome, MatchOption, None, find, length, not, option_copied, slice_get};
+ghost use Rattle.std.specs.List.{position_or_len, remove};
+ghost use Rattle.std.specs.List.Sorted.{IsPartitionedBy};
+ghost use Rattle.blocks.specs.Rows.{AreFilled, Rises, block_of, ends_by, flat, is_at, passes, place_in, stands, start, without_first};
+
+use crate::block::Block;
+use crate::place::{Place, items_of};
+use crate::ranked::Ranked;
+use std::alloc::Allocator;
+
+// Whether an item stands before one with these two numbers.
+fn is_before<T: Ranked>(item: &T, major: u128, minor: u64) -> bool
+    ensures { result ≡ stands T.major T.minor major minor item.now }
+{
+    let own = item.major();
+    own < major || (own == major && item.minor() < minor)
+}
+
+// Whether a block's last item stands before one with these two numbers.
+fn ends_before<T: Ranked>(items: &[T], major: u128, minor: u64) -> bool
+    ensures { result ≡ ends_by (stands T.major T.minor major minor) items.now }
+{
+    match items.last() {
+        Some(last) => is_before(last, major, minor),
+        None => false,
+    }
+}
+
+// How many blocks end before an item with these two numbers.
+fn block_before<T: Ranked, A: Allocator + Copy>(
+    blocks: &[Block<T, A>],
+    major: u128,
+    minor: u64,
+) -> usize
+    requires filled { AreFilled blocks.now }
+    requires parted { IsPartitionedBy (stands T.major T.minor major minor) (flat blocks.now) }
+    ensures within { result ≤ length blocks.now }
+    ensures place { result ≡ position_or_len (λ block. not (ends_by (stands T.major T.minor major minor) block)) blocks.now }
+{
+    blocks.partition_point(
+        |block: &Block<T, A>| -> bool
+            ensures { result ≡ ends_by (stands T.major T.minor major minor) block.now }
+        { ends_before(block.as_slice(), major, minor) },
+    )
+}
+
+// How many of these items stand before one with these two numbers.
+fn before<T: Ranked>(items: &[T], major: u128, minor: u64) -> usize
+    requires { IsPartitionedBy (stands T.major T.minor major minor) items.now }
+    ensures within { result ≤ length items.now }
+    ensures place { result ≡ position_or_len (λ x. not (stands T.major T.minor major minor x)) items.now }
+{
+    items.partition_point(
+        |item: &T| -> bool
+            ensures { result ≡ stands T.major T.minor major minor item.now }
+        { is_before(item, major, minor) },
+    )
+}
+
+// The place of the first item that doesn't stand before one with these two numbers; behind the last
+// block where there is none.
+pub(crate) fn place_of<T: Ranked, A: Allocator + Copy>(
+    blocks: &[Block<T, A>],
+    major: u128,
+    minor: u64,
+) -> Place
+    requires filled { AreFilled blocks.now }
+    requires parted { IsPartitionedBy (stands T.major T.minor major minor) (flat blocks.now) }
+    ensures block { result.block ≤ length blocks.now }
+    ensures within { result.at ≤ length (block_of blocks.now result.block) }
+    ensures place { start result.block blocks.now + result.at ≡ place_in T.major T.minor major minor (flat blocks.now) }
+    ensures there { result.block < length blocks.now → result.at < length (block_of blocks.now result.block) }
+{
+    let block = block_before(blocks, major, minor);
+    let at = before(items_of(blocks, block), major, minor);
+    Place { block, at }
+}
+
+// Whether an item has these two numbers.
+fn is_at<T: Ranked>(item: &T, major: u128, minor: u64) -> bool
+    ensures { result ≡ is_at T.major T.minor major minor item.now }
+{
+    item.major() == major && item.minor() == minor
+}
+
+// Whether there is an item at a place, with these two numbers.
+fn has_at<T: Ranked>(items: &[T], at: usize, major: u128, minor: u64) -> bool
+    ensures { result ≡ passes (is_at T.major T.minor major minor) (slice_get items.now at) }
+{
+    match items.get(at) {
+        Some(item) => is_at(item, major, minor),
+        None => false,
+    }
+}
+
+// The place of the first item with these two numbers; None where there is none.
+pub(crate) fn place_with<T: Ranked, A: Allocator + Copy>(
+    blocks: &[Block<T, A>],
+    major: u128,
+    minor: u64,
+) -> Option<Place>
+    requires filled { AreFilled blocks.now }
+    requires rises { Rises T.major T.minor (flat blocks.now) }
+    ensures block { IfSome result (λ place. place.block < length blocks.now) }
+    ensures at { IfSome result (λ place. place.at < length (block_of blocks.now place.block)) }
+    ensures item { MatchOption result (find (is_at T.major T.minor major minor) (flat blocks.now) ≡ None) (λ place. find (is_at T.major T.minor major minor) (flat blocks.now) ≡ slice_get (flat blocks.now) (start place.block blocks.now + place.at)) }
+    ensures left { MatchOption result (without_first (is_at T.major T.minor major minor) (flat blocks.now) ≡ flat blocks.now) (λ place. without_first (is_at T.major T.minor major minor) (flat blocks.now) ≡ remove (flat blocks.now) (start place.block blocks.now + place.at)) }
+{
+    let place = place_of(blocks, major, minor);
+    if has_at(items_of(blocks, place.block), place.at, major, minor) {
+        return Some(place);
+    }
+    None
+}
+
+// The item at a place; None past the last one.
+pub(crate) fn item_at<T: Ranked, A: Allocator + Copy>(
+    blocks: &[Block<T, A>],
+    place: usize,
+) -> Option<&T>
+    ensures { option_copied result ≡ slice_get (flat blocks.now) place }
+{
+    let mut left = place;
+    for block in blocks {
+        let items = block.as_slice();
+        if left < items.len() {
+            return items.get(left);
+        }
+        left -= items.len();
+    }
+    None
+}

@@ -1,0 +1,173 @@
+ghost use Rattle.std.specs.Prelude.{◌≡◌, ◌≤◌, ◌<◌, ◌+◌, ◌-◌, ◌↔◌, [], IsOk, IsTrue, OnErr, OnOk, find, length, option_copied, slice_get, slice_index_or, sum_by};
+ghost use Rattle.blocks.specs.Rows.{AreFilled, Rises, entered, flat, is_at, without_first};
+
+use crate::block_row::BlockRow;
+use crate::items::Items;
+use crate::place::items_of;
+use crate::ranked::Ranked;
+use crate::search::{item_at, place_of, place_with};
+use std::alloc::Allocator;
+use std::marker::Model;
+use swf_text::Memory;
+
+/// Items that rise by their two numbers, in blocks of 1 to 128, each of which knows what its items
+/// weigh together. An item more or less touches one block, or two that are cut or joined. Blocks that
+/// are empty are kept, so that it is known how many insertions take no memory. Contracts see the
+/// blocks, each with its items, and how many insertions surely find room.
+#[derive(Drop)]
+pub struct Blocks<T: Ranked, A: Allocator + Copy> {
+    row: BlockRow<T, A>,
+}
+
+impl<T: Ranked, A: Allocator + Copy> Model for Blocks<T, A> {
+    ghost use Rattle.blocks.specs.Rows.{BlocksView, Rises, flat};
+
+    ghost Value = { BlocksView T };
+
+    ghost view = { λ b. b.row };
+
+    ghost invariant = { λ b. Rises T.major T.minor (flat b.row.blocks) };
+}
+
+impl<T: Ranked, A: Allocator + Copy> Blocks<T, A> {
+    /// No items. It takes no memory.
+    pub fn new(alloc: A) -> Blocks<T, A>
+        ensures { result.blocks ≡ [] }
+    {
+        Blocks {
+            row: BlockRow::new(alloc),
+        }
+    }
+
+    /// How many items there are.
+    pub fn len(&self) -> usize
+        ensures { result ≡ length (flat self.now.blocks) }
+    {
+        self.row.len()
+    }
+
+    /// Whether there is none.
+    pub fn is_empty(&self) -> bool
+        ensures { IsTrue result ↔ (flat self.now.blocks ≡ []) }
+    {
+        self.row.len() == 0
+    }
+
+    /// How many insertions surely find room.
+    pub fn spare(&self) -> usize
+        ensures { result ≡ self.now.spare }
+    {
+        self.row.spare()
+    }
+
+    /// Makes room for so many insertions. Where there is room for them it takes no memory.
+    ///
+    /// Memory where a growth was refused; the room may then be greater than it was, too.
+    pub fn reserve(&mut self, count: usize) -> Result<(), Memory>
+        ensures blocks { self.new.blocks ≡ self.old.blocks }
+        ensures ok { OnOk result (count ≤ self.new.spare) }
+        ensures kept { self.old.spare ≤ self.new.spare }
+        ensures room { count ≤ self.old.spare → IsOk result }
+    {
+        self.row.reserve(count)
+    }
+
+    /// Puts one item more before the first that doesn't stand before it, where there is room.
+    pub fn insert(&mut self, item: T)
+        requires { 1 ≤ self.old.spare }
+        ensures items { flat self.new.blocks ≡ entered T.major T.minor item (flat self.old.blocks) }
+        ensures spare { self.old.spare ≤ self.new.spare + 1 }
+    {
+        let place = place_of(self.row.blocks(), item.major(), item.minor());
+        self.row.insert(place, item);
+    }
+
+    /// As `insert`, and makes the room. Memory where a growth was refused; then the items stay.
+    pub fn insert_growing(&mut self, item: T) -> Result<(), Memory>
+        ensures items { OnOk result (flat self.new.blocks ≡ entered T.major T.minor item (flat self.old.blocks)) }
+        ensures kept { OnErr result (self.new.blocks ≡ self.old.blocks) }
+    {
+        self.reserve(1)?;
+        self.insert(item);
+        Ok(())
+    }
+
+    /// Takes the first item with these two numbers out; None where there is none. It takes no memory.
+    pub fn remove(&mut self, major: u128, minor: u64) -> Option<T>
+        ensures item { result ≡ find (is_at T.major T.minor major minor) (flat self.old.blocks) }
+        ensures left { flat self.new.blocks ≡ without_first (is_at T.major T.minor major minor) (flat self.old.blocks) }
+        ensures spare { self.old.spare ≤ self.new.spare }
+    {
+        let place = place_with(self.row.blocks(), major, minor)?;
+        Some(self.row.remove(place))
+    }
+
+    /// The first item with these two numbers; None where there is none.
+    pub fn find(&self, major: u128, minor: u64) -> Option<&T>
+        ensures { option_copied result ≡ find (is_at T.major T.minor major minor) (flat self.now.blocks) }
+    {
+        let place = place_with(self.row.blocks(), major, minor)?;
+        items_of(self.row.blocks(), place.block).get(place.at)
+    }
+
+    /// The item at a place; None past the last one. It takes one step a block.
+    pub fn at(&self, place: usize) -> Option<&T>
+        ensures { option_copied result ≡ slice_get (flat self.now.blocks) place }
+    {
+        item_at(self.row.blocks(), place)
+    }
+
+    /// The first item; None where there is none.
+    pub fn first(&self) -> Option<&T>
+        ensures { option_copied result ≡ slice_get (flat self.now.blocks) 0 }
+    {
+        items_of(self.row.blocks(), 0).first()
+    }
+
+    /// The last item; None where there is none.
+    pub fn last(&self) -> Option<&T>
+        ensures { option_copied result ≡ slice_get (flat self.now.blocks) (length (flat self.now.blocks) - 1) }
+    {
+        self.row.blocks().last()?.as_slice().last()
+    }
+
+    /// How many blocks there are.
+    pub fn blocks(&self) -> usize
+        ensures value { result ≡ length self.now.blocks }
+        ensures filled { AreFilled self.now.blocks }
+        ensures rises { Rises T.major T.minor (flat self.now.blocks) }
+    {
+        self.row.blocks().len()
+    }
+
+    /// The items of a block.
+    pub fn block(&self, number: usize) -> &[T]
+        requires { number < length self.now.blocks }
+        ensures { result.now ≡ slice_index_or self.now.blocks number [] }
+    {
+        self.row.blocks()[number].as_slice()
+    }
+
+    /// What the items of a block weigh together. It takes one step.
+    pub fn weight(&self, number: usize) -> u128
+        requires { number < length self.now.blocks }
+        ensures { result ≡ sum_by T.weight (slice_index_or self.now.blocks number []) }
+    {
+        self.row.blocks()[number].weight()
+    }
+
+    /// All items, in order.
+    pub fn iter(&self) -> Items<'_, T, A>
+        ensures { result ≡ flat self.now.blocks }
+    {
+        Items::of(self.row.blocks())
+    }
+
+    /// Lets all items go; their room stays.
+    pub fn clear(&mut self)
+        ensures blocks { self.new.blocks ≡ [] }
+        ensures spare { self.old.spare ≤ self.new.spare }
+    {
+        self.row.clear();
+    }
+}

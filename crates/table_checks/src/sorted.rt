@@ -1,0 +1,172 @@
+use blocks::{Blocks, Ranked};
+use refusing::{Outcome, Trial, survives_refusals};
+use std::alloc::{Allocator, Global};
+
+/// What stands at two numbers, and weighs something.
+#[derive(Clone, Copy, Debug, PartialEq, Eq)]
+struct Mark {
+    major: u64,
+    minor: u64,
+    weight: u64,
+}
+
+impl Ranked for Mark {
+    ghost major = { λ mark. mark.major };
+
+    ghost minor = { λ mark. mark.minor };
+
+    ghost weight = { λ mark. mark.weight };
+
+    fn major(&self) -> u128 {
+        u128::from(self.major)
+    }
+
+    fn minor(&self) -> u64 {
+        self.minor
+    }
+
+    fn weight(&self) -> u64 {
+        self.weight
+    }
+}
+
+fn mark(major: u64, minor: u64, weight: u64) -> Mark {
+    Mark {
+        major,
+        minor,
+        weight,
+    }
+}
+
+// Four marks, not in their order.
+fn four(alloc: Global) -> Option<Blocks<Mark, Global>> {
+    let mut row = Blocks::new(alloc);
+    for (major, minor, weight) in [(3, 1, 10), (1, 2, 20), (2, 5, 30), (1, 1, 40)] {
+        row.insert_growing(mark(major, minor, weight)).ok()?;
+    }
+    Some(row)
+}
+
+fn reads_four(row: &Blocks<Mark, Global>) -> bool {
+    row.len() == 4
+        && row.first() == Some(&mark(1, 1, 40))
+        && row.at(1) == Some(&mark(1, 2, 20))
+        && row.at(2) == Some(&mark(2, 5, 30))
+        && row.last() == Some(&mark(3, 1, 10))
+        && row.at(4).is_none()
+        && row.find(2, 5) == Some(&mark(2, 5, 30))
+        && row.find(2, 6).is_none()
+        && row.blocks() == 1
+}
+
+#[test]
+fn marks_stand_in_their_order(rt: HostRuntime) {
+    let row = four(rt.alloc());
+    assert!(rt; row.is_some_and(|row| reads_four(&row)));
+}
+
+// Takes one of four marks out, asks for it again, and lets the others go.
+fn removes_one(row: &mut Blocks<Mark, Global>) -> bool {
+    let taken = row.remove(1, 2);
+    let again = row.remove(1, 2);
+    let mut rest = row.iter();
+    let left = rest.next() == Some(&mark(1, 1, 40)) && rest.next() == Some(&mark(2, 5, 30));
+    row.clear();
+    taken == Some(mark(1, 2, 20)) && again.is_none() && left && row.is_empty()
+}
+
+#[test]
+fn a_mark_leaves(rt: HostRuntime) {
+    let row = four(rt.alloc());
+    assert!(rt; row.is_some_and(|mut row| removes_one(&mut row)));
+}
+
+// Puts so many marks more at the end, each of weight 1, where there is room for each.
+fn fill<A: Allocator + Copy>(row: &mut Blocks<Mark, A>, count: u64) {
+    for major in 0..count {
+        if row.spare() == 0 {
+            return;
+        }
+        row.insert(mark(major, 0, 1));
+    }
+}
+
+// 200 marks: the first block was cut at the 129th, and the second at the 193rd.
+fn two_hundred(alloc: Global) -> Option<Blocks<Mark, Global>> {
+    let mut row = Blocks::new(alloc);
+    row.reserve(200).ok()?;
+    fill(&mut row, 200);
+    Some(row)
+}
+
+// Whether there are so many blocks, of which the first weighs this.
+fn begins_with(row: &Blocks<Mark, Global>, blocks: usize, weight: u128) -> bool {
+    row.blocks() == blocks && blocks > 0 && row.weight(0) == weight && row.block(0).len() == 64
+}
+
+#[test]
+fn a_full_block_is_cut(rt: HostRuntime) {
+    let row = two_hundred(rt.alloc());
+    assert!(rt; row.is_some_and(|row| begins_with(&row, 3, 64)));
+}
+
+// 24 marks leave the second block and 40 the first, which then joins the 40 that are left there.
+fn joins_two(row: &mut Blocks<Mark, Global>) -> bool {
+    for major in 64..88 {
+        row.remove(major, 0);
+    }
+    for major in 0..40 {
+        row.remove(major, 0);
+    }
+    begins_with(row, 2, 64)
+}
+
+#[test]
+fn short_blocks_are_joined(rt: HostRuntime) {
+    let row = two_hundred(rt.alloc());
+    assert!(rt; row.is_some_and(|mut row| joins_two(&mut row)));
+}
+
+/// Calls that take memory.
+#[derive(Clone, Copy, Debug)]
+enum Call {
+    Reserve,
+    Insert,
+}
+
+// Room for 130 marks, which then take no memory.
+fn reserves<A: Allocator + Copy>(alloc: A) -> Outcome {
+    let mut row = Blocks::new(alloc);
+    if row.reserve(130).is_err() {
+        return Outcome::memory_if(row.is_empty());
+    }
+    fill(&mut row, 130);
+    Outcome::right_if(row.len() == 130)
+}
+
+// 130 marks, each of which makes its room.
+fn inserts<A: Allocator + Copy>(alloc: A) -> Outcome {
+    let mut row = Blocks::new(alloc);
+    for major in 0..130 {
+        let before = row.len();
+        if row.insert_growing(mark(major, 0, 1)).is_err() {
+            return Outcome::memory_if(row.len() == before);
+        }
+    }
+    Outcome::right_if(row.len() == 130)
+}
+
+impl Trial for Call {
+    fn outcome<A: Allocator + Copy>(&self, alloc: A) -> Outcome {
+        match *self {
+            Call::Reserve => reserves(alloc),
+            Call::Insert => inserts(alloc),
+        }
+    }
+}
+
+#[test]
+fn calls_tell_memory(rt: HostRuntime) {
+    assert!(rt; survives_refusals(rt.alloc(), &Call::Reserve));
+    assert!(rt; survives_refusals(rt.alloc(), &Call::Insert));
+}
