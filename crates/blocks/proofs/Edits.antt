@@ -1,14 +1,13 @@
 -- What an edit of a row's blocks leaves.
-use Rattle.std.proofs.Common.{◌≡◌, ℕ, zero, suc, ◌+◌, ◌-◌, ◌*◌, ◌^◌, ◌<◌, ◌≤◌, List, [], ◌∷◌, ◌++◌, length, length-append, length-drop, take, drop, get_or, set, insert, remove, refl, ap, sym, subst, ◌∙◌, append_assoc, arith, take-append-drop, ⊎_elim}
-use Rattle.std.specs.List.{All, sum_by}
-use Rattle.std.proofs.lemmas.List.{append-nil, drop-set-lt, drop_more, get_or-append-add, get_or_append_left, get_or_at, get_or_read, length-set, length-take-le, length_push, set_at, set_split, take_at, take_more, take_more_set}
+use Rattle.std.proofs.Common.{◌≡◌, ℕ, zero, suc, ◌+◌, ◌-◌, ◌<◌, ◌≤◌, List, [], ◌∷◌, ◌++◌, length, length-append, length-drop, take, drop, get_or, set, insert, remove, refl, ap, sym, subst, ◌∙◌, append_assoc, arith, take-append-drop, ⊎_elim}
+use Rattle.std.specs.List.{sum_by}
+use Rattle.std.proofs.lemmas.List.{append-nil, drop-set-lt, drop_more, get_or_at, get_or_read, length-set, length-take-le, length_push, set_at, set_split, take_at, take_more, take_more_set}
 use Rattle.std.proofs.lemmas.Bool.{cases_lt}
 use Rattle.std.proofs.lemmas.List.Concat.{flat_map-append, get_or-flat_map, length-flat_map}
 use Rattle.std.proofs.lemmas.List.Edits.{get_or-remove_below, length-insert, length-remove}
-use Rattle.std.proofs.lemmas.List.Elements.{All-push, All-take}
-use Rattle.std.proofs.lemmas.List.Sums.{get_or-le-sum_by, sum_by-append, sum_by-cons, sum_by-insert, sum_by-remove, sum_by-set, sum_by_push}
-use Rattle.blocks.specs.Rows.{AreFilled, IsFilled, IsRow, cut_at, flat, joined_at, over_of, room_of, start}
-use Rattle.blocks.proofs.Changes.{filled-append, filled-drop, filled-take, flat_at, inserted_is, removed_is}
+use Rattle.std.proofs.lemmas.List.Sums.{sum_by-append, sum_by-cons}
+use Rattle.blocks.specs.Rows.{AreFilled, IsFilled, cut_at, flat, joined_at, over_of, start}
+use Rattle.blocks.proofs.Changes.{filled-append, filled-drop, filled-take, inserted_is, removed_is}
 
 next_is : (k : ℕ) → k + 1 ≡ suc k
 next_is k = omega arith

@@ -2,7 +2,7 @@
 use Rattle.std.proofs.Common.{◌≡◌, ℕ, zero, suc, ◌+◌, ◌-◌, ◌<◌, ◌≤◌, Bool, true, false, not, List, [], ◌∷◌, ◌++◌, length, length-append, take, drop, get_or, refl, ap, sym, subst, ◌∙◌, arith, zero-add}
 use Rattle.std.specs.List.{position_or_len}
 use Rattle.std.specs.List.Sorted.{IsPartitionedBy, IsPartitionPoint}
-use Rattle.std.proofs.lemmas.List.{get_or-append-add, get_or_append_left, get_or_past}
+use Rattle.std.proofs.lemmas.List.{get_or-append-add, get_or_append_left}
 use Rattle.std.proofs.lemmas.List.Sums.{position_or_len_is}
 use Rattle.std.proofs.lemmas.Option.{slice_get-get_or}
 use Rattle.blocks.specs.Rows.{flat, start, ends_by, passes, AreFilled}
@@ -129,22 +129,3 @@ module _ {X : Type 0} (test : X → Bool) where
   pub placed_at : (xs : List X) (i : ℕ) → i ≤ length xs → IsPartitionPoint (λ x. test x ≡ true) (λ x. test x ≡ false) xs i → i ≡ place xs
   placed_at [] i le h = omega arith
   placed_at (x ∷ xs) i le h = sym (position_or_len_is (λ y. not (test y)) (x ∷ xs) i x le (λ k lt. ap not (h.0 k x (omega arith) lt)) (λ lt. ap not (h.1 i x (omega arith) lt)))
-
-module _ {X : Type 0} where
-  -- the blocks up to one have its elements and those before
-  pub start_more : (k : ℕ) (cs : List (List X)) → k < length cs → start (suc k) cs ≡ start k cs + length (get_or cs k [])
-  start_more k [] h = absurd (omega arith)
-  start_more zero (c ∷ []) h = omega (arith, length-append c [])
-  start_more zero (c ∷ d ∷ cs) h = omega (arith, length-append c [])
-  start_more (suc k) (c ∷ cs) h =
-      let i : start (suc k) cs ≡ start k cs + length (get_or cs k []) = start_more k cs (omega arith) in
-      omega (arith, i, length-append c (flat (take k cs)), length-append c (flat (take (suc k) cs)))
-
-  -- past the last block, and at the end of the last one
-  pub open_end : (k at last : ℕ) (cs : List (List X)) → k ≡ length cs → last + 1 ≡ k → at ≤ length (get_or cs k []) → start last cs + length (get_or cs last []) ≡ start k cs + at
-  open_end k at last cs whole next within =
-      let past : length (get_or cs k []) ≡ 0 = ap length (get_or_past cs k [] (omega arith)) in
-      let step : suc last ≡ k = omega arith in
-      let more : start (suc last) cs ≡ start last cs + length (get_or cs last []) = start_more last cs (omega arith) in
-      let same : start (suc last) cs ≡ start k cs = ap (λ (n : ℕ). start n cs) step in
-      omega (arith, past, more, same)

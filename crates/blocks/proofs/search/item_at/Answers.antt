@@ -1,4 +1,4 @@
-use Rattle.std.proofs.Common.{◌≡◌, ◌+◌, ◌-◌, ℕ, List, ap, drop, length, option_copied, rules, slice_get, ◌∙◌}
+use Rattle.std.proofs.Common.{◌≡◌, ◌+◌, ◌-◌, List, ap, drop, length, option_copied, rules, slice_get, ◌∙◌}
 use Rattle.blocks.specs.Rows.{flat}
 use Rattle.blocks.proofs.Found.{got_is, walk_ends, walk_on}
 use Rattle.blocks.proofs.search.item_at.Goals as goal

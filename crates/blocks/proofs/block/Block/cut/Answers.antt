@@ -1,4 +1,4 @@
-use Rattle.std.proofs.Common.{◌≡◌, ◌<◌, ◌-◌, ◌^◌, ◌++◌, List, ap, arith, drop, length, take, ◌∙◌}
+use Rattle.std.proofs.Common.{◌-◌, ◌++◌, List, ap, arith, drop, length, take, ◌∙◌}
 use Rattle.std.proofs.lemmas.List.{take_rest}
 use Rattle.blocks.proofs.Weights.{back_light, block_high, block_low}
 use Rattle.blocks.proofs.block.Block.cut.Goals as goal

@@ -1,5 +1,5 @@
 use Rattle.std.proofs.Common.{◌<◌, ◌^◌, arith}
-use Rattle.blocks.proofs.Weights.{block_join, block_light}
+use Rattle.blocks.proofs.Weights.{block_light}
 use Rattle.blocks.proofs.block.Block.join.Goals as goal
 
 pub overflow_add-self : goal.overflow_add-self

@@ -1,4 +1,4 @@
-use Rattle.std.proofs.Common.{◌≡◌, ◌≤◌, ◌-◌, ◌+◌, ◌^◌, [], All, length, vec_capacity}
+use Rattle.std.proofs.Common.{◌≡◌, ◌≤◌, ◌+◌, [], All, length, vec_capacity}
 use Rattle.blocks.proofs.block_row.BlockRow.clear.Given as goal
 
 abbrev pub invariant-used : goal.invariant-used

@@ -1,6 +1,6 @@
 use Rattle.std.proofs.Common.{◌≡◌, ◌+◌, ℕ, List, [], ap, arith, get_or, insert, length, rules, ◌∙◌}
 use Rattle.blocks.specs.Rows.{flat, start}
-use Rattle.blocks.proofs.Edits.{HasRoom, cut_flat, has_room, put_flat}
+use Rattle.blocks.proofs.Edits.{cut_flat, has_room, put_flat}
 use Rattle.blocks.proofs.block_row.BlockRow.enter.Goals as goal
 
 pub returns-then-items_of-lt-BLOCK_LIMIT-clause-items : goal.returns-then-items_of-lt-BLOCK_LIMIT-clause-items

@@ -1,4 +1,4 @@
-use Rattle.std.proofs.Common.{◌≡◌, List, ap, find, option_copied, rules, slice_get, sym, ◌∙◌}
+use Rattle.std.proofs.Common.{◌≡◌, List, ap, find, option_copied, slice_get, sym, ◌∙◌}
 use Rattle.blocks.specs.Rows.{BlocksView, flat, is_at}
 use Rattle.blocks.proofs.Found.{got_is, read_item}
 use Rattle.blocks.proofs.sorted.Blocks.find.Goals as goal

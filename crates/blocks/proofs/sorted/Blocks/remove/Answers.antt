@@ -1,4 +1,4 @@
-use Rattle.std.proofs.Common.{List, ap, find, rules, subst, sym, ◌∙◌}
+use Rattle.std.proofs.Common.{List, ap, find, subst, sym, ◌∙◌}
 use Rattle.blocks.specs.Rows.{BlocksView, Rises, flat, is_at}
 use Rattle.blocks.proofs.Found.{left_by, taken_item}
 use Rattle.blocks.proofs.Order.{rises-without}
