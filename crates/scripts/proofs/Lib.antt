@@ -7,3 +7,5 @@ mod Looking
 mod Sides
 mod Hearings
 mod Conversations
+mod OneAnswer
+mod OneTranscript

@@ -86,7 +86,7 @@ kept : (b : Bool) (m k : Machine) → k.notes ≡ m.notes → (cond b m k).notes
 kept true m k is = refl
 kept false m k is = is
 
-claim-notes : (m : Machine) (o : Option Progress) → (claimed_by m o).notes ≡ m.notes
+pub claim-notes : (m : Machine) (o : Option Progress) → (claimed_by m o).notes ≡ m.notes
 claim-notes m None = refl
 claim-notes m (Some p) = kept (are_all_out m) m (record m { tickets = m.tickets ++ record { number = m.next_ticket; id = p.id; version = version m } ∷ []; next_ticket = m.next_ticket + 1 }) refl
 

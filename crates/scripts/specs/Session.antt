@@ -1,5 +1,5 @@
 -- One analyst's session with a book: a call is a step of the book machine, or is refused and changes nothing.
-use Rattle.std.specs.Prelude.{◌≡◌, ℕ, ◌<◌, max, List, ◌⊎◌, codes}
+use Rattle.std.specs.Prelude.{◌≡◌, ℕ, ◌<◌, max, List, Bool, true, false, ◌⊎◌, codes}
 use Rattle.book_machine.specs.declared.reply.Reply.{Reply}
 use Rattle.book_machine.specs.declared.reply.Reply.TheVariants as reply
 use Rattle.book_machine.specs.Call.{BookCall}
@@ -32,11 +32,20 @@ IsRefused old why text new = (text ≡ refused why) × (new ≡ old)
 abbrev pub IsFull : Session → List ℕ → Session → Type 0
 IsFull old text new = (old.machine.notes ≡ note_limit) × IsRefused old (codes "JournalFull") text new
 
--- want of memory, which may come at any command that makes something
-abbrev pub WantsMemory : Session → List ℕ → Session → Type 0
-WantsMemory old text new = IsRefused old (codes "Memory") text new
+-- what can be only where memory is short
+abbrev pub IfShort : Bool → Type 0 → Type 0
+IfShort true can_be = can_be
+IfShort false can_be = ⊥
 
--- a command that is one call: the text says what was replied
+-- want of memory, which may come at any command that makes something, where memory is short
+abbrev pub WantsMemory : Bool → Session → List ℕ → Session → Type 0
+WantsMemory short old text new = IfShort short (IsRefused old (codes "Memory") text new)
+
+-- A command that is one call: the text says what was replied. Where memory isn't short, it isn't refused.
+abbrev pub IsCallIf : Bool → Session → BookCall → (Reply → List ℕ) → List ℕ → Session → Type 0
+IsCallIf short old call says text new =
+    IsFull old text new ⊎ (WantsMemory short old text new ⊎ ((told : Reply) × IsStep old call told new × (text ≡ says told)))
+
+-- memory may be short
 abbrev pub IsCall : Session → BookCall → (Reply → List ℕ) → List ℕ → Session → Type 0
-IsCall old call says text new =
-    IsFull old text new ⊎ (WantsMemory old text new ⊎ ((told : Reply) × IsStep old call told new × (text ≡ says told)))
+IsCall old call says text new = IsCallIf true old call says text new

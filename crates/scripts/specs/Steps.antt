@@ -1,5 +1,6 @@
--- What each command is answered, and the state after it. In each, want of memory is one more case.
-use Rattle.std.specs.Prelude.{◌≡◌, ℕ, ◌<◌, List, [], ◌∷◌, ◌++◌, length, count_by, None, Some, ◌⊎◌, codes, Bool}
+-- What each command is answered, and the state after it. Where memory is short, its want is one more case of each; what has
+-- no mark of that is of memory that may be short.
+use Rattle.std.specs.Prelude.{◌≡◌, ℕ, ◌<◌, List, [], ◌∷◌, ◌++◌, length, count_by, None, Some, ◌⊎◌, codes, Bool, true, false}
 use Rattle.std.specs.List.{flat_map}
 use Rattle.std.specs.Fmt.{decimal}
 use Rattle.swf_text.specs.Entry.{LogEntry}
@@ -30,7 +31,7 @@ use Rattle.book_machine.specs.Machine.{Machine, version, current, settled, note_
 use Rattle.scripts.specs.Lines.{version_line, settled_line, failed_line, stopped_line, saved_line, bye_line, refused}
 use Rattle.scripts.specs.Answers.{edit_says, scenario_says, view_says}
 use Rattle.scripts.specs.Settling.{Settles}
-use Rattle.scripts.specs.Session.{Session, IsStep, IsRefused, IsFull, WantsMemory, IsCall}
+use Rattle.scripts.specs.Session.{Session, IsStep, IsRefused, IsFull, IfShort, WantsMemory, IsCallIf}
 
 -- ---- a scenario by its name
 
@@ -64,16 +65,19 @@ abbrev pub IsDays : Machine → Listed → ℕ → List ℕ → Type 0
 IsDays m s v text = (tables : TableRows) × AreTables m s v tables × (text ≡ days_text s.name v tables.days)
 
 -- what is shown is told by a report, or finds no memory; otherwise why nothing is shown
-abbrev pub IsTold : (ℕ → List ℕ → Type 0) → Reply → List ℕ → Type 0
-IsTold report (reply.Shown v) text = report v text ⊎ (text ≡ refused (codes "Memory"))
-IsTold report other text = text ≡ view_says other
+abbrev pub IsTold : Bool → (ℕ → List ℕ → Type 0) → Reply → List ℕ → Type 0
+IsTold short report (reply.Shown v) text = report v text ⊎ IfShort short (text ≡ refused (codes "Memory"))
+IsTold short report other text = text ≡ view_says other
 
 -- a view of a scenario, with what the session has seen
-abbrev pub IsView : Session → (Machine → Listed → ℕ → List ℕ → Type 0) → List ℕ → Session → Listed → Type 0
-IsView old report text new s =
+abbrev pub IsViewIf : Bool → Session → (Machine → Listed → ℕ → List ℕ → Type 0) → List ℕ → Session → Listed → Type 0
+IsViewIf short old report text new s =
     IsFull old text new
-    ⊎ (WantsMemory old text new
-    ⊎ ((told : Reply) × IsStep old (View s.id old.seen) told new × IsTold (report old.machine s) told text))
+    ⊎ (WantsMemory short old text new
+    ⊎ ((told : Reply) × IsStep old (View s.id old.seen) told new × IsTold short (report old.machine s) told text))
+
+abbrev pub IsView : Session → (Machine → Listed → ℕ → List ℕ → Type 0) → List ℕ → Session → Listed → Type 0
+IsView old report text new s = IsViewIf true old report text new s
 
 -- ---- scenarios side by side
 
@@ -99,12 +103,15 @@ abbrev pub side_of : List (List ℕ) → List ℕ
 side_of lines = codes "side scenarios " ++ decimal (length lines) ++ codes "\n" ++ flat_map (λ line. line) lines
 
 -- after some of the views a refusal ends the command; the views before it are noted
-abbrev pub IsSide : Session → List ℕ → Session → Type 0
-IsSide old text new =
+abbrev pub IsSideIf : Bool → Session → List ℕ → Session → Type 0
+IsSideIf short old text new =
     (front back : List Listed) × (lines : List (List ℕ)) × (old.machine.listing.scenarios ≡ front ++ back) × AreSeen old front lines new
     × (((back ≡ []) × (text ≡ side_of lines))
     ⊎ (((new.machine.notes ≡ note_limit) × (0 < length back) × (text ≡ refused (codes "JournalFull")))
-    ⊎ (text ≡ refused (codes "Memory"))))
+    ⊎ IfShort short (text ≡ refused (codes "Memory"))))
+
+abbrev pub IsSide : Session → List ℕ → Session → Type 0
+IsSide old text new = IsSideIf true old text new
 
 -- ---- settling
 
@@ -119,11 +126,19 @@ abbrev pub IsSettled : Bool → Session → List ℕ → Session → Type 0
 IsSettled short old text new =
     Settles short old.machine new.machine × (new.seen ≡ old.seen) × (text ≡ settle_line old.seen (settled old.seen new.machine))
 
+-- where memory may be short, it was or it wasn't
+abbrev pub IsSettledIf : Bool → Session → List ℕ → Session → Type 0
+IsSettledIf true old text new = (short : Bool) × IsSettled short old text new
+IsSettledIf false old text new = IsSettled false old text new
+
 -- ---- the log
 
 -- nothing changes, and the text is made, unless memory is refused
+abbrev pub IsMadeIf : Bool → Session → List ℕ → List ℕ → Session → Type 0
+IsMadeIf short old made text new = ((text ≡ made) × (new ≡ old)) ⊎ WantsMemory short old text new
+
 abbrev pub IsMade : Session → List ℕ → List ℕ → Session → Type 0
-IsMade old made text new = ((text ≡ made) × (new ≡ old)) ⊎ WantsMemory old text new
+IsMade old made text new = IsMadeIf true old made text new
 
 -- how many lines follow, each ended by a line feed, and the lines
 abbrev pub with_count : List ℕ → List ℕ
@@ -135,21 +150,24 @@ saved_text text = with_count (text_bytes text)
 -- ---- the commands
 
 -- From the old state, with these kept comments, the command may be answered by this text, and leave the new state.
+abbrev pub AnswersIf : {A : Type 0} → Bool → List (List ℕ) → Session → Command A → List ℕ → Session → Type 0
+AnswersIf short comments old (asks.Insert entry) text new = IsCallIf short old (Edit (Insert entry)) edit_says text new
+AnswersIf short comments old (asks.Remove number) text new = IsCallIf short old (Edit (Remove number)) edit_says text new
+AnswersIf short comments old (asks.Change number place value) text new = IsCallIf short old (Edit (Change number place value)) edit_says text new
+AnswersIf short comments old (asks.Scenario name setting) text new = IsCallIf short old (AddScenario name setting) (scenario_says name) text new
+AnswersIf short comments old (asks.Drop name) text new = IsCallIf short old (DropScenario name) (scenario_says name) text new
+AnswersIf short comments old (asks.Retry name) text new = IsNamed old name (λ s. IsCallIf short old (Retry s.id) (scenario_says name) text new) text new
+AnswersIf short comments old asks.Settle text new = IsSettledIf short old text new
+AnswersIf short comments old (asks.Schedule name) text new = IsNamed old name (IsViewIf short old IsSchedule text new) text new
+AnswersIf short comments old (asks.Table name) text new = IsNamed old name (IsViewIf short old IsTable text new) text new
+AnswersIf short comments old (asks.Users name) text new = IsNamed old name (IsViewIf short old IsUsers text new) text new
+AnswersIf short comments old (asks.Days name) text new = IsNamed old name (IsViewIf short old IsDays text new) text new
+AnswersIf short comments old asks.Side text new = IsSideIf short old text new
+AnswersIf short comments old (asks.Log name) text new =
+    IsNamed old name (λ s. IsMadeIf short old (log_text s.name (version old.machine) (current old.machine) s.setting) text new) text new
+AnswersIf short comments old asks.Save text new = IsMadeIf short old (saved_text (saved comments (current old.machine) old.machine.listing)) text new
+AnswersIf short comments old asks.Version text new = (text ≡ version_line (version old.machine)) × (new ≡ old)
+AnswersIf short comments old asks.Quit text new = (text ≡ bye_line) × (new ≡ old)
+
 abbrev pub Answers : {A : Type 0} → List (List ℕ) → Session → Command A → List ℕ → Session → Type 0
-Answers comments old (asks.Insert entry) text new = IsCall old (Edit (Insert entry)) edit_says text new
-Answers comments old (asks.Remove number) text new = IsCall old (Edit (Remove number)) edit_says text new
-Answers comments old (asks.Change number place value) text new = IsCall old (Edit (Change number place value)) edit_says text new
-Answers comments old (asks.Scenario name setting) text new = IsCall old (AddScenario name setting) (scenario_says name) text new
-Answers comments old (asks.Drop name) text new = IsCall old (DropScenario name) (scenario_says name) text new
-Answers comments old (asks.Retry name) text new = IsNamed old name (λ s. IsCall old (Retry s.id) (scenario_says name) text new) text new
-Answers comments old asks.Settle text new = (short : Bool) × IsSettled short old text new
-Answers comments old (asks.Schedule name) text new = IsNamed old name (IsView old IsSchedule text new) text new
-Answers comments old (asks.Table name) text new = IsNamed old name (IsView old IsTable text new) text new
-Answers comments old (asks.Users name) text new = IsNamed old name (IsView old IsUsers text new) text new
-Answers comments old (asks.Days name) text new = IsNamed old name (IsView old IsDays text new) text new
-Answers comments old asks.Side text new = IsSide old text new
-Answers comments old (asks.Log name) text new =
-    IsNamed old name (λ s. IsMade old (log_text s.name (version old.machine) (current old.machine) s.setting) text new) text new
-Answers comments old asks.Save text new = IsMade old (saved_text (saved comments (current old.machine) old.machine.listing)) text new
-Answers comments old asks.Version text new = (text ≡ version_line (version old.machine)) × (new ≡ old)
-Answers comments old asks.Quit text new = (text ≡ bye_line) × (new ≡ old)
+Answers comments old command text new = AnswersIf true comments old command text new

@@ -5,6 +5,7 @@
 mod analyst;
 mod answer;
 mod hearing;
+mod laws;
 mod live;
 mod refusals;
 mod reply;
@@ -15,6 +16,7 @@ mod view_report;
 mod views;
 
 pub use answer::{Answer, Became, Refusal};
+pub use laws::unrefused_transcripts_are_one;
 pub use live::{LiveFault, run_live};
 pub use reply::Reply;
 pub use run::run_lines;

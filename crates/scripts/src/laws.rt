@@ -1,0 +1,13 @@
+ghost use Rattle.std.specs.Prelude.{◌≡◌, List, ℕ};
+ghost use Rattle.scripts.specs.Session.{Session};
+ghost use Rattle.scripts.specs.Transcript.{IsTranscriptOf, IsUnrefused};
+
+use std::alloc::Allocator;
+
+/// Where no memory is refused, what a script is answered follows from the state of the book that it
+/// begins with, the comments and its bytes: any two such transcripts are the same. Each of them is one
+/// of those that `run_lines` and `run_live` may write.
+pub fn unrefused_transcripts_are_one<A: Allocator>()
+    ensures one { (comments : List (List ℕ)) (first : Session) (script out other : List ℕ) → IsUnrefused A comments first script out → IsUnrefused A comments first script other → out ≡ other }
+    ensures transcript { (comments : List (List ℕ)) (first : Session) (script out : List ℕ) → IsUnrefused A comments first script out → IsTranscriptOf A comments first script out }
+{}
