@@ -9,3 +9,8 @@ mod Hearings
 mod Conversations
 mod OneAnswer
 mod OneTranscript
+mod Starts
+mod FirstWork
+mod FirstLines
+mod FirstSchedules
+pub mod Lemmas

@@ -1,10 +1,10 @@
 -- Where memory isn't short, a command has one answer.
-use Rattle.std.proofs.Common.{◌≡◌, ℕ, ◌+◌, ◌<◌, List, [], ◌∷◌, ◌++◌, length, refl, sym, ◌∙◌, ap, ap₂, subst, Bool, true, false, inl, inr, ◌⊎◌, arith}
-use Rattle.std.specs.Prelude.{Option, None, Some, IsTrue, is_some, codes}
+use Rattle.std.proofs.Common.{◌≡◌, ℕ, ◌<◌, List, [], ◌∷◌, ◌++◌, length, sym, ◌∙◌, ap, ap₂, subst, true, false, inl, inr, ◌⊎◌, arith}
+use Rattle.std.specs.Prelude.{None, Some, IsTrue, is_some, codes}
 use Rattle.swf_text.specs.Entry.{LogEntry}
 use Rattle.scenarios.specs.Scenario.{Setting}
 use Rattle.scenarios.specs.Plan.{plan_of}
-use Rattle.scenarios.specs.ScenarioList.{Listed, named}
+use Rattle.scenarios.specs.ScenarioList.{Listed}
 use Rattle.scenarios.specs.Skips.{skips_of}
 use Rattle.metrics.specs.Part.{PartSums}
 use Rattle.metrics.specs.Tables.{TableRows, tables_of}
@@ -22,7 +22,7 @@ use Rattle.job_table.specs.Edit.{Insert, Remove, Change}
 use Rattle.book_machine.specs.declared.reply.Reply.{Reply}
 use Rattle.book_machine.specs.declared.reply.Reply.TheVariants as reply
 use Rattle.book_machine.specs.Call.{BookCall, Edit, AddScenario, DropScenario, Retry, View, Claim}
-use Rattle.book_machine.specs.Machine.{Machine, version, current, settled, due, are_all_out, after, note_limit}
+use Rattle.book_machine.specs.Machine.{Machine, version, current, settled, due, after, note_limit}
 use Rattle.scripts.specs.Lines.{refused}
 use Rattle.scripts.specs.Answers.{edit_says, scenario_says}
 use Rattle.scripts.specs.Session.{Session, IsStep, IsCallIf, seen_by}

@@ -1,5 +1,5 @@
 -- Where memory isn't short, a script has one transcript, and it is one of those where memory may be short.
-use Rattle.std.proofs.Common.{◌≡◌, ℕ, ◌+◌, List, [], ◌∷◌, ◌++◌, Bool, true, false, Option, Some, None, Result, Ok, Err, inl, inr, sym, ◌∙◌, ap₂, subst}
+use Rattle.std.proofs.Common.{◌≡◌, ℕ, ◌+◌, List, [], ◌∷◌, ◌++◌, true, false, Option, Some, None, Result, Ok, Err, inl, inr, sym, ◌∙◌, ap₂, subst}
 use Rattle.commands.specs.declared.command.Command.{Command}
 use Rattle.commands.specs.declared.command.Command.TheVariants as asks
 use Rattle.commands.specs.declared.fault.CommandFault.{CommandFault}

@@ -8,5 +8,6 @@ pub mod Replies
 pub mod Reports
 pub mod Looks
 pub mod Transcript
+pub mod FirstSchedule
 pub mod Hearing
 pub mod Live

@@ -32,20 +32,20 @@ IsRefused old why text new = (text ≡ refused why) × (new ≡ old)
 abbrev pub IsFull : Session → List ℕ → Session → Type 0
 IsFull old text new = (old.machine.notes ≡ note_limit) × IsRefused old (codes "JournalFull") text new
 
--- what can be only where memory is short
+-- what may be where memory is short, and not otherwise
 abbrev pub IfShort : Bool → Type 0 → Type 0
-IfShort true can_be = can_be
-IfShort false can_be = ⊥
+IfShort true fact = fact
+IfShort false fact = ⊥
 
--- want of memory, which may come at any command that makes something, where memory is short
+-- want of memory, which may come at any command that makes something
 abbrev pub WantsMemory : Bool → Session → List ℕ → Session → Type 0
 WantsMemory short old text new = IfShort short (IsRefused old (codes "Memory") text new)
 
--- A command that is one call: the text says what was replied. Where memory isn't short, it isn't refused.
+-- A command that is one call: the text says what was replied. Where `short` is false, no memory is refused.
 abbrev pub IsCallIf : Bool → Session → BookCall → (Reply → List ℕ) → List ℕ → Session → Type 0
 IsCallIf short old call says text new =
     IsFull old text new ⊎ (WantsMemory short old text new ⊎ ((told : Reply) × IsStep old call told new × (text ≡ says told)))
 
--- memory may be short
+-- the same, where memory may be short
 abbrev pub IsCall : Session → BookCall → (Reply → List ℕ) → List ℕ → Session → Type 0
 IsCall old call says text new = IsCallIf true old call says text new

@@ -1,5 +1,5 @@
--- What each command is answered, and the state after it. Where memory is short, its want is one more case of each; what has
--- no mark of that is of memory that may be short.
+-- What each command is answered, and the state after it. Where `short` is true, want of memory is one more case of each;
+-- where it is false, no memory is refused. What lacks this mark has that case.
 use Rattle.std.specs.Prelude.{◌≡◌, ℕ, ◌<◌, List, [], ◌∷◌, ◌++◌, length, count_by, None, Some, ◌⊎◌, codes, Bool, true, false}
 use Rattle.std.specs.List.{flat_map}
 use Rattle.std.specs.Fmt.{decimal}

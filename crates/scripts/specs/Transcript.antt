@@ -1,5 +1,4 @@
--- What may be written for a script, where memory is short somewhere in it or nowhere; what has no mark of that is of memory
--- that may be short.
+-- What may be written for a script. Where `short` is false, no memory is refused in it; what lacks this mark allows for that.
 use Rattle.std.specs.Prelude.{◌≡◌, ℕ, ◌+◌, List, [], ◌∷◌, ◌++◌, Bool, true, false, if◌then◌else◌, Option, Some, None, Result, Ok, Err}
 use Rattle.swf_text.specs.Entry.{LogEntry}
 use Rattle.swf_text.specs.Text.{lines}
@@ -58,7 +57,7 @@ module _ (A : Type 0) where
   abbrev pub IsTranscriptOf : List (List ℕ) → Session → List ℕ → List ℕ → Type 0
   IsTranscriptOf comments first script out = IsTranscript comments first (looked_at (lines script)) 1 out
 
-  -- and what is written where no memory is refused
+  -- what is written for it where no memory is refused
   abbrev pub IsUnrefused : List (List ℕ) → Session → List ℕ → List ℕ → Type 0
   IsUnrefused comments first script out = IsTranscriptIf false comments first (looked_at (lines script)) 1 out
 

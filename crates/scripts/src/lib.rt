@@ -16,7 +16,7 @@ mod view_report;
 mod views;
 
 pub use answer::{Answer, Became, Refusal};
-pub use laws::unrefused_transcripts_are_one;
+pub use laws::{the_first_schedule, unrefused_transcripts_are_one};
 pub use live::{LiveFault, run_live};
 pub use reply::Reply;
 pub use run::run_lines;

@@ -1,0 +1,7 @@
+-- What crates above cite of these proofs, passed on from one place. Declares nothing.
+-- one transcript, where no memory is refused, which is one of those where it may be
+pub use Rattle.scripts.proofs.OneTranscript.{one-unrefused, unrefused-too}
+-- scenarios that are added one after another
+pub use Rattle.scripts.proofs.Starts.{with-one}
+-- the schedule of the first scenario
+pub use Rattle.scripts.proofs.FirstSchedules.{schedules_first}
