@@ -15,7 +15,7 @@ use Rattle.scripts.specs.Steps.{AnswersIf, IsDays, IsMadeIf, IsNamed, IsSchedule
 use Rattle.scripts.specs.Transcript.{IsLineIf, IsTranscriptIf, IsTranscriptOf, IsUnrefused, looked_at}
 use Rattle.scripts.proofs.OneAnswer.{IsSame, one-answer}
 
-one-line : {A : Type 0} (comments : List (List ℕ)) (old : Session) (number : ℕ) (asked : Result (Option (Command A)) CommandFault) (text other : List ℕ) (new next : Session) → IsLineIf false comments old number asked text new → IsLineIf false comments old number asked other next → IsSame text other new next
+pub one-line : {A : Type 0} (comments : List (List ℕ)) (old : Session) (number : ℕ) (asked : Result (Option (Command A)) CommandFault) (text other : List ℕ) (new next : Session) → IsLineIf false comments old number asked text new → IsLineIf false comments old number asked other next → IsSame text other new next
 one-line comments old number (Ok None) text other new next f g = (f.0 ∙ sym g.0, f.1 ∙ sym g.1)
 one-line comments old number (Ok (Some command)) text other new next f g = one-answer comments old command text other new next f g
 one-line comments old number (Err fault) text other new next f g = (f.0 ∙ sym g.0, f.1 ∙ sym g.1)

@@ -9,5 +9,6 @@ pub mod Reports
 pub mod Looks
 pub mod Transcript
 pub mod FirstSchedule
+pub mod Laws
 pub mod Hearing
 pub mod Live

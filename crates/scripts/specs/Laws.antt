@@ -1,0 +1,23 @@
+-- Where no memory is refused, what is written follows from the state and the lines.
+use Rattle.std.specs.Prelude.{◌≡◌, ℕ, List, Option, Result, false}
+use Rattle.commands.specs.declared.command.Command.{Command}
+use Rattle.commands.specs.declared.fault.CommandFault.{CommandFault}
+use Rattle.scripts.specs.Session.{Session}
+use Rattle.scripts.specs.Transcript.{IsLineIf, IsTranscriptOf, IsUnrefused}
+
+-- a line has one answer, and leads to one state
+abbrev pub LinesAreOne : Type 0 → Type 0
+LinesAreOne A =
+    (comments : List (List ℕ)) (old : Session) (number : ℕ) (asked : Result (Option (Command A)) CommandFault) (text other : List ℕ) (new next : Session)
+    → IsLineIf false comments old number asked text new → IsLineIf false comments old number asked other next → (text ≡ other) × (new ≡ next)
+
+-- a script has one transcript
+abbrev pub TranscriptsAreOne : Type 0 → Type 0
+TranscriptsAreOne A =
+    (comments : List (List ℕ)) (first : Session) (script out other : List ℕ)
+    → IsUnrefused A comments first script out → IsUnrefused A comments first script other → out ≡ other
+
+-- which is one of those where memory may be refused
+abbrev pub TranscriptsAreSome : Type 0 → Type 0
+TranscriptsAreSome A =
+    (comments : List (List ℕ)) (first : Session) (script out : List ℕ) → IsUnrefused A comments first script out → IsTranscriptOf A comments first script out
