@@ -10,7 +10,6 @@ use Rattle.scenarios.specs.Name.{is_name}
 use Rattle.scenarios.specs.Plan.{plan_of}
 use Rattle.scenarios.specs.ScenarioList.{Listed, Listing, named}
 use Rattle.commands.specs.declared.command.Command.{Command}
-use Rattle.commands.specs.declared.command.Command.TheVariants as asks
 use Rattle.commands.specs.declared.fault.CommandFault.{CommandFault}
 use Rattle.commands.specs.Commands.{command_of_line}
 use Rattle.report.specs.Schedule.{schedule_text}
