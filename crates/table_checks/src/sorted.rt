@@ -30,7 +30,7 @@ impl Ranked for Mark {
     }
 }
 
-fn mark(major: u64, minor: u64, weight: u64) -> Mark {
+fn mark_at(major: u64, minor: u64, weight: u64) -> Mark {
     Mark {
         major,
         minor,
@@ -42,19 +42,19 @@ fn mark(major: u64, minor: u64, weight: u64) -> Mark {
 fn four(alloc: Global) -> Option<Blocks<Mark, Global>> {
     let mut row = Blocks::new(alloc);
     for (major, minor, weight) in [(3, 1, 10), (1, 2, 20), (2, 5, 30), (1, 1, 40)] {
-        row.insert_growing(mark(major, minor, weight)).ok()?;
+        row.insert_growing(mark_at(major, minor, weight)).ok()?;
     }
     Some(row)
 }
 
 fn reads_four(row: &Blocks<Mark, Global>) -> bool {
     row.len() == 4
-        && row.first() == Some(&mark(1, 1, 40))
-        && row.at(1) == Some(&mark(1, 2, 20))
-        && row.at(2) == Some(&mark(2, 5, 30))
-        && row.last() == Some(&mark(3, 1, 10))
+        && row.first() == Some(&mark_at(1, 1, 40))
+        && row.at(1) == Some(&mark_at(1, 2, 20))
+        && row.at(2) == Some(&mark_at(2, 5, 30))
+        && row.last() == Some(&mark_at(3, 1, 10))
         && row.at(4).is_none()
-        && row.find(2, 5) == Some(&mark(2, 5, 30))
+        && row.find(2, 5) == Some(&mark_at(2, 5, 30))
         && row.find(2, 6).is_none()
         && row.blocks() == 1
 }
@@ -70,9 +70,9 @@ fn removes_one(row: &mut Blocks<Mark, Global>) -> bool {
     let taken = row.remove(1, 2);
     let again = row.remove(1, 2);
     let mut rest = row.iter();
-    let left = rest.next() == Some(&mark(1, 1, 40)) && rest.next() == Some(&mark(2, 5, 30));
+    let left = rest.next() == Some(&mark_at(1, 1, 40)) && rest.next() == Some(&mark_at(2, 5, 30));
     row.clear();
-    taken == Some(mark(1, 2, 20)) && again.is_none() && left && row.is_empty()
+    taken == Some(mark_at(1, 2, 20)) && again.is_none() && left && row.is_empty()
 }
 
 #[test]
@@ -87,7 +87,7 @@ fn fill<A: Allocator + Copy>(row: &mut Blocks<Mark, A>, count: u64) {
         if row.spare() == 0 {
             return;
         }
-        row.insert(mark(major, 0, 1));
+        row.insert(mark_at(major, 0, 1));
     }
 }
 
@@ -110,14 +110,17 @@ fn a_full_block_is_cut(rt: HostRuntime) {
     assert!(rt; row.is_some_and(|row| begins_with(&row, 3, 64)));
 }
 
+// Takes the marks of these majors out.
+fn take_out(row: &mut Blocks<Mark, Global>, from: u64, end: u64) {
+    for major in from..end {
+        row.remove(u128::from(major), 0);
+    }
+}
+
 // 24 marks leave the second block and 40 the first, which then joins the 40 that are left there.
 fn joins_two(row: &mut Blocks<Mark, Global>) -> bool {
-    for major in 64..88 {
-        row.remove(major, 0);
-    }
-    for major in 0..40 {
-        row.remove(major, 0);
-    }
+    take_out(row, 64, 88);
+    take_out(row, 0, 40);
     begins_with(row, 2, 64)
 }
 
@@ -149,7 +152,7 @@ fn inserts<A: Allocator + Copy>(alloc: A) -> Outcome {
     let mut row = Blocks::new(alloc);
     for major in 0..130 {
         let before = row.len();
-        if row.insert_growing(mark(major, 0, 1)).is_err() {
+        if row.insert_growing(mark_at(major, 0, 1)).is_err() {
             return Outcome::memory_if(row.len() == before);
         }
     }
