@@ -1,22 +1,19 @@
 -- The scenarios of an opening, added one after another.
-use Rattle.std.proofs.Common.{◌≡◌, ℕ, ◌+◌, List, [], ◌∷◌, ◌++◌, take, Some, refl, sym, ap, ◌∙◌}
+use Rattle.std.proofs.Common.{◌≡◌, ℕ, ◌+◌, List, [], ◌∷◌, ◌++◌, take, Some, sym, ap, ◌∙◌}
 use Rattle.std.specs.Prelude.{slice_get}
 use Rattle.std.proofs.lemmas.List.{take_more}
 use Rattle.std.proofs.lemmas.Option.{get_or_from_slice_get, slice_get_within}
 use Rattle.scenarios.specs.ScenarioList.{Listed}
 use Rattle.book_machine.specs.Call.{AddScenario}
-use Rattle.book_machine.specs.Machine.{Machine, after}
+use Rattle.book_machine.specs.Machine.{after}
 use Rattle.version_book.specs.Book.{BookView, machine_of}
 use Rattle.scripts.specs.Transcript.{with_scenarios}
+use Rattle.scripts.proofs.Lemmas.{with-one}
 
 -- the first so many of the scenarios were added to a book
 pub record Added (old new : BookView) (scenarios : List Listed) (place : ℕ) : Type 0 where
   pub machine : machine_of new ≡ with_scenarios (machine_of old) (take place scenarios)
   pub spacing : new.state.spacing ≡ old.state.spacing
-
-with-one : (m : Machine) (front : List Listed) (s : Listed) → with_scenarios m (front ++ s ∷ []) ≡ after (AddScenario s.name s.setting) (with_scenarios m front)
-with-one m [] s = refl
-with-one m (x ∷ front) s = with-one (after (AddScenario x.name x.setting) m) front s
 
 take_got : (xs : List Listed) (place : ℕ) (x : Listed) → slice_get xs place ≡ Some x → take (place + 1) xs ≡ take place xs ++ x ∷ []
 take_got xs place x is = take_more xs place x (slice_get_within xs place x is) ∙ ap (λ (y : Listed). take place xs ++ y ∷ []) (get_or_from_slice_get xs place x x is)

@@ -11,4 +11,5 @@ pub mod Shared
 pub mod Split
 pub mod Stop
 pub mod Texts
+pub mod Unrefused
 pub mod Words

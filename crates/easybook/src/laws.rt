@@ -1,4 +1,7 @@
 ghost use Rattle.easybook.specs.Forms.{JoinedSpacingChooses, JoinedWordChooses, NextSpacingChooses, NextWordChooses, NoWordChooses, JoinedWorkersChoose, LiveIsChosen, ScriptsAreChosen};
+ghost use Rattle.easybook.specs.Unrefused.{ItIsAnAnswer, PlainRunsAreScripts, ThereIsOneAnswer};
+
+use std::alloc::Allocator;
 
 /// What words choose, form by form: the program's name alone no log, no machine, and 256 event
 /// seconds to a segment; `--procs=N` and, where N is digits, `--procs N` the number that the digits
@@ -14,4 +17,18 @@ pub fn words_law()
     ensures workers { JoinedWorkersChoose }
     ensures scripts { ScriptsAreChosen }
     ensures live { LiveIsChosen }
+{}
+
+/// Where no memory is refused, what a script is answered on a log follows from the bytes of both and the
+/// machine that is named: there is one such answer, and it is one of those that `run_alone` may write.
+pub fn script_law<A: Allocator>()
+    ensures one { ThereIsOneAnswer A }
+    ensures answer { ItIsAnAnswer A }
+{}
+
+/// Where no memory is refused, what `run_plain` writes of a log is what a script of the two lines
+/// `settle` and `schedule NAME`, with the name of the log's first scenario, is answered behind its first
+/// line, `settled 0`.
+pub fn plain_run_law<A: Allocator>()
+    ensures { PlainRunsAreScripts A }
 {}

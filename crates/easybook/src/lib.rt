@@ -21,7 +21,7 @@ mod words;
 pub use alone::run_alone;
 pub use fault::ProgramFault;
 pub use input::read_input;
-pub use laws::words_law;
+pub use laws::{plain_run_law, script_law, words_law};
 pub use live::run_live;
 pub use options::Options;
 pub use parallel_reader::read_parallel;
