@@ -15,6 +15,16 @@ const FULL: &[(Said, Told)] = &[
 /// Then one of them is handed in.
 const ROOM: &[(Said, Told)] = &[
     (Said::Finish(1, 256, Handed::Own), Told::Finished(256)),
+    (Said::Finish(1, 256, Handed::Own), Told::UnknownTicket),
+    (Said::Claim, Told::Claimed(257, 1, 257, Some((256, 1)))),
+    (Said::Finish(2, 255, Handed::Own), Told::Stale(256)),
+    (Said::Finish(2, 255, Handed::Own), Told::UnknownTicket),
+];
+
+/// Or by another worker.
+const ROOM_BY_ANOTHER: &[(Said, Told)] = &[
+    (Said::Finish(2, 256, Handed::Own), Told::Finished(256)),
+    (Said::Finish(2, 256, Handed::Own), Told::UnknownTicket),
     (Said::Claim, Told::Claimed(257, 1, 257, Some((256, 1)))),
 ];
 
@@ -46,14 +56,14 @@ fn crowded(alloc: Global) -> Option<Player> {
 }
 
 // Whether nothing is due while 256 tickets stand, and the next ticket comes once one is closed.
-fn has_room_again(alloc: Global) -> bool {
+fn has_room_again(alloc: Global, rows: &[(Said, Told)]) -> bool {
     match crowded(alloc) {
-        Some(mut player) => player.book.due().is_none() && player.tells_all(ROOM),
+        Some(mut player) => player.book.due().is_none() && player.tells_all(rows),
         None => false,
     }
 }
 
 #[test]
 fn at_most_256_tickets_stand(rt: HostRuntime) {
-    assert!(rt; has_room_again(rt.alloc()));
+    assert!(rt; has_room_again(rt.alloc(), ROOM) && has_room_again(rt.alloc(), ROOM_BY_ANOTHER));
 }

@@ -27,9 +27,23 @@ const NEWER_FIRST: &[(Said, Told)] = &[
     (Said::Finish(1, 1, Handed::Own), Told::Stale(2)),
 ];
 
+/// The same, but that another worker hands both in, each twice.
+const BY_ANOTHER: &[(Said, Told)] = &[
+    (Said::Add("base"), Told::Added(1)),
+    (Said::Change(4, 4, b"400"), Told::Edited(1)),
+    (Said::Claim, Told::Claimed(1, 1, 1, None)),
+    (Said::Change(4, 4, b"300"), Told::Edited(2)),
+    (Said::Claim, Told::Claimed(2, 1, 2, None)),
+    (Said::Finish(2, 2, Handed::Own), Told::Finished(2)),
+    (Said::Finish(2, 2, Handed::Own), Told::UnknownTicket),
+    (Said::Finish(2, 1, Handed::Own), Told::Stale(2)),
+    (Said::Finish(2, 1, Handed::Own), Told::UnknownTicket),
+];
+
 /// Then runs of an older log, another machine and the other order are handed in.
 const STRANGERS: &[(Said, Told)] = &[
     (Said::Finish(1, 2, Handed::Own), Told::UnknownTicket),
+    (Said::Finish(1, 1, Handed::Own), Told::UnknownTicket),
     (Said::Insert(FIFTH), Told::Edited(3)),
     (Said::Claim, Told::Claimed(3, 1, 3, Some((2, 1)))),
     (Said::Finish(1, 3, Handed::Of(2)), Told::Stranger),
@@ -43,6 +57,8 @@ const STRANGERS: &[(Said, Told)] = &[
     (Said::Finish(2, 3, Handed::Shortest), Told::Stranger),
     (Said::View(0, 0), Told::Shown(2)),
     (Said::Finish(2, 3, Handed::Own), Told::Finished(3)),
+    (Said::Finish(2, 3, Handed::Own), Told::UnknownTicket),
+    (Said::Finish(1, 3, Handed::Own), Told::UnknownTicket),
     (Said::View(0, 3), Told::Shown(3)),
 ];
 
@@ -54,6 +70,8 @@ const DROPPED: &[(Said, Told)] = &[
     (Said::DropNamed("big"), Told::NoSuchScenario),
     (Said::Add("big"), Told::Added(2)),
     (Said::Finish(1, 1, Handed::Own), Told::UnknownTicket),
+    (Said::Finish(1, 1, Handed::Own), Told::UnknownTicket),
+    (Said::Finish(2, 1, Handed::Own), Told::UnknownTicket),
     (Said::GiveUp(1), Told::UnknownTicket),
     (Said::Retry(0), Told::NoSuchScenario),
     (Said::View(0, 0), Told::NoSuchScenario),
@@ -81,6 +99,15 @@ const EDITED: &[(Said, Told)] = &[
     (Said::Claim, Told::NoneDue),
     (Said::Remove(4), Told::Edited(1)),
     (Said::Claim, Told::Claimed(2, 1, 1, None)),
+];
+
+/// A ticket is given up after a later edit, which sets no mark.
+const GIVEN_UP_LATE: &[(Said, Told)] = &[
+    (Said::Add("base"), Told::Added(1)),
+    (Said::Claim, Told::Claimed(1, 1, 0, None)),
+    (Said::Change(4, 4, b"400"), Told::Edited(1)),
+    (Said::GiveUp(1), Told::GivenUp),
+    (Said::GiveUp(1), Told::UnknownTicket),
 ];
 
 /// A task leaves its run with its ticket, whoever hands it in; before that there is none, and the ticket
@@ -142,7 +169,7 @@ fn due_after(alloc: Global, rows: &[(Said, Told)]) -> Option<u32> {
 
 #[test]
 fn the_newer_run_stays(rt: HostRuntime) {
-    assert!(rt; notes_after(rt.alloc(), NEWER_FIRST) == Some(7));
+    assert!(rt; notes_after(rt.alloc(), NEWER_FIRST) == Some(7) && holds(rt.alloc(), BY_ANOTHER));
 }
 
 #[test]
@@ -163,6 +190,14 @@ fn a_dropped_scenario_takes_its_ticket_along(rt: HostRuntime) {
 #[test]
 fn a_run_that_is_given_up_has_failed(rt: HostRuntime) {
     assert!(rt; settled_after(rt.alloc(), GIVEN_UP) == Some(SettleState::Failed(1)));
+}
+
+#[test]
+fn a_late_give_up_marks_nothing(rt: HostRuntime) {
+    assert!(rt;
+        settled_after(rt.alloc(), GIVEN_UP_LATE) == Some(SettleState::Waiting)
+            && due_after(rt.alloc(), GIVEN_UP_LATE) == Some(1)
+    );
 }
 
 #[test]
