@@ -62,6 +62,11 @@ class Stopper:
         self._running: Set["subprocess.Popen[bytes]"] = set()
         self._is_stopped = False
 
+    @property
+    def is_stopped(self) -> bool:
+        """Whether all that begins is ended at once."""
+        return self._is_stopped
+
     def add(self, process: "subprocess.Popen[bytes]") -> None:
         """Takes a program that has just been started."""
         with self._lock:

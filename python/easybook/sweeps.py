@@ -11,7 +11,7 @@ from collections import Counter
 from concurrent.futures import CancelledError, Executor, Future, ThreadPoolExecutor, TimeoutError, as_completed
 from typing import Dict, Iterable, Iterator, List, NamedTuple, Optional, Sequence, TextIO, Tuple, Union
 
-from .errors import BadWord
+from .errors import BadWord, LogFault, NoProgram
 from .program import Stopper, find
 from .runs import MOST_SCENARIOS, Failure, Row, Scenario, side
 from .swf import Path
@@ -42,12 +42,30 @@ class Done(NamedTuple):
     failures: List[Failure]
 
 
+# Why a task fails whatever its scenarios are.
+_OF_THE_WHOLE = (LogFault, NoProgram, OSError)
+
+
 def work(task: Task, stopper: Optional[Stopper] = None) -> Done:
-    """Works a task; a failure is told for each of its scenarios. It can be sent to another process or machine."""
+    """Works a task; a failure is told for each of its scenarios. Where it may be the fault of one of them, each is tried
+    by a program of its own. It can be sent to another process or machine."""
     try:
         return Done(*side(task.log, task.scenarios, task.program, stopper))
     except Exception as it:  # whatever it is, the other tasks go on, and this one is told
-        return _failed(task, it)
+        if len(task.scenarios) == 1 or isinstance(it, _OF_THE_WHOLE):
+            return _failed(task, it)
+        return _one_by_one(task, stopper, it)
+
+
+def _one_by_one(task: Task, stopper: Optional[Stopper], error: Exception) -> Done:
+    """Works each scenario of a task that failed; none once all is stopped."""
+    done = Done([], [])
+    for it in task.scenarios:
+        alone = task._replace(scenarios=(it,))
+        one = _failed(alone, error) if stopper and stopper.is_stopped else work(alone, stopper)
+        done.rows.extend(one.rows)
+        done.failures.extend(one.failures)
+    return done
 
 
 def _failed(task: Task, error: BaseException) -> Done:

@@ -15,7 +15,7 @@ from decimal import Decimal
 from unittest import mock
 
 import easybook
-from easybook import Scenario, sweeps
+from easybook import Scenario, program, sweeps
 from tests.cluster import FOUR, a_log, a_program, is_running, pids
 
 
@@ -58,6 +58,37 @@ class Sweeping(unittest.TestCase):
             rows = easybook.sweep(log, [Scenario(10), Scenario(16)], at_once=2, program=fake)
         self.assertEqual([tuple(it) for it in rows], [(log, "16-1000", 16, 1000, "arrival", 4, 12, Decimal("1.136"), Decimal("29.324"))])
         self.assertEqual([(it.scenario.procs, type(it.error)) for it in rows.failures], [(10, easybook.Memory)])
+
+    def test_a_scenario_that_cannot_be_opened_loses_no_other(self):
+        with a_log("; MaxProcs: 99999999\n" + FOUR) as log:
+            done = sweeps.work(sweeps.Task(log, (Scenario(), Scenario(16)), None))
+        self.assertEqual([tuple(it) for it in done.rows], [(log, "16-1000", 16, 1000, "arrival", 4, 12, Decimal("1.136"), Decimal("29.324"))])
+        self.assertEqual([(it.scenario, type(it.error)) for it in done.failures], [(Scenario(), easybook.BadWord)])
+
+    def test_a_program_that_dies_of_one_scenario_loses_no_other(self):
+        told = ("scenario base dropped\\nscenario s0 added\\nsettled 0\\nside scenarios 1\\n"
+                "s0                      0        4         12        1.136  29.324%%\\n")
+        body = f"case $(cat) in *' 10 '*) kill -9 $$;; esac; printf '{told}'"
+        with a_log() as log, a_program(body) as fake, warnings.catch_warnings():
+            warnings.simplefilter("ignore")
+            rows = easybook.sweep(log, [Scenario(10), Scenario(16), Scenario(10, 500), Scenario(17)], at_once=4, program=fake)
+            self.assertEqual(len(pids(fake)), 5)
+        self.assertEqual([it.procs for it in rows], [16, 17])
+        self.assertEqual([(it.scenario.label, it.error.args) for it in rows.failures], [("10-1000", (-9, "")), ("10-500", (-9, ""))])
+
+    def test_what_fails_for_all_scenarios_is_not_tried_again(self):
+        with a_log() as log, a_program("echo 'easybook: line 1: FieldCount' >&2; exit 1") as fake:
+            done = sweeps.work(sweeps.Task(log, (Scenario(10), Scenario(16)), fake))
+            self.assertEqual(len(pids(fake)), 1)
+        self.assertEqual([type(it.error) for it in done.failures], [easybook.LogFault] * 2)
+
+    def test_nothing_is_tried_again_once_all_is_stopped(self):
+        stopper = program.Stopper()
+        stopper.stop()
+        with a_log() as log, a_program("exec sleep 60") as fake, mock.patch.object(sweeps, "side", wraps=sweeps.side) as side:
+            done = sweeps.work(sweeps.Task(log, (Scenario(10), Scenario(16)), fake), stopper)
+        self.assertEqual(side.call_count, 1)
+        self.assertEqual([(it.scenario.procs, type(it.error)) for it in done.failures], [(10, easybook.Ended), (16, easybook.Ended)])
 
     def test_scenarios_are_checked_before_anything_runs(self):
         with self.assertRaises(easybook.BadWord):
