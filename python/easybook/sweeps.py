@@ -134,7 +134,13 @@ def _over(executor: Executor, todo: List[Task], stopper: Optional[Stopper]) -> L
     done: Dict[int, Done] = {}
     try:
         for place, task in enumerate(todo):
-            futures[executor.submit(work, task, stopper) if stopper else executor.submit(work, task)] = place
+            try:
+                future = executor.submit(work, task, stopper) if stopper else executor.submit(work, task)
+            except Exception as it:  # it takes no more, or not this one
+                done[place] = _failed(task, it)
+                progress.add(len(task.scenarios))
+            else:
+                futures[future] = place
         for future in _as_completed(futures):
             place = futures[future]
             done[place] = _result(todo[place], future)

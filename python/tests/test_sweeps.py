@@ -110,6 +110,32 @@ class Executors(unittest.TestCase):
                 with executor:
                     self.assertEqual(list(easybook.sweep(log, [Scenario(it) for it in range(8, 20)], executor, at_once=5)), want)
 
+    def test_an_executor_that_refuses_a_task_loses_no_other(self):
+        class Refusing(concurrent.futures.Executor):
+            taken = 0
+
+            def submit(self, fn, /, *words):
+                self.taken += 1
+                if self.taken == 2:
+                    raise RuntimeError("it takes no more")
+                future = concurrent.futures.Future()
+                future.set_result(fn(*words))
+                return future
+
+        with a_log() as log, warnings.catch_warnings():
+            warnings.simplefilter("ignore")
+            rows = easybook.sweep(log, [Scenario(10), Scenario(16), Scenario(17)], Refusing(), at_once=1)
+        self.assertEqual([(it.procs, it.mean_wait) for it in rows], [(10, 47), (17, 12)])
+        self.assertEqual([str(it) for it in rows.failures], [f"{log}, scenario 16-1000: it takes no more"])
+
+    def test_an_executor_that_is_shut_down(self):
+        executor = concurrent.futures.ThreadPoolExecutor(1)
+        executor.shutdown()
+        with a_log() as log, warnings.catch_warnings():
+            warnings.simplefilter("ignore")
+            rows = easybook.sweep(log, [Scenario(10), Scenario(16)], executor)
+        self.assertEqual((list(rows), [it.scenario.procs for it in rows.failures]), ([], [10, 16]))
+
     def test_an_executor_whose_worker_is_killed(self):
         with a_log() as log, concurrent.futures.ProcessPoolExecutor(1) as executor, warnings.catch_warnings():
             warnings.simplefilter("ignore")
