@@ -20,7 +20,7 @@ from .slurm import Options, convert
 from .slurm.convert import A_YEAR
 from .slurm.values import Unreadable, duration, zone
 from .sweeps import sweep
-from .swf import MISSING
+from .swf import EXACT, MISSING
 
 T = TypeVar("T")
 
@@ -110,7 +110,7 @@ def _sweep(words: argparse.Namespace) -> int:
 
 
 def _ratio(group: _waits.Group) -> Optional[Decimal]:
-    return None if group.ratio is None else Decimal(group.ratio).scaleb(-3)
+    return None if group.ratio is None else Decimal(group.ratio).scaleb(-3, EXACT)
 
 
 def _waits_of(words: argparse.Namespace) -> int:

@@ -19,7 +19,7 @@ import os
 import re
 import zlib
 from dataclasses import dataclass, field
-from decimal import Decimal
+from decimal import ROUND_DOWN, Context, Decimal
 from typing import BinaryIO, Dict, Iterable, Iterator, List, NamedTuple, Optional, Set, Tuple, Union
 
 from .errors import LogFault
@@ -31,6 +31,7 @@ MOST_BYTES_OF_LINE = 65_536
 MOST_JOBS = 4_194_304
 GREATEST_NUMBER = 1_000_000_000_000
 MISSING = -1
+EXACT = Context(prec=60, rounding=ROUND_DOWN)  # whatever the caller's is: a log's numbers and their sums have room in it
 PARTIAL = (2, 3, 4)
 
 _NUMBER = re.compile(rb"(-?)([0-9]+)(?:\.([0-9]+))?")
@@ -80,7 +81,7 @@ def nearest(value: Number) -> int:
     """
     if isinstance(value, int):
         return value
-    millionths = int(value.scaleb(6))
+    millionths = int(value.scaleb(6, EXACT))
     return (millionths + 500_000) // 1_000_000
 
 
@@ -101,7 +102,9 @@ def number(word: bytes) -> Optional[Number]:
     value: Number = int(whole) if not decimals else Decimal(f"{whole.decode()}.{decimals.decode()}")
     if value > GREATEST_NUMBER:
         return None
-    return -value if sign else value
+    if not sign:
+        return value
+    return -value if isinstance(value, int) else value.copy_negate()
 
 
 def spelling(value: Number) -> str:

@@ -3,6 +3,7 @@
 from __future__ import annotations
 
 import re
+from decimal import localcontext
 from typing import Callable, Dict, Hashable, Iterator, List, NamedTuple, Optional
 
 from . import swf
@@ -51,8 +52,9 @@ class Group(NamedTuple):
 
 
 def _row(job: Job) -> Recorded:
-    return Recorded(job.number, job.submit, job.wait, job.submit + job.wait, job.run, job.size, swf.nearest(job.user),
-                    swf.nearest(job.partition))
+    with localcontext(swf.EXACT):
+        start = job.submit + job.wait
+    return Recorded(job.number, job.submit, job.wait, start, job.run, job.size, swf.nearest(job.user), swf.nearest(job.partition))
 
 
 def rows_of(path: Path) -> Iterator[Recorded]:
@@ -98,10 +100,13 @@ def percentile(values: List[Number], percent: int) -> Number:
 def _group(key: Hashable, pairs: List[Pair]) -> Group:
     told = sorted(it.recorded for it in pairs)
     made = sorted(it.simulated for it in pairs)
-    whole, simulated = sum(told), sum(made)
-    return Group(key, len(pairs), int(whole // len(pairs)), percentile(told, 50), percentile(told, 90), simulated // len(pairs),
-                 int(percentile(list(made), 50)), int(percentile(list(made), 90)),
-                 int(whole * 1000 // simulated) if simulated else None)
+    simulated = sum(made)
+    with localcontext(swf.EXACT):
+        whole = sum(told)
+        mean = int(whole // len(pairs))
+        ratio = int(whole * 1000 // simulated) if simulated else None
+    return Group(key, len(pairs), mean, percentile(told, 50), percentile(told, 90), simulated // len(pairs),
+                 int(percentile(list(made), 50)), int(percentile(list(made), 90)), ratio)
 
 
 def by_user(pair: Pair) -> Hashable:

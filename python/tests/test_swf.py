@@ -1,5 +1,6 @@
 """The log format: what is read, what is refused, what is written."""
 
+import decimal
 import gzip
 import io
 import os
@@ -74,6 +75,16 @@ class Reading(unittest.TestCase):
         self.assertEqual(log.text(), want)
         self.assertEqual(easybook.parse(want), log)
         self.assertEqual(log.jobs[0].run, Decimal("7.5"))
+
+    def test_numbers_are_exact_whatever_the_context_is(self):
+        with decimal.localcontext(decimal.Context(prec=3, traps=[decimal.Inexact])):
+            self.assertEqual(str(swf.number(b"-1234567.5")), "-1234567.5")
+            self.assertEqual(swf.number(b"-1234567"), -1234567)
+            self.assertEqual((swf.nearest(Decimal("1234567.5")), swf.nearest(Decimal("-1234567.5"))), (1234568, -1234567))
+            self.assertEqual(swf.nearest(Decimal("0.4" + "9" * 80)), 0)
+            self.assertEqual(swf.spelling(Decimal("-1234567.125")), "-1234567.125")
+            line = job(f4="1234567.125", f6="-1234567.5")
+            self.assertEqual(easybook.parse(line).text(), line + b"\n")
 
     def test_sizes_are_those_simulated(self):
         for requested, allocated, want in [(6, 4, 6), (-1, 4, 4), (0, 4, 4), (Decimal("0.4"), 4, 4), (Decimal("2.5"), 1, 3), (-1, -1, 0)]:

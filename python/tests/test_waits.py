@@ -1,9 +1,12 @@
 """The waits that a log records, beside the simulated ones."""
 
+import decimal
 import unittest
+from decimal import Decimal
 
 import easybook
 from easybook import waits
+from easybook.__main__ import _ratio
 from tests.cluster import FOUR, a_log
 
 
@@ -20,6 +23,17 @@ class Recorded(unittest.TestCase):
         self.assertEqual(easybook.summary(pairs), [easybook.Group("all", 2, 4, 0, 9, 49, 0, 99, 90)])
         self.assertEqual([it.group for it in easybook.summary(pairs, waits.by_user)], [7, 8])
         self.assertEqual([(it.group, it.ratio) for it in easybook.summary(pairs, waits.by_size)], [(4, None), (8, 90)])
+
+    def test_sums_are_exact_whatever_the_context_is(self):
+        pairs = [easybook.Pair(1, 7, 8, Decimal("1234567.5"), 1000), easybook.Pair(2, 7, 8, Decimal("1234569.25"), 1003),
+                 easybook.Pair(3, 7, 8, 999_999_999_999, 0)]
+        with decimal.localcontext(decimal.Context(prec=3, traps=[decimal.Inexact, decimal.InvalidOperation])):
+            # Together 1000002469135.75 and 2003: a third of them, and how many thousandths of the other the one is.
+            self.assertEqual(easybook.summary(pairs), [
+                easybook.Group("all", 3, 333_334_156_378, Decimal("1234569.25"), 999_999_999_999, 667, 1000, 1003, 499_252_356_033)])
+            with a_log(FOUR.replace("2 1 9 50", "2 1234567.5 0.25 50")) as log:
+                self.assertEqual([str(it.start) for it in easybook.recorded(log)], ["1234567.75", "2"])
+            self.assertEqual(str(_ratio(easybook.summary(pairs)[0])), "499252356.033")
 
     def test_sizes_are_grouped_by_powers_of_two(self):
         self.assertEqual([waits.by_size(easybook.Pair(1, 1, it, 0, 0)) for it in (1, 2, 3, 4, 7, 8)], [1, 2, 2, 4, 4, 8])
