@@ -42,6 +42,8 @@ class Done(NamedTuple):
     failures: List[Failure]
 
 
+_TASKS_OF_A_PROCESSOR = 4
+
 # Why a task fails whatever its scenarios are.
 _OF_THE_WHOLE = (LogFault, NoProgram, OSError)
 
@@ -75,12 +77,12 @@ def _failed(task: Task, error: BaseException) -> Done:
 
 def tasks(logs: Sequence[str], scenarios: Sequence[Scenario], program: Optional[str], at_once: Optional[int]) -> List[Task]:
     """The tasks of a sweep: of each log its scenarios, so many a program. Without a number as many as give each
-    processor of this machine a program; never more than 64.
+    processor of this machine four programs, one after the other, so that it is seen how far they are; never more than 64.
 
     >>> [len(it.scenarios) for it in tasks(["a"], [Scenario(n + 1) for n in range(130)], None, 64)]
     [64, 64, 2]
     """
-    spread = -(-len(logs) * len(scenarios) // (os.cpu_count() or 1))
+    spread = -(-len(logs) * len(scenarios) // (_TASKS_OF_A_PROCESSOR * (os.cpu_count() or 1)))
     most = max(1, min(MOST_SCENARIOS, spread if at_once is None else at_once))
     return [Task(log, tuple(scenarios[it : it + most]), program) for log in logs for it in range(0, len(scenarios), most)]
 
@@ -91,12 +93,19 @@ class _Progress:
     def __init__(self, count: int, to: TextIO) -> None:
         self._count, self._done, self._to, self._began = count, 0, to, time.monotonic()
         self._is_shown = to.isatty()
+        self._tell()
 
     def add(self, count: int) -> None:
         """So many more scenarios are done."""
         self._done += count
-        left = round((time.monotonic() - self._began) * (self._count - self._done) / self._done)
-        self._say(f"\reasybook: {self._done} of {self._count} scenarios done, about {left} s left \033[K")
+        self._tell()
+
+    def _tell(self) -> None:
+        rest = ""
+        if self._done:
+            left = round((time.monotonic() - self._began) * (self._count - self._done) / self._done)
+            rest = f", about {left} s left"
+        self._say(f"\reasybook: {self._done} of {self._count} scenarios done{rest} \033[K")
 
     def end(self) -> None:
         """Ends the line."""

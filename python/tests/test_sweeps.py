@@ -182,17 +182,34 @@ if __name__ == "__main__":
         self.assertLess(threading.active_count(), 3)
 
 
+class Terminal(io.StringIO):
+    def isatty(self):
+        return True
+
+
 class Progress(unittest.TestCase):
     def test_it_is_shown_on_a_terminal_alone(self):
-        class Terminal(io.StringIO):
-            def isatty(self):
-                return True
-
         with a_log() as log:
             for screen, is_shown in ((Terminal(), True), (io.StringIO(), False)):
                 with mock.patch.object(sweeps.sys, "stderr", screen):
                     easybook.sweep(log, [Scenario(it) for it in range(8, 12)], at_once=1)
                 self.assertEqual("4 of 4 scenarios done, about 0 s left" in screen.getvalue(), is_shown)
+
+    def test_it_begins_with_none_and_moves(self):
+        screen = Terminal()
+        with a_log() as log, mock.patch.object(sweeps.sys, "stderr", screen), mock.patch.object(sweeps.os, "cpu_count", lambda: 1):
+            easybook.sweep(log, [Scenario(it) for it in range(8, 16)])
+        shown = screen.getvalue().split("\r")
+        self.assertEqual(shown[1], "easybook: 0 of 8 scenarios done \033[K")
+        self.assertEqual([it.split()[1] for it in shown[2:-1]], ["2", "4", "6", "8"])
+        self.assertEqual(shown[-1], "\033[K")
+
+    def test_each_processor_has_four_tasks(self):
+        scenarios = [Scenario(it) for it in range(8, 108)]
+        with mock.patch.object(sweeps.os, "cpu_count", lambda: 2):
+            self.assertEqual([len(it.scenarios) for it in sweeps.tasks(["a"], scenarios, None, None)], [13] * 7 + [9])
+            self.assertEqual([len(it.scenarios) for it in sweeps.tasks(["a"], scenarios[:3], None, None)], [1, 1, 1])
+            self.assertEqual({len(it.scenarios) for it in sweeps.tasks(["a"] * 8, scenarios, None, None)}, {64, 36})
 
 
 if __name__ == "__main__":
