@@ -6,6 +6,7 @@ import os
 import subprocess
 import sys
 import tempfile
+import textwrap
 import time
 import unittest
 from unittest import mock
@@ -13,6 +14,7 @@ from unittest import mock
 import easybook
 from easybook.__main__ import main
 from tests.cluster import FOUR, a_log, a_program, is_running, pids
+from tests.test_doctests import TOP
 
 DUMP = """JobID|Submit|Start|End|State|AllocCPUS|NodeList|Timelimit|User
 7|2026-07-01T10:00:00|2026-07-01T10:00:10|2026-07-01T10:00:40|COMPLETED|8|n1|00:01:00|ana
@@ -75,6 +77,13 @@ class Commands(unittest.TestCase):
             f"{log},10-1000,10,1000,arrival,4,47,1.539,39.864", f"{log},16-1000,16,1000,arrival,4,12,1.136,29.324"])
         self.assertEqual((it.returncode, it.stderr.count(b"\n")), (1, 2))
         self.assertIn(b"easybook: /no/such/log, scenario 16-1000: ", it.stderr)
+
+    def test_the_script_of_a_job_array_is_the_one_that_its_page_shows(self):
+        texts = []
+        for path in ("examples/sweep.sh", "docs/from-a-cluster.md"):
+            with open(os.path.join(TOP, path), encoding="utf-8") as file:
+                texts.append(file.read())
+        self.assertIn("\n\n" + textwrap.indent(texts[0], "    ") + "\n", texts[1])
 
     def test_a_sweep_that_is_told_to_end_ends_its_programs(self):
         with a_log() as log, a_program("exec sleep 60") as fake:
