@@ -10,7 +10,7 @@ import subprocess
 import tempfile
 import threading
 import weakref
-from typing import IO, Iterator, List, Optional, Set
+from typing import IO, Callable, Iterator, List, Optional, Set
 
 from .errors import EasybookError, Ended, NoProgram, fault
 from .reports import Answers
@@ -172,7 +172,7 @@ class Live:
             raise
         self._process = process
         self.end = weakref.finalize(self, _finish, process, said)
-        self._why = lambda: _why(process, said)
+        self._why: Callable[[], EasybookError] = lambda: _why(process, said)
         assert process.stdout is not None
         told = (line.decode("ascii", "surrogateescape") for line in process.stdout)
         self.answers = Answers(told, self._why)
