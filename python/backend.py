@@ -4,6 +4,7 @@ from __future__ import annotations
 
 import base64
 import hashlib
+import io
 import os
 import re
 import tarfile
@@ -71,4 +72,8 @@ def build_sdist(sdist_directory: str, config_settings: Settings = None) -> str:
     with tarfile.open(os.path.join(sdist_directory, packed), "w:gz", format=tarfile.PAX_FORMAT) as room:
         for name in [*_files(), "backend.py", "pyproject.toml", "README.md"]:
             room.add(os.path.join(HERE, name), f"{_stem()}/{name}")
+        metadata = _metadata().encode()
+        entry = tarfile.TarInfo(f"{_stem()}/PKG-INFO")
+        entry.size = len(metadata)
+        room.addfile(entry, io.BytesIO(metadata))
     return packed

@@ -1,14 +1,21 @@
 """Drives easybook, a proved simulator of EASY backfilling, from Python.
 
-    import easybook
-    run = easybook.simulate("month.swf", procs=2048)
-    print(run.table.mean_wait)
-    for row in easybook.sweep(["month.swf"], [easybook.Scenario(it) for it in (512, 1024, 2048)]):
-        print(row.scenario, row.mean_wait)
-    with easybook.open("month.swf") as log:
-        log.change(17, field=9, value=3600)
-        log.settle()
-        print(log.table("base").mean_wait)
+>>> import easybook
+>>> run = easybook.simulate("examples/monday.swf", procs=96)
+>>> run.table.mean_wait
+3082
+>>> for row in easybook.sweep(["examples/monday.swf"], [easybook.Scenario(it) for it in (64, 96, 128)]):
+...     print(row.scenario, row.mean_wait)
+64-1000 7903
+96-1000 3082
+128-1000 869
+>>> with easybook.open("examples/monday.swf") as log:
+...     print("version", log.change(9, field=9, value=3600))
+...     print("settled", log.settle())
+...     print(log.table("base").mean_wait)
+version 1
+settled 1
+2079
 
 `python -m easybook` makes logs of Slurm's accounting (`sacct`), runs sweeps (`sweep`), and sets the waits that a log
 records beside the simulated ones (`waits`).

@@ -73,6 +73,19 @@ class Commands(unittest.TestCase):
             self.assertEqual(log.log("base")[0], Entry(1, 0, 6, 40, 40, 7, True))
             self.assertEqual(log.version(), 3)
 
+    def test_rows_are_a_table_of_pandas(self):
+        try:
+            import pandas
+        except ImportError:
+            self.skipTest("pandas is not installed")
+        with a_log() as path, easybook.open(path, 10) as log:
+            log.settle()
+            schedule, side = pandas.DataFrame(log.schedule("base")), pandas.DataFrame(log.side())
+        self.assertEqual(list(schedule.columns), list(Start._fields))
+        self.assertEqual(schedule["end"].tolist(), [100, 150, 92, 592])
+        self.assertEqual(list(side.columns), list(Side._fields))
+        self.assertEqual(side["utilization"].tolist(), [Decimal("39.864")])
+
     def test_numbers_at_the_edge(self):
         class Five:
             def __index__(self):
