@@ -43,6 +43,17 @@ fn four_placed(placed: &[Placed]) -> [Option<Placed>; 4] {
     ]
 }
 
+/// The number and the start of a running job, by its place.
+pub(crate) fn runs_at<A: Allocator + Copy>(
+    cluster: &Cluster<A>,
+    place: usize,
+) -> Option<(u64, u64)> {
+    match cluster.running_at(place) {
+        Some((job, start)) => Some((job.number(), start)),
+        None => None,
+    }
+}
+
 fn looks_of<A: Allocator + Copy>(cluster: &Cluster<A>) -> Looks {
     Looks {
         free: cluster.free(),

@@ -1,5 +1,5 @@
 // The log in which two jobs end at the shadow time: what starts, and what a cluster's readers answer.
-use crate::clusters::all_join;
+use crate::clusters::{all_join, runs_at};
 use crate::engines::are;
 use crate::logs::four_jobs;
 use cluster_state::Cluster;
@@ -43,14 +43,6 @@ fn both_start<A: Allocator + Copy>(cluster: &mut Cluster<A>) -> Outcome {
 // The number of a waiting job, by its place.
 fn waits_at<A: Allocator + Copy>(cluster: &Cluster<A>, place: usize) -> Option<u64> {
     Some(cluster.waiting_at(place)?.number())
-}
-
-// The number and the start of a running job, by its place.
-fn runs_at<A: Allocator + Copy>(cluster: &Cluster<A>, place: usize) -> Option<(u64, u64)> {
-    match cluster.running_at(place) {
-        Some((job, start)) => Some((job.number(), start)),
-        None => None,
-    }
 }
 
 // Whether jobs 1 and 2 run, and jobs 3 and 4 wait.
