@@ -12,6 +12,13 @@ use std::process::Abort;
 use std::sync::Arc;
 use swf_text::Memory;
 
+/// The four jobs, where the third comes at second 300, when the second has ended.
+const LATER: &[u8] = b"1 0 -1 100 6 -1 -1 6 100 -1 1 7 -1 -1 -1 -1 -1 -1
+2 1 -1 50 8 -1 -1 8 50 -1 1 8 -1 -1 -1 -1 -1 -1
+3 300 -1 90 4 -1 -1 4 90 -1 1 7 -1 -1 -1 -1 -1 -1
+4 3 -1 500 2 -1 -1 2 500 -1 1 8 -1 -1 -1 -1 -1 -1
+";
+
 /// A job that runs for half its estimate, and one that waits for it.
 const SHORT: &[u8] = b"1 0 -1 50 10 -1 -1 10 100 -1 1 7 -1 -1 -1 -1 -1 -1
 2 10 -1 10 10 -1 -1 10 10 -1 1 7 -1 -1 -1 -1 -1 -1
@@ -78,7 +85,7 @@ fn comes_again(alloc: Global, log: &[u8], order: Order) -> Option<bool> {
 
 #[test]
 fn runs_are_made_again_from_their_segments(rt: HostRuntime) {
-    for log in [NOTED, THREE, SHORT, LATE] {
+    for log in [NOTED, LATER, THREE, SHORT, LATE] {
         for order in [Order::Arrival, Order::Shortest] {
             assert!(rt; comes_again(rt.alloc(), log, order) == Some(true));
         }
