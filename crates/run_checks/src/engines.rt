@@ -1,13 +1,11 @@
-// The event loop, by all calls that let it go on.
+// The event loop, step by step.
 use crate::logs::{NOTED, shared_table};
-use cluster_state::Snapshot;
 use easy_rule::Start;
 use event_loop::{Engine, EngineFault};
 use job_table::JobTable;
 use refusing::Outcome;
 use scenarios::{Job, Scenario};
-use std::alloc::{Allocator, Global};
-use std::process::Abort;
+use std::alloc::Allocator;
 use std::sync::Arc;
 
 /// How the engine of the log goes on.
@@ -15,7 +13,6 @@ use std::sync::Arc;
 pub(crate) enum Way {
     Steps,
     StepsIntoOneList,
-    UpToThree,
 }
 
 /// Whether these jobs start at these seconds, in this order.
@@ -27,8 +24,8 @@ pub(crate) fn are(starts: &[Start], wanted: &[(u64, u64)]) -> bool {
             .all(|(start, want)| (start.number, start.at) == *want)
 }
 
-// Whether the engine stands there, after so many event seconds.
-fn stands<A: Allocator + Copy>(engine: &Engine<A>, position: u64, handled: u64) -> bool {
+/// Whether the engine stands there, after so many event seconds.
+pub(crate) fn stands<A: Allocator + Copy>(engine: &Engine<A>, position: u64, handled: u64) -> bool {
     engine.position() == position && engine.handled() == handled
 }
 
@@ -43,8 +40,8 @@ fn has_failed_to_advance<A: Allocator + Copy>(engine: &mut Engine<A>) -> bool {
     engine.advance_to(here).err() == Some(EngineFault::Failed)
 }
 
-// Whether an engine answers Failed to all that goes on.
-fn has_failed<A: Allocator + Copy>(engine: &mut Engine<A>) -> bool {
+/// Whether an engine answers Failed to all that goes on.
+pub(crate) fn has_failed<A: Allocator + Copy>(engine: &mut Engine<A>) -> bool {
     has_failed_to_advance(engine)
         && engine.snapshot().err() == Some(EngineFault::Failed)
         && engine.step().err() == Some(EngineFault::Failed)
@@ -53,7 +50,7 @@ fn has_failed<A: Allocator + Copy>(engine: &mut Engine<A>) -> bool {
 }
 
 /// The event seconds of the four jobs, and how many jobs start there.
-const STEPS: [(u64, usize); 8] = [
+pub(crate) const STEPS: [(u64, usize); 8] = [
     (0, 1),
     (1, 0),
     (2, 1),
@@ -119,43 +116,6 @@ fn steps_into<A: Allocator + Copy>(engine: &mut Engine<A>, started: &mut Vec<Job
     leaves(engine, started, None, 0)
 }
 
-// Whether job 2 waits, and jobs 1 and 3 run since seconds 0 and 2.
-fn is_at_three<A: Allocator + Copy>(snapshot: &Snapshot<A>) -> bool {
-    let [one, other] = snapshot.running() else {
-        return false;
-    };
-    snapshot.waiting() == [2].as_slice()
-        && (one.number, one.start) == (1, 0)
-        && (other.number, other.start) == (3, 2)
-}
-
-// Whether this is all up to second 3.
-fn advances<A: Allocator + Copy>(engine: &mut Engine<A>) -> Result<bool, EngineFault> {
-    if engine.position() > 3 {
-        return Ok(false);
-    }
-    let starts = engine.advance_to(3)?;
-    Ok(are(&starts, &[(1, 0), (3, 2)]) && stands(engine, 3, 3) && is_at_three(&engine.snapshot()?))
-}
-
-// Whether these are all starts that are left, and so many event seconds in all.
-fn finishes<A: Allocator + Copy>(
-    engine: &mut Engine<A>,
-    wanted: &[(u64, u64)],
-    handled: u64,
-) -> Result<bool, EngineFault> {
-    let starts = engine.finish()?;
-    Ok(are(&starts, wanted) && engine.handled() == handled)
-}
-
-// What came of it; Failed is no answer to want of memory.
-fn outcome_of(answer: Result<bool, EngineFault>) -> Outcome {
-    match answer {
-        Ok(is_right) => Outcome::right_if(is_right),
-        Err(fault) => Outcome::memory_if(fault == EngineFault::Memory),
-    }
-}
-
 // The engine of a table goes on.
 fn goes_on<A: Allocator + Copy>(
     alloc: A,
@@ -171,7 +131,6 @@ fn goes_on<A: Allocator + Copy>(
                 &mut Vec::new(alloc),
             )
         }
-        Way::UpToThree => outcome_of(advances(&mut Engine::new(alloc, table, scenario))),
     }
 }
 
@@ -181,19 +140,4 @@ pub(crate) fn goes<A: Allocator + Copy>(alloc: A, way: Way, scenario: Scenario) 
         Some(table) => goes_on(alloc, way, table, scenario),
         None => Outcome::Before,
     }
-}
-
-/// One job, a trillion seconds from the beginning.
-const FAR: &[u8] = b"1 1000000000000 -1 10 1 -1 -1 1 10 -1 1 7 -1 -1 -1 -1 -1 -1\n";
-
-// Whether its two event seconds are all that is worked.
-fn skips_quiet_seconds(alloc: Global) -> Option<bool> {
-    let scenario = Scenario::new(10, 1000)?;
-    let mut engine = Engine::new(alloc, shared_table(alloc, FAR)?, scenario);
-    finishes(&mut engine, &[(1, 1_000_000_000_000)], 2).ok()
-}
-
-#[test]
-fn seconds_without_an_event_are_not_worked(rt: HostRuntime) {
-    assert!(rt; skips_quiet_seconds(rt.alloc()) == Some(true));
 }

@@ -21,6 +21,8 @@ mod refusals;
 #[cfg(test)]
 mod runs;
 #[cfg(test)]
+mod spans;
+#[cfg(test)]
 mod tables;
 #[cfg(test)]
 mod texts;

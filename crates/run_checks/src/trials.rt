@@ -6,6 +6,7 @@ use crate::openings::{adds_a_scenario, opens_and_saves};
 use crate::own_segments::makes_again;
 use crate::plain::{WORKED, works};
 use crate::runs::{cuts_four, makes_up_the_whole};
+use crate::spans::{Span, goes_far};
 use crate::tables::{Kind, copies_a_table, copies_an_entry, edits};
 use crate::texts::{is_put_beside, is_reported};
 use crate::two_ends::starts_two;
@@ -27,6 +28,7 @@ enum Call {
     DecideBehind(Order),
     Restore(Order),
     Go(Way),
+    GoFar(Span),
     Simulate,
     MakeAgain,
     MakeUp,
@@ -35,7 +37,7 @@ enum Call {
 }
 
 /// All of them.
-const CALLS: [Call; 24] = [
+const CALLS: [Call; 26] = [
     Call::CopyEntry,
     Call::CopyTable,
     Call::Edit(Kind::Insertion),
@@ -54,7 +56,9 @@ const CALLS: [Call; 24] = [
     Call::Restore(Order::Shortest),
     Call::Go(Way::Steps),
     Call::Go(Way::StepsIntoOneList),
-    Call::Go(Way::UpToThree),
+    Call::GoFar(Span::UpToThree),
+    Call::GoFar(Span::ToTheEnd),
+    Call::GoFar(Span::FromThree),
     Call::Simulate,
     Call::MakeAgain,
     Call::MakeUp,
@@ -79,6 +83,7 @@ impl Trial for Call {
             Call::DecideBehind(order) => decides_behind(alloc, &ten.ordered(order)),
             Call::Restore(order) => restores(alloc, &ten.ordered(order)),
             Call::Go(way) => goes(alloc, way, ten),
+            Call::GoFar(span) => goes_far(alloc, span, ten),
             Call::Simulate => cuts_four(alloc, ten, 2, 4),
             Call::MakeAgain => makes_again(alloc, ten),
             Call::MakeUp => makes_up_the_whole(alloc, ten),
