@@ -9,6 +9,8 @@ mod decisions;
 #[cfg(test)]
 mod engines;
 #[cfg(test)]
+mod equal_ends;
+#[cfg(test)]
 mod logs;
 #[cfg(test)]
 mod openings;
