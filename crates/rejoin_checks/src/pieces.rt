@@ -1,5 +1,5 @@
 use crate::rows::{SIX, THREE, Written, edits_of, run_of, table_after};
-use checkpoints::Run;
+use checkpoints::{Run, RunFault};
 use job_table::Edit;
 use rejoin::{Work, rerun};
 use scenarios::Order;
@@ -73,5 +73,31 @@ fn are_cut(alloc: Global, cut: &Cut) -> Option<bool> {
 fn segments_are_full_or_end_before_an_old_one(rt: HostRuntime) {
     for cut in CUTS {
         assert!(rt; are_cut(rt.alloc(), cut) == Some(true));
+    }
+}
+
+// Whether a rerun refuses a spacing.
+fn refuses(alloc: Global, run: &Run<Global>, edits: &[Edit<Global>], spacing: u32) -> Option<bool> {
+    let table = table_after(alloc, run, edits)?;
+    match rerun(alloc, run, edits, table, spacing) {
+        Ok(_) => Some(false),
+        Err(fault) => Some(fault == RunFault::BadSpacing),
+    }
+}
+
+// The same of a run of three jobs, where one of them runs longer.
+fn is_refused(alloc: Global, spacing: u32) -> Option<bool> {
+    let run = run_of(alloc, THREE, Order::Arrival, 2)?;
+    let edits = edits_of(alloc, LONGER)?;
+    refuses(alloc, &run, edits.as_slice(), spacing)
+}
+
+/// Spacings, and whether they are refused.
+const SPACINGS: [(u32, bool); 4] = [(0, true), (1, false), (65_536, false), (65_537, true)];
+
+#[test]
+fn a_spacing_has_limits(rt: HostRuntime) {
+    for (spacing, refused) in &SPACINGS {
+        assert!(rt; is_refused(rt.alloc(), *spacing) == Some(*refused));
     }
 }
