@@ -1,5 +1,5 @@
 use crate::calls::{CALLS, Called, Told, call, gives_up, memory_if, retries, right_if, works};
-use crate::standing::{Standing, looks_of, set_up, shows, two};
+use crate::standing::{Standing, reading_of, reads_as, set_up, shows, two};
 use refusing::Refusing;
 use scenarios::ScenarioId;
 use std::alloc::{Allocator, Global};
@@ -33,15 +33,14 @@ fn is_ready<A: Allocator + Copy>(at: &mut Standing<A>, called: Called) -> bool {
 
 // Makes the call; where memory is wanting, the book reads as it did and the task makes its run.
 fn compared<A: Allocator + Copy>(alloc: A, at: &mut Standing<A>, called: Called) -> Told {
-    let before = looks_of(&at.book);
-    let Ok(table) = at.book.current().clone() else {
+    let Some(before) = reading_of(alloc, &at.book) else {
         return Told::Before;
     };
     let told = call(alloc, at, called);
     if told != Told::Memory {
         return told;
     }
-    let is_same = looks_of(&at.book) == before && at.book.current().same(&table);
+    let is_same = reads_as(&at.book, &before);
     memory_if(is_same && shows(&mut at.book, at.first) && works(&at.task) == Told::Right)
 }
 

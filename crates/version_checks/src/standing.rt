@@ -1,11 +1,11 @@
 use checkpoints::Run;
 use job_table::{Edit, JobTable};
 use rejoin::Work;
-use scenarios::{Scenario, ScenarioId};
+use scenarios::{Scenario, ScenarioId, ScenarioList};
 use std::alloc::Allocator;
 use std::sync::Arc;
 use swf_text::{Value, read_swf};
-use version_book::{Book, Caller, Note, Reply, SettleState, Task};
+use version_book::{Book, Note, SettleState, Task};
 
 /// A book at work: it has two scenarios, shows the opening version's run for the first, had an edit
 /// then, and gave out a task for the first.
@@ -16,37 +16,71 @@ pub(crate) struct Standing<A: Allocator + Copy> {
     pub(crate) task: Task<A>,
 }
 
-/// What a book's readers answer.
+/// What a book's readers answer, but for its log, its scenarios and its notes.
 #[derive(Clone, Copy, PartialEq, Eq)]
-pub(crate) struct Looks {
+struct Looks {
     version: u64,
     spacing: u32,
     due: Option<ScenarioId>,
     settled: (SettleState, SettleState),
-    scenarios: usize,
     ids: (Option<ScenarioId>, Option<ScenarioId>, Option<ScenarioId>),
-    notes: usize,
-    last: Option<(Caller, Reply)>,
 }
 
-// Who made the last call, and what was replied.
-fn last_of<A: Allocator + Copy>(notes: &[Note<A>]) -> Option<(Caller, Reply)> {
-    let note = notes.last()?;
-    Some((note.caller, note.reply))
-}
-
-/// What the book's readers answer.
-pub(crate) fn looks_of<A: Allocator + Copy>(book: &Book<A>) -> Looks {
+// What the book's readers answer.
+fn looks_of<A: Allocator + Copy>(book: &Book<A>) -> Looks {
     Looks {
         version: book.version(),
         spacing: book.spacing(),
         due: book.due(),
         settled: (book.settled(0), book.settled(1)),
-        scenarios: book.scenarios().len(),
         ids: (book.id_of("base"), book.id_of("wide"), book.id_of("more")),
-        notes: book.journal().len(),
-        last: last_of(book.journal()),
     }
+}
+
+/// How a book read: what its readers answered, its log, and copies of its scenarios and its notes.
+#[derive(Drop)]
+pub(crate) struct Reading<A: Allocator + Copy> {
+    looks: Looks,
+    table: Arc<JobTable<A>, A>,
+    scenarios: ScenarioList<A>,
+    notes: Vec<Note<A>, A>,
+}
+
+// Copies of notes; none where memory is short.
+fn copied<A: Allocator + Copy>(alloc: A, notes: &[Note<A>]) -> Option<Vec<Note<A>, A>> {
+    let mut copies = Vec::new(alloc);
+    for note in notes {
+        copies.push(note.copy().ok()?).ok()?;
+    }
+    Some(copies)
+}
+
+/// How a book reads; none where memory is short.
+pub(crate) fn reading_of<A: Allocator + Copy>(alloc: A, book: &Book<A>) -> Option<Reading<A>> {
+    Some(Reading {
+        looks: looks_of(book),
+        table: book.current().clone().ok()?,
+        scenarios: book.scenarios().copy().ok()?,
+        notes: copied(alloc, book.journal())?,
+    })
+}
+
+// Whether both lists have the same names, ids and settings at the same places.
+fn are_same_scenarios<A: Allocator + Copy>(one: &ScenarioList<A>, two: &ScenarioList<A>) -> bool {
+    one.len() == two.len() && (0..one.len()).all(|place| one.at(place) == two.at(place))
+}
+
+// Whether both journals have the same notes in the same order.
+fn are_same_notes<A: Allocator + Copy>(one: &[Note<A>], two: &[Note<A>]) -> bool {
+    one.len() == two.len() && one.iter().zip(two).all(|(one, two)| one.same(two))
+}
+
+/// Whether a book reads as it did.
+pub(crate) fn reads_as<A: Allocator + Copy>(book: &Book<A>, before: &Reading<A>) -> bool {
+    looks_of(book) == before.looks
+        && book.current().same(&before.table)
+        && are_same_scenarios(book.scenarios(), &before.scenarios)
+        && are_same_notes(book.journal(), before.notes.as_slice())
 }
 
 /// A job of the whole machine that runs for half its estimate, and one that waits for it.
