@@ -124,7 +124,7 @@ fn main(rt: HostRuntime) -> ExitCode {
         Ok(()) => ExitCode::SUCCESS,
         Err(fault) => {
             // Where even this line cannot be written, the status still tells.
-            let _ = eprintln!(rt; "bench: {}", fault.text());
+            let _ = eprintln!(rt; "bench: {fault}");
             ExitCode::from(1)
         }
     }

@@ -79,9 +79,8 @@ fn tell_difference<R: Eprint>(rt: &R, difference: Difference) {
     let Difference { list, calls, wrong } = difference;
     // Where even this line cannot be written, the status still tells.
     let _ = eprintln!(rt;
-        "histories: list {} differs after {calls} calls: {}",
-        list.seed,
-        wrong.text()
+        "histories: list {} differs after {calls} calls: {wrong}",
+        list.seed
     );
 }
 
