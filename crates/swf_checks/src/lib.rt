@@ -11,6 +11,8 @@ mod faults;
 #[cfg(test)]
 mod lines;
 #[cfg(test)]
+mod lines_told;
+#[cfg(test)]
 mod numbers;
 #[cfg(test)]
 mod pieces;

@@ -4,7 +4,7 @@ ghost use Rattle.swf_text.specs.Bounds.{bytes_at};
 
 use crate::texts::FOUR_JOBS;
 use crate::writing::{MIXED, written};
-use std::alloc::{AllocError, Global};
+use std::alloc::{AllocError, Allocator, Global};
 use swf_text::{
     FaultKind, LineRead, Memory, SwfFault, SwfText, assemble, line_at, line_bounds, read_line,
     read_swf,
@@ -24,11 +24,15 @@ fn readings_at(
         .collect(alloc)
 }
 
-// A log as it is read from the bounds and readings of its lines.
-fn read_by_lines(alloc: Global, bytes: &[u8]) -> Result<Result<SwfText<Global>, SwfFault>, Memory> {
+/// A log as it is put together on `heap` from the bounds and readings of its lines.
+pub(crate) fn read_by_lines<A: Allocator + Copy>(
+    alloc: Global,
+    heap: A,
+    bytes: &[u8],
+) -> Result<Result<SwfText<A>, SwfFault>, Memory> {
     let bounds = line_bounds(alloc, bytes)?;
     let readings = readings_at(alloc, bytes, &bounds)?;
-    Ok(assemble(alloc, bytes, &bounds, &readings))
+    Ok(assemble(heap, bytes, &bounds, &readings))
 }
 
 /// What is written of a reading, or its fault; none where memory is short.
@@ -57,13 +61,13 @@ pub(crate) fn are_alike(
 // Whether both ways of reading answer the same.
 fn reads_alike(alloc: Global, bytes: &[u8]) -> Option<bool> {
     let one = told_of(alloc, read_swf(alloc, bytes))?;
-    let other = told_of(alloc, read_by_lines(alloc, bytes).ok()?)?;
+    let other = told_of(alloc, read_by_lines(alloc, alloc, bytes).ok()?)?;
     Some(are_alike(&one, &other))
 }
 
 // The fault of reading line by line.
 fn fault_by_lines(alloc: Global, bytes: &[u8]) -> Option<SwfFault> {
-    read_by_lines(alloc, bytes).ok()?.err()
+    read_by_lines(alloc, alloc, bytes).ok()?.err()
 }
 
 /// Logs with and without faults.

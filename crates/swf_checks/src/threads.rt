@@ -1,10 +1,11 @@
+use crate::lines_told::{Told, told_by};
 use crate::pieces::{LOGS, are_alike, told_of};
 use parallel_reader::read_parallel;
 use refusing::Refusing;
-use std::alloc::{Allocator, Global};
+use std::alloc::Global;
 use std::marker::Sync;
 use std::thread::Threads;
-use swf_text::{FaultKind, SwfFault, SwfText, read_swf};
+use swf_text::{FaultKind, read_swf};
 
 /// The lines of a log that several threads read: four batches of 65,536 lines, and some more.
 const MANY: u64 = 270_000;
@@ -127,30 +128,6 @@ fn reads_short_logs_as_one_thread_does(rt: HostRuntime) {
 
 /// More growths than the reading of such a log asks for.
 const GROWTHS: u64 = 1_000;
-
-/// What is told of a log while one growth was refused.
-#[derive(Clone, Copy, PartialEq, Eq)]
-enum Told {
-    /// It was read, with so many entries.
-    Read(usize),
-    /// Want of memory at this line.
-    MemoryAt(u64),
-    /// Another fault.
-    Faulty,
-}
-
-fn told_by<A: Allocator + Copy>(read: Result<SwfText<A>, SwfFault>) -> Told {
-    match read {
-        Ok(text) => Told::Read(text.entries().len()),
-        Err(fault) => {
-            if fault.kind == FaultKind::Memory {
-                Told::MemoryAt(fault.line)
-            } else {
-                Told::Faulty
-            }
-        }
-    }
-}
 
 // Whether this may be told where a growth was refused and the lines told so far reach to this one: a
 // later line, or line 1, where there was no room for lines that were cut, or the log, where there was
