@@ -87,6 +87,14 @@ fn tells_the_first_faulty_line(rt: HostRuntime) {
     }
 }
 
+/// A job line whose last word is a byte that is no ASCII, and no UTF-8 either.
+const RAW_BYTE: &[u8] = b"; caf\xe9\n1 0 -1 5 6 -1 -1 6 5 -1 1 7 -1 -1 -1 -1 -1 \xe9\n";
+
+#[test]
+fn tells_a_raw_byte_in_a_job_line_alone(rt: HostRuntime) {
+    assert!(rt; fault_of(rt.alloc(), RAW_BYTE) == Some((2, FaultKind::NotAscii)));
+}
+
 // Whether a text has no fault before its line of this number.
 fn is_right_before(alloc: Global, text: &[u8], line: u64) -> bool {
     match fault_of(alloc, text) {
@@ -109,13 +117,12 @@ fn cuts_are_right(alloc: Global, bytes: &[u8]) -> bool {
 
 #[test]
 fn cuts_are_read_or_refused(rt: HostRuntime) {
-    assert!(rt; cuts_are_right(rt.alloc(), FOUR_JOBS.as_bytes()));
+    assert!(rt; cuts_are_right(rt.alloc(), FOUR_JOBS));
 }
 
 // The fault of the four-job log without so many bytes at its end.
 fn fault_without(alloc: Global, cut: usize) -> Option<(u64, FaultKind)> {
-    let bytes = FOUR_JOBS.as_bytes();
-    fault_of(alloc, &bytes[..bytes.len().saturating_sub(cut)])
+    fault_of(alloc, &FOUR_JOBS[..FOUR_JOBS.len().saturating_sub(cut)])
 }
 
 #[test]

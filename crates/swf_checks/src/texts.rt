@@ -3,7 +3,7 @@ use std::alloc::Global;
 use swf_text::{Entry, SwfText};
 
 /// Four jobs on ten processors.
-pub(crate) const FOUR_JOBS: &str = "1 0 -1 100 6 -1 -1 6 100 -1 1 7 -1 -1 -1 -1 -1 -1
+pub(crate) const FOUR_JOBS: &[u8] = b"1 0 -1 100 6 -1 -1 6 100 -1 1 7 -1 -1 -1 -1 -1 -1
 2 1 -1 50 8 -1 -1 8 50 -1 1 8 -1 -1 -1 -1 -1 -1
 3 2 -1 90 4 -1 -1 4 90 -1 1 7 -1 -1 -1 -1 -1 -1
 4 3 -1 500 2 -1 -1 2 500 -1 1 8 -1 -1 -1 -1 -1 -1
@@ -35,7 +35,7 @@ fn has_jobs(text: &SwfText<Global>, jobs: &[(u64, u64, i64)]) -> bool {
 
 #[test]
 fn reads_the_four_jobs(rt: HostRuntime) {
-    let text = read(rt.alloc(), FOUR_JOBS.as_bytes());
+    let text = read(rt.alloc(), FOUR_JOBS);
     assert!(rt; text.is_some_and(|text| has_jobs(&text, &JOBS)));
 }
 

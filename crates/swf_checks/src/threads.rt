@@ -119,10 +119,7 @@ fn reads_alike<R: Threads + Sync>(rt: &R, alloc: Global, bytes: &[u8]) -> Option
 #[test]
 fn reads_short_logs_as_one_thread_does(rt: HostRuntime) {
     for log in &LOGS {
-        assert!(rt;
-            reads_alike(&rt, rt.alloc(), log.as_bytes()) == Some(true),
-            "{log}"
-        );
+        assert!(rt; reads_alike(&rt, rt.alloc(), log) == Some(true), "{log:?}");
     }
 }
 

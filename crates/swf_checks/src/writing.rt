@@ -5,12 +5,12 @@ use std::io::{self, Write};
 use swf_text::{SwfText, WriteFault, write_bytes, write_swf};
 
 /// A log of comments between lines, tabs, carriage returns and a part.
-pub(crate) const MIXED: &str =
-    "\t ; first \r\r\n1\t0 -1 100.0 007.50 -0.0000001 -1 6 100 -1 1 7 -1 -1 -1 -1 -1 -1\r\n  \r\n;\n  1 -1 -1 5 6 -1 -1 6 5 -1 2 7 -1 -1 -1 -1 -1 -1";
+pub(crate) const MIXED: &[u8] =
+    b"\t ; first \r\r\n1\t0 -1 100.0 007.50 -0.0000001 -1 6 100 -1 1 7 -1 -1 -1 -1 -1 -1\r\n  \r\n;\n  1 -1 -1 5 6 -1 -1 6 5 -1 2 7 -1 -1 -1 -1 -1 -1";
 
 /// The same as it is written.
-const MIXED_WRITTEN: &str =
-    "; first \n;\n1 0 -1 100 7.5 0 -1 6 100 -1 1 7 -1 -1 -1 -1 -1 -1\n1 -1 -1 5 6 -1 -1 6 5 -1 2 7 -1 -1 -1 -1 -1 -1\n";
+const MIXED_WRITTEN: &[u8] =
+    b"; first \n;\n1 0 -1 100 7.5 0 -1 6 100 -1 1 7 -1 -1 -1 -1 -1 -1\n1 -1 -1 5 6 -1 -1 6 5 -1 2 7 -1 -1 -1 -1 -1 -1\n";
 
 /// What is written of a log.
 pub(crate) fn written(alloc: Global, text: &SwfText<Global>) -> Option<Vec<u8>> {
@@ -65,7 +65,7 @@ fn writes_canonical_numbers(rt: HostRuntime) {
 }
 
 /// Logs, and how they are written.
-const LOGS: [(&str, &str); 3] = [
+const LOGS: [(&[u8], &[u8]); 3] = [
     (MIXED, MIXED_WRITTEN),
     (MIXED_WRITTEN, MIXED_WRITTEN),
     (FOUR_JOBS, FOUR_JOBS),
@@ -74,7 +74,7 @@ const LOGS: [(&str, &str); 3] = [
 #[test]
 fn reads_what_it_wrote(rt: HostRuntime) {
     for (log, shown) in &LOGS {
-        assert!(rt; is_rewritten(rt.alloc(), log.as_bytes(), shown.as_bytes()) == Some(true));
+        assert!(rt; is_rewritten(rt.alloc(), log, shown) == Some(true));
     }
 }
 
@@ -121,7 +121,7 @@ fn took(writer: &Broken, whole: &[u8], answer: Result<(), WriteFault>) -> bool {
 fn writes_a_prefix(alloc: Global, text: &SwfText<Global>, calls: u64) -> bool {
     let mut writer = failing_after(alloc, 7, calls);
     let answer = write_swf(text, &mut writer);
-    took(&writer, MIXED_WRITTEN.as_bytes(), answer)
+    took(&writer, MIXED_WRITTEN, answer)
 }
 
 // Whether it holds of each writer of fewer than 31 calls.
@@ -136,7 +136,7 @@ fn writes_prefixes(alloc: Global, text: &SwfText<Global>) -> bool {
 
 #[test]
 fn writes_a_prefix_where_the_writer_fails(rt: HostRuntime) {
-    let text = read(rt.alloc(), MIXED.as_bytes());
+    let text = read(rt.alloc(), MIXED);
     assert!(rt; text.is_some_and(|text| writes_prefixes(rt.alloc(), &text)));
 }
 
@@ -149,7 +149,7 @@ fn told_of_full(alloc: Global, text: &SwfText<Global>) -> (Result<(), WriteFault
 
 #[test]
 fn tells_a_writer_that_takes_nothing(rt: HostRuntime) {
-    let text = read(rt.alloc(), MIXED.as_bytes());
+    let text = read(rt.alloc(), MIXED);
     let wanted = (Err(WriteFault::Device), 0);
     assert!(rt; text.is_some_and(|text| told_of_full(rt.alloc(), &text) == wanted));
 }
