@@ -87,7 +87,7 @@ fn tells_the_first_faulty_line(rt: HostRuntime) {
     }
 }
 
-/// A job line whose last word is a byte that is no ASCII, and no UTF-8 either.
+/// A byte that no UTF-8 has alone, in a comment and as the last word of a job line.
 const RAW_BYTE: &[u8] = b"; caf\xe9\n1 0 -1 5 6 -1 -1 6 5 -1 1 7 -1 -1 -1 -1 -1 \xe9\n";
 
 #[test]
