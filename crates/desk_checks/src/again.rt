@@ -1,7 +1,7 @@
 // A scenario that is dropped and added again while a run of it is made.
 use crate::crew::{Crew, Script};
 use crate::desks::{opened, ten};
-use crate::flag::Flag;
+use crate::flag::{Flag, Turns};
 use scenarios::ScenarioId;
 use std::alloc::Global;
 use std::process::Abort;
@@ -16,12 +16,13 @@ struct AddedAgain {
     is_claimed: Flag,
     is_added: Flag,
     wrong: Flag,
+    turns: Turns,
 }
 
 impl Gate for AddedAgain {
     fn before_work(&self, _ticket: u64) {
         self.is_claimed.set();
-        if !self.is_added.wait() {
+        if !self.is_added.wait(&self.turns) {
             self.wrong.set();
         }
     }
@@ -67,7 +68,7 @@ fn adds_again<R: Wait>(rt: &R, desk: &Desk<Global>, session: &mut Session<Global
 impl Script for AddedAgain {
     fn play<R: Wait>(&self, rt: &R, desk: &Desk<Global>, session: &mut Session<Global>) {
         let is_right = added(rt, desk, session).is_some()
-            && self.is_claimed.wait()
+            && self.is_claimed.wait(&self.turns)
             && adds_again(rt, desk, session);
         if !is_right {
             self.wrong.set();
@@ -84,6 +85,7 @@ fn book_after<R: Threads + Wait + Sync>(rt: &R, alloc: Global) -> Option<Book<Gl
         is_claimed: Flag::new(),
         is_added: Flag::new(),
         wrong: Flag::new(),
+        turns: Turns::new(),
     };
     if crew.run(rt, alloc, &again, &again) && !again.wrong.is_set() {
         crew.close()

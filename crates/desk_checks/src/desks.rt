@@ -15,7 +15,7 @@ const FOUR: &[u8] = b"1 0 -1 100 6 -1 -1 6 100 -1 1 7 -1 -1 -1 -1 -1 -1
 ";
 
 /// A fifth job, of size 2.
-const FIFTH: &[u8] = b"5 4 -1 500 2 -1 -1 2 500 -1 1 8 -1 -1 -1 -1 -1 -1\n";
+const FIFTH: &[u8] = b"5 4 -1 5 2 -1 -1 2 5 -1 1 9 -1 -1 -1 -1 -1 -1\n";
 
 /// The starts without job 4 and with job 5, worked by hand.
 pub(crate) const STARTS: &[(u64, u64)] = &[(1, 0), (2, 100), (3, 2), (5, 92)];

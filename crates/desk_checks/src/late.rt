@@ -1,7 +1,7 @@
 // Two workers run, and the one that was given the older ticket hands in last.
 use crate::crew::Script;
 use crate::desks::crew_of;
-use crate::flag::Flag;
+use crate::flag::{Flag, Turns};
 use job_table::Edit;
 use std::alloc::Global;
 use std::process::Abort;
@@ -20,6 +20,7 @@ struct Held {
     is_worked: Flag,
     is_published: Flag,
     is_late: Flag,
+    turns: Turns,
 }
 
 impl Held {
@@ -30,11 +31,12 @@ impl Held {
             is_worked: Flag::new(),
             is_published: Flag::new(),
             is_late: Flag::new(),
+            turns: Turns::new(),
         }
     }
 
     fn await_flag(&self, flag: &Flag) {
-        if !flag.wait() {
+        if !flag.wait(&self.turns) {
             self.is_late.set();
         }
     }

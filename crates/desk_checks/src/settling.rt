@@ -1,4 +1,4 @@
-// A session that settles after what was given up is tried again.
+// A session that settles after what was given up is tried again, with a worker and at a stopped desk.
 use crate::crew::{Crew, Script};
 use crate::desks::book_of;
 use crate::flag::Flag;
@@ -7,7 +7,7 @@ use std::process::Abort;
 use std::sync::Wait;
 use std::thread::Threads;
 use version_book::Book;
-use workers::{Desk, NoGate, Session, Settled};
+use workers::{Desk, NoGate, Session, Settled, Worker, WorkerEnd};
 
 // The book after its one scenario was given up.
 fn given_up(alloc: Global) -> Option<Book<Global>> {
@@ -53,4 +53,38 @@ fn is_done<R: Threads + Wait + Sync>(rt: &R, alloc: Global) -> Option<bool> {
 #[test]
 fn what_is_tried_again_settles(rt: HostRuntime) {
     assert!(rt; is_done(&rt, rt.alloc()) == Some(true));
+}
+
+// Whether a session waits for nothing at a desk that is stopped while a scenario is due, and a worker ends
+// there and has called nothing.
+fn are_stopped<R: Wait>(
+    rt: &R,
+    desk: &Desk<Global>,
+    session: &mut Session<Global>,
+    worker: &mut Worker<Global>,
+) -> bool {
+    let is_due = retries(rt, desk, session);
+    desk.stop(rt);
+    is_due
+        && session.settle(rt, desk) == Settled::Stopped
+        && worker.run(rt, desk, &NoGate) == WorkerEnd::Stopped
+        && worker.list().is_empty()
+}
+
+// The same of the callers of a desk.
+fn stop_both<R: Wait>(rt: &R, crew: &mut Crew) -> Option<bool> {
+    let session = crew.sessions.get_mut(0)?;
+    let worker = crew.workers.get_mut(0)?;
+    Some(are_stopped(rt, &crew.desk, session, worker))
+}
+
+// The same of a desk whose one scenario was given up.
+fn end<R: Wait>(rt: &R, alloc: Global) -> Option<bool> {
+    let mut crew = Crew::new(rt, alloc, given_up(alloc)?, 1, 1)?;
+    stop_both(rt, &mut crew)
+}
+
+#[test]
+fn a_stopped_desk_leaves_what_is_due(rt: HostRuntime) {
+    assert!(rt; end(&rt, rt.alloc()) == Some(true));
 }

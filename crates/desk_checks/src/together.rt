@@ -7,7 +7,7 @@ use std::alloc::Global;
 use std::process::Abort;
 use std::sync::Wait;
 use std::thread::Threads;
-use version_book::Published;
+use version_book::{Book, FinishRefusal, Published};
 use workers::{CloseFault, Current, Desk, NoGate, Session, Settled};
 
 /// A session settles and looks; the flag tells that it was shown another thing than it should be.
@@ -60,8 +60,9 @@ impl Script for Looks {
     }
 }
 
-// Both edits: job 5 joins by session 0, and job 4 leaves by session 1.
-fn edits<R: Wait>(rt: &R, alloc: Global, crew: &mut Crew) -> Option<(u64, u64)> {
+// Both edits: job 5 joins by session 0, and job 4 leaves by session 1; and then the version as session 0
+// reads it, which has seen its own edit alone.
+fn edits<R: Wait>(rt: &R, alloc: Global, crew: &mut Crew) -> Option<(u64, u64, u64)> {
     let joins = insertion(alloc)?;
     let one = crew.sessions.get_mut(0)?.edit(rt, &crew.desk, &joins).ok()?;
     let two = crew
@@ -69,13 +70,14 @@ fn edits<R: Wait>(rt: &R, alloc: Global, crew: &mut Crew) -> Option<(u64, u64)> 
         .get_mut(1)?
         .edit(rt, &crew.desk, &Edit::Remove(4))
         .ok()?;
-    Some((one, two))
+    let now = crew.sessions.get(0)?.version(rt, &crew.desk);
+    Some((one, two, now))
 }
 
 // The desk after both edits, at which both sessions settled and saw what they should.
 fn played<R: Threads + Wait + Sync>(rt: &R, alloc: Global) -> Option<Crew> {
     let mut crew = crew_of(rt, alloc, 2, 1)?;
-    if edits(rt, alloc, &mut crew)? != (1, 2) {
+    if edits(rt, alloc, &mut crew)? != (1, 2, 2) {
         return None;
     }
     let looks = Looks { wrong: Flag::new() };
@@ -86,14 +88,20 @@ fn played<R: Threads + Wait + Sync>(rt: &R, alloc: Global) -> Option<Crew> {
     }
 }
 
-// Closes it without a session, and then with all callers; the fault, and how many notes the book has.
-fn closed<R: Threads + Wait + Sync>(rt: &R, alloc: Global) -> Option<(CloseFault, usize)> {
-    let (fault, crew) = played(rt, alloc)?.close_without_one()?;
-    Some((fault, crew.close()?.journal().len()))
+// Whether the book has a note of `base`, two edits, a claim with its finish, and two views, and the ticket is
+// closed.
+fn is_whole(book: &mut Book<Global>) -> bool {
+    book.journal().len() == 7 && book.finish_delivered(0, 1) == Err(FinishRefusal::UnknownTicket)
 }
 
-// `base`, two edits, a claim with its finish, and two views.
+// Whether it doesn't close without a session, closes with all callers, and the book is whole then.
+fn closes<R: Threads + Wait + Sync>(rt: &R, alloc: Global) -> Option<bool> {
+    let (fault, crew) = played(rt, alloc)?.close_without_one()?;
+    let mut book = crew.close()?;
+    Some(fault == CloseFault::StillOut && is_whole(&mut book))
+}
+
 #[test]
 fn two_sessions_see_one_version(rt: HostRuntime) {
-    assert!(rt; closed(&rt, rt.alloc()) == Some((CloseFault::StillOut, 7)));
+    assert!(rt; closes(&rt, rt.alloc()) == Some(true));
 }
