@@ -59,7 +59,8 @@ impl<T: Ranked, A: Allocator + Copy> Block<T, A> {
 
     // What the items weigh together.
     pub(crate) fn weight(&self) -> u128
-        ensures { result ≡ sum_by T.weight self.now }
+        ensures value { result ≡ sum_by T.weight self.now }
+        ensures light { result < 2 ^ 80 }
     {
         self.weight
     }

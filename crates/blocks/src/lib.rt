@@ -3,6 +3,7 @@
 
 mod block;
 mod block_row;
+mod front;
 mod growth;
 mod items;
 mod place;

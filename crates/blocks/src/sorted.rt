@@ -1,7 +1,8 @@
-ghost use Rattle.std.specs.Prelude.{◌≡◌, ◌≤◌, ◌<◌, ◌+◌, ◌-◌, ◌↔◌, [], IsOk, IsTrue, OnErr, OnOk, find, length, option_copied, slice_get, slice_index_or, sum_by};
-ghost use Rattle.blocks.specs.Rows.{AreFilled, Rises, entered, flat, is_at, without_first};
+ghost use Rattle.std.specs.Prelude.{◌≡◌, ◌≤◌, ◌<◌, ◌+◌, ◌-◌, ◌↔◌, [], IsOk, IsTrue, OnErr, OnOk, drop, find, length, option_copied, slice_get, slice_index_or, sum_by, take};
+ghost use Rattle.blocks.specs.Rows.{AreFilled, Rises, block_of, entered, flat, is_at, without_first};
 
 use crate::block_row::BlockRow;
+use crate::front::lighter;
 use crate::items::Items;
 use crate::place::items_of;
 use crate::ranked::Ranked;
@@ -82,10 +83,14 @@ impl<T: Ranked, A: Allocator + Copy> Blocks<T, A> {
         self.row.insert(place, item);
     }
 
-    /// As `insert`, and makes the room. Memory where a growth was refused; then the items stay.
+    /// As `insert`, and makes the room. Where there is room it takes no memory.
+    ///
+    /// Memory where a growth was refused; then the items stay.
     pub fn insert_growing(&mut self, item: T) -> Result<(), Memory>
         ensures items { OnOk result (flat self.new.blocks ≡ entered T.major T.minor item (flat self.old.blocks)) }
         ensures kept { OnErr result (self.new.blocks ≡ self.old.blocks) }
+        ensures room { 1 ≤ self.old.spare → IsOk result }
+        ensures spare { self.old.spare ≤ self.new.spare + 1 }
     {
         self.reserve(1)?;
         self.insert(item);
@@ -156,11 +161,30 @@ impl<T: Ranked, A: Allocator + Copy> Blocks<T, A> {
         self.row.blocks()[number].weight()
     }
 
+    /// How many first blocks weigh together less than this, and what they weigh: as many as there are
+    /// until another one makes it this or more.
+    pub fn lighter(&self, than: u128) -> (usize, u128)
+        ensures within { result.0 ≤ length self.now.blocks }
+        ensures weight { result.1 ≡ sum_by T.weight (flat (take result.0 self.now.blocks)) }
+        ensures less { 1 ≤ than → result.1 < than }
+        ensures most { result.0 < length self.now.blocks → than ≤ result.1 + sum_by T.weight (block_of self.now.blocks result.0) }
+    {
+        lighter(self.row.blocks(), than)
+    }
+
     /// All items, in order.
     pub fn iter(&self) -> Items<'_, T, A>
         ensures { result ≡ flat self.now.blocks }
     {
         Items::of(self.row.blocks())
+    }
+
+    /// The items of the blocks from this one on, in order.
+    pub fn iter_from(&self, block: usize) -> Items<'_, T, A>
+        requires { block ≤ length self.now.blocks }
+        ensures { result ≡ flat (drop block self.now.blocks) }
+    {
+        Items::of(&self.row.blocks()[block..])
     }
 
     /// Lets all items go; their room stays.

@@ -117,6 +117,46 @@ fn take_out(row: &mut Blocks<Mark, Global>, from: u64, end: u64) {
     }
 }
 
+// The blocks weigh 64, 64 and 72: less than 128 only the first does.
+fn goes_over_the_light(row: &Blocks<Mark, Global>) -> bool {
+    row.lighter(64) == (0, 0)
+        && row.lighter(65) == (1, 64)
+        && row.lighter(128) == (1, 64)
+        && row.lighter(129) == (2, 128)
+        && row.lighter(200) == (2, 128)
+        && row.lighter(201) == (3, 200)
+}
+
+#[test]
+fn light_blocks_are_gone_over(rt: HostRuntime) {
+    let row = two_hundred(rt.alloc());
+    assert!(rt; row.is_some_and(|row| goes_over_the_light(&row)));
+}
+
+// The majors of the marks are 0 to 199, so the second block begins with 64 and the last with 128.
+fn goes_on_from(row: &Blocks<Mark, Global>, block: usize, major: u64, count: usize) -> bool {
+    if block > row.blocks() {
+        return false;
+    }
+    let first = row.iter_from(block).next();
+    first == Some(&mark_at(major, 0, 1)) && row.iter_from(block).count() == count
+}
+
+// None is left behind the last block.
+fn goes_on_from_each(row: &Blocks<Mark, Global>) -> bool {
+    goes_on_from(row, 0, 0, 200)
+        && goes_on_from(row, 1, 64, 136)
+        && goes_on_from(row, 2, 128, 72)
+        && row.blocks() == 3
+        && row.iter_from(3).next().is_none()
+}
+
+#[test]
+fn items_go_on_from_a_block(rt: HostRuntime) {
+    let row = two_hundred(rt.alloc());
+    assert!(rt; row.is_some_and(|row| goes_on_from_each(&row)));
+}
+
 // 24 marks leave the second block and 40 the first, which then joins the 40 that are left there.
 fn joins_two(row: &mut Blocks<Mark, Global>) -> bool {
     take_out(row, 64, 88);
