@@ -1,17 +1,18 @@
 -- Running jobs in the order in which they are expected to end.
-use Rattle.std.proofs.Common.{◌≡◌, ◌≢◌, ℕ, zero, suc, ◌+◌, ◌≤◌, ◌<◌, Bool, true, false, cond, ◌||◌, ◌&&◌, ◌==◌, nat_eq, nat_lt, not, List, [], ◌∷◌, All, Any, get_or, filter, sum_by, count_by, length, insert, one-add, Option, Some, None, IfSome, IsNone, IsSomeAnd, slice_get, refl, sym, ◌∙◌, ap, arith, subst, inl, inr, ⊎_elim, ◌⊎◌}
+use Rattle.std.proofs.Common.{◌≡◌, ◌≢◌, ℕ, suc, ◌+◌, ◌≤◌, ◌<◌, Bool, true, false, cond, ◌||◌, ◌&&◌, ◌==◌, nat_eq, nat_lt, not, List, [], ◌∷◌, All, Any, get_or, filter, sum_by, count_by, length, insert, one-add, Option, Some, None, IfSome, IsNone, slice_get, refl, sym, ◌∙◌, ap, arith, subst, inl, inr, ⊎_elim, ◌⊎◌}
 use Rattle.std.specs.List.{position_or_len}
 use Rattle.std.specs.Option.{option_map}
 use Rattle.std.proofs.lemmas.List.Sums.{sum_by-cons, get_or-le-sum_by}
-use Rattle.std.specs.List.Sorted.{IsPermutation, IsPartitionedBy}
+use Rattle.std.specs.List.Sorted.{IsPermutation}
 use Rattle.std.proofs.lemmas.List.{nil_from_length}
-use Rattle.std.proofs.lemmas.List.Sorted.{sum_by_popped, IsPermutation-refl, IsPermutation-cons, IsPermutation-trans, IsPermutation-insert}
-use Rattle.std.proofs.lemmas.List.Elements.{All-cons, All-head, All-tail, All-nil, All-weaker, All-filter, All-get_or}
+use Rattle.std.proofs.lemmas.List.Sorted.{IsPermutation-refl, IsPermutation-cons, IsPermutation-trans, IsPermutation-insert}
+use Rattle.std.proofs.lemmas.List.Elements.{All-cons, All-head, All-tail, All-nil, All-weaker, All-filter}
 use Rattle.std.proofs.lemmas.Bool.{cond_both, cond-true, cond-false, cases_Bool, cases_lt, lt-ltb, ltb-true, ltb-false, le-ltb, eq-eqb, eqb-true, and_from, and_parts, or_left, or_right, true≢false}
+use Rattle.blocks.specs.Rows.{entered as row_entered}
 use Rattle.scenarios.specs.Job.{EffectiveJob}
 use Rattle.scenarios.specs.declared.placed.Placed.{Placed}
 use Rattle.scenarios.specs.Placed.{expected_end, real_end}
-use Rattle.cluster_state.specs.State.{State, IsSound, placed, waiting_job, ended_until}
+use Rattle.cluster_state.specs.State.{State, IsSound, placed, waiting_job}
 use Rattle.cluster_state.specs.Ends.{is_sooner, entered, by_end, EndsSooner, RisesByEnd}
 use Rattle.cluster_state.proofs.StateLemmas.{sum_by-without}
 
@@ -66,9 +67,6 @@ sooner-never a b (inr l) (inr m) = let k = l.1 in let n = m.1 in omega (arith, k
 
 pub not-sooner : (a b : Placed) → NotLater b a → is_sooner a b ≡ false
 not-sooner a b h = ⊎_elim (λ (y : is_sooner a b ≡ true). absurd (sooner-never a b (sooner-is a b y) h)) (λ (n : is_sooner a b ≡ false). n) (cases_Bool (is_sooner a b))
-
-pub sooner-itself : (r : Placed) → is_sooner r r ≡ false
-sooner-itself r = not-sooner r r (inr (refl, omega arith))
 
 -- of two numbers one is sooner
 strictly : (a b : Placed) → a.job.number ≢ b.job.number → NotLater a b → Sooner a b
@@ -224,7 +222,7 @@ by_end-filter p (r ∷ rs) =
     (λ n. by_end-filter p rs ∙ sym (cond-false (p r) (entered r (filter p (by_end rs))) (filter p (by_end rs)) n))
     ∙ sym (filter-entered p r (by_end rs) (rises-by_end rs))
 
--- ---- the code's place
+-- ---- its place
 pub entered-at : (r : Placed) (rs : List Placed) → entered r rs ≡ insert rs (position_or_len (λ (x : Placed). is_sooner r x) rs) r
 entered-at r [] = refl
 entered-at r (x ∷ rs) =
@@ -233,39 +231,7 @@ entered-at r (x ∷ rs) =
       | false ↦ rw one-add (ap (λ l. x ∷ l) (entered-at r rs))
     ]
 
--- those before which a job comes stand behind the others
-sooner-parts : (r : Placed) (xs : List Placed) → NoneEndsSooner xs → IsPartitionedBy (λ (x : Placed). not (is_sooner r x)) xs
-sooner-parts r [] h i j d le lt t = absurd (omega arith)
-sooner-parts r (x ∷ xs) h zero zero d le lt t = t
-sooner-parts r (x ∷ xs) h zero (suc j) d le lt t =
-    let y = get_or xs j d in
-    let later : NotLater x y = All-get_or (NotLater x) xs j d (omega arith) h.0 in
-    ⊎_elim
-    (λ (s : is_sooner r x ≡ true). absurd (true≢false (sym t ∙ ap not (is-sooner r y (sooner-than r x y (sooner-is r x s) later)))))
-    (λ (n : is_sooner r x ≡ false). ap not n)
-    (cases_Bool (is_sooner r x))
-sooner-parts r (x ∷ xs) h (suc i) zero d le lt t = absurd (omega arith)
-sooner-parts r (x ∷ xs) h (suc i) (suc j) d le lt t = sooner-parts r xs h.1 i j d (omega arith) (omega arith) t
-
-pub parted-by_end : (r : Placed) (row rs : List Placed) → row ≡ by_end rs → IsPartitionedBy (λ (x : Placed). not (is_sooner r x)) row
-parted-by_end r row rs e = sooner-parts r row (subst NoneEndsSooner (sym e) (rises-by_end rs))
-
 -- ---- the seconds at which they end
--- what is added up only where the test passes
-pub sum_by-filter : {X : Type 0} (f : X → ℕ) (p : X → Bool) (xs : List X) → sum_by f (filter p xs) ≡ sum_by (λ x. cond (p x) (f x) 0) xs
-sum_by-filter f p [] = refl
-sum_by-filter f p (x ∷ xs) =
-    cond_both (p x) (x ∷ filter p xs) (filter p xs) (λ l. sum_by f l ≡ sum_by (λ x. cond (p x) (f x) 0) (x ∷ xs))
-    (λ y. let one = cond-true (p x) (f x) 0 y in omega (arith, one, sum_by-cons f x (filter p xs), sum_by-cons (λ x. cond (p x) (f x) 0) x xs, sum_by-filter f p xs))
-    (λ n. let none = cond-false (p x) (f x) 0 n in omega (arith, none, sum_by-cons (λ x. cond (p x) (f x) 0) x xs, sum_by-filter f p xs))
-
--- where all pass, the whole is added up
-pub sum_by-all : {X : Type 0} (f : X → ℕ) (p : X → Bool) (xs : List X) → All (λ x. p x ≡ true) xs → sum_by (λ x. cond (p x) (f x) 0) xs ≡ sum_by f xs
-sum_by-all f p [] a = refl
-sum_by-all f p (x ∷ xs) a =
-    let one = cond-true (p x) (f x) 0 (All-head (λ x. p x ≡ true) x xs a) in
-    omega (arith, one, sum_by-cons f x xs, sum_by-cons (λ x. cond (p x) (f x) 0) x xs, sum_by-all f p xs (All-tail (λ x. p x ≡ true) x xs a))
-
 pub sum_by-ones : {X : Type 0} (xs : List X) → sum_by (λ x. 1) xs ≡ length xs
 sum_by-ones [] = refl
 sum_by-ones (x ∷ xs) = let k = sum_by-cons (λ x. 1) x xs in let i = sum_by-ones xs in omega (arith, k, i)
@@ -334,10 +300,6 @@ module _ {E : Type 0} (at : E → ℕ) where
       (none-adds (λ (r : Placed). nat_lt (real_end r) t) rs (sym (h f) ∙ zero'))
 
 -- the first of the heap
-pub first-is : {E : Type 0} (at : E → ℕ) (ends : List E) (x : E) (t : ℕ) → Some t ≡ option_map at (slice_get ends 0) → x ≡ get_or ends 0 x → at x ≡ t
-first-is at [] x t e i = cc
-first-is at (y ∷ ys) x t e i = let k : Some t ≡ Some (at y) = e in let same : t ≡ at y = cc in ap at i ∙ sym same
-
 pub first-none : {E : Type 0} (at : E → ℕ) (ends : List E) → option_map at (slice_get ends 0) ≡ None → ends ≡ []
 first-none at [] e = refl
 first-none at (y ∷ ys) e = let k : Some (at y) ≡ None = e in cc
@@ -345,10 +307,6 @@ first-none at (y ∷ ys) e = let k : Some (at y) ≡ None = e in cc
 pub first-some : {E : Type 0} (at : E → ℕ) (ends : List E) (t : ℕ) → option_map at (slice_get ends 0) ≡ Some t → (rs : List Placed) → ((f : ℕ → ℕ) → sum_by (λ e. f (at e)) ends ≡ sum_by (λ r. f (real_end r)) rs) → Any (λ r. real_end r ≡ t) rs
 first-some at [] t e rs h = let k : None ≡ Some t = e in cc
 first-some at (y ∷ ys) t e rs h = let k : Some (at y) ≡ Some t = e in let same : at y ≡ t = cc in one-ends at (y ∷ ys) rs t 0 y h (omega arith) same
-
--- a heap whose least second comes later than t is left as it is
-pub kept-later : {E : Type 0} (at f : E → ℕ) (ends : List E) (t : ℕ) → All (λ e. t < at e) ends → sum_by (λ e. cond (nat_lt t (at e)) (f e) 0) ends ≡ sum_by f ends
-kept-later at f ends t a = sum_by-all f (λ e. nat_lt t (at e)) ends (All-weaker (λ e. t < at e) (λ e. nat_lt t (at e) ≡ true) (λ e l. lt-ltb t (at e) l) ends a)
 
 -- who outlasts t stays
 pub filter-later : (t : ℕ) (rs : List Placed) → All (λ r. t < real_end r) rs → filter (λ r. nat_lt t (real_end r)) rs ≡ rs
@@ -384,36 +342,6 @@ pub next-end-least : {E : Type 0} (at : E → ℕ) (ends : List E) (rs : List Pl
 next-end-least at ends rs None a h = tt
 next-end-least at ends rs (Some t) a h = none-sooner at ends rs t h a
 
--- where the first does not come by t, all come later
-pub all-later : {E : Type 0} (at : E → ℕ) (ends : List E) (o : Option ℕ) (t : ℕ) → o ≡ option_map at (slice_get ends 0) → IfSome o (λ u. All (λ e. u ≤ at e) ends) → (IsSomeAnd o (λ u. u ≤ t) → ⊥) → All (λ e. t < at e) ends
-all-later at ends None t e a n = subst (All (λ e. t < at e)) (sym (first-none at ends (sym e))) (All-nil (λ e. t < at e))
-all-later at ends (Some u) t e a n =
-    let l : t < u = ⊎_elim (λ (m : t < u). m) (λ (m : u ≤ t). absurd (n m)) (cases_lt t u) in
-    All-weaker (λ e. u ≤ at e) (λ e. t < at e) (λ e m. omega arith) ends a
-
--- where the next one to end comes after t, nobody has left by then
-pub nobody-ends : (s : State) (next : Option ℕ) (t : ℕ) → (IsNone next → s.running ≡ []) → IfSome next (λ u. All (λ r. u ≤ real_end r) s.running) → (IsSomeAnd next (λ u. u ≤ t) → ⊥) → s ≡ ended_until s t
-nobody-ends s next t none least after = sym (ap (λ (rs : List Placed). let z : State = record { machine = s.machine; order = s.order; waiting = s.waiting; running = rs } in z) (filter-later t s.running (go next none least after)))
-  where
-    go : (next : Option ℕ) → (IsNone next → s.running ≡ []) → IfSome next (λ u. All (λ r. u ≤ real_end r) s.running) → (IsSomeAnd next (λ u. u ≤ t) → ⊥) → All (λ r. t < real_end r) s.running
-    go None none least after = subst (All (λ r. t < real_end r)) (sym (none refl)) (All-nil (λ r. t < real_end r))
-    go (Some u) none least after =
-        let l : t < u = ⊎_elim (λ (m : t < u). m) (λ (m : u ≤ t). absurd (after m)) (cases_lt t u) in
-        All-weaker (λ r. u ≤ real_end r) (λ r. t < real_end r) (λ r m. omega arith) s.running least
-
--- ---- the steps of the heap
-pub step-left : {E : Type 0} (at f : E → ℕ) (ends ends' : List E) (x : E) (t : ℕ) → at x ≤ t → IsPermutation ends (x ∷ ends')
-    → sum_by (λ e. cond (nat_lt t (at e)) (f e) 0) ends' ≡ sum_by (λ e. cond (nat_lt t (at e)) (f e) 0) ends
-step-left at f ends ends' x t by p =
-    let none = cond-false {A = ℕ} (nat_lt t (at x)) (f x) 0 (le-ltb t (at x) by) in
-    let k = sum_by_popped (λ e. cond {A = ℕ} (nat_lt t (at e)) (f e) 0) x ends ends' p in
-    omega (arith, k, none)
-
--- the first of the heap comes by second t
-pub first-by : {E : Type 0} (at : E → ℕ) (ends : List E) (x : E) (o : Option ℕ) (t : ℕ) → o ≡ option_map at (slice_get ends 0) → IsSomeAnd o (λ u. u ≤ t) → x ≡ get_or ends 0 x → at x ≤ t
-first-by at ends x None t e by is = absurd by
-first-by at ends x (Some u) t e by is = let here = first-is at ends x u e is in omega (arith, here, by)
-
 -- ---- no two of them tie
 pub strict-entered : (r : Placed) (xs : List Placed) → RisesByEnd xs → All (λ x. x.job.number ≢ r.job.number) xs → RisesByEnd (entered r xs)
 strict-entered r [] h a = (All-nil (EndsSooner r), tt)
@@ -448,3 +376,15 @@ permuted-by_end (r ∷ rs) =
     let row = by_end rs in
     IsPermutation-trans (r ∷ rs) (r ∷ row) (entered r row) (IsPermutation-cons r rs row (permuted-by_end rs))
     (subst (IsPermutation (r ∷ row)) (sym (entered-at r row)) (IsPermutation-insert row (position_or_len (λ (x : Placed). is_sooner r x) row) r))
+
+-- where none ties with it, it enters a row of blocks at the same place
+pub entered-same : (r : Placed) (row : List Placed) → All (λ x. x.job.number ≢ r.job.number) row → row_entered expected_end (λ (x : Placed). x.job.number) r row ≡ entered r row
+entered-same r [] a = refl
+entered-same r (x ∷ xs) a =
+    ⊎_elim
+    (λ (s : Sooner r x). cond-false (is_sooner x r) (x ∷ row_entered expected_end (λ (x : Placed). x.job.number) r xs) (r ∷ x ∷ xs) (not-sooner x r (weaker r x s)) ∙ sym (enters-before r x xs s))
+    (λ (n : NotLater x r).
+    let other = All-head (λ x. x.job.number ≢ r.job.number) x xs a in
+    cond-true (is_sooner x r) (x ∷ row_entered expected_end (λ (x : Placed). x.job.number) r xs) (r ∷ x ∷ xs) (is-sooner x r (strictly x r other n))
+    ∙ ap (λ l. x ∷ l) (entered-same r xs (All-tail (λ x. x.job.number ≢ r.job.number) x xs a)) ∙ sym (enters-behind r x xs n))
+    (sooner-or r x)

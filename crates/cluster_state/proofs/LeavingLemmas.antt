@@ -1,51 +1,59 @@
--- Those that end leave.
-use Rattle.std.proofs.Common.{◌≡◌, ℕ, zero, suc, ◌+◌, ◌≤◌, ◌<◌, Bool, true, false, cond, not, List, [], ◌∷◌, filter, remove, length, get_or, sum_by, refl, ap, arith}
+-- Who ends leaves the row.
+use Rattle.std.proofs.Common.{◌≡◌, ℕ, ◌+◌, ◌≤◌, Bool, true, false, cond, List, [], ◌∷◌, All, Some, None, filter, find, sum_by, refl, sym, ap, arith, subst}
 use Rattle.std.proofs.lemmas.List.Sums.{sum_by-cons}
-use Rattle.std.proofs.lemmas.List.Filters.{length-filter_both}
-use Rattle.std.proofs.lemmas.Bool.{cond_both, cond-true, cond-false}
+use Rattle.std.proofs.lemmas.List.Elements.{All-cons, All-head, All-tail}
+use Rattle.std.proofs.lemmas.Bool.{cond_both, cond-false}
+use Rattle.blocks.specs.Rows.{without_first}
+use Rattle.scenarios.specs.declared.placed.Placed.{Placed}
+use Rattle.cluster_state.specs.Ends.{EndsSooner, RisesByEnd}
 
-module _ {X : Type 0} (p : X → Bool) where
-  fewer : (xs : List X) → length (filter p xs) ≤ length xs
-  fewer xs = omega (arith, length-filter_both p (λ x. not (p x)) (λ x. refl) xs)
+module _ {X : Type 0} (test : X → Bool) where
+  -- what is added up over the one that leaves and the others
+  pub sum_by-leaves : (f : X → ℕ) (xs : List X) (x : X) → find test xs ≡ Some x → f x + sum_by f (without_first test xs) ≡ sum_by f xs
+  sum_by-leaves f [] x e = cc
+  sum_by-leaves f (y ∷ ys) x e =
+      elim (test y) as (λ b. cond b (Some y) (find test ys) ≡ Some x → f x + sum_by f (cond b ys (y ∷ without_first test ys)) ≡ sum_by f (y ∷ ys)) [
+        | true ↦ λ h. (let same : y ≡ x = cc in omega (arith, ap f same, sum_by-cons f y ys))
+        | false ↦ λ h. omega (arith, sum_by-leaves f ys x h, sum_by-cons f y ys, sum_by-cons f y (without_first test ys))
+      ] e
 
-  -- where none fails the test, all stay
-  all-stay : (xs : List X) → length xs ≤ length (filter p xs) → xs ≡ filter p xs
-  all-stay [] l = refl
-  all-stay (x ∷ xs) l =
-      elim (p x) as (λ b. length xs + 1 ≤ length (cond b (x ∷ filter p xs) (filter p xs)) → x ∷ xs ≡ cond b (x ∷ filter p xs) (filter p xs)) [
-        | true ↦ λ k. ap (λ ys. x ∷ ys) (all-stay xs (omega (arith, k)))
-        | false ↦ λ k. absurd (omega (arith, k, fewer xs))
-      ] (omega (arith, l))
+  pub sum_by-others : (f : X → ℕ) (xs : List X) → sum_by f (without_first test xs) ≤ sum_by f xs
+  sum_by-others f [] = omega arith
+  sum_by-others f (y ∷ ys) =
+      cond_both (test y) ys (y ∷ without_first test ys) (λ l. sum_by f l ≤ sum_by f (y ∷ ys))
+      (λ _. omega (arith, sum_by-cons f y ys))
+      (λ _. omega (arith, sum_by-others f ys, sum_by-cons f y ys, sum_by-cons f y (without_first test ys)))
 
-  -- where one fails it, not all stay
-  not-all : (xs : List X) (i : ℕ) (d : X) → i < length xs → p (get_or xs i d) ≡ false → length (filter p xs) + 1 ≤ length xs
-  not-all [] i d l no' = absurd (omega (arith, l))
-  not-all (x ∷ xs) zero d l no' = let e = ap length (cond-false (p x) (x ∷ filter p xs) (filter p xs) no') in omega (arith, e, fewer xs)
-  not-all (x ∷ xs) (suc i) d l no' =
-      let rest = not-all xs i d (omega (arith, l)) no' in
-      cond_both (p x) (x ∷ filter p xs) (filter p xs) (λ ys. length ys + 1 ≤ length (x ∷ xs))
-      (λ _. omega (arith, rest))
-      (λ _. omega (arith, rest))
+  -- none is found where nobody passes
+  pub none-found : (xs : List X) → find test xs ≡ None → sum_by (λ x. cond (test x) 1 0) xs ≡ 0
+  none-found [] e = refl
+  none-found (y ∷ ys) e =
+      let k = sum_by-cons (λ x. cond {A = ℕ} (test x) 1 0) y ys in
+      elim (test y) as (λ b. cond b (Some y) (find test ys) ≡ None → sum_by (λ x. cond (test x) 1 0) (y ∷ ys) ≡ cond b 1 0 + sum_by (λ x. cond (test x) 1 0) ys → sum_by (λ x. cond (test x) 1 0) (y ∷ ys) ≡ 0) [
+        | true ↦ λ h s. cc
+        | false ↦ λ h s. omega (arith, s, none-found ys h)
+      ] e k
 
-  -- where at most one fails it, all but that one stay
-  pub one-leaves : (xs : List X) (i : ℕ) (d : X) → i < length xs → p (get_or xs i d) ≡ false → length xs ≤ length (filter p xs) + 1 → remove xs i ≡ filter p xs
-  one-leaves [] i d l no' few = absurd (omega (arith, l))
-  one-leaves (x ∷ xs) zero d l no' few =
-      elim (p x) as (λ b. b ≡ false → length xs + 1 ≤ length (cond b (x ∷ filter p xs) (filter p xs)) + 1 → xs ≡ cond b (x ∷ filter p xs) (filter p xs)) [
-        | true ↦ λ e k. cc
-        | false ↦ λ e k. all-stay xs (omega (arith, k))
-      ] no' (omega (arith, few))
-  one-leaves (x ∷ xs) (suc i) d l no' few =
-      let less = not-all xs i d (omega (arith, l)) no' in
-      elim (p x) as (λ b. length xs + 1 ≤ length (cond b (x ∷ filter p xs) (filter p xs)) + 1 → remove (x ∷ xs) (suc i) ≡ cond b (x ∷ filter p xs) (filter p xs)) [
-        | true ↦ λ k. ap (λ ys. x ∷ ys) (one-leaves xs i d (omega (arith, l)) no' (omega (arith, k)))
-        | false ↦ λ k. absurd (omega (arith, k, less))
-      ] (omega (arith, few))
+  pub All-others : (P : X → Type 0) (xs : List X) → All P xs → All P (without_first test xs)
+  All-others P [] a = a
+  All-others P (y ∷ ys) a =
+      cond_both (test y) ys (y ∷ without_first test ys) (λ l. All P l)
+      (λ _. All-tail P y ys a)
+      (λ _. All-cons P y (without_first test ys) (All-head P y ys a) (All-others P ys (All-tail P y ys a)))
 
-  -- what is added up over those that leave and those that stay
-  pub leave-or-stay : (f : X → ℕ) (xs : List X) → sum_by (λ x. cond (p x) 0 (f x)) xs + sum_by f (filter p xs) ≡ sum_by f xs
-  leave-or-stay f [] = refl
-  leave-or-stay f (x ∷ xs) =
-      cond_both (p x) (x ∷ filter p xs) (filter p xs) (λ ys. sum_by (λ x. cond (p x) 0 (f x)) (x ∷ xs) + sum_by f ys ≡ sum_by f (x ∷ xs))
-      (λ y. let here = cond-true {A = ℕ} (p x) 0 (f x) y in omega (arith, here, sum_by-cons (λ x. cond {A = ℕ} (p x) 0 (f x)) x xs, sum_by-cons f x xs, sum_by-cons f x (filter p xs), leave-or-stay f xs))
-      (λ n. let here = cond-false {A = ℕ} (p x) 0 (f x) n in omega (arith, here, sum_by-cons (λ x. cond {A = ℕ} (p x) 0 (f x)) x xs, sum_by-cons f x xs, leave-or-stay f xs))
+  -- who fails another test leaves those that pass it
+  pub filter-leaves : (p : X → Bool) (xs : List X) (x : X) → find test xs ≡ Some x → p x ≡ false → filter p (without_first test xs) ≡ filter p xs
+  filter-leaves p [] x e fails = refl
+  filter-leaves p (y ∷ ys) x e fails =
+      elim (test y) as (λ b. cond b (Some y) (find test ys) ≡ Some x → filter p (cond b ys (y ∷ without_first test ys)) ≡ filter p (y ∷ ys)) [
+        | true ↦ λ h. (let same : x ≡ y = cc in sym (cond-false (p y) (y ∷ filter p ys) (filter p ys) (subst (λ z. p z ≡ false) same fails)))
+        | false ↦ λ h. ap (λ l. cond (p y) (y ∷ l) l) (filter-leaves p ys x h fails)
+      ] e
+
+-- the others stand as they stood
+pub rises-others : (test : Placed → Bool) (row : List Placed) → RisesByEnd row → RisesByEnd (without_first test row)
+rises-others test [] h = tt
+rises-others test (x ∷ xs) h =
+    cond_both (test x) xs (x ∷ without_first test xs) RisesByEnd
+    (λ _. h.1)
+    (λ _. (All-others test (EndsSooner x) xs h.0, rises-others test xs h.1))

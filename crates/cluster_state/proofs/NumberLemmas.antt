@@ -1,23 +1,24 @@
 -- The running jobs in a row by their expected ends, and in the order of their numbers.
-use Rattle.std.proofs.Common.{◌≡◌, ◌≢◌, ℕ, ◌+◌, ◌≤◌, ◌<◌, Bool, false, cond, nat_eq, nat_lt, List, [], ◌∷◌, All, map, filter, get_or, sum_by, count_by, refl, sym, ◌∙◌, ap, arith, subst, ⊎_elim}
+use Rattle.std.proofs.Common.{◌≡◌, ◌≢◌, ℕ, ◌+◌, ◌≤◌, ◌<◌, Bool, false, cond, nat_eq, nat_lt, zero, suc, List, [], ◌∷◌, ◌++◌, take, length, All, map, filter, get_or, sum_by, count_by, refl, sym, ◌∙◌, ap, arith, subst, ⊎_elim}
 use Rattle.std.specs.List.{position_or_len}
-use Rattle.std.specs.List.Sorted.{IsPermutation, IsSortedByKey, IsNonDecreasingBy}
-use Rattle.std.specs.Ordering.{nat_cmp, ordering_then}
-use Rattle.std.proofs.lemmas.List.Sums.{sum_by-cons}
+use Rattle.std.specs.List.Sorted.{IsPermutation, IsNonDecreasingBy}
+use Rattle.std.proofs.lemmas.List.{take_more}
+use Rattle.std.proofs.lemmas.List.Sums.{sum_by-cons, sum_by_more_le}
 use Rattle.std.proofs.lemmas.List.Sorted.{IsPermutation-refl, IsPermutation-cons, IsPermutation-trans, IsPermutation-insert, IsPermutation-map}
-use Rattle.std.proofs.lemmas.List.Elements.{All-nil, All-cons, All-head, All-tail}
+use Rattle.std.proofs.lemmas.List.Elements.{All-nil, All-cons, All-head, All-tail, All-get_or}
 use Rattle.std.proofs.lemmas.Bool.{cond_both, cond-true, cond-false, cases_lt, lt-ltb, le-ltb, eq-eqb}
 use Rattle.std.proofs.lemmas.Bool.Decides.{nat_tests}
 use Rattle.swf_text.specs.Log.{submits_before}
-use Rattle.job_table.proofs.Lemmas.{lt-comes, Opens, Climbs, Climbs-adjacent, Rises-Climbs, numbered-permutation, arrangement-unique}
+use Rattle.job_table.proofs.Lemmas.{Opens, Climbs, Climbs-adjacent, Rises-Climbs, numbered-permutation, arrangement-unique}
+use Rattle.blocks.specs.Rows.{entered as row_entered}
 use Rattle.scenarios.specs.declared.placed.Placed.{Placed}
 use Rattle.scenarios.specs.Placed.{expected_end}
 use Rattle.cluster_state.specs.declared.snapshot.RunningNumber.{RunningNumber}
 use Rattle.cluster_state.specs.State.{placed, RisesByNumber}
 use Rattle.cluster_state.specs.Snapshot.{number_of, NumbersRise}
-use Rattle.cluster_state.specs.Ends.{is_sooner, entered, by_end, by_number, EndsSooner, RisesByEnd}
+use Rattle.cluster_state.specs.Ends.{is_sooner, entered, by_end, by_number, RisesByEnd}
 use Rattle.cluster_state.proofs.StateLemmas.{sum_by-placed, sum_by-filter-le, placed-at, once-more}
-use Rattle.cluster_state.proofs.EndLemmas.{not-sooner, weaker, strict-entered, sum_by-entered, sum_by-by_end, by_end-placed, by_end-filter, enters-first, strict-by_end, permuted-by_end}
+use Rattle.cluster_state.proofs.EndLemmas.{strict-entered, sum_by-entered, sum_by-by_end, by_end-placed, by_end-filter, enters-first, entered-same, sum_by-ones}
 use Rattle.cluster_state.proofs.RiseLemmas.{rises-placed, rises-filter, numbers-rise}
 use Rattle.cluster_state.proofs.SnapshotLemmas.{counts-running}
 
@@ -103,6 +104,33 @@ placed-first r (x ∷ xs) a none =
     let ne : x.job.number ≢ r.job.number = other r.job.number x xs none in
     placed-before r x xs (more x r ne (All-head (λ (x : Placed). r.job.number ≤ x.job.number) x xs a))
 
+-- behind all that have no greater number
+placed-last : (r : Placed) (rs : List Placed) → All (λ (x : Placed). x.job.number ≤ r.job.number) rs → placed r rs ≡ rs ++ r ∷ []
+placed-last r [] a = refl
+placed-last r (x ∷ xs) a =
+    placed-behind r x xs (All-head (λ (x : Placed). x.job.number ≤ r.job.number) x xs a) ∙ ap (λ l. x ∷ l) (placed-last r xs (All-tail (λ (x : Placed). x.job.number ≤ r.job.number) x xs a))
+
+before-next : (rs : List Placed) (i : ℕ) (d : Placed) → RisesByNumber rs → i < length rs → All (λ (x : Placed). x.job.number ≤ (get_or rs i d).job.number) (take i rs)
+before-next [] i d h l = absurd (omega (arith, l))
+before-next (r ∷ rs) zero d h l = All-nil (λ (x : Placed). x.job.number ≤ r.job.number)
+before-next (r ∷ rs) (suc i) d h l =
+    All-cons (λ (x : Placed). x.job.number ≤ (get_or rs i d).job.number) r (take i rs) (All-get_or (λ (x : Placed). r.job.number ≤ x.job.number) rs i d (omega (arith, l)) h.0) (before-next rs i d h.1 (omega (arith, l)))
+
+-- of those that rise by number the next one is placed behind those before it
+pub placed-next : (rs : List Placed) (i : ℕ) (r : Placed) → RisesByNumber rs → i < length rs → r ≡ get_or rs i r → placed r (take i rs) ≡ take (i + 1) rs
+placed-next rs i r h l is =
+    placed-last r (take i rs) (subst (λ (y : Placed). All (λ (x : Placed). x.job.number ≤ y.job.number) (take i rs)) (sym is) (before-next rs i r h l))
+    ∙ ap (λ (y : Placed). take i rs ++ y ∷ []) is ∙ sym (take_more rs i r l)
+
+-- and has another number
+pub none-before : (rs : List Placed) (i : ℕ) (r : Placed) → Once rs → i < length rs → r ≡ get_or rs i r → Having r.job.number (take i rs) ≡ 0
+none-before rs i r once l is =
+    let n = r.job.number in
+    let o = once n in
+    let k = sum_by_more_le (λ (x : Placed). cond {A = ℕ} (nat_eq x.job.number n) 1 0) rs i r l in
+    let one = cond-true {A = ℕ} (nat_eq (get_or rs i r).job.number n) 1 0 (eq-eqb (get_or rs i r).job.number n (ap (λ (x : Placed). x.job.number) (sym is))) in
+    omega (arith, o, k, one)
+
 -- ---- from the one order to the other
 pub by_number-entered : (r : Placed) (xs : List Placed) → Having r.job.number xs ≡ 0 → by_number (entered r xs) ≡ placed r (by_number xs)
 by_number-entered r [] none = refl
@@ -114,6 +142,9 @@ by_number-entered r (x ∷ xs) none =
 pub sum_by-by_number : (f : Placed → ℕ) (rs : List Placed) → sum_by f (by_number rs) ≡ sum_by f rs
 sum_by-by_number f [] = refl
 sum_by-by_number f (r ∷ rs) = omega (arith, sum_by-placed f r (by_number rs), sum_by-by_number f rs, sum_by-cons f r rs)
+
+pub length-by_number : (rs : List Placed) → length (by_number rs) ≡ length rs
+length-by_number rs = sym (sum_by-ones (by_number rs)) ∙ sum_by-by_number (λ _. 1) rs ∙ sum_by-ones rs
 
 pub rises-by_number : (rs : List Placed) → RisesByNumber (by_number rs)
 rises-by_number [] = tt
@@ -155,41 +186,20 @@ row-is (r ∷ rs) h once =
     ∙ ap (entered r) (sym (row-is rs h.1 (once-tail r rs once))) ∙ enters-first r rs h.0)
 
 -- who starts joins the row
+pub enters-row : (r : Placed) (row : List Placed) → Having r.job.number row ≡ 0 → row_entered expected_end (λ (x : Placed). x.job.number) r row ≡ entered r row
+enters-row r row none = entered-same r row (others r.job.number row none)
+
 pub rises-joined : (r : Placed) (row : List Placed) → RisesByEnd row → Having r.job.number row ≡ 0 → RisesByEnd (entered r row)
 rises-joined r row h none = strict-entered r row h (others r.job.number row none)
 
--- who leaves the row leaves the others as they stand
+-- who ends leaves the others as they stand
 pub by_number-filter : (p : Placed → Bool) (row : List Placed) → RisesByEnd row → Once row → by_number (filter p row) ≡ filter p (by_number row)
 by_number-filter p row h once =
     let rs = by_number row in
     ap (λ (l : List Placed). by_number (filter p l)) (row-is row h once) ∙ ap by_number (sym (by_end-filter p rs))
     ∙ by_number-by_end (filter p rs) (rises-filter p rs (rises-by_number row)) (once-filter p rs (once-by_number row once))
 
--- ---- sorted, they stand in the row
-abbrev num : Placed → ℕ
-num r = r.job.number
-
-abbrev pub key : Placed → ℕ × ℕ
-key r = (expected_end r, r.job.number)
-
-Climbs-sorted : (rs : List Placed) → IsSortedByKey key (λ x y. ordering_then (nat_cmp x.0 y.0) (nat_cmp x.1 y.1)) rs → Climbs expected_end num rs
-Climbs-sorted rs h = Climbs-adjacent expected_end num rs (λ k d l. sym (lt-comes (expected_end (get_or rs (k + 1) d)) (num (get_or rs (k + 1) d)) (expected_end (get_or rs k d)) (num (get_or rs k d))) ∙ h k d (omega arith) l)
-
-Climbs-row : (row : List Placed) → RisesByEnd row → Climbs expected_end num row
-Climbs-row [] h = tt
-Climbs-row (r ∷ rs) h = (opens rs h.0, Climbs-row rs h.1)
-  where
-    opens : (xs : List Placed) → All (EndsSooner r) xs → Opens expected_end num r xs
-    opens [] a = tt
-    opens (x ∷ xs) a = (not-sooner x r (weaker r x (All-head (EndsSooner r) x xs a)), opens xs (All-tail (EndsSooner r) x xs a))
-
-pub sorted-row : (rs row : List Placed) → Once rs → IsPermutation rs row → IsSortedByKey key (λ x y. ordering_then (nat_cmp x.0 y.0) (nat_cmp x.1 y.1)) row → row ≡ by_end rs
-sorted-row rs row once p up =
-    arrangement-unique expected_end num rs row (by_end rs) p (permuted-by_end rs)
-    (Rises-Climbs expected_end num row (λ n. omega (arith, once n, numbered-permutation num rs row p n)) (Climbs-sorted row up))
-    (Rises-Climbs expected_end num (by_end rs) (λ n. omega (arith, once n, sum_by-by_end (λ (r : Placed). cond (nat_eq r.job.number n) 1 0) rs)) (Climbs-row (by_end rs) (strict-by_end rs once)))
-
--- ---- and their numbers, sorted, are those of the order by number
+-- ---- their numbers, sorted, are those of the order by number
 abbrev its : RunningNumber → ℕ
 its r = r.number
 

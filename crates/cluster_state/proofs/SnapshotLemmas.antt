@@ -9,9 +9,8 @@ use Rattle.scenarios.specs.Plan.{Plan, job_numbered}
 use Rattle.scenarios.specs.declared.order.Order.{Order}
 use Rattle.scenarios.specs.declared.placed.Placed.{Placed}
 use Rattle.cluster_state.specs.declared.snapshot.RunningNumber.{RunningNumber}
-use Rattle.cluster_state.specs.State.{State, IsSound, busy, holders, RisesByNumber}
-use Rattle.cluster_state.specs.Snapshot.{Numbers, IsSnapshot, number_of, numbers_of, standing, running_numbered, restored, IsOfPlan}
-use Rattle.cluster_state.proofs.RiseLemmas.{numbers-rise}
+use Rattle.cluster_state.specs.State.{State, IsSound, busy, holders}
+use Rattle.cluster_state.specs.Snapshot.{Numbers, IsSnapshot, NumbersRise, number_of, numbers_of, standing, running_numbered, restored, IsOfPlan}
 use Rattle.cluster_state.specs.Laws.{NumbersGiveTheStateBack, EqualNumbersAreEqualStates}
 
 -- a number stands among a state's as often as a job has it
@@ -28,8 +27,8 @@ counts-running n (r ∷ rs) =
 pub standing-numbers : (s : State) (n : ℕ) → standing (numbers_of s) n ≡ holders s n
 standing-numbers s n = omega (arith, counts-waiting n s.waiting, counts-running n s.running)
 
-pub sound-numbers : (s : State) → IsSound s → RisesByNumber s.running → IsSnapshot (numbers_of s)
-sound-numbers s h up = record { rising = numbers-rise s.running up; once = λ n. omega (arith, standing-numbers s n, h.once n); started = starts s.running h.started }
+pub sound-numbers : (s : State) → IsSound s → NumbersRise (map number_of s.running) → IsSnapshot (numbers_of s)
+sound-numbers s h up = record { rising = up; once = λ n. omega (arith, standing-numbers s n, h.once n); started = starts s.running h.started }
   where
     starts : (rs : List Placed) → All (λ r. r.start < 2 ^ 49) rs → All (λ (r : RunningNumber). r.start < 2 ^ 49) (map number_of rs)
     starts [] a = All-nil (λ (r : RunningNumber). r.start < 2 ^ 49)

@@ -1,12 +1,12 @@
 -- The order in which running jobs are expected to end.
-use Rattle.std.specs.Prelude.{◌≡◌, ◌<◌, ◌⊎◌, ◌||◌, ◌&&◌, ◌==◌, Bool, nat_lt, if◌then◌else◌, List, [], ◌∷◌, All}
+use Rattle.std.specs.Prelude.{◌≡◌, ℕ, ◌+◌, ◌<◌, ◌⊎◌, ◌||◌, ◌&&◌, ◌==◌, Bool, nat_lt, if◌then◌else◌, List, [], ◌∷◌, ◌++◌, All}
 use Rattle.std.specs.Ordering.{nat_cmp, ordering_then}
 use Rattle.std.specs.declared.cmp.Ordering.{Ordering}
 use Rattle.std.specs.declared.cmp.Reverse.{Reverse}
 use Rattle.scenarios.specs.declared.placed.Placed.{Placed}
 use Rattle.scenarios.specs.Placed.{expected_end, real_end}
 use Rattle.cluster_state.specs.declared.ends.End.{End}
-use Rattle.cluster_state.specs.State.{placed}
+use Rattle.cluster_state.specs.State.{State, placed, free, busy}
 
 -- a is expected to end earlier than b, or at the same second and has the smaller number
 abbrev pub is_sooner : Placed → Placed → Bool
@@ -40,9 +40,12 @@ by_number (r ∷ rs) = placed r (by_number rs)
 abbrev pub end_of : Placed → End
 end_of r = record { end = real_end r; expected_end = expected_end r; number = r.job.number }
 
--- whether a running job is expected to end sooner than the one that ends so
-abbrev pub is_before : Placed → End → Bool
-is_before r e = nat_lt (expected_end r) e.expected_end || (expected_end r == e.expected_end && nat_lt r.job.number e.number)
+-- the running jobs by their expected ends, but for some first ones, even with which ended fewer processors are free than are needed: so many
+pub record IsPast (s : State) (need room : ℕ) (rest : List Placed) : Type 0 where
+  pub passed : List Placed
+  pub order : by_end s.running ≡ passed ++ rest
+  pub gives : room ≡ free s + busy passed
+  pub short : room < need
 
 -- the order in which a heap of ends keeps them: the first to end on top
 abbrev pub falling : Reverse End → Reverse End → Ordering

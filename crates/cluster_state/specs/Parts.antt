@@ -1,6 +1,7 @@
 -- The fields of a cluster and of its two rooms, as contracts see them.
 use Rattle.std.specs.Prelude.{◌≡◌, ℕ, ◌+◌, ◌-◌, ◌≤◌, min, drop, sum_by, count_by, nat_eq, vec_len, vec_capacity}
 use Rattle.std.specs.BinaryHeap.{heap_items, heap_len, heap_capacity, IsHeap}
+use Rattle.blocks.specs.Rows.{flat}
 use Rattle.cluster_state.specs.State.{State, ClusterView, IsSound, busy}
 use Rattle.cluster_state.specs.Row.{row_of}
 use Rattle.cluster_state.specs.Ends.{by_number, end_of, falling, RisesByEnd}
@@ -29,19 +30,19 @@ IsQueue q = q.row.jobs ≡ row_of q.order q.jobs.jobs
 
 -- the room for running jobs that is left: in the row by expected ends and in the heap of ends
 abbrev pub spare_of : {A : Type 0} → set.Inside A → ℕ
-spare_of s = min (vec_capacity s.row - vec_len s.row) (heap_capacity s.ends - heap_len s.ends)
+spare_of s = min s.row.spare (heap_capacity s.ends - heap_len s.ends)
 
 -- the running jobs, rising by number, and this room
 abbrev pub running_of : {A : Type 0} → set.Inside A → RunningView
-running_of s = record { running = by_number s.row.items; spare = spare_of s }
+running_of s = record { running = by_number (flat s.row.blocks); spare = spare_of s }
 
 -- what the fields of the running jobs keep: they have numbers of their own and stand by their expected ends, and a heap holds when each of
 -- them ends: whatever is added up over these ends is added up over the running jobs
 pub record IsRunningSet {A : Type 0} (s : set.Inside A) : Type 0 where
-  pub once : (n : ℕ) → count_by (λ r. nat_eq r.job.number n) s.row.items ≤ 1
-  pub rises : RisesByEnd s.row.items
+  pub once : (n : ℕ) → count_by (λ r. nat_eq r.job.number n) (flat s.row.blocks) ≤ 1
+  pub rises : RisesByEnd (flat s.row.blocks)
   pub heap : IsHeap falling (heap_items s.ends)
-  pub kept_ends : (f : End → ℕ) → sum_by (λ e. f e.0) (heap_items s.ends) ≡ sum_by (λ r. f (end_of r)) s.row.items
+  pub kept_ends : (f : End → ℕ) → sum_by (λ e. f e.0) (heap_items s.ends) ≡ sum_by (λ r. f (end_of r)) (flat s.row.blocks)
 
 -- the state that a cluster's fields hold
 abbrev pub state_of : {A : Type 0} → Inside A → State

@@ -1,9 +1,10 @@
 -- The two rooms of a cluster, as contracts inside the crate see them: who waits, and who runs.
-use Rattle.std.specs.Prelude.{ℕ, List, fold}
+use Rattle.std.specs.Prelude.{◌≡◌, ℕ, List, ◌++◌, fold}
 use Rattle.scenarios.specs.Job.{EffectiveJob}
 use Rattle.scenarios.specs.declared.order.Order.{Order}
 use Rattle.scenarios.specs.declared.placed.Placed.{Placed}
-use Rattle.cluster_state.specs.State.{placed}
+use Rattle.cluster_state.specs.State.{placed, busy}
+use Rattle.cluster_state.specs.Ends.{by_end}
 
 -- Jobs in a row, and how many more surely find room.
 pub record LineView : Type 0 where
@@ -23,3 +24,9 @@ pub record RunningView : Type 0 where
 -- these jobs run from second `now` on, beside those who run
 abbrev pub all_placed : ℕ → List EffectiveJob → List Placed → List Placed
 all_placed now jobs rs = fold (λ (rs : List Placed) (j : EffectiveJob). placed (record { job = j; start = now }) rs) rs jobs
+
+-- the running jobs by their expected ends, but for some first ones, which hold so many processors together
+pub record IsRest (running : List Placed) (held : ℕ) (rest : List Placed) : Type 0 where
+  pub passed : List Placed
+  pub order : by_end running ≡ passed ++ rest
+  pub hold : held ≡ busy passed

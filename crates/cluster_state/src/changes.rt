@@ -2,8 +2,8 @@
 ghost use Rattle.std.specs.Prelude.{◌≡◌, ◌<◌, ◌≤◌, ◌+◌, ◌↔◌, OnOk, OnErr, IsOk, IsTrue, length, count_by, nat_eq};
 ghost use Rattle.scenarios.specs.Limits.{seconds_end};
 
+use crate::by_end::RunningByEnd;
 use crate::cluster::Cluster;
-use crate::ends::is_by;
 use crate::queue::sizes;
 use scenarios::{Job, Placed};
 use std::alloc::Allocator;
@@ -113,21 +113,33 @@ impl<A: Allocator + Copy> Cluster<A> {
         ensures state { self.new.state ≡ ended_until self.old.state t }
         ensures spare { self.old.spare ≤ self.new.spare }
     {
-        if !is_by(self.running.next_end(), t) {
-            return;
-        }
         let freed = self.running.drop_until(t);
         self.free += freed;
     }
 }
 
+// Whether one of these running jobs has this number.
+fn runs<A: Allocator + Copy>(running: RunningByEnd<'_, A>, number: u64) -> bool
+    ensures { IsTrue result ↔ (1 ≤ count_by (λ r. nat_eq r.job.number number) running.entry) }
+{
+    for r in running {
+        if r.job.number() == number {
+            return true;
+        }
+    }
+    false
+}
+
 // Whether no job of this number waits or runs.
-fn is_absent(waiting: &[Job], running: &[Placed], number: u64) -> bool
+fn is_absent<A: Allocator + Copy>(
+    waiting: &[Job],
+    running: RunningByEnd<'_, A>,
+    number: u64,
+) -> bool
     ensures { IsTrue result
         ↔ (count_by (λ j. nat_eq j.number number) waiting.now
-        + count_by (λ r. nat_eq r.job.number number) running.now ≡ 0) }
+        + count_by (λ r. nat_eq r.job.number number) running.entry ≡ 0) }
 {
     let waits = waiting.iter().filter(|j| j.number() == number).count();
-    let runs = running.iter().filter(|r| r.job.number() == number).count();
-    waits == 0 && runs == 0
+    waits == 0 && !runs(running, number)
 }

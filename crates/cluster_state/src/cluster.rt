@@ -1,12 +1,14 @@
-ghost use Rattle.std.specs.Prelude.{◌≡◌, ◌≤◌, ◌↔◌, [], IfOk, IfSome, IsNone, MatchOption, All, Any, slice_get, IsPermutation};
+ghost use Rattle.std.specs.Prelude.{◌≡◌, ◌≤◌, ◌<◌, ◌↔◌, [], IfOk, IfSome, IsNone, MatchOption, All, Any, slice_get, IsPermutation};
 ghost use Rattle.std.specs.Option.{option_copied};
 ghost use Rattle.scenarios.specs.Limits.{procs_limit};
 ghost use Rattle.scenarios.specs.declared.order.Order.TheVariants.{Arrival};
 
+use crate::by_end::RunningByEnd;
 use crate::lookup::running_in;
 use crate::queue::Queue;
+use crate::runner::held;
 use crate::running_set::RunningSet;
-use crate::snapshot::Snapshot;
+use crate::snapshot::{Snapshot, starts_of};
 use job_table::JobTable;
 use scenarios::{Job, Order, Placed, PlanRef, Scenario};
 use std::alloc::Allocator;
@@ -40,7 +42,7 @@ impl<A: Allocator + Copy> Cluster<A> {
     ghost use Rattle.scenarios.specs.Placed.{real_end};
     ghost use Rattle.cluster_state.specs.State.{empty, free, IsSound, RisesByNumber};
     ghost use Rattle.cluster_state.specs.Row.{in_order};
-    ghost use Rattle.cluster_state.specs.Ends.{by_end, RisesByEnd};
+    ghost use Rattle.cluster_state.specs.Ends.{by_end, IsPast, RisesByEnd};
     ghost use Rattle.scenarios.specs.Plan.{plan_of};
     ghost use Rattle.cluster_state.specs.Snapshot.{numbers_of, restored, Fits};
 
@@ -77,17 +79,19 @@ impl<A: Allocator + Copy> Cluster<A> {
         alloc: A,
         procs: u64,
         order: Order,
-        running: Vec<Placed, A>,
+        running: &[Placed],
     ) -> Result<Cluster<A>, Memory>
-        requires sound { IsSound (record { machine = procs; order = order; waiting = []; running = running.items }) }
-        requires rises { RisesByNumber running.items }
-        ensures { IfOk result (λ c. c.state ≡ record { machine = procs; order = order; waiting = []; running = running.items }) }
+        requires sound { IsSound (record { machine = procs; order = order; waiting = []; running = running.now }) }
+        requires rises { RisesByNumber running.now }
+        ensures { IfOk result (λ c. c.state ≡ record { machine = procs; order = order; waiting = []; running = running.now }) }
     {
+        let free = procs - held(running);
         let running = RunningSet::of(alloc, running)?;
+        let queue = Queue::new(alloc, order);
         Ok(Cluster {
             procs,
-            free: procs - running.held(),
-            queue: Queue::new(alloc, order),
+            free,
+            queue,
             running,
         })
     }
@@ -111,7 +115,7 @@ impl<A: Allocator + Copy> Cluster<A> {
             alloc,
             scenario.procs(),
             scenario.order(),
-            running,
+            &running,
         )?;
         for number in snapshot.waiting() {
             if let Some(job) = plan.job(*number) {
@@ -161,13 +165,25 @@ impl<A: Allocator + Copy> Cluster<A> {
 
     /// The running jobs with their starts, rising by the second by which they have surely ended (start
     /// plus estimate), and of one second by number.
-    pub fn running_by_end(&self) -> &[Placed]
-        ensures order { result.now ≡ by_end self.now.state.running }
-        ensures rising { RisesByEnd result.now }
-        ensures each { IsPermutation self.now.state.running result.now }
+    pub fn running_by_end(&self) -> RunningByEnd<'_, A>
+        ensures order { result ≡ by_end self.now.state.running }
+        ensures rising { RisesByEnd result }
+        ensures each { IsPermutation self.now.state.running result }
         ensures sound { IsSound self.now.state }
     {
         self.running.by_end()
+    }
+
+    /// The running jobs as `running_by_end` tells them, but for some first ones that are passed over
+    /// together, since even once these have ended fewer than `need` processors are free: how many are
+    /// free then, and the others.
+    pub fn running_past(&self, need: u64) -> (u64, RunningByEnd<'_, A>)
+        requires { free self.now.state < need }
+        ensures past { IsPast self.now.state need result.0 result.1 }
+        ensures sound { IsSound self.now.state }
+    {
+        let (held, rest) = self.running.past(need - self.free);
+        (self.free + held, rest)
     }
 
     /// The running job at this place, counted from 0, with the second of its start; none past the
@@ -177,7 +193,7 @@ impl<A: Allocator + Copy> Cluster<A> {
         ensures order { MatchOption result (slice_get (by_end self.now.state.running) place ≡ None)
             (λ p. slice_get (by_end self.now.state.running) place ≡ Some (record { job = p.0.now; start = p.1 })) }
     {
-        match self.running.by_end().get(place) {
+        match self.running.at(place) {
             None => None,
             Some(r) => Some((&r.job, r.start)),
         }
@@ -196,10 +212,8 @@ impl<A: Allocator + Copy> Cluster<A> {
     pub fn snapshot(&self) -> Result<Snapshot<A>, Memory>
         ensures { IfOk result (λ s. s ≡ numbers_of self.now.state) }
     {
-        Snapshot::of(
-            self.queue.allocator(),
-            self.waiting(),
-            self.running.by_end(),
-        )
+        let alloc = self.queue.allocator();
+        let running = starts_of(alloc, &self.running)?;
+        Snapshot::of(alloc, self.waiting(), running)
     }
 }

@@ -1,4 +1,4 @@
-ghost use Rattle.std.specs.Prelude.{◌≡◌, ◌≤◌, ◌<◌, ◌+◌, ◌↔◌, ℕ, IfOk, IfSome, IfNone, IsSomeAnd, IsTrue, All, slice_get, sum_by, nat_lt, if◌then◌else◌};
+ghost use Rattle.std.specs.Prelude.{◌≡◌, ◌≤◌, ◌<◌, ◌+◌, ◌↔◌, ℕ, IfSome, IfNone, IsSomeAnd, IsTrue, All, slice_get, sum_by};
 ghost use Rattle.std.specs.Option.{option_map};
 ghost use Rattle.std.specs.BinaryHeap.{heap_items, heap_len, heap_capacity, IsHeap};
 ghost use Rattle.scenarios.specs.Limits.{seconds_end};
@@ -8,7 +8,6 @@ use scenarios::Placed;
 use std::alloc::Allocator;
 use std::cmp::Reverse;
 use std::collections::BinaryHeap;
-use swf_text::Memory;
 
 // When a running job ends, and what it is found by in the row: the second by which it has surely
 // ended, and its number.
@@ -71,35 +70,4 @@ pub(crate) fn pop_until<A: Allocator>(ends: &mut BinaryHeap<Reverse<End>, A>, t:
     }
     let Reverse(first) = ends.pop()?;
     Some(first)
-}
-
-// Drops the ends up to second t.
-pub(crate) fn drop_until<A: Allocator>(ends: &mut BinaryHeap<Reverse<End>, A>, t: u64)
-    requires { IsHeap falling (heap_items ends.old) }
-    ensures heap { IsHeap falling (heap_items ends.new) }
-    ensures left { (f : End → ℕ) → sum_by (λ e. f e.0) (heap_items ends.new) ≡ sum_by (λ e. if nat_lt t e.0.end then f e.0 else 0) (heap_items ends.old) }
-    ensures len { heap_len ends.new ≤ heap_len ends.old }
-    ensures capacity { heap_capacity ends.new ≡ heap_capacity ends.old }
-{
-    'ends: while is_by(first_end(ends), t) {
-        let Some(_first) = ends.pop() else {
-            return;
-        };
-    }
-}
-
-// When these jobs end.
-pub(crate) fn heap_of_ends<A: Allocator>(
-    alloc: A,
-    running: &[Placed],
-) -> Result<BinaryHeap<Reverse<End>, A>, Memory>
-    requires { All (λ r. r.start < seconds_end) running.now }
-    ensures heap { IfOk result (λ ends. IsHeap falling (heap_items ends)) }
-    ensures ends { IfOk result (λ ends. (f : End → ℕ) → sum_by (λ e. f e.0) (heap_items ends) ≡ sum_by (λ r. f (end_of r)) running.now) }
-{
-    let mut ends = BinaryHeap::with_capacity(alloc, running.len())?;
-    for r in running {
-        ends.push(Reverse(End::of(r)))?;
-    }
-    Ok(ends)
 }

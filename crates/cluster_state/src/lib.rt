@@ -1,6 +1,7 @@
 //! The state of a simulated machine: who waits, who runs.
 #![tactic(auto)]
 
+mod by_end;
 mod changes;
 mod cluster;
 mod ends;
@@ -8,9 +9,10 @@ pub mod laws;
 mod line;
 mod lookup;
 mod queue;
-mod running;
+mod runner;
 mod running_set;
 mod snapshot;
 
+pub use by_end::RunningByEnd;
 pub use cluster::Cluster;
 pub use snapshot::{RunningNumber, Snapshot};

@@ -1,12 +1,14 @@
-ghost use Rattle.std.specs.Prelude.{◌≡◌, ◌+◌, ◌<◌, ◌≤◌, ◌^◌, ◌↔◌, ℕ, [], OnOk, IfOk, IfSome, IsNone, IsOk, All, Any, length, filter, count_by, nat_eq, nat_lt};
+ghost use Rattle.std.specs.Prelude.{◌≡◌, ◌+◌, ◌<◌, ◌≤◌, ◌^◌, ◌↔◌, ℕ, [], OnOk, IfOk, IfSome, IfNone, IsNone, IsOk, All, Any, length, filter, count_by, nat_eq, nat_lt, option_copied, slice_get};
 ghost use Rattle.scenarios.specs.Limits.{seconds_end};
 ghost use Rattle.scenarios.specs.Placed.{real_end};
 ghost use Rattle.cluster_state.specs.State.{busy, placed, RisesByNumber};
 ghost use Rattle.cluster_state.specs.Ends.{by_end, by_number};
-ghost use Rattle.cluster_state.specs.Rooms.{all_placed};
+ghost use Rattle.cluster_state.specs.Rooms.{all_placed, IsRest};
 
-use crate::ends::{End, drop_until, first_end, heap_of_ends, is_by, pop_until};
-use crate::running::{drop_ended, enter, held, place_of, row_by_end};
+use crate::by_end::RunningByEnd;
+use crate::ends::{End, first_end, pop_until};
+use crate::runner::Runner;
+use blocks::Blocks;
 use scenarios::{Job, Placed};
 use std::alloc::Allocator;
 use std::cmp::Reverse;
@@ -17,7 +19,7 @@ use swf_text::Memory;
 // The jobs that run, in a row by (start + estimate, number), and when each of them ends.
 #[derive(Drop)]
 pub(crate) struct RunningSet<A: Allocator + Copy> {
-    row: Vec<Placed, A>,
+    row: Blocks<Runner, A>,
     ends: BinaryHeap<Reverse<End>, A>,
 }
 
@@ -39,46 +41,67 @@ impl<A: Allocator + Copy> RunningSet<A> {
         ensures { result.running ≡ [] }
     {
         RunningSet {
-            row: Vec::new(alloc),
+            row: Blocks::new(alloc),
             ends: BinaryHeap::new(alloc),
         }
     }
 
     // These jobs run, no two of one number.
-    pub(crate) fn of(alloc: A, running: Vec<Placed, A>) -> Result<RunningSet<A>, Memory>
-        requires starts { All (λ r. r.start < seconds_end) running.items }
-        requires rises { RisesByNumber running.items }
-        requires once { (n : ℕ) → count_by (λ r. nat_eq r.job.number n) running.items ≤ 1 }
-        ensures { IfOk result (λ s. s.running ≡ running.items) }
+    pub(crate) fn of(alloc: A, running: &[Placed]) -> Result<RunningSet<A>, Memory>
+        requires starts { All (λ r. r.start < seconds_end) running.now }
+        requires rises { RisesByNumber running.now }
+        requires once { (n : ℕ) → count_by (λ r. nat_eq r.job.number n) running.now ≤ 1 }
+        ensures { IfOk result (λ s. s.running ≡ running.now) }
     {
-        let ends = heap_of_ends(alloc, &running)?;
-        let row = row_by_end(running)?;
-        Ok(RunningSet { row, ends })
+        let mut set = RunningSet::new(alloc);
+        set.reserve(running.len())?;
+        for r in running {
+            set.join(*r);
+        }
+        Ok(set)
     }
 
     // The running jobs, rising by (start + estimate, number).
-    pub(crate) fn by_end(&self) -> &[Placed]
-        ensures row { result.now ≡ by_end self.now.running }
-        ensures by_number { by_number result.now ≡ self.now.running }
+    pub(crate) fn by_end(&self) -> RunningByEnd<'_, A>
+        ensures row { result ≡ by_end self.now.running }
+        ensures by_number { by_number result ≡ self.now.running }
     {
-        self.row.as_slice()
+        RunningByEnd::of(self.row.iter())
     }
 
-    // The processors that they hold.
-    pub(crate) fn held(&self) -> u64
-        requires { busy self.now.running < 2 ^ 64 }
-        ensures { result ≡ busy self.now.running }
+    // The one at this place among them; none past the end.
+    pub(crate) fn at(&self, place: usize) -> Option<&Placed>
+        ensures { option_copied result ≡ slice_get (by_end self.now.running) place }
     {
-        held(&self.row)
+        let runner = self.row.at(place)?;
+        Some(&runner.placed)
+    }
+
+    // The processors that some first ones hold, fewer than these, and the others: whole blocks are
+    // passed over.
+    pub(crate) fn past(&self, processors: u64) -> (u64, RunningByEnd<'_, A>)
+        requires { 0 < processors }
+        ensures rest { IsRest self.now.running result.0 result.1 }
+        ensures fewer { result.0 < processors }
+    {
+        let (blocks, held) = self.row.lighter(u128::from(processors));
+        let rest = RunningByEnd::of(self.row.iter_from(blocks));
+        (held as u64, rest)
+    }
+
+    // How many they are.
+    pub(crate) fn len(&self) -> usize
+        ensures { result ≡ length self.now.running }
+    {
+        self.row.len()
     }
 
     // How many starts surely find room: in the row and in the heap.
     pub(crate) fn spare(&self) -> usize
         ensures { result ≡ self.now.spare }
     {
-        let row = self.row.capacity() - self.row.len();
         let ends = self.ends.capacity() - self.ends.len();
-        row.min(ends)
+        self.row.spare().min(ends)
     }
 
     // Makes room for so many starts. Memory where a growth was refused; the room may then be greater
@@ -103,9 +126,7 @@ impl<A: Allocator + Copy> RunningSet<A> {
         ensures spare { self.old.spare ≤ self.new.spare + 1 }
     {
         let end = End::of(&r);
-        let Ok(()) = enter(&mut self.row, r) else {
-            unreachable!()
-        };
+        self.row.insert(Runner { placed: r });
         let Ok(()) = self.ends.push(Reverse(end)) else {
             unreachable!()
         };
@@ -128,24 +149,33 @@ impl<A: Allocator + Copy> RunningSet<A> {
         }
     }
 
-    // The jobs that end by second t leave: the processors that they give back. One alone is found in
-    // the row by its key, several leave in one pass.
+    // The next one to end leaves, where it ends by second t: the processors that it gives back.
+    fn drop_next(&mut self, t: u64) -> Option<u64>
+        ensures kept { IfNone result (self.new.running ≡ self.old.running) }
+        ensures later { IfNone result (All (λ r. t < real_end r) self.old.running) }
+        ensures fewer { IfSome result (λ _. length self.new.running < length self.old.running) }
+        ensures left { IfSome result (λ _. filter (λ r. nat_lt t (real_end r)) self.new.running ≡ filter (λ r. nat_lt t (real_end r)) self.old.running) }
+        ensures freed { IfSome result (λ size. size + busy self.new.running ≡ busy self.old.running) }
+        ensures spare { self.old.spare ≤ self.new.spare }
+    {
+        let end = pop_until(&mut self.ends, t)?;
+        let Some(runner) = self.row.remove(u128::from(end.expected_end), end.number) else {
+            unreachable!()
+        };
+        Some(runner.placed.job.size())
+    }
+
+    // The jobs that end by second t leave: the processors that they give back.
     pub(crate) fn drop_until(&mut self, t: u64) -> u64
         requires { busy self.old.running < 2 ^ 64 }
         ensures running { self.new.running ≡ filter (λ r. nat_lt t (real_end r)) self.old.running }
         ensures freed { result + busy self.new.running ≡ busy self.old.running }
         ensures spare { self.old.spare ≤ self.new.spare }
     {
-        let Some(first) = pop_until(&mut self.ends, t) else {
-            return 0;
-        };
-        if is_by(first_end(&self.ends), t) {
-            drop_until(&mut self.ends, t);
-            return drop_ended(&mut self.row, t);
+        let mut freed = 0;
+        'ends: while let Some(size) = self.drop_next(t) {
+            freed += size;
         }
-        let place = place_of(&self.row, &first);
-        let freed = self.row[place].job.size();
-        self.row.remove(place);
         freed
     }
 

@@ -1,11 +1,12 @@
 ghost use Rattle.std.specs.Prelude.{◌≡◌, ◌≤◌, ◌+◌, ◌↔◌, ℕ, IfOk, IsTrue, map, count_by, nat_eq};
 ghost use Rattle.scenarios.specs.Job.{EffectiveJob};
-ghost use Rattle.cluster_state.specs.Snapshot.{number_of};
-ghost use Rattle.cluster_state.specs.Ends.{by_number};
+ghost use Rattle.cluster_state.specs.Snapshot.{number_of, NumbersRise};
+ghost use Rattle.cluster_state.specs.Ends.{by_end, by_number};
 
 use crate::lookup::{can_run, have_jobs};
+use crate::running_set::RunningSet;
 use job_table::JobTable;
-use scenarios::{Job, Placed, PlanRef, Scenario};
+use scenarios::{Job, PlanRef, Scenario};
 use std::alloc::Allocator;
 use std::marker::Model;
 use swf_text::Memory;
@@ -42,13 +43,16 @@ impl<A: Allocator + Copy> Snapshot<A> {
     ghost use Rattle.scenarios.specs.Plan.{plan_of};
     ghost use Rattle.cluster_state.specs.Snapshot.{Fits, IsSnapshot, standing};
 
-    // The numbers of these jobs, those of the running ones rising.
-    pub(crate) fn of(alloc: A, waiting: &[Job], running: &[Placed]) -> Result<Snapshot<A>, Memory>
-        requires { IsSnapshot (record { waiting = map (λ (j : EffectiveJob). j.number) waiting.now; running = map number_of (by_number running.now) }) }
-        ensures { IfOk result (λ s. s ≡ record { waiting = map (λ (j : EffectiveJob). j.number) waiting.now; running = map number_of (by_number running.now) }) }
+    // The numbers of these waiting jobs, and these of running ones.
+    pub(crate) fn of(
+        alloc: A,
+        waiting: &[Job],
+        running: Vec<RunningNumber, A>,
+    ) -> Result<Snapshot<A>, Memory>
+        requires { IsSnapshot (record { waiting = map (λ (j : EffectiveJob). j.number) waiting.now; running = running.items }) }
+        ensures { IfOk result (λ s. s ≡ record { waiting = map (λ (j : EffectiveJob). j.number) waiting.now; running = running.items }) }
     {
         let waiting = numbers_of(alloc, waiting)?;
-        let running = starts_of(alloc, running)?;
         Ok(Snapshot { waiting, running })
     }
 
@@ -141,24 +145,29 @@ fn numbers_of<A: Allocator>(alloc: A, jobs: &[Job]) -> Result<Vec<u64, A>, Memor
 }
 
 // The numbers and starts of these running jobs, by number.
-fn starts_of<A: Allocator + Copy>(
+pub(crate) fn starts_of<A: Allocator + Copy>(
     alloc: A,
-    running: &[Placed],
+    running: &RunningSet<A>,
 ) -> Result<Vec<RunningNumber, A>, Memory>
-    requires { (n : ℕ) → count_by (λ r. nat_eq r.job.number n) running.now ≤ 1 }
-    ensures { IfOk result (λ numbers. numbers.items ≡ map number_of (by_number running.now)) }
+    requires { (n : ℕ) → count_by (λ r. nat_eq r.job.number n) running.now.running ≤ 1 }
+    ensures numbers { IfOk result (λ numbers. numbers.items ≡ map number_of running.now.running) }
+    ensures rise { IfOk result (λ numbers. NumbersRise numbers.items) }
 {
     let mut numbers = listed(alloc, running)?;
     numbers.sort_by_key(|r| r.number)?;
     Ok(numbers)
 }
 
-// The numbers and starts of these running jobs, as they stand.
-fn listed<A: Allocator>(alloc: A, running: &[Placed]) -> Result<Vec<RunningNumber, A>, Memory>
-    ensures { IfOk result (λ numbers. numbers.items ≡ map number_of running.now) }
+// The numbers and starts of these running jobs, by their expected ends.
+fn listed<A: Allocator + Copy>(
+    alloc: A,
+    running: &RunningSet<A>,
+) -> Result<Vec<RunningNumber, A>, Memory>
+    ensures numbers { IfOk result (λ numbers. numbers.items ≡ map number_of (by_end running.now.running)) }
+    ensures by_number { IfOk result (λ _. by_number (by_end running.now.running) ≡ running.now.running) }
 {
     let mut numbers = Vec::with_capacity(alloc, running.len())?;
-    for r in running {
+    for r in running.by_end() {
         numbers.push(RunningNumber {
             number: r.job.number(),
             start: r.start,

@@ -3,7 +3,7 @@ ghost use Rattle.std.specs.Prelude.{◌<◌, ◌^◌};
 
 use crate::engines::are;
 use crate::logs::{NOTED, four_jobs};
-use cluster_state::{Cluster, Snapshot};
+use cluster_state::{Cluster, RunningByEnd, Snapshot};
 use easy_rule::decide;
 use job_table::JobTable;
 use refusing::Outcome;
@@ -34,12 +34,12 @@ fn four_of(jobs: &[Job]) -> [Option<Job>; 4] {
 }
 
 // The first four of those that run.
-fn four_placed(placed: &[Placed]) -> [Option<Placed>; 4] {
+fn four_placed<A: Allocator + Copy>(mut placed: RunningByEnd<'_, A>) -> [Option<Placed>; 4] {
     [
-        placed.first().copied(),
-        placed.get(1).copied(),
-        placed.get(2).copied(),
-        placed.get(3).copied(),
+        placed.next().copied(),
+        placed.next().copied(),
+        placed.next().copied(),
+        placed.next().copied(),
     ]
 }
 

@@ -77,10 +77,11 @@ fn reads_each_once(cluster: &Cluster<Global>) -> bool {
 // Whether all of them leave at their end, and none before.
 fn all_leave(cluster: &mut Cluster<Global>) -> bool {
     cluster.finish_until(99);
-    let before = (cluster.running_by_end().len(), cluster.free());
+    let before = cluster.free();
+    let all_run = cluster.running_at(MANY - 1).is_some() && cluster.running_at(MANY).is_none();
     cluster.finish_until(100);
-    let then = (cluster.running_by_end().len(), cluster.free());
-    before == (MANY, 0) && then == (0, 1_000) && cluster.next_end().is_none()
+    let none_runs = cluster.running_at(0).is_none() && cluster.next_end().is_none();
+    all_run && before == 0 && none_runs && cluster.free() == 1_000
 }
 
 // Whether all that holds of the jobs of a text.

@@ -1,11 +1,13 @@
-use Rattle.std.proofs.Common.{subst}
-use Rattle.cluster_state.specs.State.{RisesByNumber}
+use Rattle.std.proofs.Common.{subst, arith}
+use Rattle.cluster_state.specs.Snapshot.{NumbersRise}
 use Rattle.cluster_state.specs.Parts.{state_of}
 use Rattle.cluster_state.proofs.SnapshotLemmas.{sound-numbers}
-use Rattle.cluster_state.proofs.NumberLemmas.{rises-by_number}
 use Rattle.cluster_state.proofs.cluster.Cluster.snapshot.Goals as goal
 
 pub of-requires : goal.of-requires
 of-requires g c =
-    rw (c.waiting.ensures.jobs, c.by_end.ensures.by_number, ← c.self.view_is)
-    (sound-numbers (state_of c.self.inside) c.self.invariant.sound (subst RisesByNumber c.by_end.ensures.by_number (rises-by_number c.by_end.result.now)))
+    rw (c.waiting.ensures.jobs, c.in_ok-running.ensures.numbers, ← c.self.view_is)
+    (sound-numbers (state_of c.self.inside) c.self.invariant.sound (subst NumbersRise c.in_ok-running.ensures.numbers c.in_ok-running.ensures.rise))
+
+pub starts_of-requires : goal.starts_of-requires
+starts_of-requires g c = λ n. (let o = c.self.invariant.sound.once n in omega (arith, o))

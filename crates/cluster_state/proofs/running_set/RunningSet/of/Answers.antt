@@ -1,19 +1,13 @@
-use Rattle.std.proofs.Common.{◌∙◌, ap, sym, arith, cond, nat_eq, sum_by}
-use Rattle.scenarios.specs.declared.placed.Placed.{Placed}
-use Rattle.cluster_state.specs.Ends.{end_of}
-use Rattle.cluster_state.proofs.EndLemmas.{sum_by-by_end, strict-by_end}
-use Rattle.cluster_state.proofs.NumberLemmas.{by_number-by_end}
+use Rattle.std.proofs.Common.{◌∙◌, ap, arith}
+use Rattle.cluster_state.specs.State.{placed}
+use Rattle.cluster_state.proofs.NumberLemmas.{placed-next, none-before}
 use Rattle.cluster_state.proofs.running_set.RunningSet.of.Goals as goal
 
-pub invariant_of-result : goal.invariant_of-result
-invariant_of-result g c =
-    let rs = c.args.running.items in
-    record {
-      once = λ n. rw c.in_ok-row.ensures (omega (arith, c.requires.once n, sum_by-by_end (λ (r : Placed). cond (nat_eq r.job.number n) 1 0) rs));
-      rises = rw c.in_ok-row.ensures (strict-by_end rs c.requires.once);
-      heap = c.in_ok-ends.ensures.heap;
-      kept_ends = λ f. rw c.in_ok-row.ensures (c.in_ok-ends.ensures.ends f ∙ ap (sum_by (λ (r : Placed). f (end_of r))) c.deref.ensures.value ∙ sym (sum_by-by_end (λ (r : Placed). f (end_of r)) rs));
-    }
+pub join-requires-clause-absent : goal.join-requires-clause-absent
+join-requires-clause-absent g c = rw c.loop-r.invariant.running (none-before c.args.running.now c.loop-r.r-index c.r-item.result c.requires.once c.loop-r-test.true c.r-item.is)
 
-pub returns : goal.returns
-returns g c = rw c.in_ok-row.ensures (by_number-by_end c.args.running.items c.requires.rises c.requires.once)
+pub loop-r-preserved : goal.loop-r-preserved
+loop-r-preserved g c = record {
+  running = c.join.ensures.running ∙ ap (placed c.r-item.result) c.loop-r.invariant.running ∙ placed-next c.args.running.now c.loop-r.r-index c.r-item.result c.requires.rises c.loop-r-test.true c.r-item.is;
+  spare = omega (arith, c.join.ensures.spare, c.loop-r.invariant.spare);
+}

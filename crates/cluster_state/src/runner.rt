@@ -1,0 +1,52 @@
+ghost use Rattle.std.specs.Prelude.{◌≡◌, ◌<◌, ◌^◌};
+ghost use Rattle.scenarios.specs.Placed.{expected_end};
+ghost use Rattle.cluster_state.specs.State.{busy};
+
+use blocks::Ranked;
+use scenarios::Placed;
+use std::marker::Model;
+
+// A running job as it stands in the row: by (start + estimate, number), and as heavy as it is large.
+#[derive(Clone, Copy)]
+pub(crate) struct Runner {
+    pub(crate) placed: Placed,
+}
+
+impl Model for Runner {
+    ghost use Rattle.scenarios.specs.declared.placed.Placed.{Placed};
+
+    ghost Value = { Placed };
+
+    ghost view = { λ r. r.placed };
+
+    ghost inverse = { λ p. record { placed = p } };
+}
+
+impl Ranked for Runner {
+    ghost major = { expected_end };
+
+    ghost minor = { λ r. r.job.number };
+
+    ghost weight = { λ r. r.job.size };
+
+    // The sum of two numbers, which is within this type for each start.
+    fn major(&self) -> u128 {
+        u128::from(self.placed.start) + u128::from(self.placed.job.estimate())
+    }
+
+    fn minor(&self) -> u64 {
+        self.placed.job.number()
+    }
+
+    fn weight(&self) -> u64 {
+        self.placed.job.size()
+    }
+}
+
+// The processors that these hold.
+pub(crate) fn held(running: &[Placed]) -> u64
+    requires { busy running.now < 2 ^ 64 }
+    ensures { result ≡ busy running.now }
+{
+    running.iter().map(|r| r.job.size()).sum()
+}
