@@ -1,5 +1,5 @@
 // Many jobs that end at the same second.
-use crate::clusters::all_join;
+use crate::clusters::{all_join, runs_at};
 use crate::logs::job_at;
 use cluster_state::Cluster;
 use easy_rule::{Shadow, decide, shadow, shadow_counted};
@@ -74,6 +74,21 @@ fn reads_each_once(cluster: &Cluster<Global>) -> bool {
     shadow(cluster) == wanted && shadow_counted(cluster) == (wanted, 1_000)
 }
 
+// Whether all of them but a last block of at most 128 are passed over where all processors are needed,
+// and none where one is.
+fn passes_over_blocks(cluster: &Cluster<Global>) -> bool {
+    if cluster.free() > 0 {
+        return false;
+    }
+    let (none, _) = cluster.running_past(1);
+    let (room, mut rest) = cluster.running_past(1_000);
+    let first = match rest.next() {
+        Some(r) => Some((r.job.number(), r.start)),
+        None => None,
+    };
+    none == 0 && room >= 872 && first.is_some() && first == runs_at(cluster, room as usize)
+}
+
 // Whether all of them leave at their end, and none before.
 fn all_leave(cluster: &mut Cluster<Global>) -> bool {
     cluster.finish_until(99);
@@ -89,7 +104,8 @@ fn end_at_once(alloc: Global, text: &SwfText<Global>) -> Option<bool> {
     let scenario = Scenario::new(1_000, 1000)?;
     let mut cluster = Cluster::for_scenario(alloc, &scenario);
     let start = all_wait(&mut cluster, text, &scenario) && all_start(alloc, &mut cluster);
-    Some(start && reads_each_once(&cluster) && all_leave(&mut cluster))
+    let reads = reads_each_once(&cluster) && passes_over_blocks(&cluster);
+    Some(start && reads && all_leave(&mut cluster))
 }
 
 fn the_log_ends_at_once(alloc: Global) -> Option<bool> {
