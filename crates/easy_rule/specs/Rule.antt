@@ -40,7 +40,7 @@ IsShadow s w =
     IsSomeAnd (slice_get s.waiting 0)
     (λ head. (free s < head.size) × IsLeast (λ t. head.size ≤ available s t) w.time × (w.extra + head.size ≡ available s w.time))
 
--- how many expected ends a walk in their order reads: those up to this second, and the first one past it, if there is one
+-- how many expected ends a walk in their order reads at most: those up to this second, and the first one past it, if there is one
 abbrev pub ends_read : State → ℕ → ℕ
 ends_read s t = min (count_by (λ r. nat_le (expected_end r) t) s.running + 1) (length s.running)
 

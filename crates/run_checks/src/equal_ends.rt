@@ -65,13 +65,15 @@ fn all_start(alloc: Global, cluster: &mut Cluster<Global>) -> bool {
     }
 }
 
-// Whether the shadow is told of the one that waits, after one reading of each end.
-fn reads_each_once(cluster: &Cluster<Global>) -> bool {
+// Whether the shadow is told of the one that waits, after some ends were read, but no more than a last
+// block has: the others give back too little together.
+fn reads_the_last_block(cluster: &Cluster<Global>) -> bool {
     let wanted = Some(Shadow {
         time: 100,
         extra: 0,
     });
-    shadow(cluster) == wanted && shadow_counted(cluster) == (wanted, 1_000)
+    let (told, reads) = shadow_counted(cluster);
+    shadow(cluster) == wanted && told == wanted && (1..=128).contains(&reads)
 }
 
 // Whether all of them but a last block of at most 128 are passed over where all processors are needed,
@@ -104,7 +106,7 @@ fn end_at_once(alloc: Global, text: &SwfText<Global>) -> Option<bool> {
     let scenario = Scenario::new(1_000, 1000)?;
     let mut cluster = Cluster::for_scenario(alloc, &scenario);
     let start = all_wait(&mut cluster, text, &scenario) && all_start(alloc, &mut cluster);
-    let reads = reads_each_once(&cluster) && passes_over_blocks(&cluster);
+    let reads = reads_the_last_block(&cluster) && passes_over_blocks(&cluster);
     Some(start && reads && all_leave(&mut cluster))
 }
 
