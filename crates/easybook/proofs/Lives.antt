@@ -27,17 +27,18 @@ fresh remaining r inner is empty room =
     rw (test, empty) (prepend_known-nil (remaining (reader_inner r)) ∙ ap remaining is)
 
 -- a conversation that was held on the book of a log
-pub held : {X : Type 0} (A : Type 0) (log : List ℕ) (procs : Option ℕ) (spacing : ℕ) (comments shown : List (List ℕ)) (book : BookView) (known heard old new : Option (List ℕ)) (result : Result X LiveFault)
-    → IsBookOf log procs spacing comments book → shown ≡ comments → heard ≡ known → Talks A shown (record { machine = machine_of book; seen = 0 }) heard old new result → IsHeld A log procs known old new result
-held A log procs spacing comments shown book known heard old new result b same is t =
-    let over : Talks A comments (record { machine = machine_of book; seen = 0 }) heard old new result = subst (λ (cs : List (List ℕ)). Talks A cs (record { machine = machine_of book; seen = 0 }) heard old new result) same t in
-    let of_known : Talks A comments (record { machine = machine_of book; seen = 0 }) known old new result = subst (λ (k : Option (List ℕ)). Talks A comments (record { machine = machine_of book; seen = 0 }) k old new result) is over in
+pub held : {X : Type 0} (A : Type 0) (log : List ℕ) (procs : Option ℕ) (spacing : ℕ) (comments shown : List (List ℕ)) (book : BookView) (known heard left old new : Option (List ℕ)) (result : Result X LiveFault)
+    → IsBookOf log procs spacing comments book → shown ≡ comments → heard ≡ known → Talks A shown (record { machine = machine_of book; seen = 0 }) heard left old new result → IsHeld A log procs known old new result
+held A log procs spacing comments shown book known heard left old new result b same is t =
+    let over : Talks A comments (record { machine = machine_of book; seen = 0 }) heard left old new result = subst (λ (cs : List (List ℕ)). Talks A cs (record { machine = machine_of book; seen = 0 }) heard left old new result) same t in
+    let of_known : Talks A comments (record { machine = machine_of book; seen = 0 }) known left old new result = subst (λ (k : Option (List ℕ)). Talks A comments (record { machine = machine_of book; seen = 0 }) k left old new result) is over in
     record {
       comments = comments;
       table = b.table;
       scenarios = b.scenarios;
       is_opened = b.is_opened;
-      talks = subst (λ (m : Machine). Talks A comments (record { machine = m; seen = 0 }) known old new result) b.begins of_known;
+      left = left;
+      talks = subst (λ (m : Machine). Talks A comments (record { machine = m; seen = 0 }) known left old new result) b.begins of_known;
     }
 
 -- and that ended before its input did
@@ -46,7 +47,7 @@ ended_so {X} A log procs known old new fault told is h = subst (λ (r : Result X
   go : (f : LiveFault) → IsHeld {X = X} A log procs known old new (Err f) → RunsLive {X = X} A log procs known old new (Err (fault_of_talk f))
   go live.Read h = h
   go live.Write h = h
-  go live.Memory h = (tt, h.talks)
+  go live.Memory h = (tt, h.talks.1)
 
 -- no conversation began for want of memory
 pub no_room : {X : Type 0} (A : Type 0) (log : List ℕ) (procs : Option ℕ) (known old : Option (List ℕ)) (told : Result X ProgramFault) → told ≡ Err faults.Memory → RunsLive A log procs known old old told

@@ -12,16 +12,19 @@ use Rattle.easybook.specs.Plain.{IsFaultOf}
 use Rattle.easybook.specs.declared.fault.ProgramFault.{ProgramFault}
 use Rattle.easybook.specs.declared.fault.ProgramFault.TheVariants as faults
 
--- a conversation was held, from the book on that begins with the log's jobs and its scenarios
+-- A conversation was held, from the book on that begins with the log's jobs and its scenarios. What it left of the known
+-- bytes, a buffer may have read ahead.
 pub record IsHeld {X : Type 0} (A : Type 0) (log : List ℕ) (procs : Option ℕ) (known old new : Option (List ℕ)) (result : Result X LiveFault) : Type 0 where
   pub comments : List (List ℕ)
   pub table : List LogEntry
   pub scenarios : Listing
   pub is_opened : IsOpened log procs comments table scenarios
-  pub talks : Talks A comments (begun table scenarios.scenarios) known old new result
+  pub left : Option (List ℕ)
+  pub talks : Talks A comments (begun table scenarios.scenarios) known left old new result
 
--- What was written, by what is answered: a transcript of all lines up to the first `quit`; where the reader failed, one of the
--- lines that were read by then; where the writer failed, a beginning of such a one. Other faults come before the first line.
+-- What was written, by what is answered: a transcript of all lines up to the first `quit`; where the reader failed, one of all
+-- lines that were read by then; where the writer failed, the answers to all lines but the one that was read last, and a
+-- beginning of its answer. Other faults come before the first line.
 abbrev pub RunsLive : {X : Type 0} → Type 0 → List ℕ → Option ℕ → Option (List ℕ) → Option (List ℕ) → Option (List ℕ) → Result X ProgramFault → Type 0
 RunsLive A log procs known old new (Ok x) = IsHeld A log procs known old new (Ok x)
 RunsLive {X = X} A log procs known old new (Err faults.Read) = IsHeld {X = X} A log procs known old new (Err live.Read)

@@ -37,7 +37,7 @@ fn buffered<R: Read + Drop, A: Allocator + Copy>(
 /// BadMachine where it has not 1 to 16,777,216; Memory where a growth is refused before the first
 /// command, while one refused later is an answer of the command. Nothing is written before them.
 /// Then Read where the reader answers an error, behind the answers to all lines read by then, and
-/// Write where the writer answers one or takes no byte, behind a beginning of them.
+/// Write where the writer answers one or takes no byte, within the answer to the line read last.
 pub fn run_live<R: Read + Drop, W: Write, T: Threads + Sync, A: Allocator + Copy>(
     rt: &T,
     alloc: A,

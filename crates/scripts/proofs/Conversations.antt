@@ -1,9 +1,10 @@
 -- Conversations, turn after turn.
-use Rattle.std.proofs.Common.{◌≡◌, ℕ, ◌+◌, ◌<◌, Bool, true, false, List, [], ◌∷◌, ◌++◌, length, take, Option, Some, None, Result, Ok, Err, IfSome, refl, sym, ap, subst, ◌∙◌, append_assoc, append-nil, arith, if◌then◌else◌, ltb, eqb, length-append, true≢false}
-use Rattle.std.specs.List.{slice_split}
+use Rattle.std.proofs.Common.{◌≡◌, ℕ, ◌+◌, ◌<◌, ◌≤◌, Bool, true, false, List, [], ◌∷◌, ◌++◌, length, take, Option, Some, None, Result, Ok, Err, IfSome, refl, sym, ap, subst, ◌∙◌, append_assoc, append-nil, arith, if◌then◌else◌, ltb, eqb, length-append, true≢false}
+use Rattle.std.specs.List.{All, slice_split}
 use Rattle.std.specs.Io.KnownBytes.{Appends, Consumes}
 use Rattle.std.proofs.KnownBytes.{Appends-trans, Appends-nil, Consumes-trans, Consumes-nil}
-use Rattle.std.proofs.lemmas.Bool.{lt-ltb, ne_eqb}
+use Rattle.std.proofs.lemmas.Bool.{le-ltb, lt-ltb, ne_eqb}
+use Rattle.std.proofs.lemmas.List.Elements.{All-append, All-cons, All-nil}
 use Rattle.std.proofs.lemmas.List.Splits.{slice_split_at, slice_split_none, length-slice_split}
 use Rattle.swf_text.specs.Limits.{line_limit}
 use Rattle.swf_text.specs.Text.{lines, is_feed, without_empty_end}
@@ -11,16 +12,16 @@ use Rattle.commands.specs.declared.command.Command.{Command}
 use Rattle.commands.specs.declared.fault.CommandFault.{CommandFault}
 use Rattle.commands.specs.declared.fault.CommandFault.TheVariants.{TooLong}
 use Rattle.commands.specs.Commands.{command_of_line}
-use Rattle.scripts.specs.Hearing.{HasNoFeed, IsHeard, MayFollow, Reads}
-use Rattle.scripts.specs.Live.{BeginsWith, IsSaid, Turns}
+use Rattle.scripts.specs.Hearing.{HasNoFeed, IsBegun, IsHeard, MayFollow, Reads}
+use Rattle.scripts.specs.Live.{AreWholeLines, IsReadTo, IsSaid, NoneQuits, Turns, answered_of}
 use Rattle.scripts.specs.Session.{Session}
 use Rattle.scripts.specs.Transcript.{IsLine, IsTranscript, IsTranscriptOf, is_quit, looked_at}
 use Rattle.scripts.specs.declared.hearing.LineEnd.{LineEnd}
 use Rattle.scripts.specs.declared.hearing.LineEnd.TheVariants.{Feed, Input, Open}
+use Rattle.scripts.specs.declared.hearing.ReadFault.{ReadFault}
 use Rattle.scripts.specs.declared.live.LiveFault.{LiveFault}
 use Rattle.scripts.specs.declared.live.LiveFault.TheVariants as faults
-use Rattle.scripts.proofs.Hearings.{joined, reads_behind}
-use Rattle.scripts.proofs.Writings.{front_after}
+use Rattle.scripts.proofs.Hearings.{joined, no_byte, reads_behind}
 
 -- ---- lines
 
@@ -44,22 +45,31 @@ lines_last line none some =
 too_long : {A : Type 0} (line : List ℕ) → line_limit < length line → command_of_line {A = A} line ≡ Err TooLong
 too_long line long = let test : ltb line_limit (length line) ≡ true = lt-ltb line_limit (length line) long in rw test refl
 
+-- what is told of a line that was begun
+answered_none : (part : List ℕ) → length part ≤ line_limit → answered_of part ≡ []
+answered_none part short = let test : ltb line_limit (length part) ≡ false = le-ltb line_limit (length part) short in rw test refl
+
+answered_all : (part : List ℕ) → line_limit < length part → answered_of part ≡ part
+answered_all part long = let test : ltb line_limit (length part) ≡ true = lt-ltb line_limit (length part) long in rw test refl
+
+-- ---- whole lines
+
+lines_more : (read line : List ℕ) → AreWholeLines read → HasNoFeed line → lines (read ++ (line ++ 10 ∷ [])) ≡ lines read ++ line ∷ []
+lines_more read line whole none =
+    let one : lines (line ++ 10 ∷ []) ≡ line ∷ [] = ap lines (sym (append-nil (line ++ 10 ∷ []))) ∙ lines_fed line [] none in
+    whole (line ++ 10 ∷ []) ∙ ap (λ ls. lines read ++ ls) one
+
+whole_more : (read line : List ℕ) → AreWholeLines read → HasNoFeed line → AreWholeLines (read ++ (line ++ 10 ∷ []))
+whole_more read line whole none = λ rest.
+    ap lines (append_assoc read (line ++ 10 ∷ []) rest) ∙ whole ((line ++ 10 ∷ []) ++ rest) ∙ ap (λ ls. lines read ++ ls) (lines_fed line rest none)
+    ∙ sym (append_assoc (lines read) (line ∷ []) (lines rest)) ∙ ap (λ ls. ls ++ lines rest) (sym (lines_more read line whole none))
+
+none_more : (A : Type 0) (read line : List ℕ) → AreWholeLines read → HasNoFeed line → NoneQuits A read → is_quit (command_of_line {A = A} line) ≡ false → NoneQuits A (read ++ (line ++ 10 ∷ []))
+none_more A read line whole none quits goes =
+    subst (All (λ l. is_quit (command_of_line {A = A} l) ≡ false)) (sym (lines_more read line whole none))
+    (All-append (λ l. is_quit (command_of_line {A = A} l) ≡ false) (lines read) (line ∷ []) quits (All-cons (λ l. is_quit (command_of_line {A = A} l) ≡ false) line [] goes (All-nil (λ l. is_quit (command_of_line {A = A} l) ≡ false))))
+
 -- ---- what is known of the reader's bytes
-
--- what is read with a line
-abbrev raw : List ℕ → LineEnd → List ℕ
-raw bytes Feed = bytes ++ 10 ∷ []
-raw bytes Input = bytes
-raw bytes Open = bytes
-
-begins : (from mid to : Option (List ℕ)) (read bytes : List ℕ) (end : LineEnd) → Consumes from mid read → Reads mid to bytes end → BeginsWith from (read ++ raw bytes end)
-begins None mid to read bytes end p q = tt
-begins (Some x) None to read bytes end p q = absurd p
-begins (Some x) (Some y) None read bytes Feed p q = absurd q
-begins (Some x) (Some y) None read bytes Open p q = absurd q
-begins (Some x) (Some y) (Some z) read bytes Feed p q = (z, p ∙ ap (λ l. read ++ l) q ∙ sym (append_assoc read (bytes ++ 10 ∷ []) z))
-begins (Some x) (Some y) (Some z) read bytes Open p q = (z, p ∙ ap (λ l. read ++ l) q ∙ sym (append_assoc read bytes z))
-begins (Some x) (Some y) to read bytes Input p q = ([], p ∙ ap (λ l. read ++ l) q ∙ sym (append-nil (read ++ bytes)))
 
 -- all bytes, where a line feed was read
 whole_fed : (from mid to : Option (List ℕ)) (read line : List ℕ) → Consumes from mid read → Consumes mid to (line ++ 10 ∷ []) → (rest : List ℕ) × IfSome from (λ all. read ++ (line ++ 10 ∷ []) ++ rest ≡ all)
@@ -69,10 +79,10 @@ whole_fed (Some x) (Some y) None read line p q = absurd q
 whole_fed (Some x) (Some y) (Some z) read line p q = (z, sym (p ∙ ap (λ l. read ++ l) q ∙ sym (append_assoc read (line ++ 10 ∷ []) z)))
 
 -- all bytes, where the end of the input was
-whole_last : (from mid : Option (List ℕ)) (read line : List ℕ) → Consumes from mid read → IfSome mid (λ all. all ≡ line) → IfSome from (λ all. read ++ line ≡ all)
-whole_last None mid read line p q = tt
-whole_last (Some x) None read line p q = absurd p
-whole_last (Some x) (Some y) read line p q = sym (p ∙ ap (λ l. read ++ l) q)
+whole_last : (from mid to : Option (List ℕ)) (read line : List ℕ) → Consumes from mid read → Reads mid to line Input → IfSome from (λ all. read ++ line ≡ all)
+whole_last None mid to read line p q = tt
+whole_last (Some x) None to read line p q = absurd p
+whole_last (Some x) (Some y) to read line p q = sym (p ∙ ap (λ l. read ++ l) q.0)
 
 -- ---- one line more
 
@@ -114,45 +124,85 @@ module _ (A : Type 0) (comments : List (List ℕ)) (first now next : Session) (n
   unfed [] none answers = subst (λ (t : List ℕ). IsTranscriptOf A comments first (read ++ []) (written ++ t)) (sym answers.0) (goes [] [] refl)
   unfed (b ∷ bs) none answers = alone (b ∷ bs) (b ∷ bs) (lines_last (b ∷ bs) none (omega arith)) answers
 
-  with_line : (line : List ℕ) (end : LineEnd) → HasNoFeed line → IsSo line → IsTranscriptOf A comments first (read ++ raw line end) (written ++ text)
-  with_line line Feed none answers = alone line (line ++ 10 ∷ []) (ap lines (sym (append-nil (line ++ 10 ∷ []))) ∙ lines_fed line [] none) answers
-  with_line line Input none answers = unfed line none answers
-  with_line line Open none answers = unfed line none answers
+  with_feed : (line : List ℕ) → HasNoFeed line → IsSo line → IsTranscriptOf A comments first (read ++ (line ++ 10 ∷ [])) (written ++ text)
+  with_feed line none answers = alone line (line ++ 10 ∷ []) (ap lines (sym (append-nil (line ++ 10 ∷ []))) ∙ lines_fed line [] none) answers
 
 -- ---- a turn
 
 module _ (A : Type 0) (comments : List (List ℕ)) (first : Session) (from mid old out : Option (List ℕ)) (now : Session) (number : ℕ) (said : IsSaid A comments first from mid old out now number) where
+  -- how far the reader was read, behind what was said
+  stands : (to : Option (List ℕ)) (line : List ℕ) (end : LineEnd) → HasNoFeed line → Reads mid to line end → IsReadTo A from to said.read line end
+  stands to line end none read = record {
+    are_whole = said.are_whole;
+    none_quits = said.none_quits;
+    one_line = none;
+    is_read = reads_behind from mid to said.read line end said.are_read read;
+  }
+
   -- the reader failed before a line was read
-  pub unheard : (result : Result Bool LiveFault) (next : Session) (to : Option (List ℕ)) → result ≡ Err faults.Read → Turns A comments first from to old out next number result
-  unheard result next to told =
-      rw told (said.read, said.written, begins_read from mid said.read said.are_read, said.transcript, said.are_written)
-    where
-      begins_read : (a b : Option (List ℕ)) (read : List ℕ) → Consumes a b read → BeginsWith a read
-      begins_read None b read p = tt
-      begins_read (Some x) None read p = absurd p
-      begins_read (Some x) (Some y) read p = (y, p)
+  pub unheard : (result : Result Bool LiveFault) (next : Session) (to : Option (List ℕ)) (part : List ℕ) → result ≡ Err faults.Read → IsBegun mid to part → Turns A comments first from to old out next number result
+  unheard result next to part told begun =
+      let none : said.read ++ answered_of part ≡ said.read = ap (λ l. said.read ++ l) (answered_none part begun.short) ∙ append-nil said.read in
+      rw told (
+        said.read,
+        part,
+        said.written,
+        stands to part Open begun.one_line begun.is_read,
+        subst (λ (bs : List ℕ). IsTranscriptOf A comments first bs said.written) (sym none) said.transcript,
+        said.are_written,
+      )
 
   module _ (next : Session) (to new : Option (List ℕ)) (text line : List ℕ) (end : LineEnd) (heard : IsHeard mid to line end) (answers : IsLine comments now number (command_of_line {A = A} line) text next) where
-    so_far : IsTranscriptOf A comments first (said.read ++ raw line end) (said.written ++ text)
-    so_far = with_line A comments first now next number said.read said.written text said.goes_on line end heard.one_line answers
-
     -- the writer failed in the answer
-    pub cut_off : (result : Result Bool LiveFault) (later : Option (List ℕ)) → result ≡ Err faults.Write → (n : ℕ) × Appends out new (take n text) → Turns A comments first from later old new next number result
-    cut_off result later told part =
-        rw told (said.read ++ raw line end, said.written ++ text, begins from mid to said.read line end said.are_read heard.is_read, so_far, front_after old out new said.written text said.are_written part)
+    pub cut_off : (result : Result Bool LiveFault) → result ≡ Err faults.Write → (n : ℕ) × Appends out new (take n text) → Turns A comments first from to old new next number result
+    cut_off result told (n, part) =
+        rw told (
+          said.read,
+          line,
+          said.written,
+          text,
+          end,
+          stands to line end heard.one_line heard.is_read,
+          heard.long,
+          said.transcript,
+          unfed A comments first now next number said.read said.written text said.goes_on line heard.one_line answers,
+          (n, Appends-trans old out new said.written (take n text) said.are_written part),
+        )
+
+    -- a line that is too long is answered so, whatever else is read of it
+    module _ (rest : List ℕ) (over : line_limit < length line) where
+      over_too : line_limit < length (line ++ rest)
+      over_too = omega (arith, length-append line rest, over)
+
+      so_too : IsLine comments now number (command_of_line {A = A} (line ++ rest)) text next
+      so_too = subst (λ (k : Result (Option (Command A)) CommandFault). IsLine comments now number k text next) (too_long {A = A} line over ∙ sym (too_long {A = A} (line ++ rest) over_too)) answers
 
     -- the reader failed behind the answer
-    pub unread : (result : Result Bool LiveFault) (later : Option (List ℕ)) → result ≡ Err faults.Read → Appends out new text → Turns A comments first from later old new next number result
-    unread result later told all =
-        rw told (said.read ++ raw line end, said.written ++ text, begins from mid to said.read line end said.are_read heard.is_read, so_far, Appends-trans old out new said.written text said.are_written all)
+    pub unread : (result : Result Bool LiveFault) (later : Option (List ℕ)) (fault : ReadFault) → result ≡ Err faults.Read → Appends out new text → MayFollow {E = ReadFault} to later end (Err fault) → Turns A comments first from later old new next number result
+    unread result later fault told all follows = rw told (go end heard follows) where
+      go : (e : LineEnd) → IsHeard mid to line e → MayFollow {E = ReadFault} to later e (Err fault) → Turns A comments first from later old new next number (Err faults.Read)
+      go Feed h m = absurd m
+      go Input h m = absurd m
+      go Open h (rest, none, read) =
+          let whole = joined line rest h.one_line none in
+          let part : answered_of (line ++ rest) ≡ line ++ rest = answered_all (line ++ rest) (over_too rest h.long) in
+          let transcript = unfed A comments first now next number said.read said.written text said.goes_on (line ++ rest) whole (so_too rest h.long) in (
+            said.read,
+            line ++ rest,
+            said.written ++ text,
+            stands later (line ++ rest) Open whole (reads_behind mid to later line rest Open h.is_read read),
+            subst (λ (bs : List ℕ). IsTranscriptOf A comments first (said.read ++ bs) (said.written ++ text)) (sym part) transcript,
+            Appends-trans old out new said.written text said.are_written all,
+          )
 
     -- the line ends the input
-    at_end : (whole : List ℕ) (later : Option (List ℕ)) → HasNoFeed whole → IsLine comments now number (command_of_line {A = A} whole) text next → IfSome mid (λ all. all ≡ whole) → Appends out new text
+    at_end : (whole : List ℕ) (later : Option (List ℕ)) → HasNoFeed whole → IsLine comments now number (command_of_line {A = A} whole) text next → Reads mid later whole Input → Appends out new text
         → Turns A comments first from later old new next number (Ok false)
-    at_end whole later none so all told = (
+    at_end whole later none so read told = (
       said.read ++ whole,
       said.written ++ text,
-      whole_last from mid said.read whole said.are_read all,
+      whole_last from mid later said.read whole said.are_read read,
+      (said.read, whole, Input, stands later whole Input none read, tt),
       unfed A comments first now next number said.read said.written text said.goes_on whole none so,
       Appends-trans old out new said.written text said.are_written told,
     )
@@ -164,44 +214,41 @@ module _ (A : Type 0) (comments : List (List ℕ)) (first : Session) (from mid o
       read = said.read ++ (whole ++ 10 ∷ []);
       written = said.written ++ text;
       are_read = Consumes-trans from mid later said.read (whole ++ 10 ∷ []) said.are_read read;
+      are_whole = whole_more said.read whole said.are_whole none;
+      none_quits = none_more A said.read whole said.are_whole none said.none_quits goes;
       are_written = Appends-trans old out new said.written text said.are_written told;
       goes_on = λ rest more h. one_more A comments first now next number said.read said.written text said.goes_on whole (whole ++ 10 ∷ []) rest more (lines rest) (lines_fed whole rest none) so (rw goes h);
-      transcript = with_line A comments first now next number said.read said.written text said.goes_on whole Feed none so;
+      transcript = with_feed A comments first now next number said.read said.written text said.goes_on whole none so;
     }
 
     -- the conversation ends with `quit`
-    pub at_quit_told : (later : Option (List ℕ)) → is_quit (command_of_line {A = A} line) ≡ true → Appends out new text → Turns A comments first from later old new next number (Ok false)
-    at_quit_told later quits told = go end heard where
-      go : (e : LineEnd) → IsHeard mid to line e → Turns A comments first from later old new next number (Ok false)
+    pub at_quit_told : is_quit (command_of_line {A = A} line) ≡ true → Appends out new text → Turns A comments first from to old new next number (Ok false)
+    at_quit_told quits told = go end heard where
+      go : (e : LineEnd) → IsHeard mid to line e → Turns A comments first from to old new next number (Ok false)
       go Feed h =
           let all = whole_fed from mid to said.read line said.are_read h.is_read in (
             (said.read ++ (line ++ 10 ∷ [])) ++ all.0,
             said.written ++ text,
             all.1,
+            (said.read, line, Feed, stands to line Feed h.one_line h.is_read, quits),
             at_quit A comments first now next number said.read said.written text said.goes_on line all.0 h.one_line answers quits,
             Appends-trans old out new said.written text said.are_written told,
           )
-      go Input h = at_end line later h.one_line answers h.is_read told
+      go Input h = at_end line to h.one_line answers h.is_read told
       go Open h = let goes : is_quit (command_of_line {A = A} line) ≡ false = ap is_quit (too_long {A = A} line h.long) in absurd (true≢false (sym quits ∙ goes))
 
     -- the turn is over
-    pub followed : (later : Option (List ℕ)) (fed : Bool) → is_quit (command_of_line {A = A} line) ≡ false → Appends out new text → MayFollow to later end fed → Turns A comments first from later old new next number (Ok fed)
+    pub followed : (later : Option (List ℕ)) (fed : Bool) → is_quit (command_of_line {A = A} line) ≡ false → Appends out new text → MayFollow {E = ReadFault} to later end (Ok fed) → Turns A comments first from later old new next number (Ok fed)
     followed later fed goes told = go end fed heard where
-      go : (e : LineEnd) (f : Bool) → IsHeard mid to line e → MayFollow to later e f → Turns A comments first from later old new next number (Ok f)
+      go : (e : LineEnd) (f : Bool) → IsHeard mid to line e → MayFollow {E = ReadFault} to later e (Ok f) → Turns A comments first from later old new next number (Ok f)
       go Feed true h m = subst (λ (t : Option (List ℕ)). Turns A comments first from t old new next number (Ok true)) (sym m.1) (at_feed line to h.one_line answers goes h.is_read told)
       go Feed false h m = absurd (true≢false (sym m.0))
-      go Input true h m = absurd (true≢false m)
-      go Input false h m = at_end line later h.one_line answers h.is_read told
-      go Open true h m =
-          let whole = line ++ m.0 in
-          let long = too_long {A = A} whole (omega (arith, length-append line m.0, h.long)) in
-          at_feed whole later (joined line m.0 h.one_line m.1) (subst (λ (k : Result (Option (Command A)) CommandFault). IsLine comments now number k text next) (too_long {A = A} line h.long ∙ sym long) answers)
-          (ap is_quit long) (reads_behind mid to later line m.0 Feed h.is_read m.2) told
-      go Open false h m =
-          let whole = line ++ m.0 in
-          let long = too_long {A = A} whole (omega (arith, length-append line m.0, h.long)) in
-          at_end whole later (joined line m.0 h.one_line m.1) (subst (λ (k : Result (Option (Command A)) CommandFault). IsLine comments now number k text next) (too_long {A = A} line h.long ∙ sym long) answers)
-          (reads_behind mid to later line m.0 Input h.is_read m.2) told
+      go Input true h m = absurd (true≢false m.0)
+      go Input false h m = subst (λ (t : Option (List ℕ)). Turns A comments first from t old new next number (Ok false)) (sym m.1) (at_end line to h.one_line answers h.is_read told)
+      go Open true h (rest, none, read) =
+          at_feed (line ++ rest) later (joined line rest h.one_line none) (so_too rest h.long) (ap is_quit (too_long {A = A} (line ++ rest) (over_too rest h.long))) (reads_behind mid to later line rest Feed h.is_read read) told
+      go Open false h (rest, none, read) =
+          at_end (line ++ rest) later (joined line rest h.one_line none) (so_too rest h.long) (reads_behind mid to later line rest Input h.is_read read) told
 
 -- nothing was said
 pub unsaid : (A : Type 0) (comments : List (List ℕ)) (first : Session) (from old : Option (List ℕ)) → IsSaid A comments first from from old old first 1
@@ -209,7 +256,13 @@ unsaid A comments first from old = record {
   read = [];
   written = [];
   are_read = Consumes-nil from;
+  are_whole = λ rest. refl;
+  none_quits = All-nil (λ line. is_quit (command_of_line {A = A} line) ≡ false);
   are_written = Appends-nil old;
   goes_on = λ rest later h. h;
   transcript = refl;
 }
+
+-- no line was begun
+pub unbegun : (from : Option (List ℕ)) → IsBegun from from []
+unbegun from = record { one_line = no_byte; is_read = Consumes-nil from; short = omega arith }

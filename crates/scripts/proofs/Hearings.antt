@@ -1,10 +1,11 @@
 -- Lines that are read part after part.
-use Rattle.std.proofs.Common.{◌≡◌, ℕ, false, List, [], ◌∷◌, ◌++◌, Option, Some, None, sym, ap, subst, ◌∙◌, append_assoc}
-use Rattle.std.specs.Io.KnownBytes.{Consumes}
-use Rattle.std.proofs.KnownBytes.{Consumes-trans}
+use Rattle.std.proofs.Common.{◌≡◌, ℕ, ◌≤◌, false, List, [], ◌∷◌, ◌++◌, length, Option, Some, None, sym, ap, subst, ◌∙◌, append_assoc}
+use Rattle.std.specs.Io.KnownBytes.{Consumes, Keeps}
+use Rattle.std.proofs.KnownBytes.{Consumes-kept, Consumes-trans}
 use Rattle.std.proofs.lemmas.List.Elements.{All-append, All-nil}
+use Rattle.swf_text.specs.Limits.{line_limit}
 use Rattle.swf_text.specs.Text.{is_feed}
-use Rattle.scripts.specs.Hearing.{Grows, HasNoFeed, IsHeard, IsPassed, Reads}
+use Rattle.scripts.specs.Hearing.{Grows, HasNoFeed, IsBegun, IsHeard, IsPassed, Reads}
 use Rattle.scripts.specs.declared.hearing.LineEnd.{LineEnd}
 use Rattle.scripts.specs.declared.hearing.LineEnd.TheVariants.{Feed, Input, Open}
 
@@ -21,7 +22,7 @@ reads_behind from mid to done part Feed p q =
 reads_behind from mid to done part Open p q = Consumes-trans from mid to done part p q
 reads_behind None mid to done part Input p q = tt
 reads_behind (Some x) None to done part Input p q = absurd p
-reads_behind (Some x) (Some y) to done part Input p q = p ∙ ap (λ l. done ++ l) q
+reads_behind (Some x) (Some y) to done part Input p q = (p ∙ ap (λ l. done ++ l) q.0, q.1)
 
 -- a line, behind what was read of it
 pub grown : (from mid to : Option (List ℕ)) (old new : List ℕ) (end : LineEnd) → Consumes from mid old → HasNoFeed old → Grows mid to old new end → record { one_line : HasNoFeed new; is_read : Reads from to new end }
@@ -30,6 +31,18 @@ grown from mid to old new end p none g = record {
   is_read = subst (λ (bytes : List ℕ). Reads from to bytes end) (sym g.3) (reads_behind from mid to old g.0 end p g.2);
 }
 
+-- nothing more was read of it
+pub begun_so : (from mid to : Option (List ℕ)) (old new : List ℕ) → Consumes from mid old → HasNoFeed old → length old ≤ line_limit → Keeps mid to × (new ≡ old) → IsBegun from to new
+begun_so from mid to old new p none short (kept, same) = subst (IsBegun from to) (sym same) (record {
+  one_line = none;
+  is_read = Consumes-kept from mid to old p kept;
+  short = short;
+})
+
 -- the rest of a line, behind what was passed over
 pub passed_more : (from mid to : Option (List ℕ)) (done bytes : List ℕ) (end : LineEnd) → HasNoFeed done → Consumes from mid done → IsHeard mid to bytes end → IsPassed from to end
 passed_more from mid to done bytes end none p h = (done ++ bytes, joined done bytes none h.one_line, reads_behind from mid to done bytes end p h.is_read)
+
+-- and where only a part of what follows was read
+pub passed_on : (from mid to : Option (List ℕ)) (done bytes : List ℕ) → HasNoFeed done → Consumes from mid done → IsBegun mid to bytes → IsPassed from to Open
+passed_on from mid to done bytes none p b = (done ++ bytes, joined done bytes none b.one_line, reads_behind from mid to done bytes Open p b.is_read)

@@ -1,6 +1,6 @@
 ghost use Rattle.std.specs.Prelude.{◌≡◌, ◌+◌, ◌≤◌, ◌++◌, [], IfOk, if◌then◌else◌, length, vec_capacity, vec_len};
-ghost use Rattle.scripts.specs.Hearing.{Grows, IsFront, IsHeard, IsPassed};
-ghost use Rattle.scripts.specs.declared.hearing.LineEnd.TheVariants.{Feed, Input, Open};
+ghost use Rattle.scripts.specs.Hearing.{GrowsBy, Hears, IsFront, Passes};
+ghost use Rattle.scripts.specs.declared.hearing.LineEnd.TheVariants.{Open};
 
 use memchr::memchr;
 use std::alloc::{AllocError, Allocator};
@@ -101,7 +101,7 @@ fn read_part<R: BufRead, A: Allocator>(
     reader: &mut R,
     line: &mut Line<A>,
 ) -> Result<LineEnd, ReadFault>
-    ensures { IfOk result (Grows (R.remaining reader.old) (R.remaining reader.new) line.old.bytes.items line.new.bytes.items) }
+    ensures { GrowsBy (R.remaining reader.old) (R.remaining reader.new) line.old.bytes.items line.new.bytes.items result }
 {
     let shown = match reader.fill_buf() {
         Ok(shown) => shown,
@@ -118,15 +118,16 @@ pub(crate) fn next_line<R: BufRead, A: Allocator>(
     reader: &mut R,
     line: &mut Line<A>,
 ) -> Result<LineEnd, ReadFault>
-    ensures { IfOk result (IsHeard (R.remaining reader.old) (R.remaining reader.new) line.new.bytes.items) }
+    ensures { Hears (R.remaining reader.old) (R.remaining reader.new) line.new.bytes.items result }
 {
     line.clear();
     for _ in 0..u64::MAX {
-        if line.room() == 0 {
-            return Ok(LineEnd::Open);
-        }
         match read_part(reader, line)? {
-            LineEnd::Open => {}
+            LineEnd::Open => {
+                if line.room() == 0 {
+                    return Ok(LineEnd::Open);
+                }
+            }
             end => return Ok(end),
         }
     }
@@ -138,7 +139,7 @@ pub(crate) fn pass_line<R: BufRead, A: Allocator>(
     reader: &mut R,
     line: &mut Line<A>,
 ) -> Result<bool, ReadFault>
-    ensures { IfOk result (λ fed. IsPassed (R.remaining reader.old) (R.remaining reader.new) (if fed then Feed else Input)) }
+    ensures { Passes (R.remaining reader.old) (R.remaining reader.new) result }
 {
     for _ in 0..u64::MAX {
         match next_line(reader, line)? {

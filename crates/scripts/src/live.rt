@@ -109,7 +109,7 @@ fn may_follow<R: BufRead, A: Allocator>(
     line: &mut Line<A>,
     end: LineEnd,
 ) -> Result<bool, ReadFault>
-    ensures { IfOk result (MayFollow (R.remaining reader.old) (R.remaining reader.new) end) }
+    ensures { MayFollow (R.remaining reader.old) (R.remaining reader.new) end result }
 {
     match end {
         LineEnd::Feed => Ok(true),
@@ -148,9 +148,11 @@ fn turn<R: BufRead, W: Write, A: Allocator + Copy>(
 /// A line of over 65,536 bytes is told TooLong when so many are read, and the rest of it is passed
 /// over. Of a conversation no more is kept than the book keeps, and the line that is being read.
 ///
-/// Read where the reader answers an error: what was written is a transcript of the lines that were
-/// read by then. Write where the writer answers an error or takes no byte: what was written is a
-/// beginning of one. Memory where there is no room for a line, before the first is read.
+/// Where it ends with `quit`, what stands behind that line is left to the reader. Read where the
+/// reader answers an error: what was written is a transcript of all lines that were read by then, a
+/// line that was only begun is not answered, unless it is too long already. Write where the writer
+/// answers an error or takes no byte: the answer to the line that was read last is cut short, those
+/// before it are out. Memory where there is no room for a line, before the first is read.
 pub fn run_live<R: BufRead, W: Write, A: Allocator + Copy>(
     alloc: A,
     book: Book<A>,
@@ -158,7 +160,7 @@ pub fn run_live<R: BufRead, W: Write, A: Allocator + Copy>(
     reader: &mut R,
     writer: &mut W,
 ) -> Result<(), LiveFault>
-    ensures { Talks A (map (λ c. c.items) comments.now) (record { machine = machine_of book; seen = 0 }) (R.remaining reader.old) (W.contents writer.old) (W.contents writer.new) result }
+    ensures { Talks A (map (λ c. c.items) comments.now) (record { machine = machine_of book; seen = 0 }) (R.remaining reader.old) (R.remaining reader.new) (W.contents writer.old) (W.contents writer.new) result }
 {
     let mut line = Line::new(alloc)?;
     let mut analyst = Analyst::new(alloc, book);

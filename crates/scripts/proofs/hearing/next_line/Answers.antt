@@ -1,4 +1,4 @@
-use Rattle.std.proofs.Common.{subst}
+use Rattle.std.proofs.Common.{arith, subst}
 use Rattle.scripts.specs.Hearing.{Reads}
 use Rattle.scripts.specs.declared.hearing.LineEnd.{LineEnd}
 use Rattle.scripts.proofs.Hearings.{grown}
@@ -10,4 +10,5 @@ loop-preserved g c =
     record {
       read = subst (λ (end : LineEnd). Reads (g.R.Read.remaining c.args.reader.now) (g.R.Read.remaining c.read_part.new.reader) c.read_part.new.line.bytes.items end) c.in-Open.is more.is_read;
       one_line = more.one_line;
+      short = omega (arith, c.room.ensures, c.if-room-eq0.false);
     }

@@ -1,9 +1,9 @@
-use Rattle.std.proofs.Common.{rules, ◌≡◌, Bool, true, false, map, refl, sym, subst, Ok, Err}
+use Rattle.std.proofs.Common.{rules, ◌≡◌, Bool, true, false, [], map, refl, sym, subst, Ok, Err}
 use Rattle.version_book.specs.Book.{machine_of}
 use Rattle.scripts.specs.Live.{IsSaid, Turns}
 use Rattle.scripts.specs.Session.{Session}
 use Rattle.scripts.specs.declared.live.LiveFault.TheVariants as faults
-use Rattle.scripts.proofs.Conversations.{unheard, unsaid}
+use Rattle.scripts.proofs.Conversations.{unbegun, unheard, unsaid}
 use Rattle.scripts.proofs.live.run_live.Goals as goal
 
 pub loop-number-init : goal.loop-number-init
@@ -41,4 +41,4 @@ returns g c =
     let first : Session = record { machine = machine_of c.args.book; seen = 0 } in
     let from = g.R.Read.remaining c.args.reader.now in
     let old = g.W.Write.contents c.args.writer.now in
-    unheard g.row.A.Denot (map (λ c'. c'.items) c.args.comments.now) first from _ old _ _ _ c.loop-number.invariant (Err faults.Read) c.loop-number.analyst from refl
+    unheard g.row.A.Denot (map (λ c'. c'.items) c.args.comments.now) first from _ old _ _ _ c.loop-number.invariant (Err faults.Read) c.loop-number.analyst _ [] refl (unbegun _)
