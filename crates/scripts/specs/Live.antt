@@ -19,7 +19,7 @@ use Rattle.scripts.specs.declared.live.LiveFault.TheVariants as faults
 abbrev pub AreWholeLines : List ℕ → Type 0
 AreWholeLines bytes = (rest : List ℕ) → lines (bytes ++ rest) ≡ lines bytes ++ lines rest
 
--- of a line that was begun, what is answered: it is told once it is too long, and before that not at all
+-- of a line that was begun, what is answered: all of it once it is too long, and before that nothing
 abbrev pub answered_of : List ℕ → List ℕ
 answered_of part = if nat_lt line_limit (length part) then part else []
 

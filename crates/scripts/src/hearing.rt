@@ -1,4 +1,4 @@
-ghost use Rattle.std.specs.Prelude.{◌≡◌, ◌+◌, ◌≤◌, ◌++◌, [], IfOk, if◌then◌else◌, length, vec_capacity, vec_len};
+ghost use Rattle.std.specs.Prelude.{◌≡◌, ◌+◌, ◌≤◌, ◌++◌, [], IfOk, length, vec_capacity, vec_len};
 ghost use Rattle.scripts.specs.Hearing.{GrowsBy, Hears, IsFront, Passes};
 ghost use Rattle.scripts.specs.declared.hearing.LineEnd.TheVariants.{Open};
 

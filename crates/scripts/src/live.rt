@@ -148,11 +148,12 @@ fn turn<R: BufRead, W: Write, A: Allocator + Copy>(
 /// A line of over 65,536 bytes is told TooLong when so many are read, and the rest of it is passed
 /// over. Of a conversation no more is kept than the book keeps, and the line that is being read.
 ///
-/// Where it ends with `quit`, what stands behind that line is left to the reader. Read where the
-/// reader answers an error: what was written is a transcript of all lines that were read by then, a
-/// line that was only begun is not answered, unless it is too long already. Write where the writer
-/// answers an error or takes no byte: the answer to the line that was read last is cut short, those
-/// before it are out. Memory where there is no room for a line, before the first is read.
+/// Where it ends with `quit`, what stands behind that line is left unread. Read where the reader
+/// answers an error: what was written is a transcript of all lines that were read by then; a line
+/// that was only begun is not among them, unless it is too long already. Write where the writer
+/// answers an error or takes no byte: of the answer to the line that was read last a beginning is
+/// out, and those before it are out whole. Memory where there is no room for a line, before the
+/// first is read.
 pub fn run_live<R: BufRead, W: Write, A: Allocator + Copy>(
     alloc: A,
     book: Book<A>,
