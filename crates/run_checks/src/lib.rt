@@ -1,5 +1,6 @@
 //! Tests of what runs a log: the machine's state, the event loop, runs with their tables and texts, and
-//! the plain program; and what each call answers where one growth after another is refused.
+//! the plain program; of runs after edits: what they work, what they take over and how they are cut; and
+//! what each call answers where one growth after another is refused.
 #![tactic(auto)]
 
 #[cfg(test)]
@@ -20,6 +21,12 @@ mod own_segments;
 mod plain;
 #[cfg(test)]
 mod refusals;
+#[cfg(test)]
+mod rerun_growths;
+#[cfg(test)]
+mod rerun_pieces;
+#[cfg(test)]
+mod rerun_rows;
 #[cfg(test)]
 mod runs;
 #[cfg(test)]

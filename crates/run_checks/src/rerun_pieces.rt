@@ -1,4 +1,4 @@
-use crate::rows::{SIX, THREE, Written, edits_of, run_of, table_after};
+use crate::rerun_rows::{SIX, THREE, Written, edits_of, run_of, table_after};
 use checkpoints::{Run, RunFault};
 use job_table::Edit;
 use rejoin::{Work, rerun};
