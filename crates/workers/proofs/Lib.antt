@@ -1,3 +1,4 @@
 mod Gaining
+mod Causes
 mod Works
 mod Portions

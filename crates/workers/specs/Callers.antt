@@ -8,9 +8,11 @@ pub record SessionView : Type 0 where
   pub list : List Exchanged
   pub seen : ℕ
 
+-- a worker: its number, the calls that it made with their replies, and for how many more its list has room
 pub record WorkerView : Type 0 where
   pub number : ℕ
   pub list : List Exchanged
+  pub room : ℕ
 
 -- of each kind a desk opens at most so many
 abbrev pub most : ℕ
@@ -29,7 +31,7 @@ abbrev pub new_session : ℕ → SessionView
 new_session number = record { number = number; list = []; seen = 0 }
 
 abbrev pub new_worker : ℕ → WorkerView
-new_worker number = record { number = number; list = [] }
+new_worker number = record { number = number; list = []; room = 0 }
 
 -- one who was just opened, under a number below 64
 abbrev pub IsNewSession : SessionView → Type 0

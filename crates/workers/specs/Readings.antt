@@ -1,10 +1,15 @@
 -- What is read of the book under the lock. It is a book at every moment at which the lock is got.
-use Rattle.std.specs.Prelude.{◌≡◌, ◌&&◌, ℕ, Bool, is_none, length, not}
+use Rattle.std.specs.Prelude.{◌≡◌, ◌&&◌, ◌⊎◌, ℕ, Bool, is_none, length, not}
 use Rattle.std.specs.Arc.{arc_value}
+use Rattle.book_machine.specs.declared.caller.Caller.{Caller}
+use Rattle.book_machine.specs.declared.caller.Caller.TheVariants as caller
+use Rattle.book_machine.specs.Call.{BookCall}
 use Rattle.book_machine.specs.Machine.{note_limit}
 use Rattle.version_book.specs.Book.{BookView, PublishedView, StateView}
 use Rattle.version_book.specs.Sound.{IsBook}
+use Rattle.version_book.specs.Steps.{Answers, memory}
 use Rattle.version_book.specs.Tasks.{IsShownFor, free_due}
+use Rattle.workers.specs.Callers.{WorkerView}
 use Rattle.workers.specs.declared.current.Current.{Current}
 
 -- a worker has nothing to do and is not to end: the desk isn't stopped, and no ticket is to be had
@@ -29,3 +34,11 @@ IsShownOnce id seen p = (b : BookView) × IsBook b × IsShownFor b.state id seen
 -- At some moment the journal of a book was full.
 abbrev pub WasFull : Type 0
 WasFull = (b : BookView) × IsBook b × (length b.journal ≡ note_limit)
+
+-- At some moment a book answered a call of this caller by want of memory.
+abbrev pub WasRefused : Caller → Type 0
+WasRefused who = (b : BookView) × (call : BookCall) × IsBook b × Answers b b who call memory
+
+-- Memory was wanting for a call of the worker: its list has no room for it, or a book answered so.
+abbrev pub LackedMemory : WorkerView → Type 0
+LackedMemory w = (w.room ≡ 0) ⊎ WasRefused (caller.Worker w.number)

@@ -15,8 +15,6 @@ use Rattle.version_book.specs.declared.worker_refusal.FinishRefusal.TheVariants 
 use Rattle.version_book.specs.declared.worker_refusal.GiveUpRefusal.{GiveUpRefusal}
 use Rattle.version_book.specs.declared.worker_refusal.GiveUpRefusal.TheVariants as give_up
 use Rattle.workers.specs.Lists.{Exchanged, Gains}
-use Rattle.workers.specs.declared.next.Next.{Next}
-use Rattle.workers.specs.declared.next.Next.TheVariants as next
 use Rattle.workers.specs.declared.worker.WorkerEnd.{WorkerEnd}
 use Rattle.workers.specs.declared.worker.WorkerEnd.TheVariants as ends
 
@@ -51,23 +49,17 @@ WorksThrough old new = (added : List Exchanged) × (new ≡ old ++ added) × (he
 
 -- ---- how a ticket is had
 
--- What a worker finds under the lock. Where the desk is stopped, or no ticket is to be had, nothing is claimed; otherwise a
--- claim gives it the task, or isn't noted, since the journal is full or memory was refused.
-abbrev pub Finds : {A : Type 0} → Next A → Bool → Caller → BookView → BookView → Type 0
-Finds next.Stopped stopped who old new = (stopped ≡ true) × (new ≡ old)
-Finds next.Idle stopped who old new = (stopped ≡ false) × (free_due old.state ≡ None) × (new ≡ old)
-Finds (next.Claimed task) stopped who old new =
+-- What a worker finds under the lock, where the desk is stopped or a ticket is to be had. Where it is stopped nothing is
+-- claimed; otherwise a claim gives the worker its task, or isn't noted, since the journal is full or memory was refused.
+abbrev pub Finds : Result TaskView WorkerEnd → Bool → Caller → BookView → BookView → Type 0
+Finds (Ok task) stopped who old new =
     (stopped ≡ false) × (is_some (free_due old.state) ≡ true) × Answers old new who Claim (claim_answer (Ok (Some task)))
     × (Some task ≡ option_map (task_for old.state) (due_shown old.state))
-Finds next.Full stopped who old new = (stopped ≡ false) × (is_some (free_due old.state) ≡ true) × Answers old new who Claim full
-Finds next.Memory stopped who old new = (stopped ≡ false) × (is_some (free_due old.state) ≡ true) × Answers old new who Claim memory
+Finds (Err ends.Stopped) stopped who old new = (stopped ≡ true) × (new ≡ old)
+Finds (Err ends.Full) stopped who old new = (stopped ≡ false) × (is_some (free_due old.state) ≡ true) × Answers old new who Claim full
+Finds (Err ends.Memory) stopped who old new = (stopped ≡ false) × (is_some (free_due old.state) ≡ true) × Answers old new who Claim memory
 
 -- the list gains the claim of a task, and nothing otherwise
-abbrev pub GainsTask : {A : Type 0} → Next A → List Exchanged → List Exchanged → Type 0
-GainsTask (next.Claimed task) old new = Gains old new Claim (claim_answer (Ok (Some task)))
-GainsTask other old new = new ≡ old
-
--- the same, of what a worker is given: a task, or the reason to end
 abbrev pub GainsClaim : Result TaskView WorkerEnd → List Exchanged → List Exchanged → Type 0
 GainsClaim (Ok task) old new = Gains old new Claim (claim_answer (Ok (Some task)))
 GainsClaim (Err end) old new = new ≡ old

@@ -1,5 +1,7 @@
 ghost use Rattle.std.specs.Prelude.{◌≡◌, ◌↔◌, ◌<◌, ℕ, true, IfOk, IfErr, IsTrue, drop, length, map};
 ghost use Rattle.std.specs.List.{All, list_any};
+ghost use Rattle.std.specs.Option.{option_map};
+ghost use Rattle.std.specs.Result.{result_err};
 ghost use Rattle.book_machine.specs.declared.caller.Caller.TheVariants as caller;
 ghost use Rattle.book_machine.specs.History.{Noted};
 ghost use Rattle.book_machine.specs.Noted.{noted_of};
@@ -16,7 +18,7 @@ use crate::shared::Shared;
 use crate::worker::Worker;
 use book_machine::{Caller, Note};
 use std::alloc::Allocator;
-use std::sync::Mutex;
+use std::sync::{Condvar, Mutex};
 use version_book::Book;
 
 // Whether each session's list is what the notes have of it.
@@ -176,6 +178,44 @@ fn fault_of<A: Allocator + Copy>(
     }
 }
 
+// What lay under the lock, closed: the book, or the fault with all that was handed in.
+fn closed<A: Allocator + Copy>(
+    shared: Shared<A>,
+    opening: usize,
+    sessions: Vec<Session<A>, A>,
+    workers: Vec<Worker<A>, A>,
+) -> Result<Book<A>, (CloseFault, Shared<A>, Vec<Session<A>, A>, Vec<Worker<A>, A>)>
+    ensures fault { SpeaksAgainst (AreAll shared.sessions shared.workers sessions.items workers.items) (IsTold sessions.items workers.items (drop opening shared.book.journal)) (option_map (λ e. e.0) (result_err result)) }
+    ensures value { IfOk result (λ b. b ≡ shared.book) }
+    ensures book { IfOk result IsBook }
+    ensures back { IfErr result (λ e. (e.1 ≡ shared) × (e.2 ≡ sessions) × (e.3 ≡ workers)) }
+{
+    match fault_of(&shared, opening, &sessions, &workers) {
+        None => Ok(shared.into_book()),
+        Some(fault) => Err((fault, shared, sessions, workers)),
+    }
+}
+
+// A desk again over what was handed back, with the fault.
+fn reopened<A: Allocator + Copy>(
+    alloc: A,
+    opening: usize,
+    changed: Condvar,
+    told: (CloseFault, Shared<A>, Vec<Session<A>, A>, Vec<Worker<A>, A>),
+) -> (CloseFault, Desk<A>, Vec<Session<A>, A>, Vec<Worker<A>, A>)
+    ensures fault { result.0 ≡ told.0 }
+    ensures back { (result.1.opening ≡ opening) × (result.2 ≡ told.2) × (result.3 ≡ told.3) }
+{
+    let (fault, shared, sessions, workers) = told;
+    let desk = Desk {
+        alloc,
+        opening,
+        shared: Mutex::new(shared),
+        changed,
+    };
+    (fault, desk, sessions, workers)
+}
+
 /// Closes a desk whose callers are all handed in, each with the list of its own calls, and answers
 /// the book; it takes no memory and waits for nobody.
 ///
@@ -199,17 +239,8 @@ pub fn close<A: Allocator + Copy>(
         shared,
         changed,
     } = desk;
-    let shared = shared.into_inner();
-    match fault_of(&shared, opening, &sessions, &workers) {
-        None => Ok(shared.into_book()),
-        Some(fault) => {
-            let desk = Desk {
-                alloc,
-                opening,
-                shared: Mutex::new(shared),
-                changed,
-            };
-            Err((fault, desk, sessions, workers))
-        }
+    match closed(shared.into_inner(), opening, sessions, workers) {
+        Ok(book) => Ok(book),
+        Err(told) => Err(reopened(alloc, opening, changed, told)),
     }
 }

@@ -1,4 +1,4 @@
-ghost use Rattle.std.specs.Prelude.{◌≡◌, ◌<◌, ◌++◌, map, OnOk, vec_len, vec_capacity};
+ghost use Rattle.std.specs.Prelude.{◌≡◌, ◌<◌, ◌≤◌, ◌++◌, map, OnErr, OnOk, vec_len, vec_capacity};
 ghost use Rattle.book_machine.specs.Noted.{call_of};
 ghost use Rattle.workers.specs.Lists.{exchanged_of, gained};
 
@@ -13,10 +13,11 @@ pub struct Exchange<A: Allocator + Copy> {
     pub reply: Reply,
 }
 
-// Makes room for a call.
+// Makes room for a call. Memory only where there was none.
 pub(crate) fn make_room<A: Allocator + Copy>(list: &mut Vec<Exchange<A>, A>) -> Result<(), Memory>
     ensures items { list.new.items ≡ list.old.items }
     ensures room { OnOk result (vec_len list.new < vec_capacity list.new) }
+    ensures none { OnErr result (vec_capacity list.new ≤ vec_len list.new) }
 {
     Ok(list.reserve(1)?)
 }

@@ -9,7 +9,6 @@ mod desk;
 mod exchange;
 mod gate;
 mod making;
-mod next;
 mod parts;
 mod session;
 mod session_steps;

@@ -1,18 +1,18 @@
 ghost use Rattle.std.specs.Prelude.{◌≡◌, Err, IfNone, Some};
 ghost use Rattle.workers.specs.Callers.{new_worker};
 ghost use Rattle.workers.specs.declared.worker.WorkerEnd.TheVariants as ends;
-ghost use Rattle.workers.specs.Readings.{WasFull};
+ghost use Rattle.workers.specs.Readings.{LackedMemory, WasFull};
 ghost use Rattle.workers.specs.Work.{Finishes, GainsClaim, GivesUp, HandsInOnce, HandsInWhat, WorksOn, WorksThrough, end_of_finish, end_of_give_up};
 
 use crate::desk::Desk;
 use crate::exchange::{Exchange, make_room};
 use crate::gate::Gate;
 use crate::making::Making;
-use crate::next::Next;
 use checkpoints::Run;
 use std::alloc::Allocator;
 use std::marker::Model;
 use std::sync::{Arc, Wait};
+use swf_text::Memory;
 use version_book::{FinishRefusal, GiveUpRefusal, Task};
 
 /// Why a worker ended.
@@ -26,6 +26,14 @@ pub enum WorkerEnd {
     Memory,
 }
 
+impl From<Memory> for WorkerEnd {
+    ghost from_gives = { λ _ end. end ≡ ends.Memory };
+
+    fn from(_memory: Memory) -> WorkerEnd {
+        WorkerEnd::Memory
+    }
+}
+
 /// One who makes runs at a desk: a number, and a list of its own calls with their replies.
 #[derive(Drop)]
 pub struct Worker<A: Allocator + Copy> {
@@ -34,13 +42,13 @@ pub struct Worker<A: Allocator + Copy> {
 }
 
 impl<A: Allocator + Copy> Model for Worker<A> {
-    ghost use Rattle.std.specs.Prelude.{map};
+    ghost use Rattle.std.specs.Prelude.{◌-◌, map, vec_capacity, vec_len};
     ghost use Rattle.workers.specs.Callers.{WorkerView};
     ghost use Rattle.workers.specs.Lists.{exchanged_of};
 
     ghost Value = { WorkerView };
 
-    ghost view = { λ w. record { number = w.number; list = map exchanged_of w.list.items } };
+    ghost view = { λ w. record { number = w.number; list = map exchanged_of w.list.items; room = vec_capacity w.list - vec_len w.list } };
 }
 
 // Whether a worker ends by what its finish was told.
@@ -97,19 +105,11 @@ impl<A: Allocator + Copy> Worker<A> {
     fn claim<R: Wait>(&mut self, rt: &R, desk: &Desk<A>) -> Result<Task<A>, WorkerEnd>
         ensures list { GainsClaim result self.old.list self.new.list }
         ensures full { result ≡ Err ends.Full → WasFull }
+        ensures memory { result ≡ Err ends.Memory → LackedMemory self.new }
         ensures number { self.new.number ≡ self.old.number }
     {
-        if make_room(&mut self.list).is_err() {
-            return Err(WorkerEnd::Memory);
-        }
-        let mut shared = desk.when_busy(rt);
-        match shared.next_for(self.number, &mut self.list) {
-            Next::Claimed(task) => Ok(task),
-            Next::Stopped => Err(WorkerEnd::Stopped),
-            Next::Full => Err(WorkerEnd::Full),
-            Next::Memory => Err(WorkerEnd::Memory),
-            Next::Idle => unreachable!(),
-        }
+        make_room(&mut self.list)?;
+        desk.when_busy(rt).next_for(self.number, &mut self.list)
     }
 
     // Hands in the run for a ticket, and wakes whoever waits.
@@ -122,6 +122,7 @@ impl<A: Allocator + Copy> Worker<A> {
     ) -> Option<WorkerEnd>
         ensures list { Finishes ticket self.old.list self.new.list result }
         ensures full { result ≡ Some ends.Full → WasFull }
+        ensures memory { result ≡ Some ends.Memory → LackedMemory self.new }
         ensures number { self.new.number ≡ self.old.number }
     {
         if make_room(&mut self.list).is_err() {
@@ -139,6 +140,7 @@ impl<A: Allocator + Copy> Worker<A> {
     fn give_up<R: Wait>(&mut self, rt: &R, desk: &Desk<A>, ticket: u64) -> Option<WorkerEnd>
         ensures list { GivesUp ticket self.old.list self.new.list result }
         ensures full { result ≡ Some ends.Full → WasFull }
+        ensures memory { result ≡ Some ends.Memory → LackedMemory self.new }
         ensures number { self.new.number ≡ self.old.number }
     {
         if make_room(&mut self.list).is_err() {
@@ -164,6 +166,7 @@ impl<A: Allocator + Copy> Worker<A> {
     ) -> Option<WorkerEnd>
         ensures list { HandsInWhat (M.gives making.old) ticket self.old.list self.new.list result }
         ensures full { result ≡ Some ends.Full → WasFull }
+        ensures memory { result ≡ Some ends.Memory → LackedMemory self.new }
         ensures number { self.new.number ≡ self.old.number }
     {
         gate.before_work(ticket);
@@ -186,6 +189,7 @@ impl<A: Allocator + Copy> Worker<A> {
     ) -> Option<WorkerEnd>
         ensures list { HandsInOnce task.ticket self.old.list self.new.list result }
         ensures full { result ≡ Some ends.Full → WasFull }
+        ensures memory { result ≡ Some ends.Memory → LackedMemory self.new }
         ensures number { self.new.number ≡ self.old.number }
     {
         let ticket = task.ticket();
@@ -198,6 +202,7 @@ impl<A: Allocator + Copy> Worker<A> {
         ensures through { IfNone result (WorksThrough self.old.list self.new.list) }
         ensures stopped { result ≡ Some ends.Stopped → WorksThrough self.old.list self.new.list }
         ensures full { result ≡ Some ends.Full → WasFull }
+        ensures memory { result ≡ Some ends.Memory → LackedMemory self.new }
         ensures number { self.new.number ≡ self.old.number }
     {
         match self.claim(rt, desk) {
@@ -215,6 +220,7 @@ impl<A: Allocator + Copy> Worker<A> {
         ensures list { WorksOn self.old.list self.new.list }
         ensures stopped { result ≡ ends.Stopped → WorksThrough self.old.list self.new.list }
         ensures full { result ≡ ends.Full → WasFull }
+        ensures memory { result ≡ ends.Memory → LackedMemory self.new }
         ensures number { self.new.number ≡ self.old.number }
     {
         for _ in rt.forever() {

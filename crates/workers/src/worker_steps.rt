@@ -1,5 +1,5 @@
 // What a worker does while it holds the lock: one call of the book, which its list then gains.
-ghost use Rattle.std.specs.Prelude.{◌≡◌, ◌<◌, map, IfOk, Some, vec_len, vec_capacity};
+ghost use Rattle.std.specs.Prelude.{◌≡◌, ◌<◌, false, map, Err, IfOk, Some, vec_len, vec_capacity};
 ghost use Rattle.std.specs.Option.{option_map};
 ghost use Rattle.std.specs.Arc.{arc_value};
 ghost use Rattle.book_machine.specs.declared.caller.Caller.TheVariants as caller;
@@ -9,14 +9,13 @@ ghost use Rattle.version_book.specs.Steps.{Answers};
 ghost use Rattle.version_book.specs.Tasks.{Fits, due_shown, task_for};
 ghost use Rattle.version_book.specs.Sound.{IsBook};
 ghost use Rattle.workers.specs.Lists.{Gains, exchanged_of};
-ghost use Rattle.workers.specs.Readings.{WasFull};
-ghost use Rattle.workers.specs.Work.{Finds, GainsTask, end_of_finish, end_of_give_up};
-ghost use Rattle.workers.specs.declared.next.Next.TheVariants as next;
+ghost use Rattle.workers.specs.Readings.{WasFull, WasRefused, is_idle};
+ghost use Rattle.workers.specs.Work.{Finds, GainsClaim, end_of_finish, end_of_give_up};
 ghost use Rattle.workers.specs.declared.worker.WorkerEnd.TheVariants as ends;
 
 use crate::exchange::{Exchange, keep};
-use crate::next::Next;
 use crate::shared::Shared;
+use crate::worker::WorkerEnd;
 use book_machine::Call;
 use checkpoints::Run;
 use std::alloc::Allocator;
@@ -66,25 +65,28 @@ impl<A: Allocator + Copy> Shared<A> {
         told
     }
 
-    // What a worker finds, which claims where a scenario is due and the desk isn't stopped.
-    pub(crate) fn next_for(&mut self, worker: u64, list: &mut Vec<Exchange<A>, A>) -> Next<A>
+    // The next task of a worker that was woken, claimed where the desk isn't stopped; or why it ends.
+    pub(crate) fn next_for(
+        &mut self,
+        worker: u64,
+        list: &mut Vec<Exchange<A>, A>,
+    ) -> Result<Task<A>, WorkerEnd>
         requires room { vec_len list.old < vec_capacity list.old }
+        requires busy { is_idle self.old.stopped self.old.book.state ≡ false }
         ensures book { Finds result self.old.stopped (caller.Worker worker) self.old.book self.new.book }
-        ensures list { GainsTask result (map exchanged_of list.old.items) (map exchanged_of list.new.items) }
-        ensures full { result ≡ next.Full → WasFull }
+        ensures list { GainsClaim result (map exchanged_of list.old.items) (map exchanged_of list.new.items) }
+        ensures full { result ≡ Err ends.Full → WasFull }
+        ensures memory { result ≡ Err ends.Memory → WasRefused (caller.Worker worker) }
     {
         if self.stopped {
-            return Next::Stopped;
-        }
-        if self.book.due().is_none() {
-            return Next::Idle;
+            return Err(WorkerEnd::Stopped);
         }
         match self.claim_for(worker, list) {
-            Ok(Some(task)) => Next::Claimed(task),
+            Ok(Some(task)) => Ok(task),
             Ok(None) => unreachable!(),
             Err(ClaimRefusal::TooManyTickets) => unreachable!(),
-            Err(ClaimRefusal::JournalFull) => Next::Full,
-            Err(ClaimRefusal::Memory) => Next::Memory,
+            Err(ClaimRefusal::JournalFull) => Err(WorkerEnd::Full),
+            Err(ClaimRefusal::Memory) => Err(WorkerEnd::Memory),
         }
     }
 
@@ -101,6 +103,7 @@ impl<A: Allocator + Copy> Shared<A> {
         ensures list { Gains (map exchanged_of list.old.items) (map exchanged_of list.new.items) (Finish ticket (fitted result)) (finish_answer result) }
         ensures fits { TakesWhatFits (Fits self.old.book.state ticket (arc_value run)) result }
         ensures full { end_of_finish result ≡ Some ends.Full → WasFull }
+        ensures memory { end_of_finish result ≡ Some ends.Memory → WasRefused (caller.Worker worker) }
     {
         let notes = self.notes();
         let told = hand_in(&mut self.book, worker, ticket, run);
@@ -124,6 +127,7 @@ impl<A: Allocator + Copy> Shared<A> {
         ensures book { Answers self.old.book self.new.book (caller.Worker worker) (GiveUp ticket) (give_up_answer result) }
         ensures list { Gains (map exchanged_of list.old.items) (map exchanged_of list.new.items) (GiveUp ticket) (give_up_answer result) }
         ensures full { end_of_give_up result ≡ Some ends.Full → WasFull }
+        ensures memory { end_of_give_up result ≡ Some ends.Memory → WasRefused (caller.Worker worker) }
     {
         let notes = self.notes();
         let told = self.book.give_up(worker, ticket);
