@@ -1,10 +1,13 @@
-use Rattle.std.proofs.Common.{◌≤◌, length, vec_len}
+use Rattle.std.proofs.Common.{◌≤◌, length, map, take, vec_len}
 use Rattle.std.specs.Prelude.{vec_capacity}
+use Rattle.report.specs.Side.{side_line}
+use Rattle.shared_scripts.specs.Side.{AreBeside}
 use Rattle.shared_scripts.proofs.seat.Seat.side_lines.Given as goal
 
--- there is room for the scenarios to come
+-- so many scenarios were viewed, and there is room for the others
 abbrev pub invariant-loop-place : goal.invariant-loop-place
 invariant-loop-place g l = record {
+  lines : AreBeside g.row.A.Denot l.fn.session (take l.place l.list.scenarios) (map side_line l.lines.items) l.session;
   count : vec_len l.lines ≤ l.place;
   room : length l.list.scenarios ≤ vec_capacity l.lines;
 }
