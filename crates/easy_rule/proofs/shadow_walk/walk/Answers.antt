@@ -1,7 +1,5 @@
-use Rattle.std.proofs.Common.{◌≡◌, ◌≤◌, ◌<◌, ◌⊎◌, ◌∷◌, [], List, arith, refl, inl, inr}
-use Rattle.scenarios.specs.declared.placed.Placed.{Placed}
+use Rattle.std.proofs.Common.{◌≤◌, ◌<◌, ◌⊎◌, arith, refl, inl, inr}
 use Rattle.scenarios.specs.Placed.{expected_end}
-use Rattle.cluster_state.specs.State.{State}
 use Rattle.easy_rule.proofs.WalkLemmas.{walk-begins, walk-more, walk-shadow, walk-least, walk-stops, walk-ends, walk-room, walk-few, walk-reads, walk-reads-all, early-end}
 use Rattle.easy_rule.proofs.shadow_walk.walk.Goals.{else-need-room-via-then-need-room+else-time-end, else-need-room-via-else-need-room}
 use Rattle.easy_rule.proofs.shadow_walk.walk.Goals as goal
