@@ -1,11 +1,7 @@
 // How an analyst alone works what is due.
-ghost use Rattle.std.specs.Prelude.{◌≡◌, IfOk};
+ghost use Rattle.std.specs.Prelude.{IfOk};
 ghost use Rattle.std.specs.Arc.{arc_value};
-ghost use Rattle.book_machine.specs.declared.caller.Caller.TheVariants as caller;
-ghost use Rattle.book_machine.specs.Call.{Finish};
-ghost use Rattle.version_book.specs.Answers.{TakesWhatFits, finish_answer, fitted};
 ghost use Rattle.version_book.specs.Book.{machine_of};
-ghost use Rattle.version_book.specs.Steps.{Answers};
 ghost use Rattle.version_book.specs.Tasks.{Fits, IsOut};
 ghost use Rattle.scripts.specs.Settling.{IsTurn, IsTurnOf, Settles, TicketEnds};
 ghost use Rattle.scripts.specs.Steps.{IsSettled};
@@ -35,22 +31,6 @@ pub(crate) enum Turn {
     Short,
 }
 
-// Hands in the run that a ticket's task has left, or this one where it has left none.
-fn hand_in<A: Allocator + Copy>(
-    book: &mut Book<A>,
-    ticket: u64,
-    run: Arc<Run<A>, A>,
-) -> Result<u64, FinishRefusal>
-    ensures answer { Answers book.old book.new (caller.Worker 0) (Finish ticket (fitted result)) (finish_answer result) }
-    ensures fits { TakesWhatFits (Fits book.old.state ticket (arc_value run)) result }
-{
-    match book.finish_delivered(WORKER, ticket) {
-        Ok(Some(version)) => Ok(version),
-        Ok(None) => book.finish(WORKER, ticket, run),
-        Err(refusal) => Err(refusal),
-    }
-}
-
 // Ends a claimed task: publishes the run that was made for it, or gives it up where memory was
 // refused for that.
 fn end_task<A: Allocator + Copy>(
@@ -69,7 +49,7 @@ fn end_task<A: Allocator + Copy>(
             Err(GiveUpRefusal::Memory) => Turn::Short,
         };
     };
-    match hand_in(book, ticket, run) {
+    match book.hand_in(WORKER, ticket, run) {
         Ok(_) | Err(FinishRefusal::Stale { .. }) => Turn::Worked,
         Err(FinishRefusal::JournalFull) => Turn::Ended,
         Err(FinishRefusal::Memory) => Turn::Short,

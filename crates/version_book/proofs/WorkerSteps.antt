@@ -311,6 +311,10 @@ fitting-some {s} {v} new n run (Err e) is fits h = tt
 pub fitting-as : {s v : StateView} (new : StateView) (n : ℕ) (r : Result ℕ FinishRefusal) → s ≡ v → IfOk r (λ w. PublishesFitting s new n w) → IfOk r (λ w. PublishesFitting v new n w)
 fitting-as {s} {v} new n r is h = subst (λ (x : StateView). IfOk r (λ w. PublishesFitting x new n w)) is h
 
+pub fitting-told : {s v : StateView} (new : StateView) (n : ℕ) (run : RunView) (r : Result ℕ FinishRefusal) → s ≡ v → TellsFit (Fits s n run) r → IfOk r (λ w. Publishes s new n w run) → IfOk r (λ w. PublishesFitting v new n w)
+fitting-told {s} {v} new n run (Ok w) is fits h = fitting-some new n run (Ok w) is fits h
+fitting-told {s} {v} new n run (Err e) is fits h = tt
+
 -- ---- a ticket that stands
 
 -- by whether one was found

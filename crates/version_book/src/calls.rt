@@ -6,7 +6,7 @@ ghost use Rattle.std.specs.Arc.{arc_value};
 ghost use Rattle.job_table.specs.Edit.{edit_of};
 ghost use Rattle.book_machine.specs.declared.caller.Caller.TheVariants as caller;
 ghost use Rattle.book_machine.specs.Call.{AddScenario, Claim, DropScenario, Edit as Edits, Finish, GiveUp, Retry, View};
-ghost use Rattle.version_book.specs.Answers.{AnswersOfRun, TellsFit, TellsStanding, add_answer, claim_answer, drop_answer, edit_answer, finish_answer, fitted, give_up_answer, retry_answer, told_of_run, view_answer};
+ghost use Rattle.version_book.specs.Answers.{AnswersOfRun, TakesWhatFits, TellsFit, TellsStanding, add_answer, claim_answer, drop_answer, edit_answer, finish_answer, fitted, give_up_answer, retry_answer, told_of_run, view_answer};
 ghost use Rattle.version_book.specs.Sound.{IsBook};
 ghost use Rattle.version_book.specs.Steps.{Answers, Publishes};
 ghost use Rattle.version_book.specs.Tasks.{Fits, IsOut, IsShownFor, PublishesFitting, Stands, due_shown, task_for};
@@ -245,6 +245,27 @@ impl<A: Allocator + Copy> Book<A> {
             reply,
         );
         of_left(told)
+    }
+
+    /// Hands in the run that the ticket's task has left, as `finish_delivered` does, or this one, as
+    /// `finish` does, where it has left none; and answers the version at which it is published.
+    ///
+    /// It is refused as these are, so a run that fits its ticket is never a Stranger.
+    pub fn hand_in(
+        &mut self,
+        worker: u64,
+        ticket: u64,
+        run: Arc<Run<A>, A>,
+    ) -> Result<u64, FinishRefusal>
+        ensures answer { Answers self.old self.new (caller.Worker worker) (Finish ticket (fitted result)) (finish_answer result) }
+        ensures fits { TakesWhatFits (Fits self.old.state ticket (arc_value run)) result }
+        ensures published { IfOk result (PublishesFitting self.old.state self.new.state ticket) }
+    {
+        match self.finish_delivered(worker, ticket) {
+            Ok(Some(version)) => Ok(version),
+            Ok(None) => self.finish(worker, ticket, run),
+            Err(refusal) => Err(refusal),
+        }
     }
 
     /// Gives a ticket up. One of the current version marks its scenario, which is then not due

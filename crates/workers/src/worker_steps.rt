@@ -20,30 +20,13 @@ use book_machine::Call;
 use checkpoints::Run;
 use std::alloc::Allocator;
 use std::sync::Arc;
-use version_book::{Book, ClaimRefusal, FinishRefusal, GiveUpRefusal, Task};
+use version_book::{ClaimRefusal, FinishRefusal, GiveUpRefusal, Task};
 
 // Whether the run fitted its ticket, as the answer tells.
 fn is_fitting(told: &Result<u64, FinishRefusal>) -> bool
     ensures { result ≡ fitted told.now }
 {
     matches!(told, Ok(_) | Err(FinishRefusal::Stale { .. }))
-}
-
-// Hands in the run that a ticket's task has left, or this one where it has left none.
-fn hand_in<A: Allocator + Copy>(
-    book: &mut Book<A>,
-    worker: u64,
-    ticket: u64,
-    run: Arc<Run<A>, A>,
-) -> Result<u64, FinishRefusal>
-    ensures answer { Answers book.old book.new (caller.Worker worker) (Finish ticket (fitted result)) (finish_answer result) }
-    ensures fits { TakesWhatFits (Fits book.old.state ticket (arc_value run)) result }
-{
-    match book.finish_delivered(worker, ticket) {
-        Ok(Some(version)) => Ok(version),
-        Ok(None) => book.finish(worker, ticket, run),
-        Err(refusal) => Err(refusal),
-    }
 }
 
 impl<A: Allocator + Copy> Shared<A> {
@@ -106,7 +89,7 @@ impl<A: Allocator + Copy> Shared<A> {
         ensures memory { end_of_finish result ≡ Some ends.Memory → WasRefused (caller.Worker worker) }
     {
         let notes = self.notes();
-        let told = hand_in(&mut self.book, worker, ticket, run);
+        let told = self.book.hand_in(worker, ticket, run);
         let fits = is_fitting(&told);
         keep(
             list,
