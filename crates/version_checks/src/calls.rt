@@ -1,5 +1,6 @@
 use crate::standing::{Standing, is_made, run_for, worked};
 use job_table::Edit;
+use refusing::Outcome;
 use scenarios::{Scenario, ScenarioId};
 use std::alloc::Allocator;
 use swf_text::{Memory, read_swf};
@@ -7,19 +8,6 @@ use version_book::{
     AddRefusal, Book, ClaimRefusal, DropRefusal, EditRefusal, FinishRefusal, GiveUpRefusal,
     RetryRefusal, Task, ViewRefusal,
 };
-
-/// What came of a call while one growth was refused.
-#[derive(Clone, Copy, PartialEq, Eq)]
-pub(crate) enum Told {
-    /// The growth was refused before.
-    Before,
-    /// It told want of memory, and all is as it was.
-    Memory,
-    /// It answered as it should.
-    Right,
-    /// It answered otherwise.
-    Wrong,
-}
 
 /// The calls whose growths are refused.
 #[derive(Clone, Copy, PartialEq, Eq)]
@@ -60,16 +48,6 @@ pub(crate) const CALLS: &[Called] = &[
     Called::Deliver,
 ];
 
-/// Right where this holds.
-pub(crate) fn right_if(holds: bool) -> Told {
-    if holds { Told::Right } else { Told::Wrong }
-}
-
-/// Want of memory where this holds.
-pub(crate) fn memory_if(holds: bool) -> Told {
-    if holds { Told::Memory } else { Told::Wrong }
-}
-
 /// A job that joins the log.
 const THIRD: &[u8] = b"3 8 -1 20 10 -1 -1 10 20 -1 1 7 -1 -1 -1 -1 -1 -1\n";
 
@@ -80,40 +58,40 @@ fn insertion<A: Allocator + Copy>(alloc: A) -> Option<Edit<A>> {
 }
 
 // Makes the second edit.
-fn edits<A: Allocator + Copy>(book: &mut Book<A>, edit: Option<&Edit<A>>) -> Told {
+fn edits<A: Allocator + Copy>(book: &mut Book<A>, edit: Option<&Edit<A>>) -> Outcome {
     let Some(edit) = edit else {
-        return Told::Before;
+        return Outcome::Before;
     };
     match book.edit(7, edit) {
-        Ok(version) => right_if(version == 2),
-        Err(refusal) => memory_if(refusal == EditRefusal::Memory),
+        Ok(version) => Outcome::right_if(version == 2),
+        Err(refusal) => Outcome::memory_if(refusal == EditRefusal::Memory),
     }
 }
 
 // Adds a third scenario.
-fn adds<A: Allocator + Copy>(book: &mut Book<A>) -> Told {
+fn adds<A: Allocator + Copy>(book: &mut Book<A>) -> Outcome {
     let Some(scenario) = Scenario::new(16, 1000) else {
-        return Told::Wrong;
+        return Outcome::Wrong;
     };
     match book.add_scenario(7, "more", scenario) {
-        Ok(id) => right_if(id.number() == 3),
-        Err(refusal) => memory_if(refusal == AddRefusal::Memory),
+        Ok(id) => Outcome::right_if(id.number() == 3),
+        Err(refusal) => Outcome::memory_if(refusal == AddRefusal::Memory),
     }
 }
 
 // Drops the first scenario.
-fn drops<A: Allocator + Copy>(book: &mut Book<A>) -> Told {
+fn drops<A: Allocator + Copy>(book: &mut Book<A>) -> Outcome {
     match book.drop_scenario(7, "base") {
-        Ok(id) => right_if(id.number() == 1),
-        Err(refusal) => memory_if(refusal == DropRefusal::Memory),
+        Ok(id) => Outcome::right_if(id.number() == 1),
+        Err(refusal) => Outcome::memory_if(refusal == DropRefusal::Memory),
     }
 }
 
 /// Lets a scenario be tried again.
-pub(crate) fn retries<A: Allocator + Copy>(book: &mut Book<A>, id: ScenarioId) -> Told {
+pub(crate) fn retries<A: Allocator + Copy>(book: &mut Book<A>, id: ScenarioId) -> Outcome {
     match book.retry(7, id) {
-        Ok(()) => Told::Right,
-        Err(refusal) => memory_if(refusal == RetryRefusal::Memory),
+        Ok(()) => Outcome::Right,
+        Err(refusal) => Outcome::memory_if(refusal == RetryRefusal::Memory),
     }
 }
 
@@ -127,70 +105,70 @@ fn is_third<A: Allocator + Copy>(task: &Task<A>, has_base: bool) -> bool {
 }
 
 // Claims the third ticket.
-fn claims<A: Allocator + Copy>(book: &mut Book<A>, has_base: bool) -> Told {
+fn claims<A: Allocator + Copy>(book: &mut Book<A>, has_base: bool) -> Outcome {
     match book.claim(1) {
-        Ok(Some(task)) => right_if(is_third(&task, has_base)),
-        Ok(None) => Told::Wrong,
-        Err(refusal) => memory_if(refusal == ClaimRefusal::Memory),
+        Ok(Some(task)) => Outcome::right_if(is_third(&task, has_base)),
+        Ok(None) => Outcome::Wrong,
+        Err(refusal) => Outcome::memory_if(refusal == ClaimRefusal::Memory),
     }
 }
 
 // Hands the task's run in.
-fn finishes<A: Allocator + Copy>(book: &mut Book<A>, task: &Task<A>) -> Told {
+fn finishes<A: Allocator + Copy>(book: &mut Book<A>, task: &Task<A>) -> Outcome {
     let Some(run) = worked(task) else {
-        return Told::Before;
+        return Outcome::Before;
     };
     match book.finish(1, task.ticket(), run) {
-        Ok(version) => right_if(version == 1),
-        Err(refusal) => memory_if(refusal == FinishRefusal::Memory),
+        Ok(version) => Outcome::right_if(version == 1),
+        Err(refusal) => Outcome::memory_if(refusal == FinishRefusal::Memory),
     }
 }
 
 // Hands in the run that the task has left with its ticket.
-fn finishes_delivered<A: Allocator + Copy>(book: &mut Book<A>, task: &mut Task<A>) -> Told {
+fn finishes_delivered<A: Allocator + Copy>(book: &mut Book<A>, task: &mut Task<A>) -> Outcome {
     if task.deliver().is_err() {
-        return Told::Before;
+        return Outcome::Before;
     }
     match book.finish_delivered(1, task.ticket()) {
-        Ok(version) => right_if(version == Some(1)),
-        Err(refusal) => memory_if(refusal == FinishRefusal::Memory),
+        Ok(version) => Outcome::right_if(version == Some(1)),
+        Err(refusal) => Outcome::memory_if(refusal == FinishRefusal::Memory),
     }
 }
 
 /// Gives the task up.
-pub(crate) fn gives_up<A: Allocator + Copy>(book: &mut Book<A>, ticket: u64) -> Told {
+pub(crate) fn gives_up<A: Allocator + Copy>(book: &mut Book<A>, ticket: u64) -> Outcome {
     match book.give_up(1, ticket) {
-        Ok(()) => Told::Right,
-        Err(refusal) => memory_if(refusal == GiveUpRefusal::Memory),
+        Ok(()) => Outcome::Right,
+        Err(refusal) => Outcome::memory_if(refusal == GiveUpRefusal::Memory),
     }
 }
 
 // Shows the first scenario.
-fn views<A: Allocator + Copy>(book: &mut Book<A>, id: ScenarioId) -> Told {
+fn views<A: Allocator + Copy>(book: &mut Book<A>, id: ScenarioId) -> Outcome {
     match book.view(7, id, 0) {
-        Ok(published) => right_if(published.copy().is_ok() && published.version() == 0),
-        Err(refusal) => memory_if(refusal == ViewRefusal::Memory),
+        Ok(published) => Outcome::right_if(published.copy().is_ok() && published.version() == 0),
+        Err(refusal) => Outcome::memory_if(refusal == ViewRefusal::Memory),
     }
 }
 
 /// Makes the task's run.
-pub(crate) fn works<A: Allocator + Copy>(task: &Task<A>) -> Told {
+pub(crate) fn works<A: Allocator + Copy>(task: &Task<A>) -> Outcome {
     match task.work() {
-        Ok((run, work)) => right_if(is_made(&run, work)),
-        Err(Memory) => Told::Memory,
+        Ok((run, work)) => Outcome::right_if(is_made(&run, work)),
+        Err(Memory) => Outcome::Memory,
     }
 }
 
 // Makes the task's run, and leaves it with its ticket.
-fn delivers<A: Allocator + Copy>(task: &mut Task<A>) -> Told {
+fn delivers<A: Allocator + Copy>(task: &mut Task<A>) -> Outcome {
     match task.deliver() {
-        Ok((run, work)) => right_if(is_made(&run, work)),
-        Err(Memory) => Told::Memory,
+        Ok((run, work)) => Outcome::right_if(is_made(&run, work)),
+        Err(Memory) => Outcome::Memory,
     }
 }
 
 /// Makes the call.
-pub(crate) fn call<A: Allocator + Copy>(alloc: A, at: &mut Standing<A>, called: Called) -> Told {
+pub(crate) fn call<A: Allocator + Copy>(alloc: A, at: &mut Standing<A>, called: Called) -> Outcome {
     match called {
         Called::Insert => edits(&mut at.book, insertion(alloc).as_ref()),
         Called::Remove => edits(&mut at.book, Some(&Edit::Remove(1))),

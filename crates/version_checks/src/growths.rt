@@ -1,8 +1,9 @@
-use crate::calls::{CALLS, Called, Told, call, gives_up, memory_if, retries, right_if, works};
+use crate::calls::{CALLS, Called, call, gives_up, retries, works};
 use crate::standing::{Standing, reading_of, reads_as, set_up, shows, two};
-use refusing::Refusing;
+use job_table::JobTable;
+use refusing::{Outcome, Trial, survives_refusals};
 use scenarios::ScenarioId;
-use std::alloc::{Allocator, Global};
+use std::alloc::Allocator;
 use std::process::Abort;
 use version_book::{Book, BookFault};
 
@@ -22,95 +23,76 @@ fn fills<A: Allocator + Copy>(book: &mut Book<A>, id: ScenarioId) -> bool {
 // Gives the task up where a mark is wanted, and takes the mark away where a second claim is.
 fn is_ready<A: Allocator + Copy>(at: &mut Standing<A>, called: Called) -> bool {
     let is_marked = called == Called::Retry || called == Called::ClaimAgain;
-    if is_marked && gives_up(&mut at.book, at.task.ticket()) != Told::Right {
+    if is_marked && gives_up(&mut at.book, at.task.ticket()) != Outcome::Right {
         return false;
     }
-    if called == Called::ClaimAgain && retries(&mut at.book, at.first) != Told::Right {
+    if called == Called::ClaimAgain && retries(&mut at.book, at.first) != Outcome::Right {
         return false;
     }
     fills(&mut at.book, at.first)
 }
 
 // Makes the call; where memory is wanting, the book reads as it did and the task makes its run.
-fn compared<A: Allocator + Copy>(alloc: A, at: &mut Standing<A>, called: Called) -> Told {
+fn compared<A: Allocator + Copy>(alloc: A, at: &mut Standing<A>, called: Called) -> Outcome {
     let Some(before) = reading_of(alloc, &at.book) else {
-        return Told::Before;
+        return Outcome::Before;
     };
     let told = call(alloc, at, called);
-    if told != Told::Memory {
+    if told != Outcome::Memory {
         return told;
     }
     let is_same = reads_as(&at.book, &before);
-    memory_if(is_same && shows(&mut at.book, at.first) && works(&at.task) == Told::Right)
+    Outcome::memory_if(
+        is_same && shows(&mut at.book, at.first) && works(&at.task) == Outcome::Right,
+    )
 }
 
 // Makes the call once the book is ready for it.
-fn readied<A: Allocator + Copy>(alloc: A, at: &mut Standing<A>, called: Called) -> Told {
+fn readied<A: Allocator + Copy>(alloc: A, at: &mut Standing<A>, called: Called) -> Outcome {
     if is_ready(at, called) {
         compared(alloc, at, called)
     } else {
-        Told::Before
-    }
-}
-
-// Makes the call on a book at work.
-fn answers<A: Allocator + Copy>(alloc: A, called: Called) -> Told {
-    match set_up(alloc) {
-        Some(mut at) => readied(alloc, &mut at, called),
-        None => Told::Before,
+        Outcome::Before
     }
 }
 
 // Opens the log.
-fn opens<A: Allocator + Copy>(alloc: A) -> Told {
-    let Some(table) = two(alloc) else {
-        return Told::Before;
-    };
+fn opens<A: Allocator + Copy>(alloc: A, table: JobTable<A>) -> Outcome {
     match Book::new(alloc, table, 1) {
-        Ok(book) => right_if(book.version() == 0 && book.journal().is_empty()),
-        Err(fault) => memory_if(fault == BookFault::Memory),
+        Ok(book) => Outcome::right_if(book.version() == 0 && book.journal().is_empty()),
+        Err(fault) => Outcome::memory_if(fault == BookFault::Memory),
     }
 }
 
-// What came of the call, or of opening the log, while the growth of this number was refused, and
-// whether there was such a growth.
-fn told_at(alloc: Global, nth: u64, called: Option<Called>) -> (Told, bool) {
-    let heap = Refusing::new(alloc, nth);
-    let told = match called {
-        Some(called) => answers(&heap, called),
-        None => opens(&heap),
-    };
-    (told, heap.refused())
+impl Trial for Called {
+    fn outcome<A: Allocator + Copy>(&self, alloc: A) -> Outcome {
+        match set_up(alloc) {
+            Some(mut at) => readied(alloc, &mut at, *self),
+            None => Outcome::Before,
+        }
+    }
 }
 
-/// More growths than are made.
-const MANY: u64 = 10_000;
+/// Opening the log.
+struct Opening;
 
-// Refuses each growth in turn: whether the call told want of memory at one, never answered otherwise,
-// and answers as it should once none is refused.
-fn tells_memory(alloc: Global, called: Option<Called>) -> bool {
-    let mut was_told = false;
-    for nth in 1..MANY {
-        let (told, refused) = told_at(alloc, nth, called);
-        if !refused {
-            return was_told && told == Told::Right;
+impl Trial for Opening {
+    fn outcome<A: Allocator + Copy>(&self, alloc: A) -> Outcome {
+        match two(alloc) {
+            Some(table) => opens(alloc, table),
+            None => Outcome::Before,
         }
-        if told == Told::Right || told == Told::Wrong {
-            return false;
-        }
-        was_told = was_told || told == Told::Memory;
     }
-    false
 }
 
 #[test]
 fn a_call_without_memory_changes_nothing(rt: HostRuntime) {
-    for called in CALLS {
-        assert!(rt; tells_memory(rt.alloc(), Some(*called)));
+    for (place, called) in CALLS.iter().enumerate() {
+        assert!(rt; survives_refusals(rt.alloc(), called), "call {place}");
     }
 }
 
 #[test]
 fn a_book_without_memory_is_refused(rt: HostRuntime) {
-    assert!(rt; tells_memory(rt.alloc(), None));
+    assert!(rt; survives_refusals(rt.alloc(), &Opening));
 }
