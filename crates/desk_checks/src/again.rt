@@ -78,16 +78,27 @@ impl Script for AddedAgain {
     }
 }
 
+impl AddedAgain {
+    fn new() -> AddedAgain {
+        AddedAgain {
+            is_claimed: Flag::new(),
+            is_added: Flag::new(),
+            wrong: Flag::new(),
+            turns: Turns::new(),
+        }
+    }
+}
+
+// Whether all that goes as it should.
+fn plays<R: Threads + Wait + Sync>(rt: &R, alloc: Global, crew: &mut Crew) -> bool {
+    let again = AddedAgain::new();
+    crew.run(rt, alloc, &again, &again) && !again.wrong.is_set()
+}
+
 // The book after that.
 fn book_after<R: Threads + Wait + Sync>(rt: &R, alloc: Global) -> Option<Book<Global>> {
     let mut crew = Crew::new(rt, alloc, opened(alloc)?, 1, 1)?;
-    let again = AddedAgain {
-        is_claimed: Flag::new(),
-        is_added: Flag::new(),
-        wrong: Flag::new(),
-        turns: Turns::new(),
-    };
-    if crew.run(rt, alloc, &again, &again) && !again.wrong.is_set() {
+    if plays(rt, alloc, &mut crew) {
         crew.close()
     } else {
         None

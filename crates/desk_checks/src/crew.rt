@@ -18,34 +18,6 @@ pub(crate) struct Crew {
     pub(crate) workers: Vec<Worker<Global>>,
 }
 
-// Opens so many sessions.
-fn sessions_of<R: Wait>(
-    rt: &R,
-    alloc: Global,
-    desk: &Desk<Global>,
-    count: usize,
-) -> Option<Vec<Session<Global>>> {
-    let mut sessions = Vec::new(alloc);
-    for _ in 0..count {
-        sessions.push(desk.open_session(rt)?).ok()?;
-    }
-    Some(sessions)
-}
-
-// Opens so many workers.
-fn workers_of<R: Wait>(
-    rt: &R,
-    alloc: Global,
-    desk: &Desk<Global>,
-    count: usize,
-) -> Option<Vec<Worker<Global>>> {
-    let mut workers = Vec::new(alloc);
-    for _ in 0..count {
-        workers.push(desk.open_worker(rt)?).ok()?;
-    }
-    Some(workers)
-}
-
 // Runs callers on threads of their own, and stops the desk once the sessions have ended.
 fn run_all<R: Threads + Wait + Sync, G: Gate + Sync, S: Script + Sync>(
     rt: &R,
@@ -88,6 +60,43 @@ fn run_all<R: Threads + Wait + Sync, G: Gate + Sync, S: Script + Sync>(
 }
 
 impl Crew {
+    // A desk over a book, without callers.
+    fn over(alloc: Global, book: Book<Global>) -> Crew {
+        Crew {
+            desk: Desk::new(alloc, book),
+            sessions: Vec::new(alloc),
+            workers: Vec::new(alloc),
+        }
+    }
+
+    // Opens a session; whether it is kept.
+    fn opens_session<R: Wait>(&mut self, rt: &R) -> bool {
+        match self.desk.open_session(rt) {
+            Some(session) => self.sessions.push(session).is_ok(),
+            None => false,
+        }
+    }
+
+    // Opens a worker; whether it is kept.
+    fn opens_worker<R: Wait>(&mut self, rt: &R) -> bool {
+        match self.desk.open_worker(rt) {
+            Some(worker) => self.workers.push(worker).is_ok(),
+            None => false,
+        }
+    }
+
+    // Opens so many callers; whether all are kept.
+    fn opens<R: Wait>(&mut self, rt: &R, sessions: usize, workers: usize) -> bool {
+        let mut all = true;
+        for _ in 0..sessions {
+            all = self.opens_session(rt) && all;
+        }
+        for _ in 0..workers {
+            all = self.opens_worker(rt) && all;
+        }
+        all
+    }
+
     /// A desk over a book with so many callers.
     pub(crate) fn new<R: Wait>(
         rt: &R,
@@ -96,14 +105,12 @@ impl Crew {
         sessions: usize,
         workers: usize,
     ) -> Option<Crew> {
-        let desk = Desk::new(alloc, book);
-        let sessions = sessions_of(rt, alloc, &desk, sessions)?;
-        let workers = workers_of(rt, alloc, &desk, workers)?;
-        Some(Crew {
-            desk,
-            sessions,
-            workers,
-        })
+        let mut crew = Crew::over(alloc, book);
+        if crew.opens(rt, sessions, workers) {
+            Some(crew)
+        } else {
+            None
+        }
     }
 
     /// Runs all callers on threads of their own, and stops the desk once the sessions have ended. False
@@ -128,33 +135,18 @@ impl Crew {
 
     /// The book, if the desk closes.
     pub(crate) fn close(self) -> Option<Book<Global>> {
-        let Crew {
-            desk,
-            sessions,
-            workers,
-        } = self;
-        close(desk, sessions, workers).ok()
+        close(self.desk, self.sessions, self.workers).ok()
     }
 
-    /// Closes it without the last session; the fault, and all that is handed back with that session.
-    pub(crate) fn close_without_one(self) -> Option<(CloseFault, Crew)> {
-        let Crew {
-            desk,
-            mut sessions,
-            workers,
-        } = self;
-        let last = sessions.pop()?;
-        let Err((fault, desk, mut sessions, workers)) = close(desk, sessions, workers) else {
-            return None;
-        };
-        sessions.push(last).ok()?;
-        Some((
-            fault,
-            Crew {
+    /// All that is handed back where the desk does not close, since a caller is still out.
+    pub(crate) fn still_out(self) -> Option<Crew> {
+        match close(self.desk, self.sessions, self.workers) {
+            Err((CloseFault::StillOut, desk, sessions, workers)) => Some(Crew {
                 desk,
                 sessions,
                 workers,
-            },
-        ))
+            }),
+            _ => None,
+        }
     }
 }

@@ -1,5 +1,5 @@
 // Two workers run, and the one that was given the older ticket hands in last.
-use crate::crew::Script;
+use crate::crew::{Crew, Script};
 use crate::desks::crew_of;
 use crate::flag::{Flag, Turns};
 use job_table::Edit;
@@ -87,11 +87,16 @@ fn told_of_first(book: &Book<Global>) -> Option<Reply> {
     Some(note.reply)
 }
 
-// The book after all that, where no flag was late.
+// Whether all that goes as it should, and no flag is late.
+fn plays<R: Threads + Wait + Sync>(rt: &R, alloc: Global, crew: &mut Crew) -> bool {
+    let held = Held::new();
+    crew.run(rt, alloc, &held, &held) && !held.is_late.is_set()
+}
+
+// The book after all that.
 fn book_after<R: Threads + Wait + Sync>(rt: &R, alloc: Global) -> Option<Book<Global>> {
     let mut crew = crew_of(rt, alloc, 1, 2)?;
-    let held = Held::new();
-    if crew.run(rt, alloc, &held, &held) && !held.is_late.is_set() {
+    if plays(rt, alloc, &mut crew) {
         crew.close()
     } else {
         None

@@ -9,11 +9,16 @@ use std::thread::Threads;
 use version_book::Book;
 use workers::{Desk, NoGate, Session, Settled, Worker, WorkerEnd};
 
+// Gives up the ticket of the scenario that is due.
+fn gives_up(book: &mut Book<Global>) -> Option<()> {
+    let task = book.claim(0).ok()??;
+    book.give_up(0, task.ticket()).ok()
+}
+
 // The book after its one scenario was given up.
 fn given_up(alloc: Global) -> Option<Book<Global>> {
     let mut book = book_of(alloc)?;
-    let task = book.claim(0).ok()??;
-    book.give_up(0, task.ticket()).ok()?;
+    gives_up(&mut book)?;
     Some(book)
 }
 
@@ -42,12 +47,16 @@ impl Script for TriesAgain {
     }
 }
 
+// Whether it settles.
+fn settles<R: Threads + Wait + Sync>(rt: &R, alloc: Global, crew: &mut Crew) -> bool {
+    let again = TriesAgain { done: Flag::new() };
+    crew.run(rt, alloc, &NoGate, &again) && again.done.is_set()
+}
+
 // Whether it settled, and the desk closes.
 fn is_done<R: Threads + Wait + Sync>(rt: &R, alloc: Global) -> Option<bool> {
     let mut crew = Crew::new(rt, alloc, given_up(alloc)?, 1, 1)?;
-    let again = TriesAgain { done: Flag::new() };
-    let all = crew.run(rt, alloc, &NoGate, &again);
-    Some(all && again.done.is_set() && crew.close().is_some())
+    Some(settles(rt, alloc, &mut crew) && crew.close().is_some())
 }
 
 #[test]

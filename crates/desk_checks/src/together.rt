@@ -8,7 +8,7 @@ use std::process::Abort;
 use std::sync::Wait;
 use std::thread::Threads;
 use version_book::{Book, FinishRefusal, Published};
-use workers::{CloseFault, Current, Desk, NoGate, Session, Settled};
+use workers::{Current, Desk, NoGate, Session, Settled};
 
 /// A session settles and looks; the flag tells that it was shown another thing than it should be.
 #[derive(Drop)]
@@ -60,28 +60,40 @@ impl Script for Looks {
     }
 }
 
-// Both edits: job 5 joins by session 0, and job 4 leaves by session 1; and then the version as session 0
-// reads it, which has seen its own edit alone.
-fn edits<R: Wait>(rt: &R, alloc: Global, crew: &mut Crew) -> Option<(u64, u64, u64)> {
+// The version after job 5 joins by session 0.
+fn joins<R: Wait>(rt: &R, alloc: Global, crew: &mut Crew) -> Option<u64> {
     let joins = insertion(alloc)?;
-    let one = crew.sessions.get_mut(0)?.edit(rt, &crew.desk, &joins).ok()?;
-    let two = crew
-        .sessions
-        .get_mut(1)?
-        .edit(rt, &crew.desk, &Edit::Remove(4))
-        .ok()?;
-    let now = crew.sessions.get(0)?.version(rt, &crew.desk);
-    Some((one, two, now))
+    crew.sessions.get_mut(0)?.edit(rt, &crew.desk, &joins).ok()
 }
 
-// The desk after both edits, at which both sessions settled and saw what they should.
+// The version after job 4 leaves by session 1.
+fn leaves<R: Wait>(rt: &R, crew: &mut Crew) -> Option<u64> {
+    crew.sessions
+        .get_mut(1)?
+        .edit(rt, &crew.desk, &Edit::Remove(4))
+        .ok()
+}
+
+// Whether both edits make the versions 1 and 2; session 0, which has seen its own edit alone, then reads 2.
+fn edits<R: Wait>(rt: &R, alloc: Global, crew: &mut Crew) -> bool {
+    joins(rt, alloc, crew) == Some(1)
+        && leaves(rt, crew) == Some(2)
+        && match crew.sessions.get(0) {
+            Some(session) => session.version(rt, &crew.desk) == 2,
+            None => false,
+        }
+}
+
+// Whether both sessions settle after both edits and see what they should.
+fn plays<R: Threads + Wait + Sync>(rt: &R, alloc: Global, crew: &mut Crew) -> bool {
+    let looks = Looks { wrong: Flag::new() };
+    edits(rt, alloc, crew) && crew.run(rt, alloc, &NoGate, &looks) && !looks.wrong.is_set()
+}
+
+// The desk after all that.
 fn played<R: Threads + Wait + Sync>(rt: &R, alloc: Global) -> Option<Crew> {
     let mut crew = crew_of(rt, alloc, 2, 1)?;
-    if edits(rt, alloc, &mut crew)? != (1, 2, 2) {
-        return None;
-    }
-    let looks = Looks { wrong: Flag::new() };
-    if crew.run(rt, alloc, &NoGate, &looks) && !looks.wrong.is_set() {
+    if plays(rt, alloc, &mut crew) {
         Some(crew)
     } else {
         None
@@ -94,11 +106,34 @@ fn is_whole(book: &mut Book<Global>) -> bool {
     book.journal().len() == 7 && book.finish_delivered(0, 1) == Err(FinishRefusal::UnknownTicket)
 }
 
-// Whether it doesn't close without a session, closes with all callers, and the book is whole then.
+// A crew with this session once more.
+fn rejoined(mut crew: Crew, last: Session<Global>) -> Option<Crew> {
+    match crew.sessions.push(last) {
+        Ok(()) => Some(crew),
+        Err(_) => None,
+    }
+}
+
+// The crew, after its desk did not close without the last session.
+fn refused(mut crew: Crew) -> Option<Crew> {
+    let last = crew.sessions.pop()?;
+    match crew.still_out() {
+        Some(crew) => rejoined(crew, last),
+        None => None,
+    }
+}
+
+// Whether it closes with all callers, and the book is whole then.
+fn is_closed(crew: Crew) -> bool {
+    match crew.close() {
+        Some(mut book) => is_whole(&mut book),
+        None => false,
+    }
+}
+
+// Whether it doesn't close without a session, and closes with all callers.
 fn closes<R: Threads + Wait + Sync>(rt: &R, alloc: Global) -> Option<bool> {
-    let (fault, crew) = played(rt, alloc)?.close_without_one()?;
-    let mut book = crew.close()?;
-    Some(fault == CloseFault::StillOut && is_whole(&mut book))
+    Some(is_closed(refused(played(rt, alloc)?)?))
 }
 
 #[test]
