@@ -158,6 +158,32 @@ fn finish<A: Allocator + Copy>(
     Ok(())
 }
 
+// Goes on from the old segment at this place to the next: takes it over, or works up to its first second
+// and tries it.
+fn turn<A: Allocator + Copy>(
+    alloc: A,
+    change: &Change<'_, A>,
+    at: usize,
+    spacing: u32,
+    patch: &mut Patch<A>,
+) -> Result<(), RunFault>
+    requires spacing { 1 ≤ spacing }
+    requires within { at < length change.now.old }
+    requires few { patch.old.reused ≤ at }
+    requires stands { Stands change.now spacing at patch.old.kept patch.old.engine (map arc_value patch.old.segments.items) patch.old.handled patch.old.reused }
+    requires places { AreFrom change.now.old (map arc_value patch.old.segments.items) patch.old.places.items }
+    ensures stands { OnOk result (Stands change.now spacing (at + 1) patch.new.kept patch.new.engine (map arc_value patch.new.segments.items) patch.new.handled patch.new.reused) }
+    ensures places { OnOk result (AreFrom change.now.old (map arc_value patch.new.segments.items) patch.new.places.items) }
+    ensures few { OnOk result (patch.new.reused ≤ at + 1) }
+    ensures fault { IfErr result (λ f. f ≡ RunFault.Memory) }
+{
+    if patch.kept {
+        follow(alloc, change, at, patch)
+    } else {
+        reach(alloc, change, at, spacing, patch)
+    }
+}
+
 // The segments of the new plan's simulation: the kept ones of the old segments, and between them
 // worked ones of `spacing` event seconds, or those up to the next old first second or the end.
 pub(crate) fn rejoined<A: Allocator + Copy>(
@@ -179,11 +205,7 @@ pub(crate) fn rejoined<A: Allocator + Copy>(
         reused: 0,
     };
     for at in 0..change.len() {
-        if patch.kept {
-            follow(alloc, change, at, &mut patch)?;
-        } else {
-            reach(alloc, change, at, spacing, &mut patch)?;
-        }
+        turn(alloc, change, at, spacing, &mut patch)?;
     }
     finish(alloc, change, spacing, &mut patch)?;
     Ok(patch)
