@@ -133,22 +133,28 @@ fn light_blocks_are_gone_over(rt: HostRuntime) {
     assert!(rt; row.is_some_and(|row| goes_over_the_light(&row)));
 }
 
-// The majors of the marks are 0 to 199, so the second block begins with 64 and the last with 128.
-fn goes_on_from(row: &Blocks<Mark, Global>, block: usize, major: u64, count: usize) -> bool {
+// Whether the marks go on from a block with this major, one after another, up to 199.
+fn goes_on_from(row: &Blocks<Mark, Global>, block: usize, first: u64) -> bool {
     if block > row.blocks() {
         return false;
     }
-    let first = row.iter_from(block).next();
-    first == Some(&mark_at(major, 0, 1)) && row.iter_from(block).count() == count
+    let mut major = first;
+    for mark in row.iter_from(block) {
+        if *mark != mark_at(major, 0, 1) {
+            return false;
+        }
+        major = major.saturating_add(1);
+    }
+    major == 200
 }
 
-// None is left behind the last block.
+// The blocks begin with 0, 64 and 128, and nothing is left behind the last one.
 fn goes_on_from_each(row: &Blocks<Mark, Global>) -> bool {
-    goes_on_from(row, 0, 0, 200)
-        && goes_on_from(row, 1, 64, 136)
-        && goes_on_from(row, 2, 128, 72)
-        && row.blocks() == 3
-        && row.iter_from(3).next().is_none()
+    row.blocks() == 3
+        && goes_on_from(row, 0, 0)
+        && goes_on_from(row, 1, 64)
+        && goes_on_from(row, 2, 128)
+        && goes_on_from(row, 3, 200)
 }
 
 #[test]
