@@ -4,7 +4,7 @@ use job_table::{Edit, JobTable};
 use scenarios::Scenario;
 use std::alloc::{Allocator, Global};
 use std::sync::Wait;
-use swf_text::{Entry, read_swf};
+use swf_text::{Entry, SwfText, read_swf};
 use version_book::Book;
 
 /// Jobs of sizes 6, 8, 4 and 2 at 0 to 3.
@@ -20,11 +20,17 @@ const FIFTH: &[u8] = b"5 4 -1 5 2 -1 -1 2 5 -1 1 9 -1 -1 -1 -1 -1 -1\n";
 /// The starts without job 4 and with job 5, worked by hand.
 pub(crate) const STARTS: &[(u64, u64)] = &[(1, 0), (2, 100), (3, 2), (5, 92)];
 
+// The table of the four jobs.
+fn four<A: Allocator + Copy>(alloc: A) -> Option<JobTable<A>> {
+    match read_swf(alloc, FOUR) {
+        Ok(text) => JobTable::from_text(alloc, &text).ok(),
+        Err(_) => None,
+    }
+}
+
 /// The book of the four jobs.
 pub(crate) fn opened<A: Allocator + Copy>(alloc: A) -> Option<Book<A>> {
-    let text = read_swf(alloc, FOUR).ok()?;
-    let table = JobTable::from_text(alloc, &text).ok()?;
-    Book::new(alloc, table, 1).ok()
+    Book::new(alloc, four(alloc)?, 1).ok()
 }
 
 /// The machine of ten processors.
@@ -49,10 +55,17 @@ pub(crate) fn crew_of<R: Wait>(
     Crew::new(rt, alloc, book_of(alloc)?, sessions, workers)
 }
 
+// A copy of a log's first entry.
+fn first_of<A: Allocator + Copy>(text: &SwfText<A>) -> Option<Entry<A>> {
+    text.entries().first()?.copy().ok()
+}
+
 // The entry of the fifth job.
 fn fifth<A: Allocator + Copy>(alloc: A) -> Option<Entry<A>> {
-    let text = read_swf(alloc, FIFTH).ok()?;
-    text.entries().first()?.copy().ok()
+    match read_swf(alloc, FIFTH) {
+        Ok(text) => first_of(&text),
+        Err(_) => None,
+    }
 }
 
 /// The edit by which the fifth job joins.

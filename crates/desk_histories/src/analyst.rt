@@ -1,6 +1,6 @@
 // The calls of a session at a desk whose growths are refused one by one.
 use crate::logs::ten;
-use crate::looks::{Looks, is_current, is_right};
+use crate::looks::{Looks, is_current, is_right, looks_of};
 use crate::said::{Said, Told, memory_if, told_if};
 use crate::seat::Seat;
 use crate::wrong::{Wrong, right_if};
@@ -108,17 +108,6 @@ fn of_gone(told: Result<(), RetryRefusal>) -> Told {
 }
 
 impl<R: Wait, A: Allocator + Copy> Seat<'_, R, A> {
-    // What a session sees.
-    fn looks(&self, session: &Session<A>) -> Looks {
-        Looks {
-            version: session.version(self.rt, self.desk),
-            base: session.find(self.rt, self.desk, "base"),
-            more: session.find(self.rt, self.desk, "more"),
-            seen: session.seen(),
-            listed: session.list().len(),
-        }
-    }
-
     fn edit(&self, session: &mut Session<A>, edit: &Edit<A>, version: u64) -> Told {
         let told = session.edit(self.rt, self.desk, edit);
         of_edit(session, told, version)
@@ -181,7 +170,7 @@ impl<R: Wait, A: Allocator + Copy> Seat<'_, R, A> {
 
     fn read(&self, session: &Session<A>) -> Told {
         match session.current(self.rt, self.desk) {
-            Ok(current) => told_if(is_current(&current, self.looks(session))),
+            Ok(current) => told_if(is_current(&current, looks_of(self.rt, self.desk, session))),
             Err(_) => Told::Memory,
         }
     }
@@ -214,7 +203,7 @@ impl<R: Wait, A: Allocator + Copy> Seat<'_, R, A> {
 
     // Whether all is as it looked before.
     fn is_as_before(&self, session: &Session<A>, before: Looks) -> bool {
-        self.looks(session) == before && self.read(session) == Told::Right
+        looks_of(self.rt, self.desk, session) == before && self.read(session) == Told::Right
     }
 
     // Makes a call, and where memory is wanting once more, after nothing has changed by it.
@@ -224,7 +213,7 @@ impl<R: Wait, A: Allocator + Copy> Seat<'_, R, A> {
         counts: &mut Counts,
         said: &Said,
     ) -> Result<Told, Wrong> {
-        let before = self.looks(session);
+        let before = looks_of(self.rt, self.desk, session);
         let told = self.call(session, said);
         if told != Told::Memory {
             return Ok(told);

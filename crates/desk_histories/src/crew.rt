@@ -1,8 +1,9 @@
 use crate::wrong::Wrong;
 use std::alloc::Allocator;
 use std::sync::Wait;
+use std::sync::atomic::{AtomicBool, Ordering};
 use version_book::Book;
-use workers::{Desk, Session, Worker, close};
+use workers::{Desk, NoGate, Session, Worker, WorkerEnd, close};
 
 /// A desk with its callers.
 #[derive(Drop)]
@@ -44,6 +45,18 @@ fn workers_of<R: Wait, A: Allocator + Copy>(
         }
     }
     Ok(workers)
+}
+
+/// Has a worker work until the desk is stopped, and sets the flag where it ended before.
+pub(crate) fn works<R: Wait, A: Allocator + Copy>(
+    rt: &R,
+    desk: &Desk<A>,
+    worker: &mut Worker<A>,
+    has_ended: &AtomicBool,
+) {
+    if worker.run(rt, desk, &NoGate) != WorkerEnd::Stopped {
+        has_ended.store(true, Ordering::SeqCst);
+    }
 }
 
 impl<A: Allocator + Copy> Crew<A> {

@@ -1,7 +1,8 @@
 // A desk whose journal has room for one note more.
 use crate::crew::Crew;
 use crate::judge::is_legal;
-use crate::logs::{book_of, ten};
+use crate::logs::{ten, with_base};
+use crate::looks::{Looks, looks_of};
 use crate::wrong::{Wrong, right_if};
 use job_table::Edit;
 use scenarios::ScenarioId;
@@ -13,15 +14,18 @@ use workers::{Desk, NoGate, Session, Settled, WorkerEnd};
 /// So many notes a journal has at most.
 const NOTES: u64 = 1_000_000;
 
-// The book with the scenario `base`, and with one note less.
-fn nearly_full(alloc: Global) -> Result<Book<Global>, Wrong> {
-    let mut book = book_of(alloc, 1)?;
-    if book.add_scenario(0, "base", ten()?).is_err() {
-        return Err(Wrong::Input);
-    }
+// Edits by which nothing changes but that each is noted, until one note more fits.
+fn fills(book: &mut Book<Global>) {
+    let none = Edit::Remove(99);
     for _ in 2..NOTES {
-        let _refused = book.edit(0, &Edit::Remove(99));
+        let _refused = book.edit(0, &none);
     }
+}
+
+// The book with the scenario `base`, and with room for one note more.
+fn nearly_full(alloc: Global) -> Result<Book<Global>, Wrong> {
+    let mut book = with_base(alloc)?;
+    fills(&mut book);
     Ok(book)
 }
 
@@ -73,11 +77,14 @@ impl<R: Wait> FullDesk<'_, R> {
 
     // Whether nothing has changed by that.
     fn is_unchanged(&self, session: &Session<Global>, base: ScenarioId) -> bool {
-        session.list().is_empty()
-            && session.seen() == 0
-            && session.version(self.rt, self.desk) == 0
-            && session.find(self.rt, self.desk, "base") == Some(base)
-            && session.find(self.rt, self.desk, "more").is_none()
+        looks_of(self.rt, self.desk, session)
+            == Looks {
+                version: 0,
+                base: Some(base),
+                more: None,
+                seen: 0,
+                listed: 0,
+            }
     }
 
     // Waits for no run, and is refused each call, by which nothing changes.

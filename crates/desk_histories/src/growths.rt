@@ -2,7 +2,7 @@
 use crate::analyst::Counts;
 use crate::crew::Crew;
 use crate::judge::is_legal;
-use crate::logs::{book_of, fifth, ten};
+use crate::logs::{fifth, with_base};
 use crate::pair::{plays_beside, works_once};
 use crate::said::Said;
 use crate::seat::Seat;
@@ -13,7 +13,6 @@ use refusing::Refusing;
 use std::alloc::{Allocator, Global};
 use std::sync::Wait;
 use std::thread::Threads;
-use version_book::Book;
 use workers::{Session, Worker};
 
 /// What meets the first growths at the desk.
@@ -59,16 +58,7 @@ fn wants_of(counts: Counts, has_ended: bool, was_first: bool) -> Wants {
     }
 }
 
-// The book with the scenario `base`.
-fn with_base<A: Allocator + Copy>(alloc: A) -> Result<Book<A>, Wrong> {
-    let mut book = book_of(alloc, 1)?;
-    match book.add_scenario(0, "base", ten()?) {
-        Ok(_) => Ok(book),
-        Err(_) => Err(Wrong::Memory),
-    }
-}
-
-// A desk over it with a session and a worker.
+// A desk over the book with the scenario `base`, with a session and a worker.
 fn pair_of<R: Wait, A: Allocator + Copy>(rt: &R, alloc: A) -> Result<Crew<A>, Wrong> {
     Crew::new(rt, alloc, with_base(alloc)?, 1, 1)
 }
@@ -146,13 +136,11 @@ fn played_by<R: Threads + Wait + Sync, A: Allocator + Copy + Send + Sync>(
 
 // How often a ticket was given up.
 fn given_up<A: Allocator + Copy>(notes: &[Note<A>]) -> u64 {
-    let mut count = 0u64;
-    for note in notes {
-        if matches!(note.call, Call::GiveUp { .. }) {
-            count = count.saturating_add(1);
-        }
-    }
-    count
+    let count = notes
+        .iter()
+        .filter(|note| matches!(note.call, Call::GiveUp { .. }))
+        .count();
+    count as u64
 }
 
 // Closes the desk, of which the journal is judged with memory enough, and tells all wants.

@@ -3,8 +3,9 @@ use checkpoints::Run;
 use job_table::JobTable;
 use scenarios::ScenarioId;
 use std::alloc::Allocator;
+use std::sync::Wait;
 use version_book::Published;
-use workers::Current;
+use workers::{Current, Desk, Session};
 
 /// What a session sees of the book and of itself.
 #[derive(Clone, Copy, PartialEq, Eq)]
@@ -14,6 +15,21 @@ pub(crate) struct Looks {
     pub(crate) more: Option<ScenarioId>,
     pub(crate) seen: u64,
     pub(crate) listed: usize,
+}
+
+/// What a session sees at this desk.
+pub(crate) fn looks_of<R: Wait, A: Allocator + Copy>(
+    rt: &R,
+    desk: &Desk<A>,
+    session: &Session<A>,
+) -> Looks {
+    Looks {
+        version: session.version(rt, desk),
+        base: session.find(rt, desk, "base"),
+        more: session.find(rt, desk, "more"),
+        seen: session.seen(),
+        listed: session.list().len(),
+    }
 }
 
 /// The jobs of each version: the fifth joins, and then the fourth leaves.
@@ -26,30 +42,31 @@ const STARTS: [&[(u64, u64)]; 3] = [
     &[(1, 0), (2, 100), (3, 2), (5, 92)],
 ];
 
+// Whether a table has all these jobs.
+fn has_all<A: Allocator + Copy>(table: &JobTable<A>, jobs: &[u64]) -> bool {
+    let mut all = true;
+    for number in jobs {
+        all = all && table.get(*number).is_some();
+    }
+    all
+}
+
 // Whether these are the jobs of a version.
 fn has_jobs<A: Allocator + Copy>(table: &JobTable<A>, version: u64) -> bool {
-    let Some(jobs) = JOBS.get(version as usize) else {
-        return false;
-    };
-    for number in *jobs {
-        if table.get(*number).is_none() {
-            return false;
-        }
+    match JOBS.get(version as usize) {
+        Some(jobs) => table.len() == jobs.len() && has_all(table, jobs),
+        None => false,
     }
-    table.len() == jobs.len()
 }
 
 // Whether the jobs of a version start as they should.
 fn has_starts<A: Allocator + Copy>(run: &Run<A>, version: u64) -> bool {
-    let Some(starts) = STARTS.get(version as usize) else {
-        return false;
-    };
-    for (number, start) in *starts {
-        if run.start_of(*number) != Some(*start) {
-            return false;
-        }
+    match STARTS.get(version as usize) {
+        Some(starts) => starts
+            .iter()
+            .all(|(number, start)| run.start_of(*number) == Some(*start)),
+        None => false,
     }
-    true
 }
 
 /// Whether what is shown has the starts of its version.

@@ -47,6 +47,7 @@ fn tell<R: Print + Eprint>(rt: &R, found: Found, text: &str) -> Result<bool> {
             Ok(true)
         }
         Err(wrong) => {
+            let wrong = wrong.text();
             eprintln!(rt; "desk_histories: not {text}: {wrong}")?;
             Ok(false)
         }

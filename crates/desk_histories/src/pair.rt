@@ -1,5 +1,6 @@
 // What a session and a worker play at a desk on an allocator that may refuse a growth.
 use crate::analyst::Counts;
+use crate::crew::works;
 use crate::said::Said;
 use crate::seat::Seat;
 use crate::wrong::{Wrong, right_if};
@@ -10,7 +11,7 @@ use std::sync::Wait;
 use std::sync::atomic::{AtomicBool, Ordering};
 use std::thread;
 use std::thread::Threads;
-use workers::{Desk, Gate, NoGate, Session, Settled, Worker, WorkerEnd};
+use workers::{Desk, Gate, Session, Settled, Worker, WorkerEnd};
 
 /// Stops the desk before a run is made.
 #[derive(Drop)]
@@ -38,27 +39,46 @@ enum Left {
     Nothing,
 }
 
-// What a worker has left, by what it was told last.
-fn left_by<A: Allocator + Copy>(worker: &Worker<A>) -> Left {
-    match worker.list().last() {
-        Some(exchange) if exchange.reply == Reply::Finished { version: 0 } => Left::Run,
-        Some(exchange) if exchange.reply == Reply::GivenUp => Left::Mark,
+// What a worker has left that was told this last.
+fn left_behind(reply: Reply) -> Left {
+    match reply {
+        Reply::Finished { version: 0 } => Left::Run,
+        Reply::GivenUp => Left::Mark,
         _ => Left::Nothing,
     }
 }
 
+// What a worker has left, by what it was told last.
+fn left_by<A: Allocator + Copy>(worker: &Worker<A>) -> Left {
+    match worker.list().last() {
+        Some(exchange) => left_behind(exchange.reply),
+        None => Left::Nothing,
+    }
+}
+
 impl<R: Wait, A: Allocator + Copy> Seat<'_, R, A> {
-    // Waits for the runs, after what was given up is tried again; whether they are there, or the desk is
-    // stopped.
-    fn settles(&self, session: &mut Session<A>, counts: &mut Counts) -> Result<bool, Wrong> {
-        if session.settle(self.rt, self.desk) == Settled::Failed(1) {
-            self.makes(session, counts, Said::Retry)?;
+    // Waits for the runs, and has what was given up tried again.
+    fn tries_again(&self, session: &mut Session<A>, counts: &mut Counts) -> Result<(), Wrong> {
+        match session.settle(self.rt, self.desk) {
+            Settled::Failed(1) => self.makes(session, counts, Said::Retry),
+            _ => Ok(()),
         }
+    }
+
+    // Waits for the runs; whether they are there, or the desk is stopped.
+    fn are_there(&self, session: &Session<A>) -> Result<bool, Wrong> {
         match session.settle(self.rt, self.desk) {
             Settled::Done => Ok(true),
             Settled::Stopped => Ok(false),
             Settled::Failed(_) => Err(Wrong::Settled),
         }
+    }
+
+    // Waits for the runs, after what was given up is tried again; whether they are there, or the desk is
+    // stopped.
+    fn settles(&self, session: &mut Session<A>, counts: &mut Counts) -> Result<bool, Wrong> {
+        self.tries_again(session, counts)?;
+        self.are_there(session)
     }
 
     // Settles, and looks: this version is shown, unless the desk is stopped.
@@ -120,18 +140,6 @@ impl<R: Wait, A: Allocator + Copy> Seat<'_, R, A> {
         self.makes(session, counts, Said::Join)?;
         self.makes(session, counts, later)?;
         self.is_settled(session, Settled::Stopped)
-    }
-}
-
-// Has a worker work until the desk is stopped, and sets the flag where it ended before.
-fn works<R: Wait, A: Allocator + Copy>(
-    rt: &R,
-    desk: &Desk<A>,
-    worker: &mut Worker<A>,
-    has_ended: &AtomicBool,
-) {
-    if worker.run(rt, desk, &NoGate) != WorkerEnd::Stopped {
-        has_ended.store(true, Ordering::SeqCst);
     }
 }
 

@@ -1,9 +1,10 @@
+use crate::inputs::entry_of;
 use crate::standing::{Standing, is_made, run_for, worked};
 use job_table::Edit;
 use refusing::Outcome;
 use scenarios::{Scenario, ScenarioId};
 use std::alloc::Allocator;
-use swf_text::{Memory, read_swf};
+use swf_text::Memory;
 use version_book::{
     AddRefusal, Book, ClaimRefusal, DropRefusal, EditRefusal, FinishRefusal, GiveUpRefusal,
     RetryRefusal, Task, ViewRefusal,
@@ -53,8 +54,7 @@ const THIRD: &[u8] = b"3 8 -1 20 10 -1 -1 10 20 -1 1 7 -1 -1 -1 -1 -1 -1\n";
 
 // The edit by which it does; none where memory is short.
 fn insertion<A: Allocator + Copy>(alloc: A) -> Option<Edit<A>> {
-    let text = read_swf(alloc, THIRD).ok()?;
-    Some(Edit::Insert(text.entries().first()?.copy().ok()?))
+    Some(Edit::Insert(entry_of(alloc, THIRD)?))
 }
 
 // Makes the second edit.

@@ -10,6 +10,8 @@ mod crowd;
 #[cfg(test)]
 mod growths;
 #[cfg(test)]
+mod inputs;
+#[cfg(test)]
 mod player;
 #[cfg(test)]
 mod rows;

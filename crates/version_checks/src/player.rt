@@ -1,10 +1,11 @@
+use crate::inputs::{entry_of, table_of};
 use crate::said::{Handed, Said, Told, of_finish, of_task, of_view};
 use checkpoints::{Run, simulate};
 use job_table::{Edit, JobTable};
 use scenarios::{Order, Scenario, ScenarioId};
 use std::alloc::Global;
 use std::sync::Arc;
-use swf_text::{Entry, Value, read_swf};
+use swf_text::Value;
 use version_book::{
     AddRefusal, Book, ClaimRefusal, DropRefusal, EditRefusal, GiveUpRefusal, RetryRefusal, Task,
 };
@@ -16,18 +17,6 @@ pub(crate) struct Player {
     pub(crate) book: Book<Global>,
     ids: Vec<ScenarioId>,
     tasks: Vec<Task<Global>>,
-}
-
-// The table of a log.
-fn table_of(alloc: Global, log: &[u8]) -> Option<JobTable<Global>> {
-    let text = read_swf(alloc, log).ok()?;
-    JobTable::from_text(alloc, &text).ok()
-}
-
-// The entry of a line.
-fn entry_of(alloc: Global, line: &[u8]) -> Option<Entry<Global>> {
-    let text = read_swf(alloc, line).ok()?;
-    text.entries().first()?.copy().ok()
 }
 
 // The run of a log under this scenario.

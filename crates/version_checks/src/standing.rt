@@ -1,10 +1,11 @@
+use crate::inputs::table_of;
 use checkpoints::Run;
 use job_table::{Edit, JobTable};
 use rejoin::Work;
 use scenarios::{Scenario, ScenarioId, ScenarioList};
 use std::alloc::Allocator;
 use std::sync::Arc;
-use swf_text::{Value, read_swf};
+use swf_text::Value;
 use version_book::{Book, Note, SettleState, Task};
 
 /// A book at work: it has two scenarios, shows the opening version's run for the first, had an edit
@@ -90,8 +91,7 @@ const TWO: &[u8] = b"1 0 -1 50 10 -1 -1 10 100 -1 1 7 -1 -1 -1 -1 -1 -1
 
 /// The log's table; none where memory is short.
 pub(crate) fn two<A: Allocator + Copy>(alloc: A) -> Option<JobTable<A>> {
-    let text = read_swf(alloc, TWO).ok()?;
-    JobTable::from_text(alloc, &text).ok()
+    table_of(alloc, TWO)
 }
 
 // Adds a scenario on ten processors; none where memory is short.
