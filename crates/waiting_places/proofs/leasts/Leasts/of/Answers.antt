@@ -1,0 +1,6 @@
+use Rattle.std.proofs.Common.{rules}
+use Rattle.waiting_places.proofs.Below.{one_more}
+use Rattle.waiting_places.proofs.leasts.Leasts.of.Goals as goal
+
+pub loop-place-preserved : goal.loop-place-preserved
+loop-place-preserved g c = one_more g.T.Waits.size g.T.Waits.estimate c.loop-place.leasts c.add_place.new.self c.args.places.now c.loop-place.place-index c.loop-place.invariant c.add_place.ensures.kept c.place-item.result (search rules) c.place-item.is c.add_place.ensures.met

@@ -1,0 +1,4 @@
+pub mod Offers
+pub mod Classes
+pub mod Bounds
+pub mod Tree

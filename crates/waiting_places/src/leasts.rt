@@ -1,0 +1,148 @@
+ghost use Rattle.std.specs.Prelude.{◌≡◌, ℕ, ◌≤◌, ◌<◌, IfSome, true, length, slice_index_or};
+ghost use Rattle.waiting_places.specs.Classes.{class_of};
+ghost use Rattle.waiting_places.specs.Bounds.{AreBelow, Falls, IsBelow, Keeps, least_size, may_fit};
+
+use crate::class::{CLASSES, class_of};
+use crate::offer::Offer;
+use crate::waits::Waits;
+use std::marker::Model;
+
+/// What is known of those below a node, all of it lower bounds: none is smaller than `size`; none of a
+/// class up to `c` is shorter than `estimates[c]`; none that is at most `window` long is smaller than
+/// `size_within`.
+#[derive(Clone, Copy)]
+pub(crate) struct Leasts {
+    size: u64,
+    window: u64,
+    size_within: u64,
+    estimates: [u32; CLASSES],
+}
+
+impl Model for Leasts {
+    ghost use Rattle.waiting_places.specs.Bounds.{Falls, LeastsView};
+
+    ghost Value = { LeastsView };
+
+    ghost view = { λ l. record { size = l.size; window = l.window; size_within = l.size_within; estimates = l.estimates } };
+
+    ghost inverse = { λ v. record { size = v.size; window = v.window; size_within = v.size_within; estimates = v.estimates } };
+
+    ghost invariant = { λ l. Falls l.estimates };
+}
+
+// A number that is no greater, and takes half the room.
+fn short(number: u64) -> u32
+    ensures { result ≤ number }
+{
+    u32::try_from(number).unwrap_or(u32::MAX)
+}
+
+// Lowers the estimates of a class and of all that are larger. They fall from class to class, so it ends
+// at the first that is low enough.
+fn lower(estimates: &mut [u32], class: usize, estimate: u32)
+    requires { Falls estimates.old }
+    ensures falls { Falls estimates.new }
+    ensures kept { (c : ℕ) → slice_index_or estimates.new c 0 ≤ slice_index_or estimates.old c 0 }
+    ensures low { (c : ℕ) → class ≤ c → slice_index_or estimates.new c 0 ≤ estimate }
+    ensures len { length estimates.new ≡ length estimates.old }
+{
+    let mut at = class;
+    while at < estimates.len() && estimates[at] > estimate {
+        estimates[at] = estimate;
+        at += 1;
+    }
+}
+
+// The lesser of two sizes, where the second counts.
+fn size_of_both(size: u64, other: u64, counts: bool) -> u64
+    ensures least { result ≤ size }
+    ensures other { counts ≡ true → result ≤ other }
+{
+    if counts { size.min(other) } else { size }
+}
+
+impl Leasts {
+    // Of nobody, once it was asked for those who are at most so long.
+    pub(crate) fn new(window: u64) -> Leasts
+        ensures { result.window ≡ window }
+    {
+        Leasts {
+            size: u64::MAX,
+            window,
+            size_within: u64::MAX,
+            estimates: [u32::MAX; CLASSES],
+        }
+    }
+
+    // None that is at most so long is smaller.
+    fn least_size(&self, window: u64) -> u64
+        ensures { result ≡ least_size self.now window }
+    {
+        if window <= self.window {
+            self.size_within
+        } else {
+            self.size
+        }
+    }
+
+    // Whether one of whom this is known may fit the offer; the class is that of what is free.
+    pub(crate) fn may_fit(&self, offer: &Offer, class: usize) -> bool
+        requires { class ≡ class_of offer.now.free }
+        ensures { result ≡ may_fit offer.now self.now }
+    {
+        self.size <= offer.extra
+            || (self.least_size(offer.window) <= offer.free
+                && u64::from(self.estimates[class]) <= offer.window)
+    }
+
+    // Of one more; the class is that of its size.
+    pub(crate) fn add<T: Waits>(&mut self, item: &T, class: usize)
+        requires { class ≡ class_of (T.size item.now) }
+        ensures kept { Keeps self.old self.new }
+        ensures met { IsBelow self.new (T.size item.now) (T.estimate item.now) }
+    {
+        let size = item.size();
+        let estimate = item.estimate();
+        self.size = self.size.min(size);
+        self.size_within = size_of_both(self.size_within, size, estimate <= self.window);
+        lower(&mut self.estimates, class, short(estimate));
+    }
+
+    // Of who waits at one place more.
+    fn add_place<T: Waits>(&mut self, place: &Option<T>)
+        ensures kept { Keeps self.old self.new }
+        ensures met { IfSome place.now (λ item. IsBelow self.new (T.size item) (T.estimate item)) }
+    {
+        if let Some(item) = place {
+            self.add(item, class_of(item.size()));
+        }
+    }
+
+    // Of all who wait at these places, once they were asked for those who are at most so long.
+    pub(crate) fn of<T: Waits>(places: &[Option<T>], window: u64) -> Leasts
+        ensures { AreBelow T.size T.estimate result places.now }
+    {
+        let mut leasts = Leasts::new(window);
+        for place in places {
+            leasts.add_place(place);
+        }
+        leasts
+    }
+
+    // Of those of two nodes, once they were asked for those who are at most so long.
+    pub(crate) fn both(a: &Leasts, b: &Leasts, window: u64) -> Leasts
+        ensures first { Keeps a.now result }
+        ensures second { Keeps b.now result }
+    {
+        let mut estimates = a.estimates;
+        for class in 0..CLASSES {
+            estimates[class] = estimates[class].min(b.estimates[class]);
+        }
+        Leasts {
+            size: a.size.min(b.size),
+            window,
+            size_within: a.least_size(window).min(b.least_size(window)),
+            estimates,
+        }
+    }
+}

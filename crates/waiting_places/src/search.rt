@@ -1,0 +1,109 @@
+ghost use Rattle.std.specs.Prelude.{◌≡◌, ◌≤◌, ◌+◌, ◌*◌, length, max};
+ghost use Rattle.waiting_places.specs.Classes.{class_of};
+ghost use Rattle.waiting_places.specs.Offers.{fits, holds};
+ghost use Rattle.waiting_places.specs.Tree.{IsFirst, IsPart, IsTree};
+
+use crate::leasts::Leasts;
+use crate::offer::{Offer, holds};
+use crate::tree::{SPAN, raise, raise_leaf};
+use crate::waits::Waits;
+
+/// A node, and the leaves below it: so many from this one on, counted from 0.
+#[derive(Clone, Copy)]
+pub(crate) struct Part {
+    pub(crate) node: usize,
+    pub(crate) low: usize,
+    pub(crate) span: usize,
+}
+
+/// What is looked for: a place from this one on where one waits who fits the offer. The class is that of
+/// what is free.
+#[derive(Clone, Copy)]
+pub(crate) struct Search {
+    pub(crate) from: usize,
+    pub(crate) offer: Offer,
+    pub(crate) class: usize,
+}
+
+// The first place from one to another where one waits who fits the offer.
+pub(crate) fn first_in<T: Waits>(
+    places: &[Option<T>],
+    from: usize,
+    to: usize,
+    offer: &Offer,
+) -> Option<usize>
+    ensures { IsFirst (holds (fits T.size T.estimate offer.now)) places.now from to result }
+{
+    for place in from..to.min(places.len()) {
+        if holds(&places[place], offer) {
+            return Some(place);
+        }
+    }
+    None
+}
+
+// The first place of a leaf; where there is none, its bounds are made anew.
+fn first_in_leaf<T: Waits>(
+    nodes: &mut [Leasts],
+    places: &[Option<T>],
+    leaf: usize,
+    search: &Search,
+) -> Option<usize>
+    requires tree { IsTree T.size T.estimate nodes.old places.now }
+    requires leaf { 2 * (leaf + 1) ≤ length nodes.old }
+    ensures tree { IsTree T.size T.estimate nodes.new places.now }
+    ensures len { length nodes.new ≡ length nodes.old }
+    ensures first { IsFirst (holds (fits T.size T.estimate search.now.offer)) places.now (max search.now.from (64 * leaf)) (64 * (leaf + 1)) result }
+{
+    let from = search.from.max(SPAN * leaf);
+    if let Some(place) = first_in(places, from, SPAN * (leaf + 1), &search.offer) {
+        return Some(place);
+    }
+    raise_leaf(nodes, places, leaf, search.offer.window);
+    None
+}
+
+/// The first place of those below a node; where there is none, its bounds are made anew, unless they
+/// told so.
+pub(crate) fn first_below<T: Waits>(
+    nodes: &mut [Leasts],
+    places: &[Option<T>],
+    part: Part,
+    search: &Search,
+) -> Option<usize>
+    requires tree { IsTree T.size T.estimate nodes.old places.now }
+    requires part { IsPart (length nodes.old) part.node part.low part.span }
+    requires class { search.now.class ≡ class_of search.now.offer.free }
+    ensures tree { IsTree T.size T.estimate nodes.new places.now }
+    ensures len { length nodes.new ≡ length nodes.old }
+    ensures first { IsFirst (holds (fits T.size T.estimate search.now.offer)) places.now (max search.now.from (64 * part.low)) (64 * (part.low + part.span)) result }
+{
+    if SPAN * (part.low + part.span) <= search.from {
+        return None;
+    }
+    if !nodes[part.node].may_fit(&search.offer, search.class) {
+        return None;
+    }
+    if part.span == 1 {
+        return first_in_leaf(nodes, places, part.low, search);
+    }
+    let span = part.span / 2;
+    let first = Part {
+        node: 2 * part.node,
+        low: part.low,
+        span,
+    };
+    if let Some(place) = first_below(nodes, places, first, search) {
+        return Some(place);
+    }
+    let second = Part {
+        node: 2 * part.node + 1,
+        low: part.low + span,
+        span,
+    };
+    if let Some(place) = first_below(nodes, places, second, search) {
+        return Some(place);
+    }
+    raise(nodes, part.node, search.offer.window);
+    None
+}

@@ -1,0 +1,55 @@
+ghost use Rattle.std.specs.Prelude.{◌≡◌, ◌≢◌, ℕ, ◌+◌, ◌*◌, ◌/◌, ◌≤◌, ◌<◌, length, slice_index_or, Some, None};
+ghost use Rattle.waiting_places.specs.Bounds.{IsBelow, Keeps};
+ghost use Rattle.waiting_places.specs.Tree.{halved, node_at};
+
+use crate::class::class_of;
+use crate::leasts::Leasts;
+use crate::waits::Waits;
+
+/// How many places a leaf has.
+pub(crate) const SPAN: usize = 64;
+
+// Lowers the bounds of a leaf and of all nodes above it, for one more.
+pub(crate) fn lower<T: Waits>(nodes: &mut [Leasts], leaf: usize, item: &T)
+    requires { leaf < length nodes.old }
+    ensures len { length nodes.new ≡ length nodes.old }
+    ensures kept { (k : ℕ) → Keeps (node_at nodes.old k) (node_at nodes.new k) }
+    ensures met { (times : ℕ) → 1 ≤ halved times leaf → IsBelow (node_at nodes.new (halved times leaf)) (T.size item.now) (T.estimate item.now) }
+{
+    let class = class_of(item.size());
+    let mut node = leaf;
+    while node > 0 {
+        nodes[node].add(item, class);
+        node /= 2;
+    }
+}
+
+// Makes the bounds of a node anew, from those of the two below it.
+pub(crate) fn raise(nodes: &mut [Leasts], node: usize, window: u64)
+    requires { 2 * node + 1 < length nodes.old }
+    ensures len { length nodes.new ≡ length nodes.old }
+    ensures first { Keeps (node_at nodes.old (2 * node)) (node_at nodes.new node) }
+    ensures second { Keeps (node_at nodes.old (2 * node + 1)) (node_at nodes.new node) }
+    ensures others { (k : ℕ) → k ≢ node → node_at nodes.new k ≡ node_at nodes.old k }
+{
+    let leasts = Leasts::both(&nodes[2 * node], &nodes[2 * node + 1], window);
+    nodes[node] = leasts;
+}
+
+// Makes the bounds of a leaf anew, from those who wait at its places.
+pub(crate) fn raise_leaf<T: Waits>(
+    nodes: &mut [Leasts],
+    places: &[Option<T>],
+    leaf: usize,
+    window: u64,
+)
+    requires { length nodes.old / 2 + leaf < length nodes.old }
+    ensures len { length nodes.new ≡ length nodes.old }
+    ensures here { (place : ℕ) (x : T) → slice_index_or places.now place None ≡ Some x → place / 64 ≡ leaf → IsBelow (node_at nodes.new (length nodes.old / 2 + leaf)) (T.size x) (T.estimate x) }
+    ensures others { (k : ℕ) → k ≢ length nodes.old / 2 + leaf → node_at nodes.new k ≡ node_at nodes.old k }
+{
+    let from = (leaf * SPAN).min(places.len());
+    let to = (from + SPAN).min(places.len());
+    let node = nodes.len() / 2 + leaf;
+    nodes[node] = Leasts::of(&places[from..to], window);
+}
