@@ -1,8 +1,8 @@
 -- The bounds on those who wait at the first places of a list.
-use Rattle.std.proofs.Common.{◌≡◌, ℕ, zero, suc, [], ◌∷◌, ◌+◌, ◌≤◌, ◌<◌, List, length, IfSome, slice_index_or, Option, None, Some, sym, ◌∙◌, ap, arith, subst, ⊎_elim}
+use Rattle.std.proofs.Common.{◌≡◌, ℕ, zero, suc, [], ◌∷◌, ◌+◌, ◌≤◌, ◌<◌, List, length, IfSome, slice_index_or, Option, None, Some, ◌∙◌, arith, subst, ⊎_elim}
 use Rattle.std.proofs.lemmas.Bool.{cases_lt}
 use Rattle.std.proofs.lemmas.List.{get_or_default}
-use Rattle.waiting_places.specs.Bounds.{AreBelow, IsBelow, Keeps, LeastsView}
+use Rattle.waiting_places.specs.Bounds.{IsBelow, Keeps, LeastsView}
 
 module _ {X : Type 0} (size estimate : X → ℕ) where
   abbrev pub FirstAreBelow : LeastsView → List (Option X) → ℕ → Type 0

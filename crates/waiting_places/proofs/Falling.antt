@@ -1,6 +1,5 @@
 -- Numbers that fall, of which those from one on are lowered.
-use Rattle.std.proofs.Common.{◌≡◌, ℕ, zero, suc, replicate, ◌+◌, ◌-◌, ◌≤◌, ◌<◌, List, length, get_or, set, refl, sym, ap, ◌∙◌, arith, ⊎_elim, slice_index_or}
-use Rattle.std.proofs.lemmas.Bool.{cases_lt}
+use Rattle.std.proofs.Common.{◌≡◌, ℕ, zero, suc, replicate, ◌≤◌, ◌<◌, List, length, arith, slice_index_or}
 use Rattle.waiting_places.specs.Bounds.{Falls}
 
 -- those from one place to another are lowered to a number that each of them was above

@@ -1,7 +1,8 @@
 -- The first place that passes, in two parts of the places.
-use Rattle.std.proofs.Common.{◌≡◌, ℕ, ◌≤◌, ◌<◌, Bool, true, false, List, slice_index_or, Option, None, Some, arith, ⊎_elim}
-use Rattle.std.proofs.lemmas.Bool.{cases_lt}
-use Rattle.waiting_places.specs.Tree.{IsFirst, NonePasses}
+use Rattle.std.proofs.Common.{◌≡◌, ℕ, ◌≤◌, ◌<◌, Bool, false, List, length, Option, None, Some, ap, sym, ◌∙◌, arith, ⊎_elim}
+use Rattle.std.proofs.lemmas.Bool.{cases_lt, true≢false}
+use Rattle.std.proofs.lemmas.List.{get_or_past}
+use Rattle.waiting_places.specs.Places.{IsFirst, NonePasses}
 
 module _ {X : Type 0} (test : Option X → Bool) (places : List (Option X)) (from to next : ℕ) (end : ℕ) where
   -- none passes in the first part: then it is the first of the second
@@ -13,3 +14,17 @@ module _ {X : Type 0} (test : Option X → Bool) (places : List (Option X)) (fro
 
   pub in_first : (k : ℕ) → to ≤ end → IsFirst test places from to (Some k) → IsFirst test places from end (Some k)
   in_first k l found = let u = found.1 in (found.0, omega (arith, u, l), found.2, found.3)
+
+-- past the last place none passes
+module _ {X : Type 0} (test : Option X → Bool) (places : List (Option X)) (past : test None ≡ false) (from end : ℕ) where
+  pub ends_some : (k : ℕ) → IsFirst test places from end (Some k) → IsFirst test places from (length places) (Some k)
+  ends_some k found =
+      let there : k < length places = ⊎_elim
+      (λ (l : k < length places). l)
+      (λ (g : length places ≤ k). absurd (true≢false (sym found.2 ∙ ap test (get_or_past places k None g) ∙ past)))
+      (cases_lt k (length places)) in
+      (found.0, there, found.2, found.3)
+
+  pub ends : (r : Option ℕ) → length places ≤ end → IsFirst test places from end r → IsFirst test places from (length places) r
+  ends None l none = λ p low high. none p low (omega arith)
+  ends (Some k) l found = ends_some k found

@@ -6,3 +6,5 @@ mod Lowered
 mod Fits
 mod First
 mod Parts
+mod Standing
+mod Grown

@@ -2,7 +2,7 @@
 use Rattle.std.proofs.Common.{◌≡◌, ◌≢◌, ℕ, ◌+◌, ◌-◌, ◌*◌, ◌/◌, ◌≤◌, ◌<◌, min, List, [], length, take, drop, get_or, set, slice_index_or, Option, None, Some, arith, ⊎_elim, ap, sym, subst, ◌∙◌}
 use Rattle.std.proofs.lemmas.Bool.{cases_eq}
 use Rattle.std.proofs.lemmas.List.{get_or_default, get_or-set_same, get_or-set_other, get_or-take, get_or-drop}
-use Rattle.waiting_places.specs.Bounds.{AreBelow, IsBelow, Keeps, LeastsView}
+use Rattle.waiting_places.specs.Bounds.{IsBelow, Keeps, LeastsView}
 use Rattle.waiting_places.specs.Tree.{node_at}
 use Rattle.waiting_places.proofs.Below.{within}
 

@@ -1,15 +1,18 @@
 -- The nodes of a tree, and the places below each.
-use Rattle.std.proofs.Common.{◌≡◌, ◌≢◌, ℕ, zero, suc, ◌+◌, ◌-◌, ◌*◌, ◌/◌, ◌^◌, ◌≤◌, ◌<◌, Bool, true, false, List, length, slice_index_or, Option, None, Some, refl, sym, ◌∙◌, ap, arith, subst, ⊎_elim}
+use Rattle.std.proofs.Common.{◌≡◌, ◌≢◌, ℕ, zero, suc, ◌+◌, ◌*◌, ◌/◌, ◌^◌, ◌≤◌, ◌<◌, Bool, true, false, List, length, get_or, slice_index_or, Option, None, Some, refl, sym, ◌∙◌, ap, arith, subst, ⊎_elim}
 use Rattle.std.proofs.lemmas.Bool.{cases_eq, cases_lt, cases_Bool, true≢false}
+use Rattle.std.proofs.lemmas.List.{get_or_default}
 use Rattle.std.proofs.lemmas.Nat.{pow_pos}
 use Rattle.std.proofs.Math.Nat.{pow-suc, mul-le-mul_left}
 use Rattle.waiting_places.specs.declared.offer.Offer.{Offer}
 use Rattle.waiting_places.specs.Bounds.{IsBelow, Keeps, LeastsView, may_fit}
 use Rattle.waiting_places.specs.Offers.{fits, holds}
-use Rattle.waiting_places.specs.Tree.{IsPart, IsTree, NonePasses, halved, leaf_of, node_at}
+use Rattle.waiting_places.specs.Places.{NonePasses}
+use Rattle.waiting_places.specs.Tree.{IsPart, IsTree, IsWhole, halved, leaf_of, node_at}
 use Rattle.waiting_places.proofs.Below.{within}
 use Rattle.waiting_places.proofs.Fits.{passes}
 use Rattle.waiting_places.proofs.Lowered.{halved-more}
+use Rattle.waiting_places.proofs.Nodes.{no_node}
 
 -- a leaf below a node, halved often enough, is that node
 ancestor : (times k leaf : ℕ) → k * 2 ^ times ≤ leaf → leaf < (k + 1) * 2 ^ times → halved times leaf ≡ k
@@ -68,15 +71,19 @@ module _ (count node low span : ℕ) (part : IsPart count node low span) where
             both = omega arith;
           }
 
+-- a node that does not pass
+pub refused : (offer : Offer) (nodes : List LeastsView) (node : ℕ) (l : LeastsView) (result : Bool) → node < length nodes → result ≡ may_fit offer (get_or nodes node l) → result ≡ false → may_fit offer (node_at nodes node) ≡ false
+refused offer nodes node l result there is fails = ap (may_fit offer) (get_or_default nodes node no_node l there) ∙ sym is ∙ fails
+
 -- the root stands above all leaves
-pub root : (height count : ℕ) → count ≡ 2 * 2 ^ height → IsPart count 1 0 (count / 2)
-root height count e = record { height = height; power = omega arith; start = omega arith; end = omega arith }
+pub root : (count : ℕ) → IsWhole count → IsPart count 1 0 (count / 2)
+root count whole = let e = whole.power in record { height = whole.height; power = omega arith; start = omega arith; end = omega arith }
 
 module _ {X : Type 0} (size estimate : X → ℕ) (nodes : List LeastsView) (places : List (Option X)) (tree : IsTree size estimate nodes places) where
   -- what is known at a node holds of all who wait below it
   pub known : (node low span place : ℕ) (x : X) → IsPart (length nodes) node low span → slice_index_or places place None ≡ Some x → 64 * low ≤ place → place < 64 * (low + span) → IsBelow (node_at nodes node) (size x) (estimate x)
   known node low span place x part is from to =
-      let whole = tree.whole in
+      let whole = tree.whole.power in
       let start = part.start in
       let leaf = leaf_of (length nodes) place in
       let below : node * span ≤ leaf = omega arith in
@@ -103,8 +110,8 @@ module _ {X : Type 0} (size estimate : X → ℕ) (nodes : List LeastsView) (pla
   pub raised : (node : ℕ) (new : List LeastsView) → 2 * node + 1 < length nodes → length new ≡ length nodes → Keeps (node_at nodes (2 * node)) (node_at new node) → Keeps (node_at nodes (2 * node + 1)) (node_at new node)
       → ((k : ℕ) → k ≢ node → node_at new k ≡ node_at nodes k) → IsTree size estimate new places
   raised node new inner len first second others = record {
-    height = tree.height;
-    whole = len ∙ tree.whole;
+    whole = record { height = tree.whole.height; power = len ∙ tree.whole.power };
+    many = let many = tree.many in omega (arith, many, len);
     few = let few = tree.few in omega (arith, few, len);
     room = let room = tree.room in omega (arith, room, len);
     below = λ times place x is one. subst (λ (n : ℕ). 1 ≤ halved times (leaf_of n place) → IsBelow (node_at new (halved times (leaf_of n place))) (size x) (estimate x)) (sym len) (at times place x is) one;
@@ -137,8 +144,8 @@ module _ {X : Type 0} (size estimate : X → ℕ) (nodes : List LeastsView) (pla
       → ((place : ℕ) (x : X) → slice_index_or places place None ≡ Some x → place / 64 ≡ leaf → IsBelow (node_at new (length nodes / 2 + leaf)) (size x) (estimate x))
       → ((k : ℕ) → k ≢ length nodes / 2 + leaf → node_at new k ≡ node_at nodes k) → IsTree size estimate new places
   raised_leaf leaf new inner len here others = record {
-    height = tree.height;
-    whole = len ∙ tree.whole;
+    whole = record { height = tree.whole.height; power = len ∙ tree.whole.power };
+    many = let many = tree.many in omega (arith, many, len);
     few = let few = tree.few in omega (arith, few, len);
     room = let room = tree.room in omega (arith, room, len);
     below = λ times place x is one. subst (λ (n : ℕ). 1 ≤ halved times (leaf_of n place) → IsBelow (node_at new (halved times (leaf_of n place))) (size x) (estimate x)) (sym len) (at times place x is) one;
@@ -156,6 +163,6 @@ module _ {X : Type 0} (size estimate : X → ℕ) (nodes : List LeastsView) (pla
           own (suc t) same =
               let short = within size estimate places place x is in
               let room = tree.room in
-              let whole = tree.whole in
+              let whole = tree.whole.power in
               let less = halved-more t 0 t (leaf_of (length nodes) place) (omega arith) in
               absurd (omega (arith, same, short, room, whole, less))

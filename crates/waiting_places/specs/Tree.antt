@@ -1,6 +1,6 @@
 -- A complete tree of bounds over places, 64 to a leaf: node 1 is the root, the nodes 2 k and 2 k + 1 stand below node k, and the
 -- leaves are the second half of the nodes, in the order of their places.
-use Rattle.std.specs.Prelude.{◌≡◌, ℕ, zero, suc, ◌+◌, ◌*◌, ◌/◌, ◌^◌, ◌≤◌, ◌<◌, Bool, false, true, List, [], length, slice_index_or, Option, None, Some}
+use Rattle.std.specs.Prelude.{◌≡◌, ℕ, zero, suc, ◌+◌, ◌*◌, ◌/◌, ◌^◌, ◌≤◌, List, [], length, slice_index_or, Option, None, Some}
 use Rattle.waiting_places.specs.Bounds.{IsBelow, LeastsView}
 
 -- a number that is halved so often, rounded down each time
@@ -16,11 +16,16 @@ node_at nodes k = slice_index_or nodes k (record { size = 0; window = 0; size_wi
 abbrev pub leaf_of : ℕ → ℕ → ℕ
 leaf_of count place = count / 2 + place / 64
 
--- there are twice as many nodes as leaves, which are a power of two, and a leaf for each place; what is known at each node holds of all
+-- twice as many nodes as leaves, which are a power of two
+pub record IsWhole (count : ℕ) : Type 0 where
+  pub height : ℕ
+  pub power : count ≡ 2 * 2 ^ height
+
+-- the tree is whole, and each place has a leaf; what is known at each node holds of all
 -- who wait below it
 pub record IsTree {X : Type 0} (size estimate : X → ℕ) (nodes : List LeastsView) (places : List (Option X)) : Type 0 where
-  pub height : ℕ
-  pub whole : length nodes ≡ 2 * 2 ^ height
+  pub whole : IsWhole (length nodes)
+  pub many : 8 ≤ length nodes
   pub few : length nodes ≤ 2 ^ 40
   pub room : length places ≤ 32 * length nodes
   pub below : (times place : ℕ) (x : X) → slice_index_or places place None ≡ Some x → 1 ≤ halved times (leaf_of (length nodes) place) → IsBelow (node_at nodes (halved times (leaf_of (length nodes) place))) (size x) (estimate x)
@@ -31,13 +36,3 @@ pub record IsPart (count node low span : ℕ) : Type 0 where
   pub power : span ≡ 2 ^ height
   pub start : 2 * (node * span) ≡ count + 2 * low
   pub end : 2 * (low + span) ≤ count
-
-module _ {X : Type 0} (test : Option X → Bool) (places : List (Option X)) where
-  -- no place from one to another passes
-  abbrev pub NonePasses : ℕ → ℕ → Type 0
-  NonePasses from to = (place : ℕ) → from ≤ place → place < to → test (slice_index_or places place None) ≡ false
-
-  -- the first place from one to another that passes; None where none does
-  abbrev pub IsFirst : ℕ → ℕ → Option ℕ → Type 0
-  IsFirst from to None = NonePasses from to
-  IsFirst from to (Some k) = (from ≤ k) × (k < to) × (test (slice_index_or places k None) ≡ true) × NonePasses from k

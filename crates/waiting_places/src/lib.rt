@@ -3,11 +3,16 @@
 #![tactic(auto)]
 
 mod class;
+mod growth;
 mod leasts;
 mod offer;
+mod places;
 mod search;
 mod tree;
+mod waiting;
 mod waits;
 
 pub use offer::Offer;
+pub use places::Places;
+pub use waiting::Waiting;
 pub use waits::Waits;

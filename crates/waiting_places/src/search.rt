@@ -1,12 +1,26 @@
-ghost use Rattle.std.specs.Prelude.{◌≡◌, ◌≤◌, ◌+◌, ◌*◌, length, max};
+ghost use Rattle.std.specs.Prelude.{◌≡◌, ◌≤◌, ◌+◌, ◌*◌, is_some, length, max};
 ghost use Rattle.waiting_places.specs.Classes.{class_of};
 ghost use Rattle.waiting_places.specs.Offers.{fits, holds};
-ghost use Rattle.waiting_places.specs.Tree.{IsFirst, IsPart, IsTree};
+ghost use Rattle.waiting_places.specs.Places.{IsFirst};
+ghost use Rattle.waiting_places.specs.Tree.{IsPart, IsTree};
 
+use crate::class::class_of;
 use crate::leasts::Leasts;
 use crate::offer::{Offer, holds};
 use crate::tree::{SPAN, raise, raise_leaf};
 use crate::waits::Waits;
+
+// The first place from one on where one waits.
+pub(crate) fn first_some<T: Waits>(places: &[Option<T>], from: usize) -> Option<usize>
+    ensures { IsFirst is_some places.now from (length places.now) result }
+{
+    for place in from..places.len() {
+        if places[place].is_some() {
+            return Some(place);
+        }
+    }
+    None
+}
 
 /// A node, and the leaves below it: so many from this one on, counted from 0.
 #[derive(Clone, Copy)]
@@ -106,4 +120,37 @@ pub(crate) fn first_below<T: Waits>(
     }
     raise(nodes, part.node, search.offer.window);
     None
+}
+
+// The first place from one on where one waits who fits the offer: in what is left of a leaf, and then
+// in the tree.
+pub(crate) fn first_in_tree<T: Waits>(
+    nodes: &mut [Leasts],
+    places: &[Option<T>],
+    from: usize,
+    offer: &Offer,
+) -> Option<usize>
+    requires { IsTree T.size T.estimate nodes.old places.now }
+    ensures tree { IsTree T.size T.estimate nodes.new places.now }
+    ensures len { length nodes.new ≡ length nodes.old }
+    ensures first { IsFirst (holds (fits T.size T.estimate offer.now)) places.now from (length places.now) result }
+{
+    if from >= places.len() {
+        return None;
+    }
+    let edge = SPAN * (from / SPAN + 1);
+    if let Some(place) = first_in(places, from, edge, offer) {
+        return Some(place);
+    }
+    let root = Part {
+        node: 1,
+        low: 0,
+        span: nodes.len() / 2,
+    };
+    let search = Search {
+        from: edge,
+        offer: *offer,
+        class: class_of(offer.free),
+    };
+    first_below(nodes, places, root, &search)
 }

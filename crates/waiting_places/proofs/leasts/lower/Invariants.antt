@@ -1,4 +1,4 @@
-use Rattle.std.proofs.Common.{◌≡◌, ℕ, ◌-◌, ◌≤◌, ◌<◌, length, slice_index_or}
+use Rattle.std.proofs.Common.{◌-◌, length}
 use Rattle.waiting_places.proofs.Falling.{IsLowered}
 use Rattle.waiting_places.proofs.leasts.lower.Given as goal
 

@@ -1,19 +1,17 @@
-use Rattle.std.proofs.Common.{◌≡◌, ◌+◌, ◌*◌, ◌/◌, ap, length, max, arith, sym, ◌∙◌, subst, None, Some}
-use Rattle.std.proofs.lemmas.List.{get_or_default}
-use Rattle.waiting_places.specs.Bounds.{may_fit}
+use Rattle.std.proofs.Common.{◌≡◌, ◌+◌, ◌*◌, ◌/◌, length, max, arith, sym, ◌∙◌, subst, None, Some}
 use Rattle.waiting_places.specs.Offers.{fits, holds}
-use Rattle.waiting_places.specs.Tree.{IsFirst, IsPart}
+use Rattle.waiting_places.specs.Places.{IsFirst}
+use Rattle.waiting_places.specs.Tree.{IsPart}
 use Rattle.waiting_places.proofs.First.{in_second}
-use Rattle.waiting_places.proofs.Nodes.{no_node}
-use Rattle.waiting_places.proofs.Parts.{halves, is_node, none_fits, raised}
+use Rattle.waiting_places.proofs.Parts.{halves, is_node, none_fits, raised, refused}
 use Rattle.waiting_places.proofs.search.+first_below.Goals as goal
 
 pub returns-then-not-may_fit-clause-first : goal.returns-then-not-may_fit-clause-first
 returns-then-not-may_fit-clause-first g t c =
     let part = c.args.part in
     let there = (is_node (length c.args.nodes.now) part.node part.low part.span c.requires.part).1 in
-    let refused = ap (may_fit c.args.search.now.offer) (get_or_default c.args.nodes.now part.node no_node c.index-nodes-part.result there) ∙ sym c.may_fit.ensures ∙ c.if-not-may_fit.true in
-    none_fits g.T.Waits.size g.T.Waits.estimate c.args.nodes.now c.args.places.now c.requires.tree c.args.search.now.offer part.node part.low part.span (max c.args.search.now.from (64 * part.low)) c.requires.part refused (omega arith)
+    let no = refused c.args.search.now.offer c.args.nodes.now part.node c.index-nodes-part.result c.may_fit.result there c.may_fit.ensures c.if-not-may_fit.true in
+    none_fits g.T.Waits.size g.T.Waits.estimate c.args.nodes.now c.args.places.now c.requires.tree c.args.search.now.offer part.node part.low part.span (max c.args.search.now.from (64 * part.low)) c.requires.part no (omega arith)
 
 pub first_below-requires : goal.first_below-requires
 first_below-requires g t c κs within =

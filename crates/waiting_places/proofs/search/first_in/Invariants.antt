@@ -1,5 +1,5 @@
 use Rattle.waiting_places.specs.Offers.{fits, holds}
-use Rattle.waiting_places.specs.Tree.{NonePasses}
+use Rattle.waiting_places.specs.Places.{NonePasses}
 use Rattle.waiting_places.proofs.search.first_in.Given as goal
 
 abbrev pub invariant-loop-place : goal.invariant-loop-place

@@ -1,0 +1,110 @@
+-- Where one comes and where one leaves.
+use Rattle.std.proofs.Common.{◌≡◌, ◌≢◌, ℕ, ◌+◌, ◌-◌, ◌*◌, ◌^◌, ◌≤◌, ◌<◌, List, [], ◌∷◌, ◌++◌, length, slice_index_or, set, Option, None, Some, sym, ◌∙◌, ap, arith, subst, ⊎_elim}
+use Rattle.std.proofs.lemmas.Bool.{cases_eq, cases_lt}
+use Rattle.std.proofs.lemmas.List.{length-append, length-set, get_or-set_same, get_or-set_other, get_or_append_left, get_or_push}
+use Rattle.waiting_places.specs.Bounds.{IsBelow, Keeps, LeastsView}
+use Rattle.waiting_places.specs.Places.{IsPlaces, at_place, room_of, waiting}
+use Rattle.waiting_places.specs.Tree.{IsTree, halved, leaf_of, node_at}
+use Rattle.waiting_places.proofs.Below.{within}
+use Rattle.waiting_places.proofs.Standing.{no_more, one_comes, one_less}
+
+module _ {X : Type 0} (size estimate : X → ℕ) (nodes : List LeastsView) (places : List (Option X)) (tree : IsTree size estimate nodes places) where
+  -- one comes, and the bounds above its place are lowered
+  pub grown : (new : List LeastsView) (more : List (Option X)) (item : X) → length new ≡ length nodes → more ≡ places ++ Some item ∷ [] → length places + 1 ≤ 32 * length nodes → ((k : ℕ) → Keeps (node_at nodes k) (node_at new k))
+      → ((times : ℕ) → 1 ≤ halved times (leaf_of (length nodes) (length places)) → IsBelow (node_at new (halved times (leaf_of (length nodes) (length places)))) (size item) (estimate item)) → IsTree size estimate new more
+  grown new more item len e room kept met = record {
+    whole = record { height = tree.whole.height; power = len ∙ tree.whole.power };
+    many = let many = tree.many in omega (arith, many, len);
+    few = let few = tree.few in omega (arith, few, len);
+    room = omega (arith, room, len, ap length e, length-append places (Some item ∷ []));
+    below = λ times place x is one. subst (λ (n : ℕ). 1 ≤ halved times (leaf_of n place) → IsBelow (node_at new (halved times (leaf_of n place))) (size x) (estimate x)) (sym len) (at times place x (sym (ap (λ (ys : List (Option X)). slice_index_or ys place None) e) ∙ is)) one;
+  }
+    where
+      same : (x y : X) → Some x ≡ Some y → x ≡ y
+      same x y h = cc
+
+      at : (times place : ℕ) (x : X) → slice_index_or (places ++ Some item ∷ []) place None ≡ Some x → 1 ≤ halved times (leaf_of (length nodes) place) → IsBelow (node_at new (halved times (leaf_of (length nodes) place))) (size x) (estimate x)
+      at times place x is one =
+          ⊎_elim
+          (λ (before : place < length places). kept (halved times (leaf_of (length nodes) place)) (size x) (estimate x) (tree.below times place x (sym (get_or_append_left places (Some item ∷ []) None place before) ∙ is) one))
+          (λ (after : length places ≤ place).
+          let short = within size estimate (places ++ Some item ∷ []) place x is in
+          let here : length places ≡ place = omega (arith, after, short, length-append places (Some item ∷ [])) in
+          let who : item ≡ x = same item x (sym (get_or_push places (Some item) None place here) ∙ is) in
+          subst (λ (y : X). IsBelow (node_at new (halved times (leaf_of (length nodes) place))) (size y) (estimate y)) who
+          (subst (λ (p : ℕ). 1 ≤ halved times (leaf_of (length nodes) p) → IsBelow (node_at new (halved times (leaf_of (length nodes) p))) (size item) (estimate item)) here (met times) one))
+          (cases_lt place (length places))
+
+  -- one leaves
+  pub left : (place : ℕ) → IsTree size estimate nodes (set places place None)
+  left place = record {
+    whole = tree.whole;
+    many = tree.many;
+    few = tree.few;
+    room = let room = tree.room in omega (arith, room, length-set {A = Option X} places place None);
+    below = λ times p x is one. tree.below times p x (stays p x is) one;
+  }
+    where
+      some≢none : (x : X) → None ≡ Some x → ⊥
+      some≢none x h = cc
+
+      stays : (p : ℕ) (x : X) → slice_index_or (set places place None) p None ≡ Some x → slice_index_or places p None ≡ Some x
+      stays p x is =
+          ⊎_elim
+          (λ (same : p ≡ place).
+          let there = within size estimate (set places place None) p x is in
+          let short : place < length places = omega (arith, there, same, length-set {A = Option X} places place None) in
+          absurd (some≢none x (sym (ap (λ (i : ℕ). slice_index_or (set places place None) i None) same ∙ get_or-set_same places place None None short) ∙ is)))
+          (λ (ne : p ≢ place). sym (get_or-set_other places place p None None ne) ∙ is)
+          (cases_eq p place)
+
+module _ {X : Type 0} (size estimate : X → ℕ) (places : List (Option X)) (nodes : List LeastsView) (len head room : ℕ) (kept : IsPlaces size estimate places nodes len head room) where
+  few : length places ≤ 2 ^ 46
+  few = let list = kept.list in let some = kept.few in omega arith
+
+  pub count_fits : len ≤ 2 ^ 46
+  count_fits = let count = kept.count in omega (arith, count, few, no_more places)
+
+  pub comes : (more : List (Option X)) (new : List LeastsView) (item : X) (wide : ℕ) → more ≡ places ++ Some item ∷ [] → length new ≡ length nodes → ((k : ℕ) → Keeps (node_at nodes k) (node_at new k))
+      → ((times : ℕ) → 1 ≤ halved times (leaf_of (length nodes) (length places)) → IsBelow (node_at new (halved times (leaf_of (length nodes) (length places)))) (size item) (estimate item))
+      → length places + 1 ≤ room_of (length nodes) → length more ≤ wide → IsPlaces size estimate more new (len + 1) head wide
+  comes more new item wide e same keeps met l fit =
+      let count = kept.count in
+      let front = kept.front in
+      let small = kept.few in
+      let longer = ap length e ∙ length-append places (Some item ∷ []) in
+      record {
+        count = omega (arith, count, ap length (one_comes places more item e), length-append (waiting places) (item ∷ []));
+        front = omega (arith, front, longer);
+        ahead = λ p before. ap (λ (ys : List (Option X)). at_place ys p) e ∙ get_or_append_left places (Some item ∷ []) None p (omega (arith, before, front)) ∙ kept.ahead p before;
+        fit = fit;
+        list = omega (arith, longer, same, l);
+        few = omega (arith, small, same);
+        tree = λ some. let tree = kept.tree (omega (arith, some, same)) in
+            let many = tree.many in
+            grown size estimate nodes places tree new more item same e (omega (arith, l, many)) keeps met;
+      }
+
+  pub leaves : (place : ℕ) (item : X) → at_place places place ≡ Some item → IsPlaces size estimate (set places place None) nodes (len - 1) head room
+  leaves place item is =
+      let there = within size estimate places place item is in
+      let count = kept.count in
+      let front = kept.front in
+      let fit = kept.fit in
+      let list = kept.list in
+      let same = length-set {A = Option X} places place None in
+      record {
+        count = omega (arith, count, one_less places place item there is);
+        front = omega (arith, front, same);
+        ahead = λ p before. ⊎_elim
+            (λ (at : p ≡ place). ap (λ (i : ℕ). at_place (set places place None) i) at ∙ get_or-set_same places place None None there)
+            (λ (ne : p ≢ place). get_or-set_other places place p None None ne ∙ kept.ahead p before)
+            (cases_eq p place);
+        fit = omega (arith, fit, same);
+        list = omega (arith, list, same);
+        few = kept.few;
+        tree = λ some. left size estimate nodes places (kept.tree some) place;
+      }
+
+  pub somebody : (place : ℕ) (item : X) → at_place places place ≡ Some item → 1 ≤ len
+  somebody place item is = let count = kept.count in omega (arith, count, one_less places place item (within size estimate places place item is) is)

@@ -1,0 +1,47 @@
+-- Those who wait, each at a place of its own in order of arrival; who left has left its place empty.
+use Rattle.std.specs.Prelude.{◌≡◌, ℕ, ◌*◌, ◌^◌, ◌≤◌, ◌<◌, Bool, false, true, max, List, length, slice_index_or, take, Option, None, Some}
+use Rattle.std.specs.List.{filter_map}
+use Rattle.waiting_places.specs.Bounds.{LeastsView}
+use Rattle.waiting_places.specs.Tree.{IsTree}
+
+-- What callers see: the places, and how many more surely find room.
+pub record PlacesView (X : Type 0) : Type 0 where
+  pub places : List (Option X)
+  pub spare : ℕ
+
+module _ {X : Type 0} where
+  -- those who wait at these places, in order
+  abbrev pub waiting : List (Option X) → List X
+  waiting places = filter_map (λ place. place) places
+
+  -- who waits at a place
+  abbrev pub at_place : List (Option X) → ℕ → Option X
+  at_place places place = slice_index_or places place None
+
+  -- how many wait before a place
+  abbrev pub rank : List (Option X) → ℕ → ℕ
+  rank places place = length (waiting (take place places))
+
+module _ {X : Type 0} (test : Option X → Bool) (places : List (Option X)) where
+  -- no place from one to another passes
+  abbrev pub NonePasses : ℕ → ℕ → Type 0
+  NonePasses from to = (place : ℕ) → from ≤ place → place < to → test (at_place places place) ≡ false
+
+  -- the first place from one to another that passes; None where none does
+  abbrev pub IsFirst : ℕ → ℕ → Option ℕ → Type 0
+  IsFirst from to None = NonePasses from to
+  IsFirst from to (Some k) = (from ≤ k) × (k < to) × (test (at_place places k) ≡ true) × NonePasses from k
+
+-- how many places there may be beside so many nodes: without a tree at most 256, and 64 for each leaf
+abbrev pub room_of : ℕ → ℕ
+room_of nodes = max 256 (32 * nodes)
+
+-- what the fields keep: how many wait, a place before which nobody waits, room, and a tree of bounds where there are many places
+pub record IsPlaces {X : Type 0} (size estimate : X → ℕ) (places : List (Option X)) (nodes : List LeastsView) (len head room : ℕ) : Type 0 where
+  pub count : len ≡ length (waiting places)
+  pub front : head ≤ length places
+  pub ahead : (place : ℕ) → place < head → at_place places place ≡ None
+  pub fit : length places ≤ room
+  pub list : length places ≤ room_of (length nodes)
+  pub few : length nodes ≤ 2 ^ 40
+  pub tree : 1 ≤ length nodes → IsTree size estimate nodes places

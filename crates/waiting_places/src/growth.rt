@@ -1,0 +1,43 @@
+ghost use Rattle.std.specs.Prelude.{◌≡◌, ◌+◌, ◌*◌, ◌≤◌, ◌^◌, IfOk, length};
+ghost use Rattle.waiting_places.specs.Places.{room_of};
+ghost use Rattle.waiting_places.specs.Tree.{IsWhole};
+
+use crate::leasts::Leasts;
+use crate::tree::SPAN;
+use std::alloc::Allocator;
+use swf_text::Memory;
+
+/// So many places are searched one by one, without a tree.
+pub(crate) const LIST: usize = 256;
+
+// The least power of two that is not below this.
+fn power_from(count: usize) -> usize
+    requires { count ≤ 2 ^ 40 }
+    ensures power { IsWhole (2 * result) }
+    ensures enough { count ≤ result }
+    ensures few { result ≤ 2 * count + 1 }
+{
+    let mut power = 1;
+    while power < count {
+        power *= 2;
+    }
+    power
+}
+
+// Nodes of a tree over so many places, which know of nobody; none where the places are few.
+pub(crate) fn nodes_for<A: Allocator + Copy>(
+    alloc: A,
+    room: usize,
+) -> Result<Vec<Leasts, A>, Memory>
+    requires { room ≤ 2 ^ 40 }
+    ensures enough { IfOk result (λ nodes. room ≤ room_of (length nodes.items)) }
+    ensures whole { IfOk result (λ nodes. 1 ≤ length nodes.items → IsWhole (length nodes.items)) }
+    ensures many { IfOk result (λ nodes. 1 ≤ length nodes.items → 8 ≤ length nodes.items) }
+    ensures few { IfOk result (λ nodes. length nodes.items ≤ 2 ^ 40) }
+{
+    if room <= LIST {
+        return Ok(Vec::new(alloc));
+    }
+    let leaves = power_from(room.div_ceil(SPAN));
+    Ok(vec![in alloc; Leasts::new(0); 2 * leaves]?)
+}

@@ -1,0 +1,215 @@
+ghost use Rattle.std.specs.Prelude.{◌≡◌, ◌⊎◌, ◌↔◌, ℕ, ◌+◌, ◌*◌, ◌/◌, ◌^◌, ◌≤◌, ◌<◌, [], ◌∷◌, ◌++◌, IfOk, IfSome, IsOk, IsTrue, None, OnErr, OnOk, Some, is_some, length, map, option_copied, slice_set};
+ghost use Rattle.std.specs.List.{remove};
+ghost use Rattle.waiting_places.specs.Bounds.{IsBelow, Keeps};
+ghost use Rattle.waiting_places.specs.Offers.{fits, holds};
+ghost use Rattle.waiting_places.specs.Places.{IsFirst, at_place, rank, waiting};
+ghost use Rattle.waiting_places.specs.Tree.{halved, leaf_of, node_at};
+
+use crate::growth::{LIST, nodes_for};
+use crate::leasts::Leasts;
+use crate::offer::Offer;
+use crate::search::{first_in, first_in_tree, first_some};
+use crate::tree::{SPAN, lower};
+use crate::waiting::Waiting;
+use crate::waits::Waits;
+use std::alloc::Allocator;
+use std::marker::Model;
+use swf_text::Memory;
+
+/// The most places that room is made for.
+const PLACES_LIMIT: usize = 1 << 40;
+
+/// Those who wait, each at a place of its own in order of arrival. Who leaves leaves its place empty, so
+/// that it costs a step. Beside more than 256 places stands a tree of lower bounds on those who wait at
+/// 64 places each. They are lowered at once when one comes, and raised only by a search that found
+/// nothing. Contracts see the places, and how many more surely find room.
+#[derive(Drop)]
+pub struct Places<T: Waits, A: Allocator + Copy> {
+    places: Vec<Option<T>, A>,
+    nodes: Vec<Leasts, A>,
+    len: usize,
+    // Nobody waits before this place.
+    head: usize,
+}
+
+impl<T: Waits, A: Allocator + Copy> Model for Places<T, A> {
+    ghost use Rattle.std.specs.Prelude.{◌-◌, length, min, vec_capacity};
+    ghost use Rattle.waiting_places.specs.Places.{IsPlaces, PlacesView, room_of};
+
+    ghost Value = { PlacesView T };
+
+    ghost view = { λ p. record { places = p.places.items; spare = min (vec_capacity p.places) (room_of (length p.nodes.items)) - length p.places.items } };
+
+    ghost invariant = { λ p. IsPlaces T.size T.estimate p.places.items p.nodes.items p.len p.head (vec_capacity p.places) };
+}
+
+// Lowers the bounds above a place for the one who comes to it, where there is a tree.
+fn note<T: Waits>(nodes: &mut [Leasts], place: usize, item: &T)
+    requires { 1 ≤ length nodes.old → leaf_of (length nodes.old) place < length nodes.old }
+    ensures len { length nodes.new ≡ length nodes.old }
+    ensures kept { (k : ℕ) → Keeps (node_at nodes.old k) (node_at nodes.new k) }
+    ensures met { (times : ℕ) → 1 ≤ halved times (leaf_of (length nodes.old) place) → IsBelow (node_at nodes.new (halved times (leaf_of (length nodes.old) place))) (T.size item.now) (T.estimate item.now) }
+{
+    if nodes.is_empty() {
+        return;
+    }
+    let leaf = nodes.len() / 2 + place / SPAN;
+    lower(nodes, leaf, item);
+}
+
+// Those who wait at these places, at the first places of others, of which there are so many at least.
+fn closed_up<T: Waits, A: Allocator + Copy>(
+    alloc: A,
+    places: &[Option<T>],
+    room: usize,
+) -> Result<Places<T, A>, Memory>
+    requires few { room ≤ 2 ^ 40 }
+    requires enough { length (waiting places.now) ≤ room }
+    ensures places { IfOk result (λ closed. closed.places ≡ map (λ item. Some item) (waiting places.now)) }
+    ensures spare { IfOk result (λ closed. room ≤ closed.spare + length (waiting places.now)) }
+{
+    let mut closed = Places::with_room(alloc, room)?;
+    for item in Waiting::at(places) {
+        closed.push(*item);
+    }
+    Ok(closed)
+}
+
+impl<T: Waits, A: Allocator + Copy> Places<T, A> {
+    /// Nobody, and no places. It takes no memory.
+    pub fn new(alloc: A) -> Places<T, A>
+        ensures { result.places ≡ [] }
+    {
+        Places {
+            places: Vec::new(alloc),
+            nodes: Vec::new(alloc),
+            len: 0,
+            head: 0,
+        }
+    }
+
+    // Nobody, with room for so many.
+    fn with_room(alloc: A, room: usize) -> Result<Places<T, A>, Memory>
+        requires { room ≤ 2 ^ 40 }
+        ensures places { IfOk result (λ p. p.places ≡ []) }
+        ensures spare { IfOk result (λ p. room ≤ p.spare) }
+    {
+        let nodes = nodes_for(alloc, room)?;
+        Ok(Places {
+            places: Vec::with_capacity(alloc, room)?,
+            nodes,
+            len: 0,
+            head: 0,
+        })
+    }
+
+    /// How many wait.
+    pub fn len(&self) -> usize
+        ensures { result ≡ length (waiting self.now.places) }
+    {
+        self.len
+    }
+
+    /// Whether nobody waits.
+    pub fn is_empty(&self) -> bool
+        ensures { IsTrue result ↔ (waiting self.now.places ≡ []) }
+    {
+        self.len == 0
+    }
+
+    /// How many more surely find room.
+    pub fn spare(&self) -> usize
+        ensures { result ≡ self.now.spare }
+    {
+        let room = LIST.max(SPAN / 2 * self.nodes.len());
+        self.places.capacity().min(room) - self.places.len()
+    }
+
+    /// Makes room for so many more. Where there is none, those who wait move to the first places, in
+    /// order; where there is, it takes no memory and nobody moves.
+    ///
+    /// Memory where a growth was refused; then nothing has changed.
+    pub fn reserve(&mut self, count: usize) -> Result<(), Memory>
+        ensures waiting { waiting self.new.places ≡ waiting self.old.places }
+        ensures places { (self.new.places ≡ self.old.places) ⊎ (self.new.places ≡ map (λ item. Some item) (waiting self.old.places)) }
+        ensures ok { OnOk result (count ≤ self.new.spare) }
+        ensures err { OnErr result (self.new ≡ self.old) }
+        ensures room { count ≤ self.old.spare → IsOk result × (self.new ≡ self.old) }
+    {
+        if count <= self.spare() {
+            return Ok(());
+        }
+        let room = (2 * self.len).saturating_add(count).max(SPAN);
+        if room > PLACES_LIMIT {
+            return Err(Memory);
+        }
+        let closed = closed_up(*self.places.allocator(), self.places.as_slice(), room)?;
+        *self = closed;
+        Ok(())
+    }
+
+    /// One comes to the next place, where there is room; the place.
+    pub fn push(&mut self, item: T) -> usize
+        requires { 1 ≤ self.old.spare }
+        ensures place { result ≡ length self.old.places }
+        ensures places { self.new.places ≡ self.old.places ++ Some item ∷ [] }
+        ensures spare { self.old.spare ≤ self.new.spare + 1 }
+    {
+        let place = self.places.len();
+        note(&mut self.nodes, place, &item);
+        let Ok(()) = self.places.push(Some(item)) else {
+            unreachable!()
+        };
+        self.len += 1;
+        place
+    }
+
+    /// Who waits at a place leaves it empty; None where nobody does. It costs a step.
+    pub fn take(&mut self, place: usize) -> Option<T>
+        ensures item { result ≡ at_place self.old.places place }
+        ensures places { self.new.places ≡ slice_set self.old.places place None }
+        ensures waiting { IfSome result (λ _. waiting self.new.places ≡ remove (waiting self.old.places) (rank self.old.places place)) }
+        ensures spare { self.new.spare ≡ self.old.spare }
+    {
+        let item = *self.get(place)?;
+        self.places[place] = None;
+        self.len -= 1;
+        Some(item)
+    }
+
+    /// Who waits at a place; None where nobody does.
+    pub fn get(&self, place: usize) -> Option<&T>
+        ensures { option_copied result ≡ at_place self.now.places place }
+    {
+        self.places.get(place)?.as_ref()
+    }
+
+    /// The place of the first who waits; None where nobody does.
+    pub fn first(&mut self) -> Option<usize>
+        ensures place { IsFirst is_some self.old.places 0 (length self.old.places) result }
+        ensures same { self.new ≡ self.old }
+    {
+        let first = first_some(self.places.as_slice(), self.head);
+        self.head = first.unwrap_or(self.places.len());
+        first
+    }
+
+    /// The first place from one on where one waits who fits the offer; None where none does. What it
+    /// learns of those who wait it keeps for later searches.
+    pub fn first_fit(&mut self, from: usize, offer: &Offer) -> Option<usize>
+        ensures place { IsFirst (holds (fits T.size T.estimate offer.now)) self.old.places from (length self.old.places) result }
+        ensures same { self.new ≡ self.old }
+    {
+        if self.nodes.is_empty() {
+            return first_in(self.places.as_slice(), from, self.places.len(), offer);
+        }
+        first_in_tree(&mut self.nodes, self.places.as_slice(), from, offer)
+    }
+
+    /// Those who wait, in order.
+    pub fn iter(&self) -> Waiting<'_, T>
+        ensures { result ≡ waiting self.now.places }
+    {
+        Waiting::at(self.places.as_slice())
+    }
+}
