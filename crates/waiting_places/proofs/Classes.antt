@@ -1,5 +1,8 @@
 -- The classes of sizes rise with the sizes.
-use Rattle.std.proofs.Common.{◌≡◌, ℕ, zero, suc, ◌+◌, ◌-◌, ◌*◌, ◌/◌, ◌≤◌, ◌<◌, min, nat_lt, refl, ap, ◌∙◌, arith, ⊎_elim, inl, inr, ◌⊎◌}
+use Rattle.std.proofs.Common.{◌≡◌, ℕ, zero, suc, ◌+◌, ◌-◌, ◌*◌, ◌/◌, ◌^◌, ◌≤◌, ◌<◌, min, nat_lt, refl, sym, ap, ◌∙◌, arith, ⊎_elim}
+use Rattle.std.specs.Int.Count.{count_leading_zeros}
+use Rattle.std.proofs.Math.Nat.{pow-suc}
+use Rattle.std.proofs.lemmas.Nat.{leading_top, pow_pos, shr-shr}
 use Rattle.std.proofs.lemmas.Bool.{cases_lt, cond-true, cond-false, lt-ltb, le-ltb}
 use Rattle.waiting_places.specs.Classes.{class_in, class_of}
 
@@ -16,17 +19,12 @@ unfolding class_in
 none_left size = refl
 
 -- a small size is its own class
-pub ends : (n size : ℕ) → size < 8 → class_in n size ≡ min size 7
+ends : (n size : ℕ) → size < 8 → class_in n size ≡ min size 7
 unfolding class_in
 ends zero size l = refl
 ends (suc n) size l = small n size l ∙ omega arith
 
--- a size is halved once more
-pub halves : (n size : ℕ) → 1 ≤ n → 8 ≤ size → class_in n size ≡ 4 + class_in (n - 1) (size / 2)
-halves zero size some l = absurd (omega arith)
-halves (suc n) size some l = large n size l ∙ ap (λ (m : ℕ). 4 + class_in m (size / 2)) (omega arith)
-
-pub bounded : (n size : ℕ) → class_in n size ≤ 4 * n + 7
+bounded : (n size : ℕ) → class_in n size ≤ 4 * n + 7
 unfolding class_in
 bounded zero size = omega arith
 bounded (suc n) size =
@@ -64,17 +62,60 @@ rises a b l = rises_in 23 a b l
 pub few : (size : ℕ) → class_of size < 100
 few size = omega (arith, bounded 23 size)
 
--- one step of halving
-pub halved : (class turns rest size : ℕ) → turns < 23 → 8 ≤ rest → class + class_in (23 - turns) rest ≡ class_of size → class + 4 + class_in (23 - (turns + 1)) (rest / 2) ≡ class_of size
-halved class turns rest size lt l is =
-    let step : class_in (23 - turns) rest ≡ 4 + class_in (23 - turns - 1) (rest / 2) = halves (23 - turns) rest (omega arith) l in
-    let same : class_in (23 - turns - 1) (rest / 2) ≡ class_in (23 - (turns + 1)) (rest / 2) = ap (λ (n : ℕ). class_in n (rest / 2)) (omega arith) in
-    omega (arith, is, step, same)
+-- the class of a size that is halved so often until less than 8 is left
+found : (n times size : ℕ) → times ≤ n → 4 * 2 ^ times ≤ size → size < 8 * 2 ^ times → class_in n size ≡ 4 * times + size / 2 ^ times
+found n zero size l low high = let e = ends n size (omega arith) in omega (arith, e)
+found zero (suc times) size l low high = absurd (omega arith)
+found (suc n) (suc times) size l low high =
+    let double : 2 ^ suc times ≡ 2 ^ times * 2 = pow-suc 2 times in
+    let one : 1 ≤ 2 ^ times = pow_pos times in
+    let half = found n times (size / 2) (omega arith) (omega arith) (omega arith) in
+    let same : size / 2 / 2 ^ times ≡ size / 2 ^ suc times = shr-shr size 1 times ∙ ap (λ (m : ℕ). size / 2 ^ m) (omega arith) in
+    omega (arith, large n size (omega arith), half, same)
 
--- halving ends
-pub found : (class turns rest size last : ℕ) → last ≡ min rest 7 → (23 ≤ turns) ⊎ (rest < 8) → class + class_in (23 - turns) rest ≡ class_of size → class + last ≡ class_of size
-found class turns rest size last e (inl all) is =
-    let none : 23 - turns ≡ 0 = omega arith in
-    let end : class_in (23 - turns) rest ≡ class_in 0 rest = ap (λ (n : ℕ). class_in n rest) none in
-    omega (arith, is, end, none_left rest)
-found class turns rest size last e (inr short) is = omega (arith, is, ends (23 - turns) rest short)
+-- the last class
+last : (n times size : ℕ) → n < times → 4 * 2 ^ times ≤ size → class_in n size ≡ 4 * n + 7
+last n zero size l low = absurd (omega arith)
+last zero (suc times) size l low =
+    let double : 2 ^ suc times ≡ 2 ^ times * 2 = pow-suc 2 times in
+    let one : 1 ≤ 2 ^ times = pow_pos times in
+    omega (arith, none_left size)
+last (suc n) (suc times) size l low =
+    let double : 2 ^ suc times ≡ 2 ^ times * 2 = pow-suc 2 times in
+    let one : 1 ≤ 2 ^ times = pow_pos times in
+    let half = last n times (size / 2) (omega arith) (omega arith) in
+    omega (arith, large n size (omega arith), half)
+
+-- how often a size is halved until less than 8 is left, by its leading zeros
+record IsHalved (size times : ℕ) : Type 0 where
+  low : 4 * 2 ^ times ≤ size
+  high : size < 8 * 2 ^ times
+
+by_zeros : (size zeros : ℕ) → 8 ≤ size → size < 2 ^ 64 → zeros ≡ count_leading_zeros 64 size → (zeros ≤ 61) × IsHalved size (61 - zeros)
+by_zeros size zeros l u e = go top.0 top.1 top.2 top.3
+  where
+    top : (j : ℕ) × (count_leading_zeros 64 size + suc j ≡ 64) × (2 ^ j ≤ size) × (size < 2 ^ suc j)
+    top = leading_top 64 size (omega arith) u
+
+    go : (j : ℕ) → count_leading_zeros 64 size + suc j ≡ 64 → 2 ^ j ≤ size → size < 2 ^ suc j → (zeros ≤ 61) × IsHalved size (61 - zeros)
+    go zero sum low high = absurd (omega arith)
+    go (suc zero) sum low high = absurd (omega arith)
+    go (suc (suc t)) sum low high =
+        let double : 2 ^ suc (suc t) ≡ 2 ^ t * 2 * 2 = pow-suc 2 (suc t) ∙ ap (λ (m : ℕ). m * 2) (pow-suc 2 t) in
+        let twice : 2 ^ suc (suc (suc t)) ≡ 2 ^ suc (suc t) * 2 = pow-suc 2 (suc (suc t)) in
+        let times : 61 - zeros ≡ t = omega arith in
+        let power : 2 ^ (61 - zeros) ≡ 2 ^ t = ap (λ (m : ℕ). 2 ^ m) times in
+        (omega arith, record { low = omega arith; high = omega arith })
+
+-- the class of a small size, of a larger one by its leading zeros, and of the largest
+pub small_class : (size : ℕ) → size < 8 → size ≡ class_of size
+small_class size l = let e = ends 23 size l in omega (arith, e)
+
+pub some_zeros : (size : ℕ) → 8 ≤ size → size < 2 ^ 64 → count_leading_zeros 64 size ≤ 61
+some_zeros size l u = (by_zeros size (count_leading_zeros 64 size) l u refl).0
+
+pub large_class : (size : ℕ) → 8 ≤ size → size < 2 ^ 64 → 61 - count_leading_zeros 64 size ≤ 23 → 4 * (61 - count_leading_zeros 64 size) + size / 2 ^ (61 - count_leading_zeros 64 size) ≡ class_of size
+large_class size l u few_times = let h = (by_zeros size (count_leading_zeros 64 size) l u refl).1 in sym (found 23 (61 - count_leading_zeros 64 size) size few_times h.low h.high)
+
+pub last_class : (size : ℕ) → 8 ≤ size → size < 2 ^ 64 → 23 < 61 - count_leading_zeros 64 size → 99 ≡ class_of size
+last_class size l u many = let h = (by_zeros size (count_leading_zeros 64 size) l u refl).1 in sym (last 23 (61 - count_leading_zeros 64 size) size many h.low)

@@ -7,4 +7,5 @@ mod Fits
 mod First
 mod Parts
 mod Standing
+mod Found
 mod Grown

@@ -5,11 +5,15 @@ use Rattle.std.proofs.lemmas.List.{length-append, length-drop, take_all, take-ap
 use Rattle.std.proofs.lemmas.List.Elements.{filter_map-append}
 use Rattle.std.proofs.lemmas.List.Edits.{remove-append_right}
 use Rattle.std.proofs.Math.Seq.{drop-cons}
-use Rattle.waiting_places.specs.Places.{IsFirst, NonePasses, at_place, rank, waiting}
+use Rattle.waiting_places.specs.Places.{IsFirst, NonePasses, PlacesView, at_place, rank, waiting}
 
 module _ {X : Type 0} where
   both : (xs ys : List (Option X)) → waiting (xs ++ ys) ≡ waiting xs ++ waiting ys
   both xs ys = filter_map-append (λ (x : Option X). x) xs ys
+
+  -- who is seen at a place
+  pub seen : (v w : PlacesView X) (place : ℕ) (x : X) → v ≡ w → Some x ≡ at_place w.places place → at_place v.places place ≡ Some x
+  seen v w place x e is = ap (λ (u : PlacesView X). at_place u.places place) e ∙ sym is
 
   -- one comes
   pub one_comes : (xs new : List (Option X)) (x : X) → new ≡ xs ++ Some x ∷ [] → waiting new ≡ waiting xs ++ x ∷ []

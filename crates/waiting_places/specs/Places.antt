@@ -18,6 +18,11 @@ module _ {X : Type 0} where
   abbrev pub at_place : List (Option X) → ℕ → Option X
   at_place places place = slice_index_or places place None
 
+  -- who waits at a place, if there is one
+  abbrev pub found_at : List (Option X) → Option ℕ → Option X
+  found_at places None = None
+  found_at places (Some place) = at_place places place
+
   -- how many wait before a place
   abbrev pub rank : List (Option X) → ℕ → ℕ
   rank places place = length (waiting (take place places))

@@ -4,22 +4,20 @@ ghost use Rattle.waiting_places.specs.Classes.{class_of};
 /// How many classes of size there are.
 pub(crate) const CLASSES: usize = 100;
 
-/// How often a size is halved at most; so often, the largest classes are found.
+/// How often a size is halved at most.
 const HALVINGS: usize = 23;
 
-// The class of a size.
+// The class of a size. The leading zeros tell how often it is halved until less than 8 is left.
 pub(crate) fn class_of(size: u64) -> usize
     ensures class { result ≡ class_of size }
     ensures few { result < 100 }
 {
-    let mut class = 0;
-    let mut rest = size;
-    for _ in 0..HALVINGS {
-        if rest < 8 {
-            break;
-        }
-        rest /= 2;
-        class += 4;
+    if size < 8 {
+        return size as usize;
     }
-    class + rest.min(7) as usize
+    let halvings = 61 - size.leading_zeros() as usize;
+    if halvings > HALVINGS {
+        return CLASSES - 1;
+    }
+    4 * halvings + (size >> halvings) as usize
 }

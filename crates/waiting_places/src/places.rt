@@ -1,8 +1,8 @@
-ghost use Rattle.std.specs.Prelude.{◌≡◌, ◌⊎◌, ◌↔◌, ℕ, ◌+◌, ◌*◌, ◌/◌, ◌^◌, ◌≤◌, ◌<◌, [], ◌∷◌, ◌++◌, IfOk, IfSome, IsOk, IsTrue, None, OnErr, OnOk, Some, is_some, length, map, option_copied, slice_set};
+ghost use Rattle.std.specs.Prelude.{◌≡◌, ◌⊎◌, ◌↔◌, ℕ, ◌+◌, ◌*◌, ◌/◌, ◌^◌, ◌≤◌, ◌<◌, [], ◌∷◌, ◌++◌, IfOk, IfSome, IsOk, IsTrue, None, OnErr, OnOk, Some, drop, find, is_some, length, map, option_copied, slice_get, slice_set};
 ghost use Rattle.std.specs.List.{remove};
 ghost use Rattle.waiting_places.specs.Bounds.{IsBelow, Keeps};
 ghost use Rattle.waiting_places.specs.Offers.{fits, holds};
-ghost use Rattle.waiting_places.specs.Places.{IsFirst, at_place, rank, waiting};
+ghost use Rattle.waiting_places.specs.Places.{IsFirst, at_place, found_at, rank, waiting};
 ghost use Rattle.waiting_places.specs.Tree.{halved, leaf_of, node_at};
 
 use crate::growth::{LIST, nodes_for};
@@ -185,8 +185,10 @@ impl<T: Waits, A: Allocator + Copy> Places<T, A> {
     }
 
     /// The place of the first who waits; None where nobody does.
+    #[tactic(auto, using(crate::proofs::Found::found_first))]
     pub fn first(&mut self) -> Option<usize>
         ensures place { IsFirst is_some self.old.places 0 (length self.old.places) result }
+        ensures item { found_at self.old.places result ≡ slice_get (waiting self.old.places) 0 }
         ensures same { self.new ≡ self.old }
     {
         let first = first_some(self.places.as_slice(), self.head);
@@ -196,8 +198,10 @@ impl<T: Waits, A: Allocator + Copy> Places<T, A> {
 
     /// The first place from one on where one waits who fits the offer; None where none does. What it
     /// learns of those who wait it keeps for later searches.
+    #[tactic(auto, using(crate::proofs::Found::found_fit))]
     pub fn first_fit(&mut self, from: usize, offer: &Offer) -> Option<usize>
         ensures place { IsFirst (holds (fits T.size T.estimate offer.now)) self.old.places from (length self.old.places) result }
+        ensures item { found_at self.old.places result ≡ find (fits T.size T.estimate offer.now) (waiting (drop from self.old.places)) }
         ensures same { self.new ≡ self.old }
     {
         if self.nodes.is_empty() {

@@ -1,26 +1,26 @@
-use Rattle.std.proofs.Common.{ap, sym, ◌∙◌}
+use Rattle.std.proofs.Common.{ap, ◌∙◌}
 use Rattle.std.specs.List.{remove}
-use Rattle.waiting_places.specs.Places.{PlacesView, at_place, rank, waiting}
+use Rattle.waiting_places.specs.Places.{PlacesView, rank, waiting}
 use Rattle.waiting_places.proofs.Below.{within}
 use Rattle.waiting_places.proofs.Grown.{leaves, somebody}
-use Rattle.waiting_places.proofs.Standing.{one_leaves}
+use Rattle.waiting_places.proofs.Standing.{one_leaves, seen}
 use Rattle.waiting_places.proofs.places.Places.take.Goals as goal
 
 pub overflow_sub-self : goal.overflow_sub-self
 overflow_sub-self g c =
     let inside = c.self.inside in
-    let at = ap (λ (v : PlacesView _). at_place v.places c.args.place) c.self.view_is ∙ sym c.in_ok-item.ensures in
+    let at = seen _ _ c.args.place c.in_ok-item.field-0.now c.self.view_is c.in_ok-item.ensures in
     somebody g.T.Waits.size g.T.Waits.estimate inside.places.items inside.nodes.items inside.len inside.head _ c.self.invariant c.args.place c.in_ok-item.field-0.now at
 
 pub invariant_of-self : goal.invariant_of-self
 invariant_of-self g c =
     let inside = c.self.inside in
-    let at = ap (λ (v : PlacesView _). at_place v.places c.args.place) c.self.view_is ∙ sym c.in_ok-item.ensures in
+    let at = seen _ _ c.args.place c.in_ok-item.field-0.now c.self.view_is c.in_ok-item.ensures in
     leaves g.T.Waits.size g.T.Waits.estimate inside.places.items inside.nodes.items inside.len inside.head _ c.self.invariant c.args.place c.in_ok-item.field-0.now at
 
 pub returns-clause-waiting : goal.returns-clause-waiting
 returns-clause-waiting g c =
     let inside = c.self.inside in
-    let at = ap (λ (v : PlacesView _). at_place v.places c.args.place) c.self.view_is ∙ sym c.in_ok-item.ensures in
+    let at = seen _ _ c.args.place c.in_ok-item.field-0.now c.self.view_is c.in_ok-item.ensures in
     let there = within g.T.Waits.size g.T.Waits.estimate inside.places.items c.args.place c.in_ok-item.field-0.now at in
     one_leaves inside.places.items c.args.place c.in_ok-item.field-0.now there at ∙ ap (λ (v : PlacesView _). remove (waiting v.places) (rank v.places c.args.place)) c.self.view_is
