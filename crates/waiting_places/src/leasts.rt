@@ -1,4 +1,4 @@
-ghost use Rattle.std.specs.Prelude.{◌≡◌, ℕ, ◌≤◌, ◌<◌, IfSome, true, length, slice_index_or};
+ghost use Rattle.std.specs.Prelude.{◌≡◌, ℕ, ◌-◌, ◌^◌, ◌≤◌, ◌<◌, IfSome, true, min, length, slice_index_or};
 ghost use Rattle.waiting_places.specs.Classes.{class_of};
 ghost use Rattle.waiting_places.specs.Bounds.{AreBelow, Falls, IsBelow, Keeps, least_size, may_fit};
 
@@ -30,9 +30,9 @@ impl Model for Leasts {
     ghost invariant = { λ l. Falls l.estimates };
 }
 
-// A number that is no greater, and takes half the room.
+// A number, or the greatest of half its room where it has none there.
 fn short(number: u64) -> u32
-    ensures { result ≤ number }
+    ensures { result ≡ min number (2 ^ 32 - 1) }
 {
     u32::try_from(number).unwrap_or(u32::MAX)
 }
