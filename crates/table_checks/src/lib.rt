@@ -1,6 +1,6 @@
-//! Tests of `chunks`, `blocks` and `job_table`, in a crate of their own so that each of these libraries
-//! is proved once: lists in shared chunks, rows in blocks, tables with their edits, and what these
-//! count.
+//! Tests of `chunks`, `blocks`, `waiting_places` and `job_table`, in a crate of their own so that each of
+//! these libraries is proved once: lists in shared chunks, rows in blocks, those who wait at places,
+//! tables with their edits, and what these count.
 #![tactic(auto)]
 
 #[cfg(test)]
@@ -11,6 +11,8 @@ mod edits;
 mod lists;
 #[cfg(test)]
 mod many;
+#[cfg(test)]
+mod places;
 #[cfg(test)]
 mod sorted;
 #[cfg(test)]
