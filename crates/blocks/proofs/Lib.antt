@@ -1,6 +1,7 @@
 mod Weights
 mod Changes
 mod Places
+mod Halves
 mod Edits
 mod Rooms
 mod Order

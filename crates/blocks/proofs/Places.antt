@@ -1,9 +1,8 @@
 -- Where a search over the blocks of a row ends.
 use Rattle.std.proofs.Common.{◌≡◌, ℕ, zero, suc, ◌+◌, ◌-◌, ◌<◌, ◌≤◌, Bool, true, false, not, List, [], ◌∷◌, ◌++◌, length, length-append, take, drop, get_or, refl, ap, sym, subst, ◌∙◌, arith, zero-add}
 use Rattle.std.specs.List.{position_or_len}
-use Rattle.std.specs.List.Sorted.{IsPartitionedBy, IsPartitionPoint}
+use Rattle.std.specs.List.Sorted.{IsPartitionedBy}
 use Rattle.std.proofs.lemmas.List.{get_or-append-add, get_or_append_left}
-use Rattle.std.proofs.lemmas.List.Sums.{position_or_len_is}
 use Rattle.std.proofs.lemmas.Option.{slice_get-get_or}
 use Rattle.blocks.specs.Rows.{flat, start, ends_by, passes, AreFilled}
 use Rattle.blocks.proofs.Changes.{flat_at}
@@ -125,7 +124,3 @@ module _ {X : Type 0} (test : X → Bool) where
   there_by cs k at found s e f h =
       let first = subst (λ (n : ℕ). n < length cs → place (get_or cs n []) < length (get_or cs n [])) (sym e) (there_is cs s) in
       subst (λ (n : ℕ). k < length cs → n < length (get_or cs k [])) (sym (h ∙ ap place f)) first
-
-  pub placed_at : (xs : List X) (i : ℕ) → i ≤ length xs → IsPartitionPoint (λ x. test x ≡ true) (λ x. test x ≡ false) xs i → i ≡ place xs
-  placed_at [] i le h = omega arith
-  placed_at (x ∷ xs) i le h = sym (position_or_len_is (λ y. not (test y)) (x ∷ xs) i x le (λ k lt. ap not (h.0 k x (omega arith) lt)) (λ lt. ap not (h.1 i x (omega arith) lt)))

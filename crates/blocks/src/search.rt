@@ -9,6 +9,7 @@ use crate::ranked::Ranked;
 use std::alloc::Allocator;
 
 // Whether an item stands before one with these two numbers.
+#[inline]
 fn is_before<T: Ranked>(item: &T, major: u128, minor: u64) -> bool
     ensures { result ≡ stands T.major T.minor major minor item.now }
 {
@@ -17,6 +18,7 @@ fn is_before<T: Ranked>(item: &T, major: u128, minor: u64) -> bool
 }
 
 // Whether a block's last item stands before one with these two numbers.
+#[inline]
 fn ends_before<T: Ranked>(items: &[T], major: u128, minor: u64) -> bool
     ensures { result ≡ ends_by (stands T.major T.minor major minor) items.now }
 {
@@ -37,11 +39,17 @@ fn block_before<T: Ranked, A: Allocator + Copy>(
     ensures within { result ≤ length blocks.now }
     ensures place { result ≡ position_or_len (λ block. not (ends_by (stands T.major T.minor major minor) block)) blocks.now }
 {
-    blocks.partition_point(
-        |block: &Block<T, A>| -> bool
-            ensures { result ≡ ends_by (stands T.major T.minor major minor) block.now }
-        { ends_before(block.as_slice(), major, minor) },
-    )
+    let mut low = 0;
+    let mut high = blocks.len();
+    'halves: while low < high {
+        let middle = low + (high - low) / 2;
+        if ends_before(blocks[middle].as_slice(), major, minor) {
+            low = middle + 1;
+        } else {
+            high = middle;
+        }
+    }
+    low
 }
 
 // How many of these items stand before one with these two numbers.
@@ -50,11 +58,17 @@ fn before<T: Ranked>(items: &[T], major: u128, minor: u64) -> usize
     ensures within { result ≤ length items.now }
     ensures place { result ≡ position_or_len (λ x. not (stands T.major T.minor major minor x)) items.now }
 {
-    items.partition_point(
-        |item: &T| -> bool
-            ensures { result ≡ stands T.major T.minor major minor item.now }
-        { is_before(item, major, minor) },
-    )
+    let mut low = 0;
+    let mut high = items.len();
+    'halves: while low < high {
+        let middle = low + (high - low) / 2;
+        if is_before(&items[middle], major, minor) {
+            low = middle + 1;
+        } else {
+            high = middle;
+        }
+    }
+    low
 }
 
 // The place of the first item that doesn't stand before one with these two numbers; behind the last

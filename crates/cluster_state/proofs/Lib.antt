@@ -7,6 +7,8 @@ mod EndLemmas
 mod LeavingLemmas
 mod NumberLemmas
 mod KeyLemmas
-mod StartAllLemmas
+mod PlaceLemmas
+mod StartLemmas
 mod LineLemmas
+mod PastLemmas
 pub mod Lemmas

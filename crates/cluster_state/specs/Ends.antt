@@ -47,6 +47,10 @@ pub record IsPast (s : State) (need room : ℕ) (rest : List Placed) : Type 0 wh
   pub gives : room ≡ free s + busy passed
   pub short : room < need
 
+-- the most running jobs of a block of the row: so many are left to walk over, at most, until enough processors are free
+abbrev pub block_limit : ℕ
+block_limit = 128
+
 -- the order in which a heap of ends keeps them: the first to end on top
 abbrev pub falling : Reverse End → Reverse End → Ordering
 falling a b = ordering_then (nat_cmp b.0.end a.0.end) (ordering_then (nat_cmp b.0.expected_end a.0.expected_end) (nat_cmp b.0.number a.0.number))

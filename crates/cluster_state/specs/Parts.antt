@@ -3,7 +3,8 @@ use Rattle.std.specs.Prelude.{◌≡◌, ℕ, ◌+◌, ◌-◌, ◌≤◌, min, 
 use Rattle.std.specs.BinaryHeap.{heap_items, heap_len, heap_capacity, IsHeap}
 use Rattle.blocks.specs.Rows.{flat}
 use Rattle.cluster_state.specs.State.{State, ClusterView, IsSound, busy}
-use Rattle.cluster_state.specs.Row.{row_of}
+use Rattle.waiting_places.specs.Places.{waiting}
+use Rattle.cluster_state.specs.Row.{row_of, row_places}
 use Rattle.cluster_state.specs.Ends.{by_number, end_of, falling, RisesByEnd}
 use Rattle.cluster_state.specs.declared.ends.End.{End}
 use Rattle.cluster_state.specs.Rooms.{LineView, QueueView, RunningView}
@@ -20,13 +21,13 @@ line_of l = record { jobs = drop l.gone l.places.items; spare = vec_capacity l.p
 abbrev pub IsLine : {A : Type 0} → line.Inside A → Type 0
 IsLine l = l.gone ≤ vec_len l.places
 
--- the order, and the waiting jobs
+-- the order, the waiting jobs, and the places of the row
 abbrev pub queue_of : {A : Type 0} → queue.Inside A → QueueView
-queue_of q = record { order = q.order; jobs = q.jobs.jobs }
+queue_of q = record { order = q.order; jobs = waiting q.jobs.places; places = row_places q.order q.jobs.places q.row.jobs }
 
 -- what the fields of the queue keep: the row is that of the waiting jobs
 abbrev pub IsQueue : {A : Type 0} → queue.Inside A → Type 0
-IsQueue q = q.row.jobs ≡ row_of q.order q.jobs.jobs
+IsQueue q = q.row.jobs ≡ row_of q.order (waiting q.jobs.places)
 
 -- the room for running jobs that is left: in the row by expected ends and in the heap of ends
 abbrev pub spare_of : {A : Type 0} → set.Inside A → ℕ
@@ -48,9 +49,9 @@ pub record IsRunningSet {A : Type 0} (s : set.Inside A) : Type 0 where
 abbrev pub state_of : {A : Type 0} → Inside A → State
 state_of c = record { machine = c.procs; order = c.queue.order; waiting = c.queue.jobs; running = c.running.running }
 
--- this state, and the room for starts
+-- this state, the room for starts, and the places of the row
 abbrev pub view_of : {A : Type 0} → Inside A → ClusterView
-view_of c = record { state = state_of c; spare = c.running.spare }
+view_of c = record { state = state_of c; spare = c.running.spare; places = c.queue.places }
 
 -- what a cluster's fields keep: each processor is free or held, and the state is sound
 pub record IsCluster {A : Type 0} (c : Inside A) : Type 0 where

@@ -1,9 +1,9 @@
 -- The two rooms of a cluster, as contracts inside the crate see them: who waits, and who runs.
-use Rattle.std.specs.Prelude.{◌≡◌, ℕ, List, ◌++◌, fold}
+use Rattle.std.specs.Prelude.{◌≡◌, ℕ, List, ◌++◌, Option}
 use Rattle.scenarios.specs.Job.{EffectiveJob}
 use Rattle.scenarios.specs.declared.order.Order.{Order}
 use Rattle.scenarios.specs.declared.placed.Placed.{Placed}
-use Rattle.cluster_state.specs.State.{placed, busy}
+use Rattle.cluster_state.specs.State.{busy}
 use Rattle.cluster_state.specs.Ends.{by_end}
 
 -- Jobs in a row, and how many more surely find room.
@@ -11,19 +11,16 @@ pub record LineView : Type 0 where
   pub jobs : List EffectiveJob
   pub spare : ℕ
 
--- The waiting jobs in order of arrival, and the order in which the later ones are looked at.
+-- The waiting jobs in order of arrival, the order in which the later ones are looked at, and the places of the row in which they are.
 pub record QueueView : Type 0 where
   pub order : Order
   pub jobs : List EffectiveJob
+  pub places : List (Option EffectiveJob)
 
 -- The running jobs, with their starts, rising by number, and how many starts surely find room.
 pub record RunningView : Type 0 where
   pub running : List Placed
   pub spare : ℕ
-
--- these jobs run from second `now` on, beside those who run
-abbrev pub all_placed : ℕ → List EffectiveJob → List Placed → List Placed
-all_placed now jobs rs = fold (λ (rs : List Placed) (j : EffectiveJob). placed (record { job = j; start = now }) rs) rs jobs
 
 -- the running jobs by their expected ends, but for some first ones, which hold so many processors together
 pub record IsRest (running : List Placed) (held : ℕ) (rest : List Placed) : Type 0 where

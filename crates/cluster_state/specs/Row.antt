@@ -1,8 +1,12 @@
 -- The order in which the later waiting jobs are looked at.
-use Rattle.std.specs.Prelude.{nat_le, nat_lt, if◌then◌else◌, List, [], ◌∷◌}
+use Rattle.std.specs.Prelude.{◌≡◌, ℕ, ◌≤◌, nat_le, nat_lt, if◌then◌else◌, Bool, List, [], ◌∷◌, map, Option, Some, IsSomeAnd}
 use Rattle.scenarios.specs.Job.{EffectiveJob}
 use Rattle.scenarios.specs.declared.order.Order.{Order}
 use Rattle.scenarios.specs.declared.order.Order.TheVariants.{Arrival, Shortest}
+use Rattle.waiting_places.specs.declared.offer.Offer.{Offer}
+use Rattle.waiting_places.specs.Offers.{fits}
+use Rattle.waiting_places.specs.Places.{at_place, waiting}
+use Rattle.cluster_state.specs.State.{ClusterView, free}
 
 -- a job among others, before the first whose estimate is not shorter
 abbrev pub put : EffectiveJob → List EffectiveJob → List EffectiveJob
@@ -33,3 +37,20 @@ put_last job (x ∷ xs) = if nat_lt job.estimate x.estimate then job ∷ x ∷ x
 abbrev pub row_with : Order → EffectiveJob → List EffectiveJob → List EffectiveJob
 row_with Arrival job row = row
 row_with Shortest job row = put_last job row
+
+-- the places of the row: in order of arrival those of the queue itself, else one for each job of the kept row
+abbrev pub row_places : Order → List (Option EffectiveJob) → List EffectiveJob → List (Option EffectiveJob)
+row_places Arrival places row = places
+row_places Shortest places row = map (λ job. Some job) row
+
+-- what is true of the places of each cluster: the waiting jobs stand there, in the order in which they are looked at
+abbrev pub IsRow : ClusterView → Type 0
+IsRow c = waiting c.places ≡ in_order c.state.order c.state.waiting
+
+-- a job fits what is offered
+abbrev pub fits_offer : Offer → EffectiveJob → Bool
+fits_offer offer job = fits (λ (j : EffectiveJob). j.size) (λ (j : EffectiveJob). j.estimate) offer job
+
+-- a job waits at this place of the row, and fits into the free processors
+abbrev pub CanStartAt : ClusterView → ℕ → Type 0
+CanStartAt c place = IsSomeAnd (at_place c.places place) (λ job. job.size ≤ free c.state)

@@ -15,10 +15,12 @@ pub record State : Type 0 where
   pub waiting : List EffectiveJob
   pub running : List Placed
 
--- What callers see of a cluster: its state, and how many starts it has room for.
+-- What callers see of a cluster: its state, how many starts it has room for, and the places of the row in which the later
+-- jobs are looked at for a backfill. Who left may have left its place empty.
 pub record ClusterView : Type 0 where
   pub state : State
   pub spare : ℕ
+  pub places : List (Option EffectiveJob)
 
 -- a machine on which no job waits or runs
 abbrev pub empty : ℕ → Order → State

@@ -1,17 +1,19 @@
 //! How a cluster changes: jobs arrive, start and end.
-ghost use Rattle.std.specs.Prelude.{◌≡◌, ◌<◌, ◌≤◌, ◌+◌, ◌↔◌, OnOk, OnErr, IsOk, IsTrue, length, count_by, nat_eq};
+ghost use Rattle.std.specs.Prelude.{◌≡◌, ◌<◌, ◌≤◌, ◌+◌, ◌↔◌, OnOk, OnErr, IfNone, IfSome, IsOk, IsTrue, Some, drop, count_by, nat_eq, slice_get};
 ghost use Rattle.scenarios.specs.Limits.{seconds_end};
+ghost use Rattle.waiting_places.specs.Places.{at_place, waiting};
 
 use crate::by_end::RunningByEnd;
 use crate::cluster::Cluster;
-use crate::queue::sizes;
+use crate::waiting::Waiting;
 use scenarios::{Job, Placed};
 use std::alloc::Allocator;
 use swf_text::Memory;
 
 impl<A: Allocator + Copy> Cluster<A> {
-    ghost use Rattle.cluster_state.specs.State.{arrived, after_start, all_started};
-    ghost use Rattle.cluster_state.specs.State.{ended_until, holders, CanArrive, CanStart, CanStartAll};
+    ghost use Rattle.cluster_state.specs.State.{arrived, after_start, started, free};
+    ghost use Rattle.cluster_state.specs.State.{ended_until, holders, CanArrive, CanStart};
+    ghost use Rattle.cluster_state.specs.Row.{CanStartAt};
 
     /// Whether a job may join the queue: no job of its number waits or runs, and it is not larger
     /// than the machine.
@@ -48,6 +50,7 @@ impl<A: Allocator + Copy> Cluster<A> {
     /// Memory where a growth was refused; the room may then be greater than it was, too.
     pub fn reserve_starts(&mut self, count: usize) -> Result<(), Memory>
         ensures state { self.new.state ≡ self.old.state }
+        ensures places { self.new.places ≡ self.old.places }
         ensures ok { OnOk result (count ≤ self.new.spare) }
         ensures kept { self.old.spare ≤ self.new.spare }
         ensures room { count ≤ self.old.spare → IsOk result }
@@ -88,24 +91,54 @@ impl<A: Allocator + Copy> Cluster<A> {
         Ok(())
     }
 
-    /// These waiting jobs start at second `now`, one after another.
-    ///
-    /// With room for so many starts it takes no memory. Memory where a growth was refused; the state is
-    /// then as it was, and the room no smaller.
-    pub fn start_all(&mut self, jobs: &[Job], now: u64) -> Result<(), Memory>
-        requires fits { CanStartAll self.old.state jobs.now now }
+    /// The first waiting job starts at second `now` where it fits into the free processors: which one it
+    /// is. None where nobody waits or it does not fit; then nothing has changed. It takes no memory.
+    pub fn start_head(&mut self, now: u64) -> Option<Job>
+        requires room { 1 ≤ self.old.spare }
         requires now { now < seconds_end }
-        ensures ok { OnOk result (self.new.state ≡ all_started self.old.state jobs.now now) }
-        ensures err { OnErr result (self.new.state ≡ self.old.state) }
-        ensures room { length jobs.now ≤ self.old.spare → IsOk result }
-        ensures spare { self.old.spare ≤ self.new.spare + length jobs.now }
-        ensures kept { OnErr result (self.old.spare ≤ self.new.spare) }
+        ensures none { IfNone result (self.new ≡ self.old) }
+        ensures waits { IfNone result (IfSome (slice_get self.old.state.waiting 0) (λ head. free self.old.state < head.size)) }
+        ensures head { IfSome result (λ head. slice_get self.old.state.waiting 0 ≡ Some head) }
+        ensures fits { IfSome result (λ head. head.size ≤ free self.old.state) }
+        ensures state { IfSome result (λ head. self.new.state ≡ started self.old.state head now) }
+        ensures spare { self.old.spare ≤ self.new.spare + 1 }
     {
-        self.running.reserve(jobs.len())?;
-        self.running.join_all(jobs, now);
-        self.queue.remove_all(jobs);
-        self.free -= sizes(jobs);
-        Ok(())
+        let head = *self.waiting_at(0)?;
+        if self.free < head.size() {
+            return None;
+        }
+        let r = Placed {
+            job: head,
+            start: now,
+        };
+        self.running.join(r);
+        self.queue.take_head();
+        self.free -= head.size();
+        Some(head)
+    }
+
+    /// The job at this place of the row starts at second `now`: the place from which on those behind it
+    /// stand in the row then. It takes no memory.
+    ///
+    /// In order of arrival its place is left empty; by estimate the row closes up.
+    pub fn start_at(&mut self, place: usize, now: u64) -> usize
+        requires fits { CanStartAt self.old place }
+        requires room { 1 ≤ self.old.spare }
+        requires now { now < seconds_end }
+        ensures state { IfSome (at_place self.old.places place) (λ job. self.new.state ≡ started self.old.state job now) }
+        ensures rest { waiting (drop result self.new.places) ≡ waiting (drop (place + 1) self.old.places) }
+        ensures spare { self.old.spare ≤ self.new.spare + 1 }
+    {
+        let Some(candidate) = self.queue.get(place).copied() else {
+            unreachable!()
+        };
+        let r = Placed {
+            job: candidate,
+            start: now,
+        };
+        self.running.join(r);
+        self.free -= candidate.size();
+        self.queue.take_at(place)
     }
 
     /// The jobs that end by second `t` leave.
@@ -130,16 +163,27 @@ fn runs<A: Allocator + Copy>(running: RunningByEnd<'_, A>, number: u64) -> bool
     false
 }
 
+// Whether one of these waiting jobs has this number.
+fn waits(waiting: Waiting<'_>, number: u64) -> bool
+    ensures { IsTrue result ↔ (1 ≤ count_by (λ j. nat_eq j.number number) waiting.entry) }
+{
+    for job in waiting {
+        if job.number() == number {
+            return true;
+        }
+    }
+    false
+}
+
 // Whether no job of this number waits or runs.
 fn is_absent<A: Allocator + Copy>(
-    waiting: &[Job],
+    waiting: Waiting<'_>,
     running: RunningByEnd<'_, A>,
     number: u64,
 ) -> bool
     ensures { IsTrue result
-        ↔ (count_by (λ j. nat_eq j.number number) waiting.now
+        ↔ (count_by (λ j. nat_eq j.number number) waiting.entry
         + count_by (λ r. nat_eq r.job.number number) running.entry ≡ 0) }
 {
-    let waits = waiting.iter().filter(|j| j.number() == number).count();
-    waits == 0 && !runs(running, number)
+    !waits(waiting, number) && !runs(running, number)
 }

@@ -1,7 +1,9 @@
-ghost use Rattle.std.specs.Prelude.{◌≡◌, ◌≤◌, ◌<◌, ◌↔◌, [], IfOk, IfSome, IsNone, MatchOption, All, Any, slice_get, IsPermutation};
+ghost use Rattle.std.specs.Prelude.{◌≡◌, ◌≤◌, ◌<◌, ◌↔◌, [], IfOk, IfSome, IsNone, MatchOption, None, Some, All, Any, drop, length, slice_get, take, IsPermutation, ◌+◌};
 ghost use Rattle.std.specs.Option.{option_copied};
 ghost use Rattle.scenarios.specs.Limits.{procs_limit};
-ghost use Rattle.scenarios.specs.declared.order.Order.TheVariants.{Arrival};
+ghost use Rattle.scenarios.specs.declared.order.Order.TheVariants.{Arrival, Shortest};
+ghost use Rattle.waiting_places.specs.Offers.{holds};
+ghost use Rattle.waiting_places.specs.Places.{IsFirst, at_place, waiting};
 
 use crate::by_end::RunningByEnd;
 use crate::lookup::running_in;
@@ -9,11 +11,13 @@ use crate::queue::Queue;
 use crate::runner::held;
 use crate::running_set::RunningSet;
 use crate::snapshot::{Snapshot, starts_of};
+use crate::waiting::Waiting;
 use job_table::JobTable;
 use scenarios::{Job, Order, Placed, PlanRef, Scenario};
 use std::alloc::Allocator;
 use std::marker::Model;
 use swf_text::Memory;
+use waiting_places::Offer;
 
 /// A simulated machine, with the jobs that wait for it and those that run on it.
 ///
@@ -40,9 +44,9 @@ impl<A: Allocator + Copy> Model for Cluster<A> {
 
 impl<A: Allocator + Copy> Cluster<A> {
     ghost use Rattle.scenarios.specs.Placed.{real_end};
-    ghost use Rattle.cluster_state.specs.State.{empty, free, IsSound, RisesByNumber};
-    ghost use Rattle.cluster_state.specs.Row.{in_order};
-    ghost use Rattle.cluster_state.specs.Ends.{by_end, IsPast, RisesByEnd};
+    ghost use Rattle.cluster_state.specs.State.{empty, free, IsSound, RisesByNumber, busy};
+    ghost use Rattle.cluster_state.specs.Row.{fits_offer, IsRow};
+    ghost use Rattle.cluster_state.specs.Ends.{by_end, IsPast, RisesByEnd, block_limit};
     ghost use Rattle.scenarios.specs.Plan.{plan_of};
     ghost use Rattle.cluster_state.specs.Snapshot.{numbers_of, restored, Fits};
 
@@ -140,27 +144,69 @@ impl<A: Allocator + Copy> Cluster<A> {
         self.free
     }
 
+    /// How many jobs wait.
+    pub fn waiting_count(&self) -> usize
+        ensures count { result ≡ length self.now.state.waiting }
+        ensures sound { IsSound self.now.state }
+    {
+        self.queue.len()
+    }
+
     /// The waiting jobs in order of arrival.
-    pub fn waiting(&self) -> &[Job]
-        ensures jobs { result.now ≡ self.now.state.waiting }
+    pub fn waiting(&self) -> Waiting<'_>
+        ensures jobs { result ≡ self.now.state.waiting }
         ensures sound { IsSound self.now.state }
     {
         self.queue.jobs()
     }
 
-    /// The waiting jobs in the order in which they are looked at for a backfill.
-    pub fn row(&self) -> &[Job]
-        ensures jobs { result.now ≡ in_order self.now.state.order self.now.state.waiting }
-        ensures sound { IsSound self.now.state }
-    {
-        self.queue.row()
-    }
-
-    /// The waiting job at this place of the queue, counted from 0; none past the end.
+    /// The waiting job at this place of the queue, counted from 0; none past the end. It goes over those
+    /// before it; the first costs a step.
     pub fn waiting_at(&self, place: usize) -> Option<&Job>
         ensures { option_copied result ≡ slice_get self.now.state.waiting place }
     {
-        self.queue.jobs().get(place)
+        self.queue.at(place)
+    }
+
+    /// The waiting jobs in order of arrival, but for the first `settled`. It goes over these alone.
+    pub fn arrived_since(&self, settled: usize) -> Waiting<'_>
+        ensures jobs { result ≡ drop settled self.now.state.waiting }
+        ensures sound { IsSound self.now.state }
+    {
+        self.queue.jobs_behind(settled)
+    }
+
+    /// The place of the row from which on the waiting jobs behind the first `settled` stand: in order of
+    /// arrival these alone, by estimate all, from place 0 on.
+    pub fn place_behind(&self, settled: usize) -> usize
+        requires { settled ≤ length self.now.state.waiting }
+        ensures within { result ≤ length self.now.places }
+        ensures front { self.now.state.order ≡ Arrival → waiting (take result self.now.places) ≡ take settled self.now.state.waiting }
+        ensures rest { self.now.state.order ≡ Arrival → waiting (drop result self.now.places) ≡ drop settled self.now.state.waiting }
+        ensures all { self.now.state.order ≡ Shortest → result ≡ 0 }
+        ensures row { IsRow self.now }
+    {
+        self.queue.place_behind(settled)
+    }
+
+    /// The first place of the row from one on whose job fits the offer; none where none does. The row has
+    /// the waiting jobs in the order in which they are looked at for a backfill.
+    pub fn next_fit(&mut self, from: usize, offer: &Offer) -> Option<usize>
+        ensures first { IsFirst (holds (fits_offer offer.now)) self.old.places from (length self.old.places) result }
+        ensures same { self.new ≡ self.old }
+        ensures row { IsRow self.old }
+        ensures sound { IsSound self.old.state }
+    {
+        self.queue.next_fit(from, offer)
+    }
+
+    /// The job at this place of the row; none where nobody waits there.
+    pub fn job_at(&self, place: usize) -> Option<&Job>
+        ensures job { option_copied result ≡ at_place self.now.places place }
+        ensures row { IsRow self.now }
+        ensures sound { IsSound self.now.state }
+    {
+        self.queue.get(place)
     }
 
     /// The running jobs with their starts, rising by the second by which they have surely ended (start
@@ -176,10 +222,12 @@ impl<A: Allocator + Copy> Cluster<A> {
 
     /// The running jobs as `running_by_end` tells them, but for some first ones that are passed over
     /// together, since even once these have ended fewer than `need` processors are free: how many are
-    /// free then, and the others.
+    /// free then, and the others. Once the first 128 of the others have ended too, as many are free as
+    /// are needed, if the machine has so many.
     pub fn running_past(&self, need: u64) -> (u64, RunningByEnd<'_, A>)
         requires { free self.now.state < need }
         ensures past { IsPast self.now.state need result.0 result.1 }
+        ensures most { need ≤ self.now.state.machine → need ≤ result.0 + busy (take block_limit result.1) }
         ensures sound { IsSound self.now.state }
     {
         let (held, rest) = self.running.past(need - self.free);
@@ -214,6 +262,6 @@ impl<A: Allocator + Copy> Cluster<A> {
     {
         let alloc = self.queue.allocator();
         let running = starts_of(alloc, &self.running)?;
-        Snapshot::of(alloc, self.waiting(), running)
+        Snapshot::of(alloc, &self.queue, running)
     }
 }

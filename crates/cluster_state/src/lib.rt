@@ -9,10 +9,15 @@ pub mod laws;
 mod line;
 mod lookup;
 mod queue;
+mod row;
 mod runner;
 mod running_set;
 mod snapshot;
+mod waiter;
+mod waiting;
 
 pub use by_end::RunningByEnd;
 pub use cluster::Cluster;
 pub use snapshot::{RunningNumber, Snapshot};
+pub use waiting::Waiting;
+pub use waiting_places::Offer;

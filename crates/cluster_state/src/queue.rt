@@ -1,22 +1,27 @@
-ghost use Rattle.std.specs.Prelude.{◌≡◌, ◌≤◌, ◌<◌, ◌^◌, ℕ, [], ◌∷◌, ◌++◌, OnOk, OnErr, length, nat_eq, nat_lt, find, position, sum_by, count_by};
-ghost use Rattle.std.specs.List.{position_or_len};
-ghost use Rattle.std.specs.List.Sorted.{IsNonDecreasingBy};
+ghost use Rattle.std.specs.Prelude.{◌≡◌, ◌≤◌, ◌<◌, ◌+◌, ℕ, [], ◌∷◌, ◌++◌, OnOk, OnErr, IfSome, IsSome, Some, length, drop, find, remove, take, nat_eq, count_by, option_copied, slice_get};
 ghost use Rattle.scenarios.specs.Job.{IsWithinLimits};
-ghost use Rattle.cluster_state.specs.State.{without, without_all};
-ghost use Rattle.cluster_state.specs.Row.{in_order, row_with};
+ghost use Rattle.scenarios.specs.declared.order.Order.TheVariants.{Arrival, Shortest};
+ghost use Rattle.waiting_places.specs.Offers.{holds};
+ghost use Rattle.waiting_places.specs.Places.{IsFirst, at_place, waiting};
+ghost use Rattle.cluster_state.specs.State.{without};
+ghost use Rattle.cluster_state.specs.Row.{fits_offer, in_order};
 
 use crate::line::Line;
+use crate::row::{first_fit, put_job, remove_job};
+use crate::waiter::Waiter;
+use crate::waiting::Waiting;
 use scenarios::{Job, Order};
 use std::alloc::Allocator;
 use std::marker::Model;
 use swf_text::Memory;
+use waiting_places::{Offer, Places};
 
-// The jobs that wait, in order of arrival; and beside them, where the later ones are looked at by
-// estimate, the row in which they are.
+// The jobs that wait, each at a place of its own in order of arrival; and beside them, where the later
+// ones are looked at by estimate, the row in which they are.
 #[derive(Drop)]
 pub(crate) struct Queue<A: Allocator + Copy> {
     order: Order,
-    jobs: Line<A>,
+    jobs: Places<Waiter, A>,
     row: Line<A>,
 }
 
@@ -35,11 +40,11 @@ impl<A: Allocator + Copy> Model for Queue<A> {
 impl<A: Allocator + Copy> Queue<A> {
     // Nobody waits.
     pub(crate) fn new(alloc: A, order: Order) -> Queue<A>
-        ensures { result ≡ record { order = order; jobs = [] } }
+        ensures { result ≡ record { order = order; jobs = []; places = [] } }
     {
         Queue {
             order,
-            jobs: Line::new(alloc),
+            jobs: Places::new(alloc),
             row: Line::new(alloc),
         }
     }
@@ -51,58 +56,146 @@ impl<A: Allocator + Copy> Queue<A> {
         self.order
     }
 
-    // The waiting jobs in order of arrival.
-    pub(crate) fn jobs(&self) -> &[Job]
-        ensures { result.now ≡ self.now.jobs }
+    // How many jobs wait.
+    pub(crate) fn len(&self) -> usize
+        ensures { result ≡ length self.now.jobs }
     {
-        self.jobs.jobs()
+        self.jobs.len()
     }
 
-    // The waiting jobs in the order in which they are looked at for a backfill.
-    pub(crate) fn row(&self) -> &[Job]
-        ensures { result.now ≡ in_order self.now.order self.now.jobs }
+    // The waiting jobs in order of arrival.
+    pub(crate) fn jobs(&self) -> Waiting<'_>
+        ensures { result ≡ self.now.jobs }
     {
-        match self.order {
-            Order::Arrival => self.jobs(),
-            Order::Shortest => self.row.jobs(),
+        Waiting::of(self.jobs.iter())
+    }
+
+    // The same but for so many first ones.
+    pub(crate) fn jobs_behind(&self, count: usize) -> Waiting<'_>
+        ensures { result ≡ drop count self.now.jobs }
+    {
+        Waiting::of(self.jobs.iter_behind(count))
+    }
+
+    // The waiting job at this place in order of arrival; it goes over those before it.
+    pub(crate) fn at(&self, place: usize) -> Option<&Job>
+        ensures { option_copied result ≡ slice_get self.now.jobs place }
+    {
+        let mut before = place;
+        for job in self.jobs() {
+            if before == 0 {
+                return Some(job);
+            }
+            before -= 1;
         }
+        None
     }
 
     // The waiting job of this number.
     pub(crate) fn find(&self, number: u64) -> Option<Job>
         ensures { result ≡ find (λ j. nat_eq j.number number) self.now.jobs }
     {
-        find_job(self.jobs.jobs(), number)
+        for job in self.jobs() {
+            if job.number() == number {
+                return Some(*job);
+            }
+        }
+        None
     }
 
-    // A job joins the queue, at its end. Memory where a growth was refused; the queue is then as it was.
+    // The job at this place of the row.
+    pub(crate) fn get(&self, place: usize) -> Option<&Job>
+        ensures job { option_copied result ≡ at_place self.now.places place }
+        ensures row { waiting self.now.places ≡ in_order self.now.order self.now.jobs }
+    {
+        match self.order {
+            Order::Arrival => job_in(&self.jobs, place),
+            Order::Shortest => self.row.jobs().get(place),
+        }
+    }
+
+    // The place of the row from which on those behind so many first jobs stand. By estimate all stand
+    // there.
+    pub(crate) fn place_behind(&self, count: usize) -> usize
+        requires { count ≤ length self.now.jobs }
+        ensures within { result ≤ length self.now.places }
+        ensures front { self.now.order ≡ Arrival → waiting (take result self.now.places) ≡ take count self.now.jobs }
+        ensures rest { self.now.order ≡ Arrival → waiting (drop result self.now.places) ≡ drop count self.now.jobs }
+        ensures all { self.now.order ≡ Shortest → result ≡ 0 }
+        ensures row { waiting self.now.places ≡ in_order self.now.order self.now.jobs }
+    {
+        match self.order {
+            Order::Arrival => self.jobs.place_behind(count),
+            Order::Shortest => 0,
+        }
+    }
+
+    // The first place of the row from one on whose job fits the offer.
+    pub(crate) fn next_fit(&mut self, from: usize, offer: &Offer) -> Option<usize>
+        ensures first { IsFirst (holds (fits_offer offer.now)) self.old.places from (length self.old.places) result }
+        ensures same { self.new ≡ self.old }
+        ensures row { waiting self.old.places ≡ in_order self.old.order self.old.jobs }
+    {
+        match self.order {
+            Order::Arrival => self.jobs.first_fit(from, offer),
+            Order::Shortest => first_fit(self.row.jobs(), from, offer),
+        }
+    }
+
+    // A job joins the queue, at its end. Memory where a growth was refused; the same jobs wait then.
     pub(crate) fn push(&mut self, job: Job) -> Result<(), Memory>
-        ensures ok { OnOk result (self.new ≡ record { order = self.old.order; jobs = self.old.jobs ++ job ∷ [] }) }
-        ensures err { OnErr result (self.new ≡ self.old) }
+        ensures order { self.new.order ≡ self.old.order }
+        ensures ok { OnOk result (self.new.jobs ≡ self.old.jobs ++ job ∷ []) }
+        ensures err { OnErr result (self.new.jobs ≡ self.old.jobs) }
         ensures limits { IsWithinLimits job }
     {
         self.jobs.reserve(1)?;
         put_job(&mut self.row, self.order, job)?;
-        self.jobs.push(job);
+        self.jobs.push(Waiter { job });
         Ok(())
     }
 
     // The job of this number leaves.
     pub(crate) fn remove(&mut self, number: u64)
         requires { count_by (λ j. nat_eq j.number number) self.old.jobs ≤ 1 }
-        ensures { self.new ≡ record { order = self.old.order; jobs = without number self.old.jobs } }
+        ensures order { self.new.order ≡ self.old.order }
+        ensures jobs { self.new.jobs ≡ without number self.old.jobs }
     {
-        remove_job(&mut self.jobs, number);
+        leave(&mut self.jobs, number);
         remove_job(&mut self.row, number);
     }
 
-    // The jobs of these numbers leave, one after another.
-    pub(crate) fn remove_all(&mut self, jobs: &[Job])
+    // The first job leaves.
+    pub(crate) fn take_head(&mut self)
         requires { (n : ℕ) → count_by (λ j. nat_eq j.number n) self.old.jobs ≤ 1 }
-        ensures { self.new ≡ record { order = self.old.order; jobs = without_all jobs.now self.old.jobs } }
+        ensures order { self.new.order ≡ self.old.order }
+        ensures jobs { IfSome (slice_get self.old.jobs 0) (λ job. self.new.jobs ≡ without job.number self.old.jobs) }
     {
-        for job in jobs {
-            self.remove(job.number());
+        let Some(place) = self.jobs.first() else {
+            return;
+        };
+        if let Some(waiter) = self.jobs.take(place) {
+            remove_job(&mut self.row, waiter.job.number());
+        }
+    }
+
+    // The job at this place of the row leaves: the place from which on those behind it stand.
+    pub(crate) fn take_at(&mut self, place: usize) -> usize
+        requires once { (n : ℕ) → count_by (λ j. nat_eq j.number n) self.old.jobs ≤ 1 }
+        requires there { IsSome (at_place self.old.places place) }
+        ensures order { self.new.order ≡ self.old.order }
+        ensures jobs { IfSome (at_place self.old.places place) (λ job. self.new.jobs ≡ without job.number self.old.jobs) }
+        ensures rest { waiting (drop result self.new.places) ≡ waiting (drop (place + 1) self.old.places) }
+    {
+        match self.order {
+            Order::Arrival => {
+                self.jobs.take(place);
+                place + 1
+            }
+            Order::Shortest => {
+                take_by_estimate(&mut self.jobs, &mut self.row, place);
+                place
+            }
         }
     }
 
@@ -112,62 +205,58 @@ impl<A: Allocator + Copy> Queue<A> {
     }
 }
 
-// The first job of this number.
-fn find_job(jobs: &[Job], number: u64) -> Option<Job>
-    ensures { result ≡ find (λ j. nat_eq j.number number) jobs.now }
+// The job that waits at this place.
+fn job_in<A: Allocator + Copy>(jobs: &Places<Waiter, A>, place: usize) -> Option<&Job>
+    ensures { option_copied result ≡ at_place jobs.now.places place }
 {
-    jobs.iter().copied().find(|j| j.number() == number)
+    Some(&jobs.get(place)?.job)
 }
 
-// The place of the first job of this number.
-fn place_of(jobs: &[Job], number: u64) -> Option<usize>
-    ensures { result ≡ position (λ j. nat_eq j.number number) jobs.now }
+// Whether a job of this number waits at this place.
+fn has_number(place: &Option<Waiter>, number: u64) -> bool
+    ensures { result ≡ holds (λ j. nat_eq j.number number) place.now }
 {
-    jobs.iter().position(|j| j.number() == number)
-}
-
-// Takes the first job of this number out.
-fn remove_job<A: Allocator + Copy>(line: &mut Line<A>, number: u64)
-    ensures { line.new.jobs ≡ without number line.old.jobs }
-{
-    match place_of(line.jobs(), number) {
-        None => {}
-        Some(place) => line.remove(place),
+    match place {
+        Some(waiter) => waiter.job.number() == number,
+        None => false,
     }
 }
 
-// The processors that these take together.
-pub(crate) fn sizes(jobs: &[Job]) -> u64
-    requires { sum_by (λ j. j.size) jobs.now < 2 ^ 64 }
-    ensures { result ≡ sum_by (λ j. j.size) jobs.now }
+// The first place at which a job of this number waits.
+fn place_numbered(places: &[Option<Waiter>], number: u64) -> Option<usize>
+    ensures { IsFirst (holds (λ j. nat_eq j.number number)) places.now 0 (length places.now) result }
 {
-    jobs.iter().map(|j| j.size()).sum()
-}
-
-// The place behind those whose estimates are not longer, in a row in which estimates rise.
-fn place_by_estimate(row: &[Job], estimate: u64) -> usize
-    requires { IsNonDecreasingBy (λ x. x.estimate) row.now }
-    ensures within { result ≤ length row.now }
-    ensures place { result ≡ position_or_len (λ x. nat_lt estimate x.estimate) row.now }
-{
-    row.partition_point(|x| x.estimate() <= estimate)
-}
-
-// Puts a job that arrives into the row that the order asks for, behind those whose estimates are
-// not longer.
-fn put_job<A: Allocator + Copy>(row: &mut Line<A>, order: Order, job: Job) -> Result<(), Memory>
-    requires { IsNonDecreasingBy (λ x. x.estimate) row.old.jobs }
-    ensures ok { OnOk result (row.new.jobs ≡ row_with order job row.old.jobs) }
-    ensures err { OnErr result (row.new.jobs ≡ row.old.jobs) }
-    ensures limits { IsWithinLimits job }
-{
-    let estimate = job.estimate();
-    match order {
-        Order::Arrival => {}
-        Order::Shortest => {
-            let place = place_by_estimate(row.jobs(), estimate);
-            row.insert(place, job)?;
+    for place in 0..places.len() {
+        if has_number(&places[place], number) {
+            return Some(place);
         }
     }
-    Ok(())
+    None
+}
+
+// The job of this number leaves its place.
+fn leave<A: Allocator + Copy>(jobs: &mut Places<Waiter, A>, number: u64)
+    requires { count_by (λ j. nat_eq j.number number) (waiting jobs.old.places) ≤ 1 }
+    ensures { waiting jobs.new.places ≡ without number (waiting jobs.old.places) }
+{
+    let Some(place) = place_numbered(jobs.as_slice(), number) else {
+        return;
+    };
+    jobs.take(place);
+}
+
+// The job at this place of a row by estimate leaves the row and its place.
+fn take_by_estimate<A: Allocator + Copy>(
+    jobs: &mut Places<Waiter, A>,
+    row: &mut Line<A>,
+    place: usize,
+)
+    requires once { (n : ℕ) → count_by (λ j. nat_eq j.number n) (waiting jobs.old.places) ≤ 1 }
+    requires there { place < length row.old.jobs }
+    ensures jobs { IfSome (slice_get row.old.jobs place) (λ job. waiting jobs.new.places ≡ without job.number (waiting jobs.old.places)) }
+    ensures row { row.new.jobs ≡ remove row.old.jobs place }
+{
+    let number = row.jobs()[place].number();
+    row.remove(place);
+    leave(jobs, number);
 }

@@ -1,15 +1,15 @@
-ghost use Rattle.std.specs.Prelude.{◌≡◌, ◌+◌, ◌<◌, ◌≤◌, ◌^◌, ◌↔◌, ℕ, [], OnOk, IfOk, IfSome, IfNone, IsNone, IsOk, All, Any, length, filter, count_by, nat_eq, nat_lt, option_copied, slice_get};
+ghost use Rattle.std.specs.Prelude.{◌≡◌, ◌+◌, ◌<◌, ◌≤◌, ◌^◌, ◌↔◌, ℕ, [], OnOk, IfOk, IfSome, IfNone, IsNone, IsOk, All, Any, length, filter, count_by, nat_eq, nat_lt, option_copied, slice_get, take};
 ghost use Rattle.scenarios.specs.Limits.{seconds_end};
 ghost use Rattle.scenarios.specs.Placed.{real_end};
 ghost use Rattle.cluster_state.specs.State.{busy, placed, RisesByNumber};
-ghost use Rattle.cluster_state.specs.Ends.{by_end, by_number};
-ghost use Rattle.cluster_state.specs.Rooms.{all_placed, IsRest};
+ghost use Rattle.cluster_state.specs.Ends.{by_end, by_number, block_limit};
+ghost use Rattle.cluster_state.specs.Rooms.{IsRest};
 
 use crate::by_end::RunningByEnd;
 use crate::ends::{End, first_end, pop_until};
 use crate::runner::Runner;
 use blocks::Blocks;
-use scenarios::{Job, Placed};
+use scenarios::Placed;
 use std::alloc::Allocator;
 use std::cmp::Reverse;
 use std::collections::BinaryHeap;
@@ -78,12 +78,14 @@ impl<A: Allocator + Copy> RunningSet<A> {
     }
 
     // The processors that some first ones hold, fewer than these, and the others: whole blocks are
-    // passed over.
+    // passed over, so that with a block of the others they hold as many, if all do.
     pub(crate) fn past(&self, processors: u64) -> (u64, RunningByEnd<'_, A>)
         requires { 0 < processors }
         ensures rest { IsRest self.now.running result.0 result.1 }
         ensures fewer { result.0 < processors }
+        ensures most { processors ≤ busy self.now.running → processors ≤ result.0 + busy (take block_limit result.1) }
     {
+        let _filled = self.row.blocks();
         let (blocks, held) = self.row.lighter(u128::from(processors));
         let rest = RunningByEnd::of(self.row.iter_from(blocks));
         (held as u64, rest)
@@ -130,23 +132,6 @@ impl<A: Allocator + Copy> RunningSet<A> {
         let Ok(()) = self.ends.push(Reverse(end)) else {
             unreachable!()
         };
-    }
-
-    // These jobs run from second `now` on, where there is room for so many starts.
-    pub(crate) fn join_all(&mut self, jobs: &[Job], now: u64)
-        requires room { length jobs.now ≤ self.old.spare }
-        requires now { now < seconds_end }
-        requires distinct { (n : ℕ) → count_by (λ r. nat_eq r.job.number n) (all_placed now jobs.now self.old.running) ≤ 1 }
-        ensures running { self.new.running ≡ all_placed now jobs.now self.old.running }
-        ensures spare { self.old.spare ≤ self.new.spare + length jobs.now }
-    {
-        for job in jobs {
-            let r = Placed {
-                job: *job,
-                start: now,
-            };
-            self.join(r);
-        }
     }
 
     // The next one to end leaves, where it ends by second t: the processors that it gives back.

@@ -4,9 +4,10 @@ ghost use Rattle.cluster_state.specs.Snapshot.{number_of, NumbersRise};
 ghost use Rattle.cluster_state.specs.Ends.{by_end, by_number};
 
 use crate::lookup::{can_run, have_jobs};
+use crate::queue::Queue;
 use crate::running_set::RunningSet;
 use job_table::JobTable;
-use scenarios::{Job, PlanRef, Scenario};
+use scenarios::{PlanRef, Scenario};
 use std::alloc::Allocator;
 use std::marker::Model;
 use swf_text::Memory;
@@ -46,13 +47,13 @@ impl<A: Allocator + Copy> Snapshot<A> {
     // The numbers of these waiting jobs, and these of running ones.
     pub(crate) fn of(
         alloc: A,
-        waiting: &[Job],
+        queue: &Queue<A>,
         running: Vec<RunningNumber, A>,
     ) -> Result<Snapshot<A>, Memory>
-        requires { IsSnapshot (record { waiting = map (λ (j : EffectiveJob). j.number) waiting.now; running = running.items }) }
-        ensures { IfOk result (λ s. s ≡ record { waiting = map (λ (j : EffectiveJob). j.number) waiting.now; running = running.items }) }
+        requires { IsSnapshot (record { waiting = map (λ (j : EffectiveJob). j.number) queue.now.jobs; running = running.items }) }
+        ensures { IfOk result (λ s. s ≡ record { waiting = map (λ (j : EffectiveJob). j.number) queue.now.jobs; running = running.items }) }
     {
-        let waiting = numbers_of(alloc, waiting)?;
+        let waiting = numbers_of(alloc, queue)?;
         Ok(Snapshot { waiting, running })
     }
 
@@ -133,12 +134,12 @@ fn is_among(waiting: &[u64], running: &[RunningNumber], number: u64) -> bool
     waits > 0 || runs > 0
 }
 
-// The numbers of these jobs.
-fn numbers_of<A: Allocator>(alloc: A, jobs: &[Job]) -> Result<Vec<u64, A>, Memory>
-    ensures { IfOk result (λ numbers. numbers.items ≡ map (λ (j : EffectiveJob). j.number) jobs.now) }
+// The numbers of the waiting jobs.
+fn numbers_of<A: Allocator + Copy>(alloc: A, queue: &Queue<A>) -> Result<Vec<u64, A>, Memory>
+    ensures { IfOk result (λ numbers. numbers.items ≡ map (λ (j : EffectiveJob). j.number) queue.now.jobs) }
 {
-    let mut numbers = Vec::with_capacity(alloc, jobs.len())?;
-    for job in jobs {
+    let mut numbers = Vec::with_capacity(alloc, queue.len())?;
+    for job in queue.jobs() {
         numbers.push(job.number())?;
     }
     Ok(numbers)

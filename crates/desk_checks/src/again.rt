@@ -7,7 +7,7 @@ use std::alloc::Global;
 use std::process::Abort;
 use std::sync::Wait;
 use std::thread::Threads;
-use version_book::{Book, Reply, ViewRefusal};
+use version_book::{Book, Reply, ViewFault, ViewRefusal};
 use workers::{Desk, Gate, Session};
 
 /// A scenario is dropped and added again while a worker holds a ticket of it.
@@ -60,8 +60,8 @@ fn adds_again<R: Wait>(rt: &R, desk: &Desk<Global>, session: &mut Session<Global
     let Some(new) = added(rt, desk, session) else {
         return false;
     };
-    viewed(rt, desk, session, old) == Err(ViewRefusal::NoSuchScenario)
-        && viewed(rt, desk, session, new) == Err(ViewRefusal::NotYet)
+    viewed(rt, desk, session, old) == Err(ViewRefusal::Fault(ViewFault::NoSuchScenario))
+        && viewed(rt, desk, session, new) == Err(ViewRefusal::Fault(ViewFault::NotYet))
         && session.find(rt, desk, "big") == Some(new)
 }
 

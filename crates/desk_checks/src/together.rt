@@ -7,7 +7,7 @@ use std::alloc::Global;
 use std::process::Abort;
 use std::sync::Wait;
 use std::thread::Threads;
-use version_book::{Book, FinishRefusal, Published};
+use version_book::{Book, FinishFault, FinishRefusal, Published};
 use workers::{Current, Desk, NoGate, Session, Settled};
 
 /// A session settles and looks; the flag tells that it was shown another thing than it should be.
@@ -103,7 +103,8 @@ fn played<R: Threads + Wait + Sync>(rt: &R, alloc: Global) -> Option<Crew> {
 // Whether the book has a note of `base`, two edits, a claim with its finish, and two views, and the ticket is
 // closed.
 fn is_whole(book: &mut Book<Global>) -> bool {
-    book.journal().len() == 7 && book.finish_delivered(0, 1) == Err(FinishRefusal::UnknownTicket)
+    book.journal().len() == 7
+        && book.finish_delivered(0, 1) == Err(FinishRefusal::Fault(FinishFault::UnknownTicket))
 }
 
 // A crew with this session once more.

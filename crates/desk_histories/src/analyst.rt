@@ -5,10 +5,10 @@ use crate::said::{Said, Told, memory_if, told_if};
 use crate::seat::Seat;
 use crate::wrong::{Wrong, right_if};
 use job_table::{Edit, EditFault};
-use scenarios::{AddFault, ScenarioId};
+use scenarios::{AddFault, NoSuchScenario, ScenarioId};
 use std::alloc::Allocator;
 use std::sync::Wait;
-use version_book::{AddRefusal, DropRefusal, EditRefusal, RetryRefusal, ViewRefusal};
+use version_book::{AddRefusal, DropRefusal, EditRefusal, RetryRefusal, ViewFault, ViewRefusal};
 use workers::Session;
 
 /// How many of a session's calls were answered, and how many were told want of memory.
@@ -75,7 +75,7 @@ fn of_drop(told: Result<ScenarioId, DropRefusal>) -> Told {
 // There was no scenario to be dropped.
 fn of_none(told: Result<ScenarioId, DropRefusal>) -> Told {
     match told {
-        Err(DropRefusal::NoSuchScenario) => Told::Right,
+        Err(DropRefusal::Fault(NoSuchScenario)) => Told::Right,
         Err(DropRefusal::Memory) => Told::Memory,
         _ => Told::Wrong,
     }
@@ -102,7 +102,7 @@ fn of_view(told: Result<Option<u64>, ViewRefusal>, why: ViewRefusal) -> Told {
 fn of_gone(told: Result<(), RetryRefusal>) -> Told {
     match told {
         Ok(()) => Told::Wrong,
-        Err(RetryRefusal::NoSuchScenario) => Told::Right,
+        Err(RetryRefusal::Fault(NoSuchScenario)) => Told::Right,
         Err(refusal) => memory_if(refusal == RetryRefusal::Memory),
     }
 }
@@ -163,7 +163,8 @@ impl<R: Wait, A: Allocator + Copy> Seat<'_, R, A> {
     fn view_left(&self, session: &mut Session<A>) -> Told {
         match self.view(session) {
             Ok(told) => told_if(told.is_some()),
-            Err(ViewRefusal::NotYet) | Err(ViewRefusal::Behind { .. }) => Told::Right,
+            Err(ViewRefusal::Fault(ViewFault::NotYet))
+            | Err(ViewRefusal::Fault(ViewFault::Behind { .. })) => Told::Right,
             Err(refusal) => memory_if(refusal == ViewRefusal::Memory),
         }
     }
@@ -187,13 +188,16 @@ impl<R: Wait, A: Allocator + Copy> Seat<'_, R, A> {
             Said::DropNone => of_none(self.drop_more(session)),
             Said::Retry => self.retry(session),
             Said::RetryGone(id) => of_gone(session.retry(self.rt, self.desk, *id)),
-            Said::ViewGone(id) => of_view(self.view_of(session, *id), ViewRefusal::NoSuchScenario),
-            Said::ViewEarly => of_view(self.view(session), ViewRefusal::NotYet),
+            Said::ViewGone(id) => of_view(
+                self.view_of(session, *id),
+                ViewRefusal::Fault(ViewFault::NoSuchScenario),
+            ),
+            Said::ViewEarly => of_view(self.view(session), ViewRefusal::Fault(ViewFault::NotYet)),
             Said::View(version) => self.view_at(session, *version),
             Said::ViewBehind => {
                 of_view(
                     self.view(session),
-                    ViewRefusal::Behind { seen: 1, found: 0 },
+                    ViewRefusal::Fault(ViewFault::Behind { seen: 1, found: 0 }),
                 )
             }
             Said::ViewLeft => self.view_left(session),

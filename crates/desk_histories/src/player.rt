@@ -3,10 +3,12 @@ use crate::inputs;
 use crate::logs::ten;
 use crate::words::{Words, words_of};
 use crate::wrong::{Wrong, right_if};
-use scenarios::{Scenario, ScenarioId};
+use scenarios::{NoSuchScenario, Scenario, ScenarioId};
 use std::alloc::Global;
 use std::sync::Wait;
-use version_book::{AddRefusal, DropRefusal, EditRefusal, Published, RetryRefusal, ViewRefusal};
+use version_book::{
+    AddRefusal, DropRefusal, EditRefusal, Published, RetryRefusal, ViewFault, ViewRefusal,
+};
 use workers::{Desk, Session, Settled};
 
 /// How many calls a session makes that are noted.
@@ -58,7 +60,7 @@ impl<R: Wait> Player<'_, R> {
     // A scenario less.
     fn drops(&self, session: &mut Session<Global>, name: &str) -> Result<(), Wrong> {
         match session.drop_scenario(self.rt, self.desk, name) {
-            Ok(_) | Err(DropRefusal::NoSuchScenario) => Ok(()),
+            Ok(_) | Err(DropRefusal::Fault(NoSuchScenario)) => Ok(()),
             Err(_) => Err(Wrong::Refused),
         }
     }
@@ -66,7 +68,7 @@ impl<R: Wait> Player<'_, R> {
     // Another try.
     fn retries(&self, session: &mut Session<Global>, id: ScenarioId) -> Result<(), Wrong> {
         match session.retry(self.rt, self.desk, id) {
-            Ok(()) | Err(RetryRefusal::NoSuchScenario) => Ok(()),
+            Ok(()) | Err(RetryRefusal::Fault(NoSuchScenario)) => Ok(()),
             Err(_) => Err(Wrong::Refused),
         }
     }
@@ -107,7 +109,7 @@ impl<R: Wait> Player<'_, R> {
         let seen = session.seen();
         match session.view(self.rt, self.desk, id) {
             Ok(shown) => is_seen(session, seen, &shown),
-            Err(ViewRefusal::NoSuchScenario) => Ok(()),
+            Err(ViewRefusal::Fault(ViewFault::NoSuchScenario)) => Ok(()),
             Err(_) => Err(Wrong::Settled),
         }
     }

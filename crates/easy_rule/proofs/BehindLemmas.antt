@@ -1,18 +1,20 @@
 -- A decision behind those who are known to wait.
-use Rattle.std.proofs.Common.{◌≡◌, ℕ, zero, suc, ◌≤◌, ◌<◌, false, nat_le, List, [], ◌∷◌, get_or, take, drop, Some, None, All, find, refl, sym, ◌∙◌, ap, subst, ⊎_elim}
+use Rattle.std.proofs.Common.{◌≡◌, ℕ, zero, suc, ◌≤◌, ◌<◌, false, nat_le, List, [], ◌∷◌, ◌++◌, get_or, take, drop, Some, None, All, find, refl, sym, ◌∙◌, ap, subst, ⊎_elim}
 use Rattle.std.specs.List.{list_any}
 use Rattle.std.proofs.lemmas.List.Folds.{list_any_at, list_any_none}
 use Rattle.std.proofs.lemmas.List.Elements.{All-tail, All-nil, All-cons, All-append}
 use Rattle.std.proofs.lemmas.List.{take-append-drop}
 use Rattle.std.proofs.lemmas.Bool.{le-leb, lt-leb, cond-true, cond-false, false_from_ne_true, cases_lt, true≢false}
 use Rattle.scenarios.specs.Job.{EffectiveJob}
-use Rattle.scenarios.specs.declared.order.Order.TheVariants.{Arrival}
-use Rattle.cluster_state.specs.State.{State, free}
-use Rattle.cluster_state.specs.Row.{in_order}
+use Rattle.scenarios.specs.declared.order.Order.{Order}
+use Rattle.scenarios.specs.declared.order.Order.TheVariants.{Arrival, Shortest}
+use Rattle.cluster_state.specs.State.{State, ClusterView, free}
+use Rattle.cluster_state.specs.Row.{in_order, IsRow}
 use Rattle.cluster_state.proofs.Lemmas.{in_order-All}
 use Rattle.easy_rule.specs.declared.shadow_time.Shadow.{Shadow}
-use Rattle.easy_rule.specs.Rule.{shadow_of, shadow_for, next, next_of, may_backfill, shadow_at, shadow_time}
-use Rattle.easy_rule.specs.Pass.{row, front, IsPass}
+use Rattle.easy_rule.specs.Rule.{shadow_for, next, next_of, may_backfill, shadow_at, shadow_time}
+use Rattle.easy_rule.specs.Pass.{row, row_from, front, IsPass}
+use Rattle.easy_rule.specs.Decision.{IsSettledFront}
 use Rattle.easy_rule.proofs.NextLemmas.{next-row, too-large}
 use Rattle.easy_rule.proofs.PassLemmas.{find-none, none-passes, All-in_order}
 
@@ -43,8 +45,8 @@ front-refused s now (suc n) w head rest waits is e =
     (All-cons (λ j. q j ≡ false) head (take n rest) (too-large now (free s) (shadow_at s head.size) head waits)
     (in_order-All (λ j. q j ≡ false) s.order (take n rest) (none-passes q (in_order s.order (take n rest)) none)))
 
-pub behind-is : (s : State) (now n : ℕ) (w : Shadow) → shadow_of s ≡ Some w → next (front s n) now ≡ None → IsBehind s now w n
-behind-is s now n w known settled = go s.waiting refl known settled
+pub behind-is : (s : State) (now n : ℕ) (w : Shadow) → IsSettledFront s now n w → IsBehind s now w n
+behind-is s now n w f = go s.waiting refl f.shadow f.settled
   where
     go : (js : List EffectiveJob) → s.waiting ≡ js → shadow_for s js ≡ Some w → next_of (front s n) now (take n js) ≡ None → IsBehind s now w n
     go [] queue known e = cc
@@ -75,18 +77,30 @@ behind-done s now n w b none =
     ∙ find-none q (row s) (All-in_order (λ j. q j ≡ false) s.order s.waiting all)
 
 -- the pass begins behind the settled ones in order of arrival, and at the front of the row by estimate
-pub behind-first : (s : State) (now n : ℕ) (w : Shadow) → IsBehind s now w n → IsPass s now w 0
-behind-first s now n w b = record { head = b.head; later = b.later; queue = b.queue; waits = b.waits; shadow = b.shadow; refused = All-nil (λ j. may_backfill now (free s) w j ≡ false) }
-
-pub behind-pass : (s : State) (now n : ℕ) (w : Shadow) → s.order ≡ Arrival → IsBehind s now w n → IsPass s now w n
-behind-pass s now n w by b = record {
-  head = b.head;
-  later = b.later;
-  queue = b.queue;
-  waits = b.waits;
-  shadow = b.shadow;
-  refused = subst (λ o. All (λ j. may_backfill now (free s) w j ≡ false) (take n (in_order o s.waiting))) (sym by) b.refused;
-}
+pub behind-pass : (c : ClusterView) (now n place : ℕ) (w : Shadow) → IsRow c → (c.state.order ≡ Arrival → row_from c place ≡ drop n c.state.waiting) → (c.state.order ≡ Shortest → place ≡ 0) → IsBehind c.state now w n → IsPass c.state now w (row_from c place)
+behind-pass c now n place w stands arrival shortest b = go c.state.order refl
+  where
+    go : (o : Order) → c.state.order ≡ o → IsPass c.state now w (row_from c place)
+    go Arrival by = record {
+      head = b.head;
+      later = b.later;
+      queue = b.queue;
+      waits = b.waits;
+      shadow = b.shadow;
+      passed = take n c.state.waiting;
+      parts = ap (λ o. in_order o c.state.waiting) by ∙ sym (ap (λ l. take n c.state.waiting ++ l) (arrival by) ∙ take-append-drop n c.state.waiting);
+      refused = b.refused;
+    }
+    go Shortest by = record {
+      head = b.head;
+      later = b.later;
+      queue = b.queue;
+      waits = b.waits;
+      shadow = b.shadow;
+      passed = [];
+      parts = sym (ap (row_from c) (shortest by) ∙ stands);
+      refused = All-nil (λ j. may_backfill now (free c.state) w j ≡ false);
+    }
 
 -- and where nobody is next, none behind them may start
 pub behind-none : (s : State) (now n : ℕ) (w : Shadow) → IsBehind s now w n → next s now ≡ None → list_any (may_backfill now (free s) w) (drop n s.waiting) ≡ false

@@ -2,10 +2,12 @@ mod RuleLemmas
 mod WalkLemmas
 mod NextLemmas
 mod PassLemmas
+mod PlaceLemmas
+mod CandidateLemmas
+mod Begun
 mod BehindLemmas
 mod Decisions
 mod EasyLaws
 mod FirstLemmas
 mod Runs
-mod ChoiceLemmas
 pub mod Lemmas

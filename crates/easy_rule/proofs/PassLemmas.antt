@@ -1,19 +1,19 @@
 -- One pass over the row, against the search that begins again after each start.
-use Rattle.std.proofs.Common.{◌≡◌, ℕ, zero, suc, ◌+◌, ◌-◌, ◌≤◌, ◌<◌, Bool, true, false, cond, ◌||◌, nat_le, nat_eq, List, [], ◌∷◌, length, get_or, take, drop, remove, Some, None, All, find, count_by, sum_by, refl, sym, ◌∙◌, ap, arith, subst, inl, inr, ⊎_elim, ◌⊎◌}
-use Rattle.std.proofs.lemmas.List.Sums.{sum_by-cons, get_or-le-sum_by}
-use Rattle.std.proofs.lemmas.List.Elements.{All-head, All-tail, All-nil, All-cons, All-weaker}
-use Rattle.std.proofs.lemmas.List.{drop_more, nil_from_length, take_at, length-take}
-use Rattle.std.proofs.lemmas.Bool.{leb-true, le-leb, cases_Bool, cond-true, cond-false, eq-eqb, and_parts, or_cases, and_from, or_left, or_right, false_from_ne_true, cond_both, true≢false}
+use Rattle.std.proofs.Common.{◌≡◌, ℕ, ◌+◌, ◌-◌, ◌≤◌, ◌<◌, Bool, true, false, cond, ◌||◌, nat_le, nat_eq, List, [], ◌∷◌, ◌++◌, append_assoc, length, Some, None, All, find, count_by, sum_by, refl, sym, ◌∙◌, ap, arith, subst, inl, inr, ⊎_elim, ◌⊎◌}
+use Rattle.std.proofs.lemmas.List.Sums.{sum_by-cons, sum_by-append}
+use Rattle.std.proofs.lemmas.List.Elements.{All-head, All-tail, All-nil, All-cons, All-append, All-weaker}
+use Rattle.std.proofs.lemmas.List.{nil_from_length}
+use Rattle.std.proofs.lemmas.Bool.{leb-true, le-leb, lt-leb, cases_Bool, cond-true, cond-false, eq-eqb, and_parts, or_cases, and_from, or_left, or_right, false_from_ne_true, cond_both, true≢false}
 use Rattle.scenarios.specs.Job.{EffectiveJob}
 use Rattle.scenarios.specs.declared.order.Order.{Order}
 use Rattle.scenarios.specs.declared.order.Order.TheVariants.{Arrival, Shortest}
 use Rattle.scenarios.specs.declared.placed.Placed.{Placed}
 use Rattle.cluster_state.specs.State.{State, IsSound, free, busy, available, back_by, waiting_job, started, without}
 use Rattle.cluster_state.specs.Row.{in_order}
-use Rattle.cluster_state.proofs.Lemmas.{sum_by-placed, without-by_estimate, sum_by-by_estimate, All-by_estimate, sum_by-ones}
+use Rattle.cluster_state.proofs.Lemmas.{sum_by-placed, without-by_estimate, sum_by-by_estimate, All-by_estimate}
 use Rattle.easy_rule.specs.declared.shadow_time.Shadow.{Shadow}
-use Rattle.easy_rule.specs.Rule.{next, next_of, may_backfill, shadow_at, shadow_time, decided, decisions, state_after, starts_at}
-use Rattle.easy_rule.specs.Pass.{less, row, IsFirstPlace, IsPass}
+use Rattle.easy_rule.specs.Rule.{next, next_of, may_backfill, shadow_at, shadow_for, shadow_of, shadow_time, decided, decisions, state_after, starts_at}
+use Rattle.easy_rule.specs.Pass.{less, row, IsPass}
 use Rattle.easy_rule.proofs.RuleLemmas.{shadow_time-IsLeast, back_by-le}
 use Rattle.easy_rule.proofs.NextLemmas.{next-facts, next-found, next-row, length-without, decided-start, decisions-start, decided-stop, decisions-stop}
 
@@ -97,16 +97,14 @@ still-refused now room room' w w' job a b c no' =
 less-extra : (w : Shadow) (now : ℕ) (job : EffectiveJob) → (less w now job).extra ≤ w.extra
 less-extra w now job = cond_both (nat_le (now + job.estimate) w.time) w.extra (w.extra - job.size) (λ x. x ≤ w.extra) (λ _. omega arith) (λ _. omega arith)
 
--- the first that passes
-find-at : {X : Type 0} (q : X → Bool) (xs : List X) (i : ℕ) (d : X) → i < length xs → All (λ x. q x ≡ false) (take i xs) → q (get_or xs i d) ≡ true → find q xs ≡ Some (get_or xs i d)
-find-at q [] i d l a h = absurd (omega arith)
-find-at q (x ∷ xs) zero d l a h = cond-true (q x) (Some x) (find q xs) h
-find-at q (x ∷ xs) (suc i) d l a h =
-    cond-false (q x) (Some x) (find q xs) (All-head (λ x. q x ≡ false) x (take i xs) a) ∙ find-at q xs i d (omega arith) (All-tail (λ x. q x ≡ false) x (take i xs) a) h
-
+-- where none passes none is found
 pub find-none : {X : Type 0} (q : X → Bool) (xs : List X) → All (λ x. q x ≡ false) xs → find q xs ≡ None
 find-none q [] a = refl
 find-none q (x ∷ xs) a = cond-false (q x) (Some x) (find q xs) (All-head (λ x. q x ≡ false) x xs a) ∙ find-none q xs (All-tail (λ x. q x ≡ false) x xs a)
+
+find-behind : {X : Type 0} (q : X → Bool) (xs ys : List X) → All (λ x. q x ≡ false) xs → find q (xs ++ ys) ≡ find q ys
+find-behind q [] ys a = refl
+find-behind q (x ∷ xs) ys a = cond-false (q x) (Some x) (find q (xs ++ ys)) (All-head (λ x. q x ≡ false) x xs a) ∙ find-behind q xs ys (All-tail (λ x. q x ≡ false) x xs a)
 
 pub none-passes : {X : Type 0} (q : X → Bool) (xs : List X) → find q xs ≡ None → All (λ x. q x ≡ false) xs
 none-passes q [] e = All-nil (λ x. q x ≡ false)
@@ -126,27 +124,24 @@ pub All-in_order : (P : EffectiveJob → Type 0) (o : Order) (js : List Effectiv
 All-in_order P Arrival js a = a
 All-in_order P Shortest js a = All-by_estimate P js a
 
-pub length-row : (s : State) → length (row s) ≡ length s.waiting
-length-row s = sym (sum_by-ones (row s)) ∙ sum_by-in_order (λ j. 1) s.order s.waiting ∙ sum_by-ones s.waiting
-
 pub without-in_order : (n : ℕ) (o : Order) (js : List EffectiveJob) → count_by (λ (j : EffectiveJob). nat_eq j.number n) js ≤ 1 → without n (in_order o js) ≡ in_order o (without n js)
 without-in_order n Arrival js once = refl
 without-in_order n Shortest js once = without-by_estimate n js once
 
 -- a job whose number stands once leaves its own place
-without-unique : (js : List EffectiveJob) (i : ℕ) (d : EffectiveJob) → i < length js → count_by (λ (j : EffectiveJob). nat_eq j.number (get_or js i d).number) js ≤ 1 → without (get_or js i d).number js ≡ remove js i
-without-unique [] i d l once = absurd (omega arith)
-without-unique (j ∷ js) zero d l once = cond-true (nat_eq j.number j.number) js (j ∷ without j.number js) (eq-eqb j.number j.number refl)
-without-unique (j ∷ js) (suc i) d l once =
-    let job = get_or js i d in
-    let p : EffectiveJob → ℕ = λ x. cond (nat_eq x.number job.number) 1 0 in
-    let e = sum_by-cons p j js in
-    let here = get_or-le-sum_by p js i d (omega arith) in
+without-unique : (job : EffectiveJob) (xs ys : List EffectiveJob) → count_by (λ (j : EffectiveJob). nat_eq j.number job.number) (xs ++ job ∷ ys) ≤ 1 → without job.number (xs ++ job ∷ ys) ≡ xs ++ ys
+without-unique job [] ys once = cond-true (nat_eq job.number job.number) ys (job ∷ without job.number ys) (eq-eqb job.number job.number refl)
+without-unique job (x ∷ xs) ys once =
+    let p : EffectiveJob → ℕ = λ j. cond (nat_eq j.number job.number) 1 0 in
+    let all = sum_by-cons p x (xs ++ job ∷ ys) in
+    let parts = sum_by-append p xs (job ∷ ys) in
+    let there = sum_by-cons p job ys in
     let one = cond-true {A = ℕ} (nat_eq job.number job.number) 1 0 (eq-eqb job.number job.number refl) in
     ⊎_elim
-    (λ (h : nat_eq j.number job.number ≡ true). let two = cond-true {A = ℕ} (nat_eq j.number job.number) 1 0 h in absurd (omega (arith, e, here, one, two)))
-    (λ (h : nat_eq j.number job.number ≡ false). cond-false (nat_eq j.number job.number) js (j ∷ without job.number js) h ∙ ap (λ l. j ∷ l) (without-unique js i d (omega arith) (omega (arith, e))))
-    (cases_Bool (nat_eq j.number job.number))
+    (λ (h : nat_eq x.number job.number ≡ true). let two = cond-true {A = ℕ} (nat_eq x.number job.number) 1 0 h in absurd (omega (arith, once, all, parts, there, one, two)))
+    (λ (h : nat_eq x.number job.number ≡ false).
+    cond-false (nat_eq x.number job.number) (xs ++ job ∷ ys) (x ∷ without job.number (xs ++ job ∷ ys)) h ∙ ap (λ l. x ∷ l) (without-unique job xs ys (omega (arith, once, all))))
+    (cases_Bool (nat_eq x.number job.number))
 
 -- the decision goes on after the next start
 pub state_after-started : (s : State) (now : ℕ) (job : EffectiveJob) → next s now ≡ Some job → state_after (started s job now) now ≡ state_after s now
@@ -171,28 +166,39 @@ starts_at-done s now e = decisions-stop (length s.waiting) s now e
 pub next-empty : (s : State) (now : ℕ) → length s.waiting < 1 → next s now ≡ None
 next-empty s now l = ap (λ js. next_of s now js) (nil_from_length s.waiting (omega arith))
 
--- where a pass begins
-pub pass-first : (s : State) (now : ℕ) (w : Shadow) (d : EffectiveJob) → 1 ≤ length s.waiting → free s < (get_or s.waiting 0 d).size → w ≡ shadow_at s (get_or s.waiting 0 d).size → IsPass s now w 0
-pass-first s now w d some waits is = record {
-  head = get_or s.waiting 0 d;
-  later = drop 1 s.waiting;
-  queue = drop_more s.waiting 0 d (omega arith);
-  waits = waits;
-  shadow = is;
-  refused = All-nil (λ j. may_backfill now (free s) w j ≡ false);
+-- ---- the pass
+-- it goes over those who may not start
+pub pass-over : (s : State) (now : ℕ) (w : Shadow) (left skip rest : List EffectiveJob) → IsPass s now w left → left ≡ skip ++ rest → All (λ j. may_backfill now (free s) w j ≡ false) skip → IsPass s now w rest
+pass-over s now w left skip rest p e refused = record {
+  head = p.head;
+  later = p.later;
+  queue = p.queue;
+  waits = p.waits;
+  shadow = p.shadow;
+  passed = p.passed ++ skip;
+  parts = p.parts ∙ ap (λ l. p.passed ++ l) e ∙ sym (append_assoc p.passed skip rest);
+  refused = All-append (λ j. may_backfill now (free s) w j ≡ false) p.passed skip p.refused refused;
 }
 
-pass-row : (s : State) (now : ℕ) (w : Shadow) (place : ℕ) (p : IsPass s now w place) → next s now ≡ find (may_backfill now (free s) w) (row s)
-pass-row s now w place p = next-row s now p.head p.later p.queue p.waits ∙ ap (λ v. find (may_backfill now (free s) v) (row s)) (sym p.shadow)
+pass-row : (s : State) (now : ℕ) (w : Shadow) (left : List EffectiveJob) (p : IsPass s now w left) → next s now ≡ find (may_backfill now (free s) w) left
+pass-row s now w left p =
+    let q = may_backfill now (free s) w in
+    next-row s now p.head p.later p.queue p.waits ∙ ap (λ v. find (may_backfill now (free s) v) (row s)) (sym p.shadow) ∙ ap (find q) p.parts ∙ find-behind q p.passed left p.refused
 
-pub pass-next : (s : State) (now : ℕ) (w : Shadow) (place at : ℕ) (d : EffectiveJob) → IsPass s now w place → IsFirstPlace (may_backfill now (free s) w) (row s) at → next s now ≡ Some (get_or (row s) at d)
-pass-next s now w place at d p f = pass-row s now w place p ∙ find-at (may_backfill now (free s) w) (row s) at d f.within f.refused (f.passed d)
+-- who may start is next
+pub pass-next : (s : State) (now : ℕ) (w : Shadow) (job : EffectiveJob) (rest : List EffectiveJob) → IsPass s now w (job ∷ rest) → may_backfill now (free s) w job ≡ true → next s now ≡ Some job
+pass-next s now w job rest p may = pass-row s now w (job ∷ rest) p ∙ cond-true (may_backfill now (free s) w job) (Some job) (find (may_backfill now (free s) w) rest) may
 
-pub pass-done : (s : State) (now : ℕ) (w : Shadow) (place : ℕ) → IsPass s now w place → All (λ j. may_backfill now (free s) w j ≡ false) (row s) → next s now ≡ None
-pass-done s now w place p a = pass-row s now w place p ∙ find-none (may_backfill now (free s) w) (row s) a
+-- and nobody is where none of those that are left may
+pub pass-done : (s : State) (now : ℕ) (w : Shadow) (left : List EffectiveJob) → IsPass s now w left → All (λ j. may_backfill now (free s) w j ≡ false) left → next s now ≡ None
+pass-done s now w left p refused = pass-row s now w left p ∙ find-none (may_backfill now (free s) w) left refused
+
+pub pass-shadow : (s : State) (now : ℕ) (w : Shadow) (left : List EffectiveJob) → IsPass s now w left → shadow_of s ≡ Some w
+pass-shadow s now w left p =
+    ap (shadow_for s) p.queue ∙ cond-false (nat_le p.head.size (free s)) None (Some (shadow_at s p.head.size)) (lt-leb p.head.size (free s) p.waits) ∙ ap Some (sym p.shadow)
 
 -- a job that fits where the head does not is another job
-pub other-job : (s : State) (head job : EffectiveJob) (rest : List EffectiveJob) → s.waiting ≡ head ∷ rest → free s < head.size → job.size ≤ free s → waiting_job s job.number ≡ Some job → nat_eq head.number job.number ≡ false
+other-job : (s : State) (head job : EffectiveJob) (rest : List EffectiveJob) → s.waiting ≡ head ∷ rest → free s < head.size → job.size ≤ free s → waiting_job s job.number ≡ Some job → nat_eq head.number job.number ≡ false
 other-job s head job rest queue waits small found =
     false_from_ne_true (nat_eq head.number job.number) (λ same.
     let e : Some head ≡ Some job = sym (cond-true (nat_eq head.number job.number) (Some head) (find (λ (j : EffectiveJob). nat_eq j.number job.number) rest) same) ∙ sym (ap (λ js. find (λ (j : EffectiveJob). nat_eq j.number job.number) js) queue) ∙ found in
@@ -201,35 +207,33 @@ other-job s head job rest queue waits small found =
     omega arith)
 
 -- who starts leaves the row
-pub row-started : (s : State) (now at : ℕ) (d : EffectiveJob) → IsSound s → at < length (row s) → row (started s (get_or (row s) at d) now) ≡ remove (row s) at
-row-started s now at d h within =
-    let job = get_or (row s) at d in
+row-started : (s : State) (now : ℕ) (job : EffectiveJob) (passed rest : List EffectiveJob) → IsSound s → row s ≡ passed ++ job ∷ rest → row (started s job now) ≡ passed ++ rest
+row-started s now job passed rest h e =
+    let p : EffectiveJob → ℕ = λ j. cond (nat_eq j.number job.number) 1 0 in
     let once : count_by (λ (j : EffectiveJob). nat_eq j.number job.number) s.waiting ≤ 1 = omega (arith, h.once job.number) in
-    sym (without-in_order job.number s.order s.waiting once)
-    ∙ without-unique (row s) at d within (omega (arith, once, sum_by-in_order (λ (j : EffectiveJob). cond (nat_eq j.number job.number) 1 0) s.order s.waiting))
+    sym (without-in_order job.number s.order s.waiting once) ∙ ap (without job.number) e
+    ∙ without-unique job passed rest (omega (arith, once, sum_by-in_order p s.order s.waiting, ap (sum_by p) e))
 
--- a step of the pass
-pub pass-started : (s : State) (now : ℕ) (w : Shadow) (place at : ℕ) (d : EffectiveJob) → IsSound s → IsPass s now w place → IsFirstPlace (may_backfill now (free s) w) (row s) at
-    → IsPass (started s (get_or (row s) at d) now) now (less w now (get_or (row s) at d)) at
-pass-started s now w place at d h p f =
-    let job = get_or (row s) at d in
+-- it goes on behind one who starts
+pub pass-started : (s : State) (now : ℕ) (w : Shadow) (job : EffectiveJob) (rest : List EffectiveJob) → IsSound s → IsPass s now w (job ∷ rest) → may_backfill now (free s) w job ≡ true
+    → IsPass (started s job now) now (less w now job) rest
+pass-started s now w job rest h p may =
     let s' = started s job now in
-    let small = (ways now (free s) w job (f.passed d)).0 in
+    let small = (ways now (free s) w job may).0 in
     let need = p.head.size in
     let r : Placed = record { job = job; start = now } in
     let freed : free s' ≤ free s = omega (arith, sum_by-placed (λ (x : Placed). x.job.size) r s.running) in
-    let within : need ≤ s.machine = subst (λ (js : List EffectiveJob). All (λ j. j.size ≤ s.machine) js) p.queue h.waiting_fit 0 d (omega arith) in
-    let gone : row s' ≡ remove (row s) at = row-started s now at d h f.within in
-    let found = next-found s now job h (pass-next s now w place at d p f) in
+    let within : need ≤ s.machine = All-head (λ (j : EffectiveJob). j.size ≤ s.machine) p.head p.later (subst (All (λ (j : EffectiveJob). j.size ≤ s.machine)) p.queue h.waiting_fit) in
+    let found = next-found s now job h (pass-next s now w job rest p may) in
     record {
       head = p.head;
       later = without job.number p.later;
       queue = ap (without job.number) p.queue ∙ cond-false (nat_eq p.head.number job.number) p.later (p.head ∷ without job.number p.later) (other-job s p.head job p.later p.queue p.waits small found);
       waits = let z = p.waits in omega arith;
-      shadow = ap (λ v. less v now job) p.shadow ∙ sym (shadow-kept s need now job h.fits within (subst (λ v. may_backfill now (free s) v job ≡ true) p.shadow (f.passed d)));
+      shadow = ap (λ v. less v now job) p.shadow ∙ sym (shadow-kept s need now job h.fits within (subst (λ v. may_backfill now (free s) v job ≡ true) p.shadow may));
+      passed = p.passed;
+      parts = row-started s now job p.passed rest h p.parts;
       refused =
-          let same : take at (row s') ≡ take at (row s) = ap (take at) gone ∙ take_at (take at (row s)) (drop (suc at) (row s)) at (omega (arith, length-take at (row s), f.within)) in
-          subst (λ js. All (λ j. may_backfill now (free s') (less w now job) j ≡ false) js) (sym same)
-          (All-weaker (λ j. may_backfill now (free s) w j ≡ false) (λ j. may_backfill now (free s') (less w now job) j ≡ false)
-          (λ j. still-refused now (free s) (free s') w (less w now job) j freed (omega arith) (less-extra w now job)) (take at (row s)) f.refused);
+          All-weaker (λ j. may_backfill now (free s) w j ≡ false) (λ j. may_backfill now (free s') (less w now job) j ≡ false)
+          (λ j. still-refused now (free s) (free s') w (less w now job) j freed (omega arith) (less-extra w now job)) p.passed p.refused;
     }

@@ -1,17 +1,18 @@
 -- The walk over the running jobs in the order of their expected ends.
-use Rattle.std.proofs.Common.{◌≡◌, ℕ, ◌+◌, ◌-◌, ◌^◌, ◌≤◌, ◌<◌, cond, nat_le, List, [], ◌∷◌, ◌++◌, length, length-append, All, sum_by, count_by, append_assoc, refl, sym, ◌∙◌, ap, arith, subst, inl, inr, ⊎_elim, ◌⊎◌}
+use Rattle.std.proofs.Common.{◌≡◌, ℕ, ◌+◌, ◌-◌, ◌^◌, ◌≤◌, ◌<◌, cond, nat_eq, nat_le, zero, suc, List, [], ◌∷◌, ◌++◌, length, take, length-append, All, sum_by, count_by, append_assoc, refl, sym, ◌∙◌, ap, arith, subst, inl, inr, ⊎_elim, ◌⊎◌}
 use Rattle.std.proofs.lemmas.List.{length_push}
 use Rattle.std.proofs.lemmas.List.Sums.{sum_by-append, sum_by-cons, sum_by_push}
 use Rattle.std.proofs.lemmas.List.Elements.{All-cons, All-head, All-tail, All-nil, All-push, All-weaker}
-use Rattle.std.proofs.lemmas.Bool.{lt-leb, le-leb, cond-true, cond-false, cases_lt}
+use Rattle.std.proofs.lemmas.Bool.{lt-leb, le-leb, eq-eqb, cond-true, cond-false, cases_lt}
 use Rattle.scenarios.specs.Job.{IsWithinLimits}
 use Rattle.scenarios.specs.declared.placed.Placed.{Placed}
 use Rattle.scenarios.specs.Placed.{expected_end}
 use Rattle.cluster_state.specs.State.{State, IsSound, free, busy, back_by, available}
-use Rattle.cluster_state.specs.Ends.{IsPast, by_end}
+use Rattle.cluster_state.specs.Ends.{block_limit, IsPast, by_end}
 use Rattle.cluster_state.proofs.Lemmas.{NotLater, NoneEndsSooner, rises-by_end, sum_by-by_end, length-by_end, All-by_end}
 use Rattle.easy_rule.specs.declared.shadow_time.Shadow.{Shadow}
 use Rattle.easy_rule.specs.Rule.{shadow_time, shadow_at, ends_read, IsLeast}
+use Rattle.easy_rule.specs.Walk.{ends_at}
 use Rattle.easy_rule.proofs.RuleLemmas.{shadow_time-IsLeast, back-each, back-le-busy}
 
 -- nothing of those that are expected to end later has come back
@@ -46,7 +47,8 @@ few (r ∷ rs) a =
 
 -- What the walk knows, of which the others are left: who is behind it, and so what is free once these have ended. Where that
 -- is enough they are expected to have ended by its second. The others are not expected to end before it, and before that
--- second too little is available. It has read at most one end for each behind it.
+-- second too little is available. It has read at most one end for each behind it. Enough has come back with what is left of a block;
+-- where it has, the walk has read at most a block but one, beside those that are expected to end at its second.
 pub record IsWalk (s : State) (need room time reads : ℕ) (rest : List Placed) : Type 0 where
   pub behind : List Placed
   pub order : by_end s.running ≡ behind ++ rest
@@ -55,10 +57,12 @@ pub record IsWalk (s : State) (need room time reads : ℕ) (rest : List Placed) 
   pub later : All (λ r. time ≤ expected_end r) rest
   pub short : (u : ℕ) → u < time → available s u < need
   pub counted : reads ≤ length behind
+  pub near : need ≤ room + busy (take (block_limit - reads) rest)
+  pub early : need ≤ room → reads + 1 ≤ block_limit + count_by (λ r. nat_eq (expected_end r) time) behind
 
 -- a walk that begins behind some first ones
-pub walk-begins : {s : State} {need room : ℕ} {rest : List Placed} → IsPast s need room rest → IsWalk s need room 0 0 rest
-walk-begins p =
+pub walk-begins : {s : State} {need room : ℕ} {rest : List Placed} → IsPast s need room rest → need ≤ room + busy (take block_limit rest) → IsWalk s need room 0 0 rest
+walk-begins p most =
     record {
       behind = p.passed;
       order = p.order;
@@ -67,7 +71,26 @@ walk-begins p =
       later = λ k d lt. omega arith;
       short = λ u lt. absurd (omega (arith, lt));
       counted = omega arith;
+      near = most;
+      early = λ enough. absurd (let few = p.short in omega (arith, enough, few));
     }
+
+-- the first of those that are left, and one fewer of the others
+first-gives : (n : ℕ) (r : Placed) (after : List Placed) → busy (take n (r ∷ after)) ≤ r.job.size + busy (take (n - 1) after)
+first-gives zero r after = omega arith
+first-gives (suc n) r after =
+    let same : suc n - 1 ≡ n = omega arith in
+    omega (arith, sum_by-cons (λ (x : Placed). x.job.size) r (take n after), ap (λ (k : ℕ). busy (take k after)) same)
+
+none-holds : (rs : List Placed) → busy (take 0 rs) ≡ 0
+none-holds [] = refl
+none-holds (r ∷ rs) = refl
+
+-- one that ends at this second joins those that do
+one-ends : (t : ℕ) (rs : List Placed) (r : Placed) → expected_end r ≡ t → count_by (λ x. nat_eq (expected_end x) t) (rs ++ r ∷ []) ≡ count_by (λ x. nat_eq (expected_end x) t) rs + 1
+one-ends t rs r e =
+    let f : Placed → ℕ = λ x. cond (nat_eq (expected_end x) t) 1 0 in
+    omega (arith, sum_by_push f rs r, cond-true {A = ℕ} (nat_eq (expected_end r) t) 1 0 (eq-eqb (expected_end r) t e))
 
 module _ {s : State} {need room time reads : ℕ} {rest : List Placed} (w : IsWalk s need room time reads rest) where
   -- what is available, by the place of the walk
@@ -99,6 +122,37 @@ module _ {s : State} {need room time reads : ℕ} {rest : List Placed} (w : IsWa
         let gives = w.gives in
         omega (arith, none, some, all, gives, m)
 
+    -- what is left of a block gives enough, and so no whole block is behind where too little has come back
+    near_here : need ≤ room + r.job.size + busy (take (block_limit - (reads + 1)) after)
+    near_here =
+        let near = w.near in
+        let left : block_limit - reads - 1 ≡ block_limit - (reads + 1) = omega arith in
+        omega (arith, near, ap (λ (l : List Placed). busy (take (block_limit - reads) l)) next, first-gives (block_limit - reads) r after, ap (λ (n : ℕ). busy (take n after)) left)
+
+    in_block : room < need → reads + 1 ≤ block_limit
+    in_block m =
+        ⊎_elim
+        (λ (lt : reads < block_limit). omega (arith, lt))
+        (λ (le : block_limit ≤ reads).
+        let near = w.near in
+        let none : block_limit - reads ≡ 0 = omega (arith, le) in
+        absurd (omega (arith, near, m, ap (λ (n : ℕ). busy (take n rest)) none, none-holds rest)))
+        (cases_lt reads block_limit)
+
+    early_here : (room < need) ⊎ (expected_end r ≤ time) → reads + 1 + 1 ≤ block_limit + count_by (λ x. nat_eq (expected_end x) (expected_end r)) (w.behind ++ r ∷ [])
+    early_here why =
+        let joins = one-ends (expected_end r) w.behind r refl in
+        ⊎_elim
+        (λ (m : room < need). let few = in_block m in omega (arith, few, joins))
+        (λ (enough : need ≤ room).
+        let same : time ≡ expected_end r = ⊎_elim
+        (λ (m : room < need). absurd (omega (arith, m, enough)))
+        (λ (m : expected_end r ≤ time). let later = All-head (λ (x : Placed). time ≤ expected_end x) r after (subst (All (λ (x : Placed). time ≤ expected_end x)) next w.later) in omega (arith, m, later))
+        why in
+        let so_far = w.early enough in
+        omega (arith, so_far, joins, ap (λ (t : ℕ). count_by (λ x. nat_eq (expected_end x) t) w.behind) same))
+        (cases_lt room need)
+
     pub walk-more : (room < need) ⊎ (expected_end r ≤ time) → IsWalk s need (room + r.job.size) (expected_end r) (reads + 1) after
     walk-more why =
         record {
@@ -109,6 +163,8 @@ module _ {s : State} {need room time reads : ℕ} {rest : List Placed} (w : IsWa
           later = near.1;
           short = λ u lt. ⊎_elim (λ (m : room < need). too_little m u lt) (λ (m : expected_end r ≤ time). w.short u (omega (arith, m, lt))) why;
           counted = let counted = w.counted in omega (arith, counted, length_push w.behind r);
+          near = near_here;
+          early = λ _. early_here why;
         }
 
     -- where the one there is expected to end later, so are all that are left
@@ -195,3 +251,10 @@ module _ {s : State} {need room time reads : ℕ} {rest : List Placed} (w : IsWa
   -- the walk to the end of the row
   pub walk-reads-all : reads ≤ ends_read s time
   walk-reads-all = let counted = w.counted in omega (arith, walk-counts, all_run, counted)
+
+  -- the walk reads at most a block but one, those that end at its second, and one past them
+  pub walk-early : reads + 1 ≤ block_limit + ends_at s time
+  walk-early =
+      let f : Placed → ℕ = λ r. cond (nat_eq (expected_end r) time) 1 0 in
+      let early = w.early enough in
+      omega (arith, early, sum_by-by_end f s.running, ap (sum_by f) w.order, sum_by-append f w.behind rest)

@@ -1,5 +1,7 @@
 pub mod Rule
+pub mod Walk
 pub mod Pass
+pub mod Decision
 pub mod First
 pub mod Laws
 pub mod RuleLaws

@@ -1,11 +1,12 @@
 -- One pass over the waiting jobs, with what is left at each step of it.
-use Rattle.std.specs.Prelude.{◌≡◌, ℕ, ◌+◌, ◌-◌, ◌<◌, min, Bool, true, false, nat_le, if◌then◌else◌, List, [], ◌∷◌, length, take, All, slice_index_or}
+use Rattle.std.specs.Prelude.{◌≡◌, ℕ, ◌+◌, ◌-◌, ◌<◌, min, true, false, nat_le, if◌then◌else◌, List, ◌∷◌, ◌++◌, length, take, drop, Some, All}
 use Rattle.scenarios.specs.Job.{EffectiveJob}
-use Rattle.cluster_state.specs.State.{State, free, all_started, CanStartAll}
+use Rattle.waiting_places.specs.Places.{at_place, waiting}
+use Rattle.cluster_state.specs.State.{State, ClusterView, free, all_started, CanStartAll}
 use Rattle.cluster_state.specs.Row.{in_order}
 use Rattle.easy_rule.specs.declared.shadow_time.Shadow.{Shadow}
 use Rattle.easy_rule.specs.declared.start.Start.{Start}
-use Rattle.easy_rule.specs.Rule.{may_backfill, shadow_at}
+use Rattle.easy_rule.specs.Rule.{may_backfill, next, shadow_at}
 
 -- no more jobs can start at once: each is a waiting one, and takes a processor at least
 abbrev pub most_starts : State → ℕ
@@ -14,21 +15,6 @@ most_starts s = min (length s.waiting) (free s)
 -- what the head leaves once this later job runs too: one that runs past the shadow time takes from the extra processors
 abbrev pub less : Shadow → ℕ → EffectiveJob → Shadow
 less w now job = record { time = w.time; extra = if nat_le (now + job.estimate) w.time then w.extra else w.extra - job.size }
-
--- the later jobs that one pass over these starts, where so many processors are free and the head leaves w
-abbrev pub picked : ℕ → ℕ → Shadow → List EffectiveJob → List EffectiveJob
-picked now room w [] = []
-picked now room w (j ∷ js) = if may_backfill now room w j then j ∷ picked now (room - j.size) (less w now j) js else picked now room w js
-
--- what the head leaves once these run too
-abbrev pub left_after : ℕ → ℕ → Shadow → List EffectiveJob → Shadow
-left_after now room w [] = w
-left_after now room w (j ∷ js) = if may_backfill now room w j then left_after now (room - j.size) (less w now j) js else left_after now room w js
-
--- the longest front of a queue that fits into so many processors, one job after another
-abbrev pub fitting : ℕ → List EffectiveJob → List EffectiveJob
-fitting room [] = []
-fitting room (j ∷ js) = if nat_le j.size room then j ∷ fitting (room - j.size) js else []
 
 -- a job's start
 abbrev pub start_at : ℕ → EffectiveJob → Start
@@ -47,17 +33,24 @@ row s = in_order s.order s.waiting
 abbrev pub front : State → ℕ → State
 front s n = record { machine = s.machine; order = s.order; waiting = take n s.waiting; running = s.running }
 
--- the job at this place of a row passes, and none before it does
-pub record IsFirstPlace (passes : EffectiveJob → Bool) (jobs : List EffectiveJob) (place : ℕ) : Type 0 where
-  pub within : place < length jobs
-  pub passed : (d : EffectiveJob) → passes (slice_index_or jobs place d) ≡ true
-  pub refused : All (λ j. passes j ≡ false) (take place jobs)
+-- those who stand in the row from a place on
+abbrev pub row_from : ClusterView → ℕ → List EffectiveJob
+row_from c place = waiting (drop place c.places)
 
--- what the pass knows at a place of the row: the head does not fit, w is what it leaves, and no job before the place may start
-pub record IsPass (s : State) (now : ℕ) (w : Shadow) (place : ℕ) : Type 0 where
+-- What the pass knows where these are left of the row: the head does not fit, w is what it leaves, and nobody in front of them may start.
+pub record IsPass (s : State) (now : ℕ) (w : Shadow) (left : List EffectiveJob) : Type 0 where
   pub head : EffectiveJob
   pub later : List EffectiveJob
   pub queue : s.waiting ≡ head ∷ later
   pub waits : free s < head.size
   pub shadow : w ≡ shadow_at s head.size
-  pub refused : All (λ j. may_backfill now (free s) w j ≡ false) (take place (row s))
+  pub passed : List EffectiveJob
+  pub parts : row s ≡ passed ++ left
+  pub refused : All (λ j. may_backfill now (free s) w j ≡ false) passed
+
+-- the job at this place of the row is a later one that starts next, and nobody in front of it may start
+pub record IsCandidate (c : ClusterView) (now : ℕ) (w : Shadow) (place : ℕ) (job : EffectiveJob) : Type 0 where
+  pub stands : at_place c.places place ≡ Some job
+  pub may : may_backfill now (free c.state) w job ≡ true
+  pub found : next c.state now ≡ Some job
+  pub pass : IsPass c.state now w (row_from c place)

@@ -1,9 +1,12 @@
-ghost use Rattle.std.specs.Prelude.{◌≡◌, false, IfNone, IfSome, All, take};
+ghost use Rattle.std.specs.Prelude.{◌≡◌};
+ghost use Rattle.scenarios.specs.Job.{EffectiveJob, IsWithinLimits};
+ghost use Rattle.cluster_state.specs.Row.{fits_offer};
 ghost use Rattle.easy_rule.specs.Rule.{may_backfill};
-ghost use Rattle.easy_rule.specs.Pass.{less, IsFirstPlace};
+ghost use Rattle.easy_rule.specs.Pass.{less};
 
 use crate::shadow_time::Shadow;
 use scenarios::Job;
+use waiting_places::Offer;
 
 // Whether a later job may start now, in the place of the head.
 pub(crate) fn backfills(job: &Job, now: u64, free: u64, shadow: Shadow) -> bool
@@ -13,24 +16,15 @@ pub(crate) fn backfills(job: &Job, now: u64, free: u64, shadow: Shadow) -> bool
         && (now <= shadow.time && job.estimate() <= shadow.time - now || job.size() <= shadow.extra)
 }
 
-// The place of the first job of the row that may start now, where none before `place` may.
-pub(crate) fn first_place(
-    row: &[Job],
-    place: usize,
-    now: u64,
-    free: u64,
-    shadow: Shadow,
-) -> Option<usize>
-    requires { All (λ j. may_backfill now free shadow j ≡ false) (take place row.now) }
-    ensures none { IfNone result (All (λ j. may_backfill now free shadow j ≡ false) row.now) }
-    ensures found { IfSome result (IsFirstPlace (may_backfill now free shadow) row.now) }
+// What the later jobs are offered now: who fits it may start in the place of the head.
+pub(crate) fn offer(now: u64, free: u64, shadow: Shadow) -> Offer
+    ensures { (j : EffectiveJob) → IsWithinLimits j → fits_offer result j ≡ may_backfill now free shadow j }
 {
-    for at in place..row.len() {
-        if backfills(&row[at], now, free, shadow) {
-            return Some(at);
-        }
+    Offer {
+        free,
+        extra: shadow.extra.min(free),
+        window: shadow.time.saturating_sub(now),
     }
-    None
 }
 
 // What the head leaves once this later job runs too.

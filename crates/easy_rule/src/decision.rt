@@ -1,8 +1,7 @@
-ghost use Rattle.std.specs.Prelude.{◌≡◌, ◌+◌, ◌<◌, ◌≤◌, [], OnOk, OnErr, IsOk, IfOk, IfSome, IsSome, None, Some, map, length};
+ghost use Rattle.std.specs.Prelude.{◌≡◌, ◌+◌, ◌<◌, ◌≤◌, OnOk, OnErr, IsOk, IfOk, None, length};
 ghost use Rattle.scenarios.specs.Limits.{seconds_end};
-ghost use Rattle.cluster_state.specs.State.{free};
-ghost use Rattle.easy_rule.specs.Rule.{next, shadow_of, state_after, starts_at};
-ghost use Rattle.easy_rule.specs.Pass.{start_at, AreStarted};
+ghost use Rattle.easy_rule.specs.Rule.{next, state_after, starts_at};
+ghost use Rattle.easy_rule.specs.Decision.{IsDecision, IsTold, IsUndecided};
 
 use crate::first::{FirstStart, first_start, start_from};
 use crate::pass::{most_starts, room_for_starts};
@@ -63,16 +62,10 @@ pub fn decide_into<A: Allocator + Copy>(
     now: u64,
 ) -> Result<Option<Shadow>, Memory>
     requires { now < seconds_end }
-    ensures state { OnOk result (cluster.new.state ≡ state_after cluster.old.state now) }
-    ensures starts { OnOk result (map (start_at now) chosen.new.items ≡ starts_at cluster.old.state now) }
-    ensures jobs { OnOk result (AreStarted cluster.old.state now chosen.new.items cluster.new.state) }
-    ensures room { OnOk result (cluster.old.spare ≤ cluster.new.spare + length chosen.new.items) }
-    ensures shadow { IfOk result (λ left. IfSome left (λ w. shadow_of cluster.new.state ≡ Some w)) }
-    ensures told { IfOk result (λ left. 0 < free cluster.new.state → IsSome (shadow_of cluster.new.state) → IsSome left) }
+    ensures ok { OnOk result (IsDecision cluster.old cluster.new now chosen.new.items) }
+    ensures told { IfOk result (λ told. IsTold cluster.new.state told) }
     ensures settled { next cluster.old.state now ≡ None → IsOk result }
-    ensures err { OnErr result (cluster.new.state ≡ cluster.old.state) }
-    ensures empty { OnErr result (chosen.new.items ≡ []) }
-    ensures spare { OnErr result (cluster.old.spare ≤ cluster.new.spare) }
+    ensures err { OnErr result (IsUndecided cluster.old cluster.new chosen.new.items) }
 {
     chosen.clear();
     let first = first_start(cluster, now);

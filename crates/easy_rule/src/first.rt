@@ -1,12 +1,11 @@
-ghost use Rattle.std.specs.Prelude.{◌≡◌, ◌+◌, ◌<◌, ◌≤◌, [], Some, IfSome, IsSome, map, length, vec_len, vec_capacity};
+ghost use Rattle.std.specs.Prelude.{◌≡◌, ◌<◌, [], IfSome, slice_get, vec_len, vec_capacity};
 ghost use Rattle.scenarios.specs.Limits.{seconds_end};
-ghost use Rattle.cluster_state.specs.State.{free};
-ghost use Rattle.easy_rule.specs.Rule.{shadow_of, state_after, starts_at};
-ghost use Rattle.easy_rule.specs.Pass.{most_starts, start_at, AreStarted};
+ghost use Rattle.cluster_state.specs.State.{ClusterView, free};
+ghost use Rattle.easy_rule.specs.Decision.{HasRoom, IsBegun, IsDecision, IsTold};
 ghost use Rattle.easy_rule.specs.First.{IsFirstStart};
 
-use crate::backfill::first_place;
-use crate::pass::{pass_on, start_heads, start_later};
+use crate::candidate::next_place;
+use crate::pass::{pass_on, start_heads};
 use crate::shadow_time::Shadow;
 use crate::shadow_walk::shadow_for;
 use cluster_state::Cluster;
@@ -25,11 +24,12 @@ pub(crate) enum FirstStart {
 }
 
 // Who starts first at second `now`.
-pub(crate) fn first_start<A: Allocator + Copy>(cluster: &Cluster<A>, now: u64) -> FirstStart
-    ensures { IsFirstStart cluster.now.state now result }
+pub(crate) fn first_start<A: Allocator + Copy>(cluster: &mut Cluster<A>, now: u64) -> FirstStart
+    ensures first { IsFirstStart cluster.old now result }
+    ensures same { cluster.new ≡ cluster.old }
 {
     let free = cluster.free();
-    let [head, ..] = cluster.waiting() else {
+    let Some(head) = cluster.waiting_at(0) else {
         return FirstStart::Nobody(None);
     };
     if free == 0 {
@@ -40,10 +40,10 @@ pub(crate) fn first_start<A: Allocator + Copy>(cluster: &Cluster<A>, now: u64) -
         return FirstStart::Head;
     }
     let shadow = shadow_for(cluster, need);
-    let Some(place) = first_place(cluster.row(), 0, now, free, shadow) else {
-        return FirstStart::Nobody(Some(shadow));
-    };
-    FirstStart::Later(shadow, place)
+    match next_place(cluster, 0, now, shadow) {
+        None => FirstStart::Nobody(Some(shadow)),
+        Some(place) => FirstStart::Later(shadow, place),
+    }
 }
 
 // Chooses and starts the jobs that start at second `now`, of which this is the first; nobody was
@@ -55,17 +55,11 @@ pub(crate) fn start_from<A: Allocator + Copy>(
     now: u64,
 ) -> Option<Shadow>
     requires now { now < seconds_end }
-    requires first { IsFirstStart cluster.old.state now first }
+    requires first { IsFirstStart cluster.old now first }
     requires none { chosen.old.items ≡ [] }
-    requires spare { most_starts cluster.old.state ≤ cluster.old.spare }
-    requires room { vec_len chosen.old + most_starts cluster.old.state ≤ vec_capacity chosen.old }
-    ensures state { cluster.new.state ≡ state_after cluster.old.state now }
-    ensures starts { map (start_at now) chosen.new.items ≡ starts_at cluster.old.state now }
-    ensures jobs { AreStarted cluster.old.state now chosen.new.items cluster.new.state }
-    ensures shadow { IfSome result (λ w. shadow_of cluster.new.state ≡ Some w) }
-    ensures told { 0 < free cluster.new.state → IsSome (shadow_of cluster.new.state) → IsSome result }
-    ensures left { cluster.old.spare ≤ cluster.new.spare + length chosen.new.items }
-    ensures fewer { vec_len chosen.new ≤ most_starts cluster.old.state }
+    requires room { HasRoom cluster.old (vec_len chosen.old) (vec_capacity chosen.old) }
+    ensures decided { IsDecision cluster.old cluster.new now chosen.new.items }
+    ensures told { IsTold cluster.new.state result }
 {
     match first {
         FirstStart::Nobody(left) => left,
@@ -73,9 +67,27 @@ pub(crate) fn start_from<A: Allocator + Copy>(
             start_heads(cluster, chosen, now);
             start_later(cluster, chosen, now)
         }
-        FirstStart::Later(shadow, place) => {
-            let left = pass_on(cluster, chosen, shadow, place, now);
-            Some(left)
-        }
+        FirstStart::Later(shadow, place) => { Some(pass_on(cluster, chosen, shadow, place, now)) }
+    }
+}
+
+// Chooses and starts later jobs, where the first waiting job does not fit. Whatever decision those chosen
+// before began is complete then. Answers the shadow of the state that it leaves, where it came to know
+// it.
+fn start_later<A: Allocator + Copy>(
+    cluster: &mut Cluster<A>,
+    chosen: &mut Vec<Job, A>,
+    now: u64,
+) -> Option<Shadow>
+    requires now { now < seconds_end }
+    requires head { IfSome (slice_get cluster.old.state.waiting 0) (λ head. free cluster.old.state < head.size) }
+    requires room { HasRoom cluster.old (vec_len chosen.old) (vec_capacity chosen.old) }
+    ensures decided { (first : ClusterView) → IsBegun first cluster.old now chosen.old.items → IsDecision first cluster.new now chosen.new.items }
+    ensures told { IsTold cluster.new.state result }
+{
+    match first_start(cluster, now) {
+        FirstStart::Nobody(left) => left,
+        FirstStart::Head => unreachable!(),
+        FirstStart::Later(shadow, place) => { Some(pass_on(cluster, chosen, shadow, place, now)) }
     }
 }

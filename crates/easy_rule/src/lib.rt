@@ -3,7 +3,7 @@
 
 mod backfill;
 mod behind;
-mod choice;
+mod candidate;
 mod decision;
 pub mod examples;
 mod first;

@@ -1,6 +1,8 @@
-ghost use Rattle.std.specs.Prelude.{◌≡◌, ◌<◌, ◌≤◌, IfSome, MatchOption};
+ghost use Rattle.std.specs.Prelude.{◌≡◌, ◌<◌, ◌≤◌, ◌+◌, IfSome, MatchOption};
 ghost use Rattle.cluster_state.specs.State.{available, free};
+ghost use Rattle.cluster_state.specs.Ends.{block_limit};
 ghost use Rattle.easy_rule.specs.Rule.{IsLeast, IsShadow, shadow_of, shadow_at, ends_read};
+ghost use Rattle.easy_rule.specs.Walk.{ends_at};
 
 use crate::shadow_time::Shadow;
 use cluster_state::Cluster;
@@ -11,13 +13,14 @@ use std::alloc::Allocator;
 //
 // It walks over the running jobs in the order of their expected ends, until they have given back
 // enough, and past all that are expected to end at that same second. First ones that don't give back
-// enough together are passed over.
+// enough together are passed over, so that the first 128 of the others do.
 fn walk<A: Allocator + Copy>(cluster: &Cluster<A>, need: u64) -> (Shadow, u64)
     requires wants { free cluster.now.state < need }
     requires within { need ≤ cluster.now.state.machine }
     ensures shadow { result.0 ≡ shadow_at cluster.now.state need }
     ensures least { IsLeast (λ t. need ≤ available cluster.now.state t) result.0.time }
     ensures reads { result.1 ≤ ends_read cluster.now.state result.0.time }
+    ensures few { result.1 ≤ block_limit + ends_at cluster.now.state result.0.time }
 {
     let (mut room, rest) = cluster.running_past(need);
     let mut time = 0;
@@ -49,13 +52,15 @@ pub(crate) fn shadow_for<A: Allocator + Copy>(cluster: &Cluster<A>, need: u64) -
 
 /// As `shadow`, and how often it read a running job's expected end: at most once of each up to the
 /// shadow time, and of the first past it, if there is one; never where there is no shadow. Those that
-/// are passed over together are not read one by one.
+/// are passed over together are not read one by one: of the earlier ones at most 127 are read, beside
+/// all that are expected to end at the shadow time and the first past it.
 pub fn shadow_counted<A: Allocator + Copy>(cluster: &Cluster<A>) -> (Option<Shadow>, u64)
     ensures value { result.0 ≡ shadow_of cluster.now.state }
     ensures least { IfSome result.0 (λ w. IsShadow cluster.now.state w) }
     ensures reads { MatchOption result.0 (result.1 ≡ 0) (λ w. result.1 ≤ ends_read cluster.now.state w.time) }
+    ensures few { IfSome result.0 (λ w. result.1 ≤ block_limit + ends_at cluster.now.state w.time) }
 {
-    let [head, ..] = cluster.waiting() else {
+    let Some(head) = cluster.waiting_at(0) else {
         return (None, 0);
     };
     if head.size() <= cluster.free() {

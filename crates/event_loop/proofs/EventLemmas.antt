@@ -1,6 +1,6 @@
 -- Event seconds, by what the code knows at a position.
 use Rattle.std.proofs.Common.{◌≡◌, ◌≢◌, ℕ, zero, suc, ◌+◌, ◌-◌, ◌^◌, ◌≤◌, ◌<◌, Bool, false, nat_eq, List, [], ◌∷◌, length, All, Any, Option, Some, None, MatchOption, IfSome, IsNone, min, filter, refl, sym, ◌∙◌, ap, arith, subst, inl, inr, ⊎_elim, ◌⊎◌}
-use Rattle.std.proofs.lemmas.List.{take_all}
+use Rattle.std.proofs.lemmas.List.{length-append, take_all}
 use Rattle.std.proofs.lemmas.List.Elements.{All-head, All-tail, All-nil, All-cons, All-weaker}
 use Rattle.std.proofs.lemmas.Bool.{cases_lt}
 use Rattle.scenarios.specs.Job.{EffectiveJob}
@@ -11,6 +11,7 @@ use Rattle.cluster_state.specs.State.{State, IsSound, ended_until}
 use Rattle.easy_rule.specs.declared.shadow_time.Shadow.{Shadow}
 use Rattle.easy_rule.specs.Rule.{next, shadow_of}
 use Rattle.easy_rule.specs.Pass.{front}
+use Rattle.easy_rule.specs.Decision.{IsSettledFront}
 use Rattle.easy_rule.specs.Simulation.{before, ready, submitted, IsEvent, bound, last_submit, joined}
 use Rattle.scenarios.specs.SoundPlan.{IsPlan}
 use Rattle.timeline.specs.Laws.{IsQuiet}
@@ -231,15 +232,18 @@ stands-at plan s ready' t is at later =
     )
 
 -- so for the shadow that is known, where it stands
-pub known-settled : (plan : Plan) (s ready' : State) (t n : ℕ) (o : Option Shadow) → s ≡ before plan t → ready' ≡ ready plan (before plan t) t → n ≡ length s.waiting → IfSome o (λ _. All (λ r. t < real_end r) s.running)
-    → IfSome o (λ _. next (front ready' n) t ≡ None)
-known-settled plan s ready' t n None is at many later = tt
-known-settled plan s ready' t n (Some w) is at many later = subst (λ m. next (front ready' m) t ≡ None) (sym many) (stands-at plan s ready' t is at later).0
-
-pub known-stands : (plan : Plan) (s ready' : State) (t : ℕ) (known o : Option Shadow) → s ≡ before plan t → ready' ≡ ready plan (before plan t) t → IfSome known (λ w. shadow_of s ≡ Some w) → IfSome o (λ w. known ≡ Some w) → IfSome o (λ _. All (λ r. t < real_end r) s.running)
-    → IfSome o (λ w. shadow_of ready' ≡ Some w)
-known-stands plan s ready' t known None is at holds same later = tt
-known-stands plan s ready' t known (Some w) is at holds same later = (stands-at plan s ready' t is at later).1 w (subst (λ k. IfSome k (λ w. shadow_of s ≡ Some w)) same holds)
+pub known-front : (plan : Plan) (s ready' : State) (t n : ℕ) (known o : Option Shadow) → s ≡ before plan t → ready' ≡ ready plan (before plan t) t → n ≡ length s.waiting → IfSome known (λ w. shadow_of s ≡ Some w) → IfSome o (λ w. known ≡ Some w) → IfSome o (λ _. All (λ r. t < real_end r) s.running)
+    → IfSome o (λ w. IsSettledFront ready' t n w)
+known-front plan s ready' t n known None is at many holds same later = tt
+known-front plan s ready' t n known (Some w) is at many holds same later =
+    let stands = stands-at plan s ready' t is at later in
+    let wait : length ready'.waiting ≡ length (before plan t).waiting + length (submitted plan t) = ap (λ (z : State). length z.waiting) at ∙ length-append (before plan t).waiting (submitted plan t) in
+    let waited = ap (λ (z : State). length z.waiting) is in
+    record {
+      within = omega (arith, many, wait, waited);
+      settled = subst (λ m. next (front ready' m) t ≡ None) (sym many) stands.0;
+      shadow = stands.1 w (subst (λ k. IfSome k (λ w. shadow_of s ≡ Some w)) same holds);
+    }
 
 -- after the jobs that end have left, those that arrive make a sound state
 pub sound-ready : (plan : Plan) (s s' : State) (t : ℕ) → IsPlan plan → t < 2 ^ 49 - 1 → s ≡ before plan t → s' ≡ ended_until s t → IsSound (joined s' (submitted plan t))

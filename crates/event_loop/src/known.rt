@@ -1,8 +1,8 @@
-ghost use Rattle.std.specs.Prelude.{◌≡◌, ◌≤◌, ◌<◌, [], OnOk, OnErr, IfOk, IfSome, None, Some, map, length, All};
+ghost use Rattle.std.specs.Prelude.{◌≡◌, ◌<◌, OnOk, OnErr, IfOk, IfSome, Some, All};
 ghost use Rattle.scenarios.specs.Limits.{seconds_end};
 ghost use Rattle.scenarios.specs.Placed.{real_end};
-ghost use Rattle.easy_rule.specs.Rule.{next, shadow_of, state_after, starts_at};
-ghost use Rattle.easy_rule.specs.Pass.{front, start_at, AreStarted};
+ghost use Rattle.easy_rule.specs.Rule.{shadow_of};
+ghost use Rattle.easy_rule.specs.Decision.{IsDecision, IsSettledFront, IsUndecided};
 
 use cluster_state::Cluster;
 use easy_rule::{Shadow, decide_behind, decide_into};
@@ -39,15 +39,10 @@ pub(crate) fn decide_knowing<A: Allocator + Copy>(
     now: u64,
 ) -> Result<Option<Shadow>, Memory>
     requires now { now < seconds_end }
-    requires within { settled ≤ length cluster.old.state.waiting }
-    requires settled { IfSome known (λ _. next (front cluster.old.state settled) now ≡ None) }
-    requires known { IfSome known (λ w. shadow_of cluster.old.state ≡ Some w) }
-    ensures state { OnOk result (cluster.new.state ≡ state_after cluster.old.state now) }
-    ensures starts { OnOk result (map (start_at now) started.new.items ≡ starts_at cluster.old.state now) }
-    ensures jobs { OnOk result (AreStarted cluster.old.state now started.new.items cluster.new.state) }
+    requires known { IfSome known (λ w. IsSettledFront cluster.old.state now settled w) }
+    ensures ok { OnOk result (IsDecision cluster.old cluster.new now started.new.items) }
     ensures shadow { IfOk result (λ left. IfSome left (λ w. shadow_of cluster.new.state ≡ Some w)) }
-    ensures err { OnErr result (cluster.new.state ≡ cluster.old.state) }
-    ensures empty { OnErr result (started.new.items ≡ []) }
+    ensures err { OnErr result (IsUndecided cluster.old cluster.new started.new.items) }
 {
     let Some(shadow) = known else {
         return decide_into(cluster, started, now);

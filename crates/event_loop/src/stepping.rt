@@ -151,7 +151,7 @@ impl<A: Allocator + Copy> Engine<A> {
         ensures memory { IfErr result (λ f. f ≡ EngineFault.Memory) }
     {
         self.failed = true;
-        let settled = self.cluster.waiting().len();
+        let settled = self.cluster.waiting_count();
         let known = standing_at(&self.cluster, self.known, second);
         self.cluster.finish_until(second);
         self.coming

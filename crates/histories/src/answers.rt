@@ -1,10 +1,11 @@
 // What the calls of a book answer, written as replies: none for a full journal or want of memory.
 use book_machine::Reply;
-use scenarios::ScenarioId;
+use scenarios::{NoSuchScenario, ScenarioId};
 use std::alloc::Global;
 use version_book::{
-    AddRefusal, Base, ClaimRefusal, DropRefusal, EditRefusal, FinishRefusal, GiveUpRefusal,
-    Published, RetryRefusal, Task, ViewRefusal,
+    AddRefusal, Base, ClaimRefusal, DropRefusal, EditRefusal, FinishFault, FinishRefusal,
+    GiveUpRefusal, Published, RetryRefusal, Task, TooManyTickets, UnknownTicket, ViewFault,
+    ViewRefusal,
 };
 
 pub(crate) fn of_edit(told: Result<u64, EditRefusal>) -> Option<Reply> {
@@ -26,7 +27,7 @@ pub(crate) fn of_add(told: Result<ScenarioId, AddRefusal>) -> Option<Reply> {
 pub(crate) fn of_drop(told: Result<ScenarioId, DropRefusal>) -> Option<Reply> {
     match told {
         Ok(id) => Some(Reply::Dropped { id }),
-        Err(DropRefusal::NoSuchScenario) => Some(Reply::NoSuchScenario),
+        Err(DropRefusal::Fault(NoSuchScenario)) => Some(Reply::NoSuchScenario),
         Err(_) => None,
     }
 }
@@ -34,7 +35,7 @@ pub(crate) fn of_drop(told: Result<ScenarioId, DropRefusal>) -> Option<Reply> {
 pub(crate) fn of_retry(told: Result<(), RetryRefusal>) -> Option<Reply> {
     match told {
         Ok(()) => Some(Reply::Retried),
-        Err(RetryRefusal::NoSuchScenario) => Some(Reply::NoSuchScenario),
+        Err(RetryRefusal::Fault(NoSuchScenario)) => Some(Reply::NoSuchScenario),
         Err(_) => None,
     }
 }
@@ -44,9 +45,9 @@ pub(crate) fn of_view(told: &Result<Published<Global>, ViewRefusal>) -> Option<R
         Ok(published) => Some(Reply::Shown {
             version: published.version(),
         }),
-        Err(ViewRefusal::NoSuchScenario) => Some(Reply::NoSuchScenario),
-        Err(ViewRefusal::NotYet) => Some(Reply::NotYet),
-        Err(ViewRefusal::Behind { seen, found }) => Some(Reply::Behind {
+        Err(ViewRefusal::Fault(ViewFault::NoSuchScenario)) => Some(Reply::NoSuchScenario),
+        Err(ViewRefusal::Fault(ViewFault::NotYet)) => Some(Reply::NotYet),
+        Err(ViewRefusal::Fault(ViewFault::Behind { seen, found })) => Some(Reply::Behind {
             seen: *seen,
             found: *found,
         }),
@@ -71,7 +72,7 @@ pub(crate) fn of_claim(told: &Result<Option<Task<Global>>, ClaimRefusal>) -> Opt
             version: task.version(),
             base: version_of(task.base()),
         }),
-        Err(ClaimRefusal::TooManyTickets) => Some(Reply::TooManyTickets),
+        Err(ClaimRefusal::Fault(TooManyTickets)) => Some(Reply::TooManyTickets),
         Err(_) => None,
     }
 }
@@ -79,9 +80,11 @@ pub(crate) fn of_claim(told: &Result<Option<Task<Global>>, ClaimRefusal>) -> Opt
 pub(crate) fn of_finish(told: Result<u64, FinishRefusal>) -> Option<Reply> {
     match told {
         Ok(version) => Some(Reply::Finished { version }),
-        Err(FinishRefusal::UnknownTicket) => Some(Reply::UnknownTicket),
-        Err(FinishRefusal::Stranger) => Some(Reply::Stranger),
-        Err(FinishRefusal::Stale { published }) => Some(Reply::Stale { published }),
+        Err(FinishRefusal::Fault(FinishFault::UnknownTicket)) => Some(Reply::UnknownTicket),
+        Err(FinishRefusal::Fault(FinishFault::Stranger)) => Some(Reply::Stranger),
+        Err(FinishRefusal::Fault(FinishFault::Stale { published })) => Some(Reply::Stale {
+            published,
+        }),
         Err(_) => None,
     }
 }
@@ -89,7 +92,7 @@ pub(crate) fn of_finish(told: Result<u64, FinishRefusal>) -> Option<Reply> {
 pub(crate) fn of_give_up(told: Result<(), GiveUpRefusal>) -> Option<Reply> {
     match told {
         Ok(()) => Some(Reply::GivenUp),
-        Err(GiveUpRefusal::UnknownTicket) => Some(Reply::UnknownTicket),
+        Err(GiveUpRefusal::Fault(UnknownTicket)) => Some(Reply::UnknownTicket),
         Err(_) => None,
     }
 }

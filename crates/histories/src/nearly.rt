@@ -7,7 +7,7 @@ use scenarios::Scenario;
 use std::alloc::Global;
 use std::sync::Arc;
 use swf_text::Value;
-use version_book::{Book, FinishRefusal, GiveUpRefusal, Task};
+use version_book::{Book, FinishFault, FinishRefusal, GiveUpRefusal, Task, UnknownTicket};
 
 const LOG: &[u8] =
     b"1 0 -1 100 6 -1 -1 6 100 -1 1 7 -1 -1 -1 -1 -1 -1\n2 1 -1 50 8 -1 -1 8 50 -1 1 8 -1 -1 -1 -1 -1 -1\n";
@@ -79,7 +79,8 @@ fn is_stranger(
     run: &Arc<Run<Global>, Global>,
 ) -> bool {
     match run.clone() {
-        Ok(run) => book.finish(worker, ticket, run) == Err(FinishRefusal::Stranger),
+        Ok(run) => book.finish(worker, ticket, run)
+            == Err(FinishRefusal::Fault(FinishFault::Stranger)),
         Err(_) => false,
     }
 }
@@ -88,8 +89,8 @@ fn is_stranger(
 fn is_unknown(book: &mut Book<Global>, ticket: u64, run: &Arc<Run<Global>, Global>) -> bool {
     match run.clone() {
         Ok(run) => {
-            book.finish(1, ticket, run) == Err(FinishRefusal::UnknownTicket)
-                && book.give_up(1, ticket) == Err(GiveUpRefusal::UnknownTicket)
+            book.finish(1, ticket, run) == Err(FinishRefusal::Fault(FinishFault::UnknownTicket))
+                && book.give_up(1, ticket) == Err(GiveUpRefusal::Fault(UnknownTicket))
         }
         Err(_) => false,
     }

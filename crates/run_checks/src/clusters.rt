@@ -3,7 +3,7 @@ ghost use Rattle.std.specs.Prelude.{◌<◌, ◌^◌};
 
 use crate::engines::are;
 use crate::logs::{NOTED, four_jobs};
-use cluster_state::{Cluster, RunningByEnd, Snapshot};
+use cluster_state::{Cluster, RunningByEnd, Snapshot, Waiting};
 use easy_rule::decide;
 use job_table::JobTable;
 use refusing::Outcome;
@@ -17,19 +17,21 @@ struct Looks {
     free: u64,
     order: Order,
     next_end: Option<u64>,
+    count: usize,
     waiting: [Option<Job>; 4],
-    row: [Option<Job>; 4],
+    first: Option<Job>,
+    later: [Option<Job>; 4],
     running: [Option<(u64, u64)>; 4],
     by_end: [Option<Placed>; 4],
 }
 
-// The first four of some jobs.
-fn four_of(jobs: &[Job]) -> [Option<Job>; 4] {
+// The first four of some waiting jobs.
+fn four_of(mut jobs: Waiting<'_>) -> [Option<Job>; 4] {
     [
-        jobs.first().copied(),
-        jobs.get(1).copied(),
-        jobs.get(2).copied(),
-        jobs.get(3).copied(),
+        jobs.next().copied(),
+        jobs.next().copied(),
+        jobs.next().copied(),
+        jobs.next().copied(),
     ]
 }
 
@@ -59,8 +61,10 @@ fn looks_of<A: Allocator + Copy>(cluster: &Cluster<A>) -> Looks {
         free: cluster.free(),
         order: cluster.order(),
         next_end: cluster.next_end(),
+        count: cluster.waiting_count(),
         waiting: four_of(cluster.waiting()),
-        row: four_of(cluster.row()),
+        first: cluster.waiting_at(0).copied(),
+        later: four_of(cluster.arrived_since(1)),
         running: [
             runs_at(cluster, 0),
             runs_at(cluster, 1),

@@ -54,7 +54,7 @@ fn decide_two_seconds<A: Allocator + Copy>(
         return Ok(None);
     };
     easy_is_a_rule();
-    let settled = cluster.waiting().len();
+    let settled = cluster.waiting_count();
     if !cluster.can_arrive(&third) {
         return Ok(None);
     }

@@ -2,7 +2,7 @@
 use crate::clusters::{all_join, runs_at};
 use crate::engines::are;
 use crate::logs::four_jobs;
-use cluster_state::Cluster;
+use cluster_state::{Cluster, Offer};
 use easy_rule::{Shadow, decide, shadow, shadow_counted};
 use refusing::Outcome;
 use scenarios::{Job, Scenario};
@@ -16,28 +16,14 @@ pub(crate) const TWO_END: &[u8] = b"1 0 -1 100 4 -1 -1 4 100 -1 1 7 -1 -1 -1 -1 
 4 2 -1 500 2 -1 -1 2 500 -1 1 7 -1 -1 -1 -1 -1 -1
 ";
 
-// Both waiting jobs start at second 0, in one call.
-fn start_in_one<A: Allocator + Copy>(cluster: &mut Cluster<A>) -> bool {
-    if cluster.waiting().len() != 2 {
-        return false;
-    }
-    let first = cluster.waiting()[0];
-    let second = cluster.waiting()[1];
-    if first.size() > cluster.free() {
-        return false;
-    }
-    if second.size() > cluster.free() - first.size() {
-        return false;
-    }
-    cluster.start_all([first, second].as_slice(), 0).is_ok()
-}
-
-// The same, with room for both.
+// Both waiting jobs start at second 0, one after the other, with room for both.
 fn both_start<A: Allocator + Copy>(cluster: &mut Cluster<A>) -> Outcome {
     if cluster.reserve_starts(2).is_err() {
         return Outcome::Memory;
     }
-    Outcome::right_if(cluster.spare_starts() >= 2 && start_in_one(cluster))
+    let first = cluster.start_head(0);
+    let second = cluster.start_head(0);
+    Outcome::right_if(first.is_some() && second.is_some())
 }
 
 // The number of a waiting job, by its place.
@@ -69,9 +55,29 @@ fn has_shadow<A: Allocator + Copy>(cluster: &Cluster<A>) -> bool {
     shadow(cluster) == wanted && shadow_counted(cluster) == (wanted, 2)
 }
 
+// Whether job 4 is the first behind job 3 that fits into what is free now.
+fn finds_the_fourth<A: Allocator + Copy>(cluster: &mut Cluster<A>) -> bool {
+    if cluster.waiting_count() == 0 {
+        return false;
+    }
+    let offer = Offer {
+        free: 2,
+        extra: 2,
+        window: 98,
+    };
+    let from = cluster.place_behind(1);
+    let Some(place) = cluster.next_fit(from, &offer) else {
+        return false;
+    };
+    match cluster.job_at(place) {
+        Some(job) => job.number() == 4,
+        None => false,
+    }
+}
+
 // Job 4 starts at second 2, and runs on when the first two have ended.
 fn fourth_starts<A: Allocator + Copy>(alloc: A, cluster: &mut Cluster<A>) -> Outcome {
-    if !has_two_and_two(cluster) || !has_shadow(cluster) {
+    if !has_two_and_two(cluster) || !has_shadow(cluster) || !finds_the_fourth(cluster) {
         return Outcome::Wrong;
     }
     let Ok(starts) = decide(alloc, cluster, 2) else {
@@ -109,7 +115,7 @@ fn works_on_ten<A: Allocator + Copy>(alloc: A, jobs: &[Job; 4]) -> Outcome {
     }
 }
 
-/// Two jobs start in one call, and a third leaves a fourth what it doesn't need.
+/// Two jobs start at once, and a third leaves a fourth what it doesn't need.
 pub(crate) fn starts_two<A: Allocator + Copy>(alloc: A, scenario: &Scenario) -> Outcome {
     let Ok(text) = read_swf(alloc, TWO_END) else {
         return Outcome::Before;

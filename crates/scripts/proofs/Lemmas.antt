@@ -3,5 +3,7 @@
 pub use Rattle.scripts.proofs.OneTranscript.{one-unrefused, unrefused-too}
 -- scenarios that are added one after another
 pub use Rattle.scripts.proofs.Starts.{with-one}
+-- the report on scenarios side by side, of their lines
+pub use Rattle.scripts.proofs.Sides.{side-text}
 -- the schedule of the first scenario
 pub use Rattle.scripts.proofs.FirstSchedules.{schedules_first}

@@ -15,8 +15,10 @@ use Rattle.book_machine.specs.declared.caller.Caller.{Caller}
 use Rattle.book_machine.specs.declared.reply.Reply.TheVariants as reply
 use Rattle.book_machine.specs.Call.{View}
 use Rattle.book_machine.specs.Machine.{Machine, Progress, current, progress_of, version, view_reply, view_reply_at}
-use Rattle.version_book.specs.declared.session_refusal.ViewRefusal.{ViewRefusal}
-use Rattle.version_book.specs.declared.session_refusal.ViewRefusal.TheVariants as view
+use Rattle.version_book.specs.declared.faults.ViewFault.{ViewFault}
+use Rattle.version_book.specs.declared.faults.ViewFault.TheVariants as view
+use Rattle.version_book.specs.declared.refusal.Refusal.{Refusal}
+use Rattle.version_book.specs.declared.refusal.Refusal.TheVariants as why
 use Rattle.version_book.specs.Answers.{view_answer}
 use Rattle.version_book.specs.Book.{BookView, PublishedView, ShownView, progress_of_shown, machine_of}
 use Rattle.version_book.specs.Lookups.{has_id}
@@ -76,14 +78,14 @@ look-shown {u} old new who id seen s v is h s_is =
     let base = step-of old new who id seen v h in
     subst (λ (w : Session). IsStep w (View id w.seen) (reply.Shown v) (with new s)) is (subst (λ (n : ℕ). IsStep (with old seen) (View id seen) (reply.Shown v) (with new n)) (sym s_is) base)
 
-not-looked : (old new : BookView) (who : Caller) (id seen : ℕ) (refusal : ViewRefusal) → IsBook old → Answered old new who (View id seen) (view_answer (Err refusal)) → NotLooked refusal (with old seen) id (with new seen)
-not-looked old new who id seen view.JournalFull book h = (h.0, ap (λ (b : BookView). with b seen) h.1)
-not-looked old new who id seen view.NoSuchScenario book h = (record { room = h.0; replied = h.1; machine = h.2; seen = refl }, λ s listed. not-missing old id seen s book listed h.1)
-not-looked old new who id seen view.NotYet book h = record { room = h.0; replied = h.1; machine = h.2; seen = refl }
-not-looked old new who id seen (view.Behind x y) book h = record { room = h.0; replied = h.1; machine = h.2; seen = refl }
-not-looked old new who id seen view.Memory book h = ap (λ (b : BookView). with b seen) h.1
+not-looked : (old new : BookView) (who : Caller) (id seen : ℕ) (refusal : Refusal ViewFault) → IsBook old → Answered old new who (View id seen) (view_answer (Err refusal)) → NotLooked refusal (with old seen) id (with new seen)
+not-looked old new who id seen why.JournalFull book h = (h.0, ap (λ (b : BookView). with b seen) h.1)
+not-looked old new who id seen (why.Fault view.NoSuchScenario) book h = (record { room = h.0; replied = h.1; machine = h.2; seen = refl }, λ s listed. not-missing old id seen s book listed h.1)
+not-looked old new who id seen (why.Fault view.NotYet) book h = record { room = h.0; replied = h.1; machine = h.2; seen = refl }
+not-looked old new who id seen (why.Fault (view.Behind x y)) book h = record { room = h.0; replied = h.1; machine = h.2; seen = refl }
+not-looked old new who id seen why.Memory book h = ap (λ (b : BookView). with b seen) h.1
 
-pub look-refused : {u : Session} (old new : BookView) (who : Caller) (id seen : ℕ) (refusal : ViewRefusal) → with old seen ≡ u → IsBook old → Answered old new who (View id seen) (view_answer (Err refusal)) → NotLooked refusal u id (with new seen)
+pub look-refused : {u : Session} (old new : BookView) (who : Caller) (id seen : ℕ) (refusal : Refusal ViewFault) → with old seen ≡ u → IsBook old → Answered old new who (View id seen) (view_answer (Err refusal)) → NotLooked refusal u id (with new seen)
 look-refused {u} old new who id seen refusal is book h = subst (λ (w : Session). NotLooked refusal w id (with new seen)) is (not-looked old new who id seen refusal book h)
 
 -- ---- a report
@@ -114,14 +116,14 @@ pub viewed-short : (old new : Session) (id : ℕ) (s : Listed) (kind : Report) (
 viewed-short old new id s kind p text step listed is =
     inr (inr (reply.Shown p.version, subst (λ (n : ℕ). IsStep old (View n old.seen) (reply.Shown p.version) new) (sym listed.id) step, inr is))
 
-not-viewed-at : (old new : Session) (s : Listed) (kind : Report) (refusal : ViewRefusal) → NotLooked refusal old s.id new → IsView old (IsReport kind) (unseen_line refusal) new s
-not-viewed-at old new s kind view.JournalFull h = inl (h.0, (refl, h.1))
-not-viewed-at old new s kind view.NoSuchScenario h = inr (inr (reply.NoSuchScenario, h.0, refl))
-not-viewed-at old new s kind view.NotYet h = inr (inr (reply.NotYet, h, refl))
-not-viewed-at old new s kind (view.Behind x y) h = inr (inr (reply.Behind x y, h, refl))
-not-viewed-at old new s kind view.Memory h = inr (inl (refl, h))
+not-viewed-at : (old new : Session) (s : Listed) (kind : Report) (refusal : Refusal ViewFault) → NotLooked refusal old s.id new → IsView old (IsReport kind) (unseen_line refusal) new s
+not-viewed-at old new s kind why.JournalFull h = inl (h.0, (refl, h.1))
+not-viewed-at old new s kind (why.Fault view.NoSuchScenario) h = inr (inr (reply.NoSuchScenario, h.0, refl))
+not-viewed-at old new s kind (why.Fault view.NotYet) h = inr (inr (reply.NotYet, h, refl))
+not-viewed-at old new s kind (why.Fault (view.Behind x y)) h = inr (inr (reply.Behind x y, h, refl))
+not-viewed-at old new s kind why.Memory h = inr (inl (refl, h))
 
-pub not-viewed : (old new : Session) (id : ℕ) (s : Listed) (kind : Report) (refusal : ViewRefusal) (text : List ℕ) → NotLooked refusal old id new → IsListedAs old.machine id s → text ≡ unseen_line refusal → IsView old (IsReport kind) text new s
+pub not-viewed : (old new : Session) (id : ℕ) (s : Listed) (kind : Report) (refusal : Refusal ViewFault) (text : List ℕ) → NotLooked refusal old id new → IsListedAs old.machine id s → text ≡ unseen_line refusal → IsView old (IsReport kind) text new s
 not-viewed old new id s kind refusal text h listed is =
     subst (λ (t : List ℕ). IsView old (IsReport kind) t new s) (sym is) (not-viewed-at old new s kind refusal (subst (λ (n : ℕ). NotLooked refusal old n new) (sym listed.id) h))
 
@@ -150,7 +152,7 @@ view-told old new name id kind p text found step look says =
     let it = id-some (named name old.machine.listing.scenarios) id found in
     inr (it.0, it.1, named-viewed old new name id kind p text it.0 it.1 it.2 step look says)
 
-pub view-refused : (old new : Session) (name : List ℕ) (id : ℕ) (kind : Report) (refusal : ViewRefusal) (text : List ℕ) → Some id ≡ option_map (λ (s : Listed). s.id) (named name old.machine.listing.scenarios) → NotLooked refusal old id new → text ≡ unseen_line refusal → IsNamed old name (IsView old (IsReport kind) text new) text new
+pub view-refused : (old new : Session) (name : List ℕ) (id : ℕ) (kind : Report) (refusal : Refusal ViewFault) (text : List ℕ) → Some id ≡ option_map (λ (s : Listed). s.id) (named name old.machine.listing.scenarios) → NotLooked refusal old id new → text ≡ unseen_line refusal → IsNamed old name (IsView old (IsReport kind) text new) text new
 view-refused old new name id kind refusal text found h is =
     let it = id-some (named name old.machine.listing.scenarios) id found in
     inr (it.0, it.1, not-viewed old new id it.0 kind refusal text h (listed-as old.machine name id it.0 it.1 it.2) is)

@@ -8,10 +8,11 @@ use Rattle.scenarios.specs.ScenarioList.{Listed, Listing}
 use Rattle.book_machine.specs.Machine.{Machine}
 use Rattle.report.specs.declared.side.SideLine.{SideLine}
 use Rattle.report.specs.Side.{side_line, side_text}
-use Rattle.scripts.specs.declared.answer.Refusal.{Refusal}
 use Rattle.scripts.specs.Lines.{refused}
-use Rattle.scripts.specs.Told.{refusal_name}
 use Rattle.scripts.specs.Session.{Session}
+use Rattle.version_book.specs.declared.faults.ViewFault.{ViewFault}
+use Rattle.version_book.specs.declared.refusal.Refusal.{Refusal}
+use Rattle.version_book.specs.Names.{refusal_name, view_fault_name}
 use Rattle.scripts.specs.Looks.{IsListedAs, IsUnseen}
 use Rattle.scripts.specs.Steps.{IsSeen, AreSeen, IsSide, side_of}
 
@@ -62,7 +63,7 @@ side-short old new lines k text h is =
     (take k old.machine.listing.scenarios, drop k old.machine.listing.scenarios, lines, sym (take-append-drop k old.machine.listing.scenarios), h, inr (inr is))
 
 -- a view is refused
-pub side-refused : (old mid new : Session) (lines : List (List ℕ)) (k : ℕ) (refusal : Refusal) (text : List ℕ) → AreSeen old (take k old.machine.listing.scenarios) lines mid → IsUnseen refusal mid new → k < length old.machine.listing.scenarios → text ≡ refused (refusal_name refusal) → IsSide old text new
+pub side-refused : (old mid new : Session) (lines : List (List ℕ)) (k : ℕ) (refusal : Refusal ViewFault) (text : List ℕ) → AreSeen old (take k old.machine.listing.scenarios) lines mid → IsUnseen refusal mid new → k < length old.machine.listing.scenarios → text ≡ refused (refusal_name view_fault_name refusal) → IsSide old text new
 side-refused old mid new lines k refusal text h unseen lt is =
     let here : AreSeen old (take k old.machine.listing.scenarios) lines new = subst (λ (s : Session). AreSeen old (take k old.machine.listing.scenarios) lines s) (sym unseen.0) h in
     elim unseen.1 [
@@ -72,10 +73,10 @@ side-refused old mid new lines k refusal text h unseen lt is =
         lines,
         sym (take-append-drop k old.machine.listing.scenarios),
         here,
-        inr (inl (ap (λ (s : Session). s.machine.notes) unseen.0 ∙ full.1, omega (arith, length-drop k old.machine.listing.scenarios), is ∙ ap (λ (r : Refusal). refused (refusal_name r)) full.0)),
+        inr (inl (ap (λ (s : Session). s.machine.notes) unseen.0 ∙ full.1, omega (arith, length-drop k old.machine.listing.scenarios), is ∙ ap (λ (r : Refusal ViewFault). refused (refusal_name view_fault_name r)) full.0)),
       )
       | inr short ↦
-          side-short old new lines k text here (is ∙ ap (λ (r : Refusal). refused (refusal_name r)) short)
+          side-short old new lines k text here (is ∙ ap (λ (r : Refusal ViewFault). refused (refusal_name view_fault_name r)) short)
     ]
 
 -- no view yet

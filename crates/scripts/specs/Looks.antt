@@ -7,14 +7,14 @@ use Rattle.checkpoints.specs.RunView.{IsRun}
 use Rattle.book_machine.specs.declared.reply.Reply.TheVariants as reply
 use Rattle.book_machine.specs.Call.{View}
 use Rattle.book_machine.specs.Machine.{Machine, note_limit}
-use Rattle.version_book.specs.declared.session_refusal.ViewRefusal.{ViewRefusal}
-use Rattle.version_book.specs.declared.session_refusal.ViewRefusal.TheVariants as view
+use Rattle.version_book.specs.declared.faults.ViewFault.{ViewFault}
+use Rattle.version_book.specs.declared.faults.ViewFault.TheVariants as view
+use Rattle.version_book.specs.declared.refusal.Refusal.{Refusal}
+use Rattle.version_book.specs.declared.refusal.Refusal.TheVariants as why
 use Rattle.version_book.specs.Book.{PublishedView}
-use Rattle.version_book.specs.Names.{view_name}
+use Rattle.version_book.specs.Names.{refusal_name, view_fault_name}
 use Rattle.scripts.specs.declared.views.Beside.{Beside}
 use Rattle.scripts.specs.declared.views.Beside.TheVariants as beside
-use Rattle.scripts.specs.declared.answer.Refusal.{Refusal}
-use Rattle.scripts.specs.declared.answer.Refusal.TheVariants as why
 use Rattle.scripts.specs.Lines.{refused, behind_line}
 use Rattle.scripts.specs.Session.{Session, IsStep}
 use Rattle.scripts.specs.Steps.{IsSeen, log_of_version}
@@ -40,20 +40,17 @@ abbrev pub IsLooked : Machine → ℕ → PublishedView → Type 0
 IsLooked m id p = (s : Listed) → IsListedAs m id s → IsOf m s p
 
 -- nothing is shown: no call was noted, or the book replied why; a listed scenario is there
-abbrev pub NotLooked : ViewRefusal → Session → ℕ → Session → Type 0
-NotLooked view.JournalFull old id new = (old.machine.notes ≡ note_limit) × (new ≡ old)
-NotLooked view.NoSuchScenario old id new = IsStep old (View id old.seen) reply.NoSuchScenario new × ((s : Listed) → IsListedAs old.machine id s → ⊥)
-NotLooked view.NotYet old id new = IsStep old (View id old.seen) reply.NotYet new
-NotLooked (view.Behind seen found) old id new = IsStep old (View id old.seen) (reply.Behind seen found) new
-NotLooked view.Memory old id new = new ≡ old
+abbrev pub NotLooked : Refusal ViewFault → Session → ℕ → Session → Type 0
+NotLooked why.JournalFull old id new = (old.machine.notes ≡ note_limit) × (new ≡ old)
+NotLooked (why.Fault view.NoSuchScenario) old id new = IsStep old (View id old.seen) reply.NoSuchScenario new × ((s : Listed) → IsListedAs old.machine id s → ⊥)
+NotLooked (why.Fault view.NotYet) old id new = IsStep old (View id old.seen) reply.NotYet new
+NotLooked (why.Fault (view.Behind seen found)) old id new = IsStep old (View id old.seen) (reply.Behind seen found) new
+NotLooked why.Memory old id new = new ≡ old
 
 -- the line of a view that shows nothing
-abbrev pub unseen_line : ViewRefusal → List ℕ
-unseen_line (view.Behind seen found) = behind_line seen found
-unseen_line view.JournalFull = refused (view_name view.JournalFull)
-unseen_line view.NoSuchScenario = refused (view_name view.NoSuchScenario)
-unseen_line view.NotYet = refused (view_name view.NotYet)
-unseen_line view.Memory = refused (view_name view.Memory)
+abbrev pub unseen_line : Refusal ViewFault → List ℕ
+unseen_line (why.Fault (view.Behind seen found)) = behind_line seen found
+unseen_line refusal = refused (refusal_name view_fault_name refusal)
 
 -- ---- side by side
 
@@ -68,5 +65,5 @@ abbrev pub IsSeenSo : {A : Type 0} → Session → ℕ → Beside A → Session 
 IsSeenSo old id shown new = (s : Listed) → IsListedAs old.machine id s → IsSeen old s (beside_line s.name shown) new
 
 -- no view was noted: the journal is full, or memory was refused
-abbrev pub IsUnseen : Refusal → Session → Session → Type 0
+abbrev pub IsUnseen : Refusal ViewFault → Session → Session → Type 0
 IsUnseen refusal old new = (new ≡ old) × (((refusal ≡ why.JournalFull) × (old.machine.notes ≡ note_limit)) ⊎ (refusal ≡ why.Memory))

@@ -1,22 +1,12 @@
 -- The lines of answers.
-use Rattle.std.specs.Prelude.{ℕ, List, codes}
-use Rattle.job_table.specs.Names.{edit_fault_name}
-use Rattle.scenarios.specs.Names.{add_fault_name, no_such_scenario_name}
-use Rattle.scripts.specs.declared.answer.Refusal.{Refusal}
-use Rattle.scripts.specs.declared.answer.Refusal.TheVariants as why
+use Rattle.std.specs.Prelude.{ℕ, List, Result, Ok, Err, codes}
+use Rattle.version_book.specs.Names.{refusal_name}
+use Rattle.version_book.specs.declared.refusal.Refusal.{Refusal}
 use Rattle.scripts.specs.declared.answer.Became.{Became}
 use Rattle.scripts.specs.declared.answer.Became.TheVariants as became
 use Rattle.scripts.specs.declared.answer.Answer.{Answer}
 use Rattle.scripts.specs.declared.answer.Answer.TheVariants as says
 use Rattle.scripts.specs.Lines.{version_line, scenario_line, refused, behind_line, fault_line, settled_line, failed_line, stopped_line, saved_line, bye_line}
-
-abbrev pub refusal_name : Refusal → List ℕ
-refusal_name why.JournalFull = codes "JournalFull"
-refusal_name (why.Edit fault) = edit_fault_name fault
-refusal_name (why.Add fault) = add_fault_name fault
-refusal_name why.NoSuchScenario = no_such_scenario_name
-refusal_name why.NotYet = codes "NotYet"
-refusal_name why.Memory = codes "Memory"
 
 abbrev pub became_word : Became → List ℕ
 became_word became.Added = codes "added"
@@ -26,7 +16,7 @@ became_word became.Retried = codes "retried"
 abbrev pub answer_line : Answer → List ℕ
 answer_line (says.Version version) = version_line version
 answer_line (says.Scenario name what) = scenario_line name (became_word what)
-answer_line (says.Refused refusal) = refused (refusal_name refusal)
+answer_line (says.Refused name) = refused name
 answer_line (says.Behind seen found) = behind_line seen found
 answer_line (says.Fault line fault) = fault_line line fault
 answer_line (says.Settled seen) = settled_line seen
@@ -34,3 +24,8 @@ answer_line (says.Failed count) = failed_line count
 answer_line says.Stopped = stopped_line
 answer_line (says.Saved lines) = saved_line lines
 answer_line says.Bye = bye_line
+
+-- what is told of a call on the scenario with this name, by what the book answered
+abbrev pub scenario_told : {T F : Type 0} → List ℕ → Became → (F → List ℕ) → Result T (Refusal F) → List ℕ
+scenario_told name what fault_name (Ok value) = scenario_line name (became_word what)
+scenario_told name what fault_name (Err refusal) = refused (refusal_name fault_name refusal)

@@ -8,13 +8,13 @@ ghost use Rattle.scripts.specs.Session.{IsCall};
 ghost use Rattle.scripts.specs.Steps.{IsNamed};
 ghost use Rattle.scripts.specs.Told.{answer_line};
 
-use crate::answer::{Answer, Became, Refusal};
+use crate::answer::{Answer, Became};
 use commands::Name;
 use job_table::Edit;
-use scenarios::Scenario;
+use scenarios::{NoSuchScenario, Scenario};
 use std::alloc::Allocator;
 use std::marker::Model;
-use version_book::{AddRefusal, Book, DropRefusal, EditRefusal, RetryRefusal};
+use version_book::Book;
 
 /// The number of the session whose calls an analyst makes.
 pub(crate) const SESSION: u64 = 0;
@@ -65,9 +65,7 @@ impl<A: Allocator + Copy> Analyst<A> {
                 self.seen = self.seen.max(version);
                 Answer::Version(version)
             }
-            Err(EditRefusal::JournalFull) => Answer::Refused(Refusal::JournalFull),
-            Err(EditRefusal::Fault(fault)) => Answer::Refused(Refusal::Edit(fault)),
-            Err(EditRefusal::Memory) => Answer::Refused(Refusal::Memory),
+            Err(refusal) => Answer::refused(&refusal),
         }
     }
 
@@ -75,30 +73,16 @@ impl<A: Allocator + Copy> Analyst<A> {
     pub(crate) fn add(&mut self, name: Name, scenario: Scenario) -> Answer
         ensures { IsCall self.old (AddScenario name scenario) (scenario_says name) (answer_line result) self.new }
     {
-        match self.book.add_scenario(SESSION, name.as_str(), scenario) {
-            Ok(_) => Answer::Scenario {
-                name,
-                became: Became::Added,
-            },
-            Err(AddRefusal::JournalFull) => Answer::Refused(Refusal::JournalFull),
-            Err(AddRefusal::Fault(fault)) => Answer::Refused(Refusal::Add(fault)),
-            Err(AddRefusal::Memory) => Answer::Refused(Refusal::Memory),
-        }
+        let told = self.book.add_scenario(SESSION, name.as_str(), scenario);
+        Answer::of_scenario(name, Became::Added, told)
     }
 
     // Drops the scenario with this name.
     pub(crate) fn drop_named(&mut self, name: Name) -> Answer
         ensures { IsCall self.old (DropScenario name) (scenario_says name) (answer_line result) self.new }
     {
-        match self.book.drop_scenario(SESSION, name.as_str()) {
-            Ok(_) => Answer::Scenario {
-                name,
-                became: Became::Dropped,
-            },
-            Err(DropRefusal::JournalFull) => Answer::Refused(Refusal::JournalFull),
-            Err(DropRefusal::NoSuchScenario) => Answer::Refused(Refusal::NoSuchScenario),
-            Err(DropRefusal::Memory) => Answer::Refused(Refusal::Memory),
-        }
+        let told = self.book.drop_scenario(SESSION, name.as_str());
+        Answer::of_scenario(name, Became::Dropped, told)
     }
 
     // Has the scenario with this name worked again.
@@ -106,16 +90,9 @@ impl<A: Allocator + Copy> Analyst<A> {
         ensures { IsNamed self.old name (λ s. IsCall self.old (Retry s.id) (scenario_says name) (answer_line result) self.new) (answer_line result) self.new }
     {
         let Some(id) = self.book.id_of(name.as_str()) else {
-            return Answer::Refused(Refusal::NoSuchScenario);
+            return Answer::refused(&NoSuchScenario);
         };
-        match self.book.retry(SESSION, id) {
-            Ok(()) => Answer::Scenario {
-                name,
-                became: Became::Retried,
-            },
-            Err(RetryRefusal::JournalFull) => Answer::Refused(Refusal::JournalFull),
-            Err(RetryRefusal::NoSuchScenario) => Answer::Refused(Refusal::NoSuchScenario),
-            Err(RetryRefusal::Memory) => Answer::Refused(Refusal::Memory),
-        }
+        let told = self.book.retry(SESSION, id);
+        Answer::of_scenario(name, Became::Retried, told)
     }
 }

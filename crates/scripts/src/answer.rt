@@ -1,35 +1,16 @@
 ghost use Rattle.std.specs.Prelude.{◌≡◌, ◌+◌, ◌++◌, ◌≤◌, length, codes};
 ghost use Rattle.std.specs.Fmt.{decimal};
-ghost use Rattle.scripts.specs.Lines.{scenario_line, behind_line, fault_line};
-ghost use Rattle.scripts.specs.Told.{refusal_name, became_word, answer_line};
+ghost use Rattle.scripts.specs.Lines.{scenario_line, behind_line, fault_line, refused};
+ghost use Rattle.scripts.specs.Told.{became_word, answer_line, scenario_told};
 
+use crate::refusal_name::RefusalName;
 use arrayvec::ArrayVec;
 use commands::{CommandFault, Name};
 use itoa::Buffer;
-use job_table::EditFault;
-use scenarios::AddFault;
-use std::fmt;
-use thiserror::Error;
+use version_book::{Named, Refusal};
 
 /// Room for the longest line that answers a command.
 const ROOM: usize = 96;
-
-/// Why a command is refused, by the refusal's name alone.
-#[derive(Clone, Copy, Debug, PartialEq, Eq, Error)]
-pub enum Refusal {
-    /// The journal has no room for another call.
-    JournalFull,
-    /// An edit was refused.
-    Edit(EditFault),
-    /// A scenario was not added.
-    Add(AddFault),
-    /// No scenario has the name.
-    NoSuchScenario,
-    /// Nothing is published for the scenario.
-    NotYet,
-    /// A growth was refused.
-    Memory,
-}
 
 /// What became of a scenario.
 #[derive(Clone, Copy, Debug, PartialEq, Eq)]
@@ -46,8 +27,8 @@ pub enum Answer {
     Version(u64),
     /// What became of the scenario with this name.
     Scenario { name: Name, became: Became },
-    /// The command was refused.
-    Refused(Refusal),
+    /// The command was refused, with this name.
+    Refused(RefusalName),
     /// A scenario shows an older version than the session has seen.
     Behind { seen: u64, found: u64 },
     /// The line with this number is no command.
@@ -62,34 +43,6 @@ pub enum Answer {
     Saved { lines: u64 },
     /// The session ends.
     Bye,
-}
-
-impl Refusal {
-    // The refusal's name.
-    fn name(&self) -> &'static str
-        ensures name { result.now ≡ refusal_name self.now }
-        ensures short { length result.now ≤ 16 }
-    {
-        match self {
-            Refusal::JournalFull => "JournalFull",
-            Refusal::Edit(fault) => fault.name(),
-            Refusal::Add(fault) => fault.name(),
-            Refusal::NoSuchScenario => "NoSuchScenario",
-            Refusal::NotYet => "NotYet",
-            Refusal::Memory => "Memory",
-        }
-    }
-}
-
-impl fmt::Display for Refusal {
-    ghost use Rattle.std.specs.Prelude.{Some};
-    ghost use Rattle.scripts.specs.Told.{refusal_name};
-
-    ghost output = { λ refusal. Some (refusal_name refusal) };
-
-    fn fmt<W: fmt::Write>(&self, f: &mut fmt::Formatter<W>) -> fmt::Result {
-        f.write_str(self.name())
-    }
 }
 
 impl Became {
@@ -189,6 +142,27 @@ fn fault_text(line: u64, fault: CommandFault) -> ArrayVec<u8, ROOM>
 }
 
 impl Answer {
+    /// That a command is refused for this, a refusal or a fault.
+    pub fn refused<N: Named>(why: &N) -> Answer
+        ensures { answer_line result ≡ refused (N.name why.now) }
+    {
+        Answer::Refused(RefusalName::of(why))
+    }
+
+    // What is told of a call on the scenario with this name, by what the book answered.
+    pub(crate) fn of_scenario<T: Copy, F: Named + Copy>(
+        name: Name,
+        became: Became,
+        told: Result<T, Refusal<F>>,
+    ) -> Answer
+        ensures { answer_line result ≡ scenario_told name became F.name told }
+    {
+        match told {
+            Ok(_) => Answer::Scenario { name, became },
+            Err(refusal) => Answer::refused(&refusal),
+        }
+    }
+
     /// The line, with its line feed.
     pub fn line(&self) -> ArrayVec<u8, ROOM>
         ensures { result.items ≡ answer_line self.now }
@@ -196,7 +170,7 @@ impl Answer {
         match self {
             Answer::Version(version) => numbered(b"version ", *version, b"\n"),
             Answer::Scenario { name, became } => scenario_text(name, *became),
-            Answer::Refused(refusal) => worded(b"refused ", refusal.name(), b"\n"),
+            Answer::Refused(name) => worded(b"refused ", name.as_str(), b"\n"),
             Answer::Behind { seen, found } => behind_text(*seen, *found),
             Answer::Fault { line, fault } => fault_text(*line, *fault),
             Answer::Settled { seen } => numbered(b"settled ", *seen, b"\n"),

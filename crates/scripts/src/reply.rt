@@ -4,12 +4,12 @@ ghost use Rattle.swf_text.specs.Writing.{Writes};
 ghost use Rattle.scripts.specs.Lines.{refused};
 ghost use Rattle.scripts.specs.Replies.{reply_text};
 ghost use Rattle.scripts.specs.Steps.{with_count};
-ghost use Rattle.scripts.specs.Told.{refusal_name};
 
-use crate::answer::{Answer, Refusal};
+use crate::answer::Answer;
 use std::alloc::Allocator;
 use std::io::Write;
 use swf_text::{WriteFault, write_bytes};
+use version_book::Named;
 
 /// What a line of a script is answered: nothing, a line, which takes no memory, a report, or a log.
 #[derive(Drop)]
@@ -41,11 +41,11 @@ fn write_saved<W: Write>(writer: &mut W, text: &[u8]) -> Result<(), WriteFault>
 }
 
 impl<A: Allocator + Copy> Reply<A> {
-    /// That the command is refused.
-    pub fn refused(why: Refusal) -> Reply<A>
-        ensures { reply_text result ≡ refused (refusal_name why) }
+    /// That the command is refused for this, a refusal or a fault.
+    pub fn refused<N: Named>(why: &N) -> Reply<A>
+        ensures { reply_text result ≡ refused (N.name why.now) }
     {
-        Reply::Line(Answer::Refused(why))
+        Reply::Line(Answer::refused(why))
     }
 
     /// Writes what is answered. Device where the writer answers an error or takes no byte.

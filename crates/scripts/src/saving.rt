@@ -10,11 +10,10 @@ ghost use Rattle.scripts.specs.Replies.{reply_text};
 ghost use Rattle.scripts.specs.Steps.{IsMade, IsNamed, saved_text};
 
 use crate::analyst::Analyst;
-use crate::answer::Refusal;
 use crate::reply::Reply;
 use commands::{Name, save_text};
 use report::log_text;
-use scenarios::{Scenario, ScenarioList};
+use scenarios::{NoSuchScenario, Scenario, ScenarioList};
 use std::alloc::Allocator;
 use swf_text::{Memory, SwfText, write_swf};
 
@@ -50,7 +49,7 @@ impl<A: Allocator + Copy> Analyst<A> {
         ensures { IsNamed self.now name.now (λ s. IsMade self.now (log_text s.name (version self.now.machine) (current self.now.machine) s.setting) (reply_text result) self.now) (reply_text result) self.now }
     {
         let Some(scenario) = scenario_of(self.book.scenarios(), name.as_str()) else {
-            return Reply::refused(Refusal::NoSuchScenario);
+            return Reply::refused(&NoSuchScenario);
         };
         let table = self.book.current();
         match log_text(
@@ -61,7 +60,7 @@ impl<A: Allocator + Copy> Analyst<A> {
             scenario,
         ) {
             Ok(text) => Reply::Report(text),
-            Err(_) => Reply::refused(Refusal::Memory),
+            Err(_) => Reply::refused(&Memory),
         }
     }
 
@@ -84,7 +83,7 @@ impl<A: Allocator + Copy> Analyst<A> {
     {
         match self.saved(comments) {
             Ok(text) => Reply::Saved(text),
-            Err(_) => Reply::refused(Refusal::Memory),
+            Err(_) => Reply::refused(&Memory),
         }
     }
 }

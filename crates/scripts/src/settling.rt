@@ -13,7 +13,10 @@ use checkpoints::Run;
 use std::alloc::Allocator;
 use std::sync::Arc;
 use swf_text::Memory;
-use version_book::{Book, ClaimRefusal, FinishRefusal, GiveUpRefusal, SettleState, Task};
+use version_book::{
+    Book, ClaimRefusal, FinishFault, FinishRefusal, GiveUpRefusal, SettleState, Task,
+    TooManyTickets, UnknownTicket,
+};
 
 /// The number of the worker whose calls an analyst makes.
 const WORKER: u64 = 0;
@@ -44,17 +47,17 @@ fn end_task<A: Allocator + Copy>(
 {
     let Ok(run) = made else {
         return match book.give_up(WORKER, ticket) {
-            Ok(()) | Err(GiveUpRefusal::UnknownTicket) => Turn::GivenUp,
+            Ok(()) | Err(GiveUpRefusal::Fault(UnknownTicket)) => Turn::GivenUp,
             Err(GiveUpRefusal::JournalFull) => Turn::Ended,
             Err(GiveUpRefusal::Memory) => Turn::Short,
         };
     };
     match book.hand_in(WORKER, ticket, run) {
-        Ok(_) | Err(FinishRefusal::Stale { .. }) => Turn::Worked,
+        Ok(_) | Err(FinishRefusal::Fault(FinishFault::Stale { .. })) => Turn::Worked,
         Err(FinishRefusal::JournalFull) => Turn::Ended,
         Err(FinishRefusal::Memory) => Turn::Short,
-        Err(FinishRefusal::UnknownTicket) => unreachable!(),
-        Err(FinishRefusal::Stranger) => unreachable!(),
+        Err(FinishRefusal::Fault(FinishFault::UnknownTicket)) => unreachable!(),
+        Err(FinishRefusal::Fault(FinishFault::Stranger)) => unreachable!(),
     }
 }
 
@@ -80,7 +83,7 @@ fn work_next<A: Allocator + Copy>(book: &mut Book<A>) -> Turn
     match book.claim(WORKER) {
         Ok(Some(mut task)) => work(book, &mut task),
         Ok(None) => unreachable!(),
-        Err(ClaimRefusal::TooManyTickets) => unreachable!(),
+        Err(ClaimRefusal::Fault(TooManyTickets)) => unreachable!(),
         Err(ClaimRefusal::JournalFull) => Turn::Ended,
         Err(ClaimRefusal::Memory) => Turn::Short,
     }

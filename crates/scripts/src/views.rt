@@ -9,17 +9,19 @@ ghost use Rattle.scripts.specs.Reports.{IsReport};
 ghost use Rattle.scripts.specs.Session.{IsStep};
 ghost use Rattle.scripts.specs.Lines.{refused};
 ghost use Rattle.scripts.specs.Steps.{AreSeen, IsNamed, IsSide, IsView};
-ghost use Rattle.scripts.specs.Told.{answer_line, refusal_name};
+ghost use Rattle.scripts.specs.Told.{answer_line};
+ghost use Rattle.version_book.specs.Names.{refusal_name, view_fault_name};
 
 use crate::analyst::{Analyst, SESSION};
-use crate::answer::{Answer, Refusal};
+use crate::answer::Answer;
 use crate::reply::Reply;
 use crate::view_report::Report;
 use commands::Name;
 use report::{SideLine, side_text};
-use scenarios::{ScenarioId, ScenarioList};
+use scenarios::{NoSuchScenario, ScenarioId, ScenarioList};
 use std::alloc::Allocator;
-use version_book::{Published, ViewRefusal};
+use swf_text::Memory;
+use version_book::{Published, Refusal, ViewFault, ViewRefusal};
 
 /// What is shown of a scenario beside others.
 #[derive(Drop)]
@@ -54,11 +56,8 @@ pub fn unseen(refusal: ViewRefusal) -> Answer
     ensures { answer_line result ≡ unseen_line refusal }
 {
     match refusal {
-        ViewRefusal::JournalFull => Answer::Refused(Refusal::JournalFull),
-        ViewRefusal::NoSuchScenario => Answer::Refused(Refusal::NoSuchScenario),
-        ViewRefusal::NotYet => Answer::Refused(Refusal::NotYet),
-        ViewRefusal::Behind { seen, found } => Answer::Behind { seen, found },
-        ViewRefusal::Memory => Answer::Refused(Refusal::Memory),
+        Refusal::Fault(ViewFault::Behind { seen, found }) => Answer::Behind { seen, found },
+        refusal => Answer::refused(&refusal),
     }
 }
 
@@ -79,14 +78,14 @@ impl<A: Allocator + Copy> Analyst<A> {
         ensures { IsNamed self.old name.now (IsView self.old (IsReport report) (reply_text result) self.new) (reply_text result) self.new }
     {
         let Some(id) = self.book.id_of(name.as_str()) else {
-            return Reply::refused(Refusal::NoSuchScenario);
+            return Reply::refused(&NoSuchScenario);
         };
         match self.look(id) {
             Ok(published) => {
                 let version = published.version();
                 match report.text(self.alloc, name.as_str(), version, published.run()) {
                     Ok(text) => Reply::Report(text),
-                    Err(_) => Reply::refused(Refusal::Memory),
+                    Err(_) => Reply::refused(&Memory),
                 }
             }
             Err(refusal) => Reply::Line(unseen(refusal)),
@@ -94,18 +93,18 @@ impl<A: Allocator + Copy> Analyst<A> {
     }
 
     // What is shown for the scenario with this id beside others.
-    fn beside(&mut self, id: ScenarioId) -> Result<Beside<A>, Refusal>
+    fn beside(&mut self, id: ScenarioId) -> Result<Beside<A>, ViewRefusal>
         requires { IsListedSome self.old.machine id }
         ensures seen { IfOk result (λ shown. IsSeenSo self.old id shown self.new) }
         ensures refused { IfErr result (λ why. IsUnseen why self.old self.new) }
     {
         match self.look(id) {
             Ok(published) => Ok(Beside::Shown(published)),
-            Err(ViewRefusal::NotYet) => Ok(Beside::NotYet),
-            Err(ViewRefusal::Behind { .. }) => Ok(Beside::Behind),
-            Err(ViewRefusal::JournalFull) => Err(Refusal::JournalFull),
-            Err(ViewRefusal::Memory) => Err(Refusal::Memory),
-            Err(ViewRefusal::NoSuchScenario) => unreachable!(),
+            Err(Refusal::Fault(ViewFault::NotYet)) => Ok(Beside::NotYet),
+            Err(Refusal::Fault(ViewFault::Behind { .. })) => Ok(Beside::Behind),
+            Err(Refusal::JournalFull) => Err(Refusal::JournalFull),
+            Err(Refusal::Memory) => Err(Refusal::Memory),
+            Err(Refusal::Fault(ViewFault::NoSuchScenario)) => unreachable!(),
         }
     }
 
@@ -113,10 +112,10 @@ impl<A: Allocator + Copy> Analyst<A> {
     fn side_lines<'a>(
         &mut self,
         list: &'a ScenarioList<A>,
-    ) -> Result<Vec<SideLine<'a, A>, A>, Refusal>
+    ) -> Result<Vec<SideLine<'a, A>, A>, ViewRefusal>
         requires { list.now ≡ self.old.machine.listing }
         ensures seen { IfOk result (λ lines. AreSeen self.old list.now.scenarios (map side_line lines.items) self.new) }
-        ensures refused { IfErr result (λ why. IsSide self.old (refused (refusal_name why)) self.new) }
+        ensures refused { IfErr result (λ why. IsSide self.old (refused (refusal_name view_fault_name why)) self.new) }
     {
         let Ok(mut lines) = Vec::with_capacity(self.alloc, list.len()) else {
             return Err(Refusal::Memory);
@@ -136,14 +135,14 @@ impl<A: Allocator + Copy> Analyst<A> {
         ensures { IsSide self.old (reply_text result) self.new }
     {
         let Ok(list) = self.book.scenarios().copy() else {
-            return Reply::refused(Refusal::Memory);
+            return Reply::refused(&Memory);
         };
         match self.side_lines(&list) {
             Ok(lines) => match side_text(self.alloc, lines.as_slice()) {
                 Ok(text) => Reply::Report(text),
-                Err(_) => Reply::refused(Refusal::Memory),
+                Err(_) => Reply::refused(&Memory),
             },
-            Err(why) => Reply::refused(why),
+            Err(why) => Reply::refused(&why),
         }
     }
 }

@@ -1,20 +1,16 @@
 -- Views of scenarios that stand side by side, one after another.
-use Rattle.std.proofs.Common.{◌≡◌, ℕ, ◌+◌, List, [], ◌∷◌, ◌++◌, map, take, append-nil, append_assoc, refl, sym, ◌∙◌, ap, ap₂, subst, inl, inr}
-use Rattle.std.specs.Prelude.{Option, None, Some, Result, Ok, Err, codes, slice_get}
-use Rattle.std.specs.List.{flat_map}
-use Rattle.std.specs.Fmt.{decimal}
-use Rattle.std.proofs.lemmas.List.{length-map, take_more}
-use Rattle.report.specs.declared.side.SideLine.{SideLine}
-use Rattle.report.specs.Side.{side_line, side_text}
+use Rattle.std.proofs.Common.{◌≡◌, ℕ, ◌+◌, List, [], ◌∷◌, ◌++◌, take, append-nil, append_assoc, refl, sym, ◌∙◌, ap, subst, inl, inr}
+use Rattle.std.specs.Prelude.{Option, Some, Result, Ok, Err, slice_get}
+use Rattle.std.proofs.lemmas.List.{take_more}
 use Rattle.std.proofs.lemmas.Option.{get_or_from_slice_get, slice_get_within}
 use Rattle.scenarios.specs.ScenarioList.{Listed}
-use Rattle.scripts.specs.declared.answer.Refusal.{Refusal}
 use Rattle.scripts.specs.declared.views.Beside.{Beside}
 use Rattle.version_book.specs.Book.{PublishedView}
-use Rattle.version_book.specs.declared.session_refusal.ViewRefusal.{ViewRefusal}
-use Rattle.version_book.specs.declared.session_refusal.ViewRefusal.TheVariants as view
+use Rattle.version_book.specs.declared.faults.ViewFault.{ViewFault}
+use Rattle.version_book.specs.declared.faults.ViewFault.TheVariants as view
+use Rattle.version_book.specs.declared.refusal.Refusal.{Refusal}
+use Rattle.version_book.specs.declared.refusal.Refusal.TheVariants as why
 use Rattle.workers.specs.Callers.{SessionView}
-use Rattle.scripts.specs.Steps.{side_of}
 use Rattle.shared_scripts.specs.Side.{AreBeside, IsNoReport, StandsSo, beside_of, lines_of}
 
 -- a view more
@@ -47,23 +43,13 @@ beside-next {A} old mid new scenarios k lines s found is h one =
     subst (λ (front : List Listed). AreBeside A old front (lines ++ lines_of s.name found) new) (sym (take-next scenarios k s is)) (beside-more old mid new (take k scenarios) lines s found h one)
 
 -- a refusal is told where no call was noted
-no-report : {A : Type 0} (answer : Result PublishedView ViewRefusal) (refusal : Refusal) → Err refusal ≡ beside_of {A = A} answer → IsNoReport refusal
+no-report : {A : Type 0} (answer : Result PublishedView (Refusal ViewFault)) (refusal : Refusal ViewFault) → Err refusal ≡ beside_of {A = A} answer → IsNoReport refusal
 no-report (Ok p) refusal is = cc
-no-report (Err view.NotYet) refusal is = cc
-no-report (Err (view.Behind seen found)) refusal is = cc
-no-report (Err view.NoSuchScenario) refusal is = cc
-no-report (Err view.JournalFull) refusal is = inl cc
-no-report (Err view.Memory) refusal is = inr cc
+no-report (Err (why.Fault view.NotYet)) refusal is = cc
+no-report (Err (why.Fault (view.Behind seen found))) refusal is = cc
+no-report (Err (why.Fault view.NoSuchScenario)) refusal is = cc
+no-report (Err why.JournalFull) refusal is = inl cc
+no-report (Err why.Memory) refusal is = inr cc
 
-pub refused-so : {A : Type 0} (id : ℕ) (old new : SessionView) (refusal : Refusal) → StandsSo {A = A} id old new (Err refusal) → IsNoReport refusal
+pub refused-so : {A : Type 0} (id : ℕ) (old new : SessionView) (refusal : Refusal ViewFault) → StandsSo {A = A} id old new (Err refusal) → IsNoReport refusal
 refused-so id old new refusal h = no-report h.0 refusal h.2
-
--- ---- the report
-
-texts-of : {A : Type 0} (ls : List (SideLine A)) → flat_map (λ (line : List ℕ). line) (map side_line ls) ≡ flat_map side_line ls
-texts-of [] = refl
-texts-of (l ∷ ls) = ap (λ (t : List ℕ). side_line l ++ t) (texts-of ls)
-
--- what stands in the lines is the report
-pub side-text : {A : Type 0} (ls : List (SideLine A)) → side_text ls ≡ side_of (map side_line ls)
-side-text ls = ap₂ (λ (n : ℕ) (t : List ℕ). codes "side scenarios " ++ decimal n ++ codes "\n" ++ t) (sym (length-map ls side_line)) (sym (texts-of ls))

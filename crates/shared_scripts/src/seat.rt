@@ -1,8 +1,8 @@
 use commands::{Name, save_text};
 use job_table::Edit;
 use report::log_text;
-use scenarios::Scenario;
-use scripts::{Answer, Became, Refusal, Reply, bytes_of, scenario_of};
+use scenarios::{NoSuchScenario, Scenario};
+use scripts::{Answer, Became, Reply, bytes_of, scenario_of};
 use std::alloc::Allocator;
 use std::sync::Wait;
 use swf_text::Memory;
@@ -23,7 +23,7 @@ impl<'a, A: Allocator + Copy, R: Wait> Seat<'a, A, R> {
     pub(crate) fn edit(&self, session: &mut Session<A>, edit: &Edit<A>) -> Answer {
         match session.edit(self.rt, self.desk, edit) {
             Ok(version) => Answer::Version(version),
-            Err(refusal) => Answer::Refused(Refusal::from(refusal)),
+            Err(refusal) => Answer::refused(&refusal),
         }
     }
 
@@ -31,7 +31,7 @@ impl<'a, A: Allocator + Copy, R: Wait> Seat<'a, A, R> {
     pub(crate) fn add(&self, session: &mut Session<A>, name: Name, scenario: Scenario) -> Answer {
         match session.add_scenario(self.rt, self.desk, name.as_str(), scenario) {
             Ok(_) => became(name, Became::Added),
-            Err(refusal) => Answer::Refused(Refusal::from(refusal)),
+            Err(refusal) => Answer::refused(&refusal),
         }
     }
 
@@ -39,18 +39,18 @@ impl<'a, A: Allocator + Copy, R: Wait> Seat<'a, A, R> {
     pub(crate) fn drop_named(&self, session: &mut Session<A>, name: Name) -> Answer {
         match session.drop_scenario(self.rt, self.desk, name.as_str()) {
             Ok(_) => became(name, Became::Dropped),
-            Err(refusal) => Answer::Refused(Refusal::from(refusal)),
+            Err(refusal) => Answer::refused(&refusal),
         }
     }
 
     // Has the scenario with this name worked again.
     pub(crate) fn retry(&self, session: &mut Session<A>, name: Name) -> Answer {
         let Some(id) = session.find(self.rt, self.desk, name.as_str()) else {
-            return Answer::Refused(Refusal::NoSuchScenario);
+            return Answer::refused(&NoSuchScenario);
         };
         match session.retry(self.rt, self.desk, id) {
             Ok(()) => became(name, Became::Retried),
-            Err(refusal) => Answer::Refused(Refusal::from(refusal)),
+            Err(refusal) => Answer::refused(&refusal),
         }
     }
 
@@ -74,14 +74,14 @@ impl<'a, A: Allocator + Copy, R: Wait> Seat<'a, A, R> {
     pub(crate) fn log(&self, session: &Session<A>, name: &Name) -> Reply<A> {
         match session.current(self.rt, self.desk) {
             Ok(current) => self.log_of(&current, name),
-            Err(Memory) => Reply::refused(Refusal::Memory),
+            Err(Memory) => Reply::refused(&Memory),
         }
     }
 
     // The report on a log under the scenario with this name.
     fn log_of(&self, current: &Current<A>, name: &Name) -> Reply<A> {
         let Some(scenario) = scenario_of(&current.scenarios, name.as_str()) else {
-            return Reply::refused(Refusal::NoSuchScenario);
+            return Reply::refused(&NoSuchScenario);
         };
         match log_text(
             self.alloc,
@@ -91,7 +91,7 @@ impl<'a, A: Allocator + Copy, R: Wait> Seat<'a, A, R> {
             scenario,
         ) {
             Ok(text) => Reply::Report(text),
-            Err(_) => Reply::refused(Refusal::Memory),
+            Err(_) => Reply::refused(&Memory),
         }
     }
 
@@ -111,7 +111,7 @@ impl<'a, A: Allocator + Copy, R: Wait> Seat<'a, A, R> {
     pub(crate) fn save(&self, session: &Session<A>) -> Reply<A> {
         match self.saved(session) {
             Ok(text) => Reply::Saved(text),
-            Err(Memory) => Reply::refused(Refusal::Memory),
+            Err(Memory) => Reply::refused(&Memory),
         }
     }
 }

@@ -6,26 +6,27 @@ ghost use Rattle.shared_scripts.specs.Side.{AreBeside, IsNoReport, IsSide, Stand
 use crate::seat::Seat;
 use commands::Name;
 use report::{SideLine, side_text};
-use scenarios::{ScenarioId, ScenarioList};
-use scripts::{Beside, Refusal, Reply, Report, unseen};
+use scenarios::{NoSuchScenario, ScenarioId, ScenarioList};
+use scripts::{Beside, Reply, Report, unseen};
 use std::alloc::Allocator;
 use std::sync::Wait;
-use version_book::{Published, ViewRefusal};
+use swf_text::Memory;
+use version_book::{Published, Refusal, ViewFault, ViewRefusal};
 use workers::Session;
 
 // What stands beside others by what its view was told; None where the scenario was dropped since.
 fn beside_of<A: Allocator + Copy>(
     told: Result<Published<A>, ViewRefusal>,
-) -> Result<Option<Beside<A>>, Refusal>
+) -> Result<Option<Beside<A>>, ViewRefusal>
     ensures { result ≡ beside_of told }
 {
     match told {
         Ok(published) => Ok(Some(Beside::Shown(published))),
-        Err(ViewRefusal::NotYet) => Ok(Some(Beside::NotYet)),
-        Err(ViewRefusal::Behind { .. }) => Ok(Some(Beside::Behind)),
-        Err(ViewRefusal::NoSuchScenario) => Ok(None),
-        Err(ViewRefusal::JournalFull) => Err(Refusal::JournalFull),
-        Err(ViewRefusal::Memory) => Err(Refusal::Memory),
+        Err(Refusal::Fault(ViewFault::NotYet)) => Ok(Some(Beside::NotYet)),
+        Err(Refusal::Fault(ViewFault::Behind { .. })) => Ok(Some(Beside::Behind)),
+        Err(Refusal::Fault(ViewFault::NoSuchScenario)) => Ok(None),
+        Err(Refusal::JournalFull) => Err(Refusal::JournalFull),
+        Err(Refusal::Memory) => Err(Refusal::Memory),
     }
 }
 
@@ -49,14 +50,14 @@ impl<'a, A: Allocator + Copy, R: Wait> Seat<'a, A, R> {
     // The report on what is published for the scenario with this name.
     pub(crate) fn view(&self, session: &mut Session<A>, name: &Name, report: Report) -> Reply<A> {
         let Some(id) = session.find(self.rt, self.desk, name.as_str()) else {
-            return Reply::refused(Refusal::NoSuchScenario);
+            return Reply::refused(&NoSuchScenario);
         };
         match session.view(self.rt, self.desk, id) {
             Ok(published) => {
                 let version = published.version();
                 match report.text(self.alloc, name.as_str(), version, published.run()) {
                     Ok(text) => Reply::Report(text),
-                    Err(_) => Reply::refused(Refusal::Memory),
+                    Err(_) => Reply::refused(&Memory),
                 }
             }
             Err(refusal) => Reply::Line(unseen(refusal)),
@@ -64,7 +65,11 @@ impl<'a, A: Allocator + Copy, R: Wait> Seat<'a, A, R> {
     }
 
     // What is shown for the scenario with this id beside others; None where it was dropped since.
-    fn beside(&self, session: &mut Session<A>, id: ScenarioId) -> Result<Option<Beside<A>>, Refusal>
+    fn beside(
+        &self,
+        session: &mut Session<A>,
+        id: ScenarioId,
+    ) -> Result<Option<Beside<A>>, ViewRefusal>
         ensures { StandsSo id session.old session.new result }
     {
         beside_of(session.view(self.rt, self.desk, id))
@@ -75,7 +80,7 @@ impl<'a, A: Allocator + Copy, R: Wait> Seat<'a, A, R> {
         &self,
         session: &mut Session<A>,
         list: &'l ScenarioList<A>,
-    ) -> Result<Vec<SideLine<'l, A>, A>, Refusal>
+    ) -> Result<Vec<SideLine<'l, A>, A>, ViewRefusal>
         ensures lines { IfOk result (λ lines. AreBeside A session.old list.now.scenarios (map side_line lines.items) session.new) }
         ensures refused { IfErr result IsNoReport }
     {
@@ -97,14 +102,14 @@ impl<'a, A: Allocator + Copy, R: Wait> Seat<'a, A, R> {
         ensures { IsSide A session.old (reply_text result) session.new }
     {
         let Ok(current) = session.current(self.rt, self.desk) else {
-            return Reply::refused(Refusal::Memory);
+            return Reply::refused(&ViewRefusal::Memory);
         };
         match self.side_lines(session, &current.scenarios) {
             Ok(lines) => match side_text(self.alloc, lines.as_slice()) {
                 Ok(text) => Reply::Report(text),
-                Err(_) => Reply::refused(Refusal::Memory),
+                Err(_) => Reply::refused(&ViewRefusal::Memory),
             },
-            Err(why) => Reply::refused(why),
+            Err(why) => Reply::refused(&why),
         }
     }
 }

@@ -78,6 +78,24 @@ fn a_guest_leaves(rt: HostRuntime) {
     assert!(rt; places.is_some_and(|mut places| leaves_once(&mut places)));
 }
 
+// The second of four guests leaves, and those behind the first of the others are asked for.
+fn tells_those_behind(places: &mut Places<Guest, Global>) -> bool {
+    places.take(1);
+    let mut rest = places.iter_behind(1);
+    places.place_behind(1) == 2
+        && places.place_behind(3) == 4
+        && places.as_slice().len() == 4
+        && rest.next() == Some(&guest_of(1, 50))
+        && rest.next() == Some(&guest_of(3, 5))
+        && rest.next().is_none()
+}
+
+#[test]
+fn guests_wait_behind_others(rt: HostRuntime) {
+    let places = four(rt.alloc());
+    assert!(rt; places.is_some_and(|mut places| tells_those_behind(&mut places)));
+}
+
 // Two of four guests leave, and room is made for 1,000: the others then wait at the first places.
 fn closes_up(places: &mut Places<Guest, Global>) -> bool {
     places.take(0);

@@ -17,3 +17,10 @@ pub use Rattle.timeline.proofs.Quiet.{quiet-seconds-change-nothing, only-ends-un
 pub use Rattle.timeline.proofs.Sound.{each-state-is-sound}
 -- no event second comes after the bound
 pub use Rattle.timeline.proofs.Events.{events-end-by-the-bound}
+-- the state before each second, by submit seconds and starts
+pub use Rattle.timeline.proofs.Standing.{Stands, StandsIn, stands-in}
+pub use Rattle.timeline.proofs.Closed.{states-follow-from-starts, numbers-stand-until-they-end, starts-are-final}
+-- where the states of two plans are equal, but for touched numbers
+pub use Rattle.timeline.proofs.Meeting.{states-meet, snapshots-meet, each-has-met}
+-- in what the starts of two plans differ, kept start by start
+pub use Rattle.timeline.proofs.Ledger.{notes-keep-the-ledger, ledgers-swap}

@@ -10,4 +10,10 @@ mod Promise
 mod Promises
 mod Events
 mod Starting
+mod Lookups
+mod Rows
+mod Standing
+mod Closed
+mod Ledger
+mod Meeting
 pub mod Lemmas

@@ -1,6 +1,9 @@
 ghost use Rattle.timeline.specs.Laws.{AllEndByTheBound, AllHaveEnded, AllStartByTheBound, EachJobStartsOnce, EventsEndByTheBound, NoneStartsEarly, StartsAreRunningJobs};
 ghost use Rattle.timeline.specs.Laws.{EachStateIsSettled, EachStateIsSound, OnlyEndsUnsettle, QuietSecondsChangeNothing};
 ghost use Rattle.timeline.specs.Laws.{HeadsStartByTheirShadowTimes, ShadowTimesNeverRise};
+ghost use Rattle.timeline.specs.Closed.{NumbersStandUntilTheyEnd, StartsAreFinal, StatesFollowFromStarts};
+ghost use Rattle.timeline.specs.Ledger.{LedgersSwap, NotesKeepTheLedger};
+ghost use Rattle.timeline.specs.Meeting.{EachHasMet, SnapshotsMeet, StatesMeet};
 
 /// Each job of a plan starts exactly once, at its submit second or later, and nobody else starts.
 pub fn each_job_starts_once()
@@ -45,4 +48,32 @@ pub fn only_ends_unsettle()
 pub fn heads_start_by_their_shadow_times()
     ensures never_rise { ShadowTimesNeverRise }
     ensures starts { HeadsStartByTheirShadowTimes }
+{}
+
+/// Before each second, of a plan's jobs those wait that are submitted before it and have no start
+/// before it, in the order of the log; and those run that started before it and end at it or later,
+/// with their starts, rising by number. So a number stands there from its submit second on, until its
+/// job has ended. A start before a second is the job's start in the whole simulation.
+pub fn states_follow_from_starts()
+    ensures state { StatesFollowFromStarts }
+    ensures stands { NumbersStandUntilTheyEnd }
+    ensures starts { StartsAreFinal }
+{}
+
+/// Of two plans whose jobs are equal but for those of touched numbers, the states before a second are
+/// equal, these numbers aside, exactly where the same other numbers have started before it in both,
+/// and those of them that started at different seconds have ended in both. The whole states are equal
+/// and hold no touched number exactly where, besides, none waits or runs in either.
+pub fn states_meet()
+    ensures others { StatesMeet }
+    ensures whole { SnapshotsMeet }
+    ensures each { EachHasMet }
+{}
+
+/// In what the starts of two plans differ can be kept start by start. A start of a number that is not
+/// touched is kept as one plan's alone until the other plan has one of it; where their seconds differ,
+/// one second past the later of the two ends is kept, if it is the latest.
+pub fn ledgers_are_kept_by_starts()
+    ensures notes { NotesKeepTheLedger }
+    ensures swap { LedgersSwap }
 {}

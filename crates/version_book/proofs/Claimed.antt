@@ -7,7 +7,8 @@ use Rattle.std.proofs.lemmas.Bool.{eq-eqb, ne_eqb}
 use Rattle.book_machine.specs.Machine.{Machine, opened}
 use Rattle.book_machine.specs.Sound.{IsClaim, IsSound as IsSoundMachine}
 use Rattle.book_machine.proofs.Lemmas.{sound-opened, sound_after}
-use Rattle.version_book.specs.declared.worker_refusal.ClaimRefusal.{ClaimRefusal}
+use Rattle.version_book.specs.declared.faults.TooManyTickets.{TooManyTickets}
+use Rattle.version_book.specs.declared.refusal.Refusal.{Refusal}
 use Rattle.version_book.specs.Book.{BookView, StateView, ShownView, TicketView, ticket_of_view, machine_of}
 use Rattle.version_book.specs.Lookups.{has_number}
 use Rattle.version_book.specs.Sound.{IsBook}
@@ -37,7 +38,7 @@ ticket-is : (s : StateView) (t : TaskView) (o : Option ShownView) → Some t ≡
 ticket-is s t None is = cc
 ticket-is s t (Some x) is = let same : t ≡ task_for s x = cc in ap (λ (k : TaskView). k.ticket) same
 
-pub out-of : (s new : StateView) (r : Result (Option TaskView) ClaimRefusal) → find (has_number s.next_ticket) s.tickets ≡ None → IfOk r (λ task. task ≡ option_map (task_for s) (due_shown s)) → IfOk r (λ task. IfSome task (λ t. new.tickets ≡ s.tickets ++ ticket_for t ∷ [])) → IfOk r (λ task. IfSome task (IsOut new))
+pub out-of : (s new : StateView) (r : Result (Option TaskView) (Refusal TooManyTickets)) → find (has_number s.next_ticket) s.tickets ≡ None → IfOk r (λ task. task ≡ option_map (task_for s) (due_shown s)) → IfOk r (λ task. IfSome task (λ t. new.tickets ≡ s.tickets ++ ticket_for t ∷ [])) → IfOk r (λ task. IfSome task (IsOut new))
 out-of s new (Err e) none task tickets = tt
 out-of s new (Ok None) none task tickets = tt
 out-of s new (Ok (Some t)) none task tickets =

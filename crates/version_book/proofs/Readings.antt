@@ -21,8 +21,9 @@ use Rattle.scenarios.specs.Plan.{plan_of}
 use Rattle.checkpoints.specs.Cut.{IsShortCut}
 use Rattle.version_book.specs.Steps.{Does, IsStep}
 use Rattle.version_book.specs.Answers.{claim_answer}
-use Rattle.version_book.specs.declared.worker_refusal.ClaimRefusal.{ClaimRefusal}
-use Rattle.version_book.specs.declared.worker_refusal.ClaimRefusal.TheVariants as claim
+use Rattle.version_book.specs.declared.faults.TooManyTickets.{TooManyTickets}
+use Rattle.version_book.specs.declared.refusal.Refusal.{Refusal}
+use Rattle.version_book.specs.declared.refusal.Refusal.TheVariants as why
 use Rattle.book_machine.specs.Call.{Claim}
 use Rattle.book_machine.specs.declared.reply.Reply.TheVariants as reply
 use Rattle.version_book.specs.Lookups.{is_mark, is_behind, is_awaited, is_due_at, settled_at}
@@ -124,8 +125,8 @@ task-is {s} {w} ticket id v log x setting spacing base seen a b d e f h is =
 
 -- ---- the next task
 
-pub next-busy : {s w : StateView} (v : ℕ) (x : ShownView) → s ≡ w → v ≡ length s.edits → find (is_due_at v s.tickets) s.shown ≡ Some x → 256 ≤ length s.tickets → IsNext w (Err claim.TooManyTickets)
-next-busy {s} {w} v x seen v_is is le = subst (λ (u : StateView). IsNext u (Err claim.TooManyTickets)) seen (x, due-with s v (Some x) v_is is, le)
+pub next-busy : {s w : StateView} (v : ℕ) (x : ShownView) → s ≡ w → v ≡ length s.edits → find (is_due_at v s.tickets) s.shown ≡ Some x → 256 ≤ length s.tickets → IsNext w (Err (why.Fault (record {})))
+next-busy {s} {w} v x seen v_is is le = subst (λ (u : StateView). IsNext u (Err (why.Fault (record {})))) seen (x, due-with s v (Some x) v_is is, le)
 
 pub next-run : {s w : StateView} (v : ℕ) (x : ShownView) → s ≡ w → IsSound s → find (is_due_at v s.tickets) s.shown ≡ Some x → IfSome x.published (IsOfItsVersion w.opening w.edits x.setting)
 next-run {s} {w} v x seen h is = subst (λ (u : StateView). IfSome x.published (IsOfItsVersion u.opening u.edits x.setting)) seen (found-run s x (is_due_at v s.tickets) h is)
@@ -138,10 +139,10 @@ next-given {s} {w} v x task seen v_is is lt task_is =
 pub claim-none : (s : StateView) → IsSound s → IsNext s (Ok None) → IsStep s s Claim reply.NoneDue
 claim-none s h is = claim-idle s h (sym (due-shown s) ∙ is)
 
-pub claim-refused : (s : StateView) (e : ClaimRefusal) → IsSound s → IsNext s (Err e) → Does s s Claim (claim_answer (Err e))
-claim-refused s claim.JournalFull h is = absurd is
-claim-refused s claim.TooManyTickets h is = claim-busy s is.0 h (sym (due-shown s) ∙ is.1) is.2
-claim-refused s claim.Memory h is = refl
+pub claim-refused : (s : StateView) (e : Refusal TooManyTickets) → IsSound s → IsNext s (Err e) → Does s s Claim (claim_answer (Err e))
+claim-refused s why.JournalFull h is = absurd is
+claim-refused s (why.Fault fault) h is = claim-busy s is.0 h (sym (due-shown s) ∙ is.1) is.2
+claim-refused s why.Memory h is = refl
 
 abbrev version_in : Option BaseView → Option ℕ
 version_in o = option_map (λ b. b.version) o

@@ -16,8 +16,10 @@ use Rattle.version_book.specs.Book.{PublishedView, ShownView, TicketView, StateV
 use Rattle.version_book.specs.Sound.{IsSound, IsOfItsVersion, IsTicketOfItsVersion, IsTicketOfItsScenario}
 use Rattle.version_book.specs.Steps.{Does, IsStep, Publishes}
 use Rattle.version_book.specs.Answers.{TellsFit, TellsStanding, finish_answer, fitted, told_of_run}
-use Rattle.version_book.specs.declared.worker_refusal.FinishRefusal.{FinishRefusal}
-use Rattle.version_book.specs.declared.worker_refusal.FinishRefusal.TheVariants as finish
+use Rattle.version_book.specs.declared.faults.FinishFault.{FinishFault}
+use Rattle.version_book.specs.declared.faults.FinishFault.TheVariants as finish
+use Rattle.version_book.specs.declared.refusal.Refusal.{Refusal}
+use Rattle.version_book.specs.declared.refusal.Refusal.TheVariants as why
 use Rattle.version_book.specs.Tasks.{Fits, HasThoseOf, PublishesFitting, Stands, due_shown}
 use Rattle.version_book.specs.Lookups.{has_id, has_number, is_mark, is_due_at, marking, publishing, version_shown, with_change}
 use Rattle.version_book.proofs.Keeping.{keeps-change, keeps-put, keeps-same}
@@ -284,34 +286,34 @@ none-fits {s} {v} n run is none fits = subst (λ (o : Option TicketView). HasTho
 
 -- ---- a run that fitted
 
-pub does-fitted : (s v : StateView) (n : ℕ) (r : Result ℕ FinishRefusal) → fitted r ≡ true → Does s v (Finish n true) (finish_answer r) → Does s v (Finish n (fitted r)) (finish_answer r)
+pub does-fitted : (s v : StateView) (n : ℕ) (r : Result ℕ (Refusal FinishFault)) → fitted r ≡ true → Does s v (Finish n true) (finish_answer r) → Does s v (Finish n (fitted r)) (finish_answer r)
 does-fitted s v n r is does = subst (λ (b : Bool). Does s v (Finish n b) (finish_answer r)) (sym is) does
 
-pub tells-fit : (F : Type 0) (r : Result ℕ FinishRefusal) → F → fitted r ≡ true → TellsFit F r
+pub tells-fit : (F : Type 0) (r : Result ℕ (Refusal FinishFault)) → F → fitted r ≡ true → TellsFit F r
 tells-fit F (Ok version) fits is = fits
-tells-fit F (Err finish.JournalFull) fits is = tt
-tells-fit F (Err finish.UnknownTicket) fits is = cc
-tells-fit F (Err finish.Stranger) fits is = cc
-tells-fit F (Err (finish.Stale published)) fits is = fits
-tells-fit F (Err finish.Memory) fits is = tt
+tells-fit F (Err why.JournalFull) fits is = tt
+tells-fit F (Err (why.Fault finish.UnknownTicket)) fits is = cc
+tells-fit F (Err (why.Fault finish.Stranger)) fits is = cc
+tells-fit F (Err (why.Fault (finish.Stale published))) fits is = fits
+tells-fit F (Err why.Memory) fits is = tt
 
 -- ---- what is published
 
 pub publishes : {s v : StateView} (new : StateView) (n : ℕ) (t : TicketView) (id w : ℕ) (run : RunView) → s ≡ v → find (has_number n) s.tickets ≡ Some t → id ≡ t.id → new.shown ≡ with_change id (publishing (record { version = w; run = run })) s.shown → Publishes v new n w run
 publishes {s} {v} new n t id w run is some same put = subst (λ (x : StateView). Publishes x new n w run) is (record { ticket = t; stood = some; shown = put ∙ ap (λ i. with_change i (publishing (record { version = w; run = run })) s.shown) same })
 
-pub published-as : {s v : StateView} (new : StateView) (n : ℕ) (run : RunView) (r : Result ℕ FinishRefusal) → s ≡ v → IfOk r (λ w. Publishes s new n w run) → IfOk r (λ w. Publishes v new n w run)
+pub published-as : {s v : StateView} (new : StateView) (n : ℕ) (run : RunView) (r : Result ℕ (Refusal FinishFault)) → s ≡ v → IfOk r (λ w. Publishes s new n w run) → IfOk r (λ w. Publishes v new n w run)
 published-as {s} {v} new n run r is h = subst (λ (x : StateView). IfOk r (λ w. Publishes x new n w run)) is h
 
 -- some run that fits
-pub fitting-some : {s v : StateView} (new : StateView) (n : ℕ) (run : RunView) (r : Result ℕ FinishRefusal) → s ≡ v → Fits s n run → IfOk r (λ w. Publishes s new n w run) → IfOk r (λ w. PublishesFitting v new n w)
+pub fitting-some : {s v : StateView} (new : StateView) (n : ℕ) (run : RunView) (r : Result ℕ (Refusal FinishFault)) → s ≡ v → Fits s n run → IfOk r (λ w. Publishes s new n w run) → IfOk r (λ w. PublishesFitting v new n w)
 fitting-some {s} {v} new n run (Ok w) is fits h = subst (λ (x : StateView). PublishesFitting x new n w) is (run, fits, h)
 fitting-some {s} {v} new n run (Err e) is fits h = tt
 
-pub fitting-as : {s v : StateView} (new : StateView) (n : ℕ) (r : Result ℕ FinishRefusal) → s ≡ v → IfOk r (λ w. PublishesFitting s new n w) → IfOk r (λ w. PublishesFitting v new n w)
+pub fitting-as : {s v : StateView} (new : StateView) (n : ℕ) (r : Result ℕ (Refusal FinishFault)) → s ≡ v → IfOk r (λ w. PublishesFitting s new n w) → IfOk r (λ w. PublishesFitting v new n w)
 fitting-as {s} {v} new n r is h = subst (λ (x : StateView). IfOk r (λ w. PublishesFitting x new n w)) is h
 
-pub fitting-told : {s v : StateView} (new : StateView) (n : ℕ) (run : RunView) (r : Result ℕ FinishRefusal) → s ≡ v → TellsFit (Fits s n run) r → IfOk r (λ w. Publishes s new n w run) → IfOk r (λ w. PublishesFitting v new n w)
+pub fitting-told : {s v : StateView} (new : StateView) (n : ℕ) (run : RunView) (r : Result ℕ (Refusal FinishFault)) → s ≡ v → TellsFit (Fits s n run) r → IfOk r (λ w. Publishes s new n w run) → IfOk r (λ w. PublishesFitting v new n w)
 fitting-told {s} {v} new n run (Ok w) is fits h = fitting-some new n run (Ok w) is fits h
 fitting-told {s} {v} new n run (Err e) is fits h = tt
 
@@ -335,17 +337,17 @@ none-stands {s} {v} n is none stands =
 pub stands-as : {s v : StateView} (n : ℕ) → s ≡ v → is_some (find (has_number n) s.tickets) ≡ true → Stands v n
 stands-as {s} {v} n is some = subst (λ (w : StateView). Stands w n) is some
 
-pub stands-told : (S : Type 0) (r : Result ℕ FinishRefusal) → S → fitted r ≡ true → TellsStanding S (Some r)
+pub stands-told : (S : Type 0) (r : Result ℕ (Refusal FinishFault)) → S → fitted r ≡ true → TellsStanding S (Some r)
 stands-told S (Ok version) stands is = stands
-stands-told S (Err finish.JournalFull) stands is = tt
-stands-told S (Err finish.UnknownTicket) stands is = cc
-stands-told S (Err finish.Stranger) stands is = cc
-stands-told S (Err (finish.Stale published)) stands is = stands
-stands-told S (Err finish.Memory) stands is = tt
+stands-told S (Err why.JournalFull) stands is = tt
+stands-told S (Err (why.Fault finish.UnknownTicket)) stands is = cc
+stands-told S (Err (why.Fault finish.Stranger)) stands is = cc
+stands-told S (Err (why.Fault (finish.Stale published))) stands is = stands
+stands-told S (Err why.Memory) stands is = tt
 
-pub published-left : (P : ℕ → Type 0) (r : Result ℕ FinishRefusal) (q : Result (Option ℕ) FinishRefusal) → told_of_run q ≡ Some r → IfOk r P → IfOk q (λ version. IfSome version P)
+pub published-left : (P : ℕ → Type 0) (r : Result ℕ (Refusal FinishFault)) (q : Result (Option ℕ) (Refusal FinishFault)) → told_of_run q ≡ Some r → IfOk r P → IfOk q (λ version. IfSome version P)
 published-left P r (Ok None) is h = cc
 published-left P r (Ok (Some version)) is h =
     let same : r ≡ Ok version = cc in
-    subst (λ (k : Result ℕ FinishRefusal). IfOk k P) same h
+    subst (λ (k : Result ℕ (Refusal FinishFault)). IfOk k P) same h
 published-left P r (Err refusal) is h = tt

@@ -2,9 +2,6 @@
 use Rattle.std.specs.Prelude.{◌≡◌, ℕ, ◌<◌, ◌⊎◌, List, [], ◌∷◌, ◌++◌, length, find, Option, None, Some}
 use Rattle.swf_text.specs.Entry.{LogEntry}
 use Rattle.scenarios.specs.ScenarioList.{empty}
-use Rattle.checkpoints.specs.Spacing.{IsSpacing}
-use Rattle.version_book.specs.declared.book_fault.BookFault.{BookFault}
-use Rattle.version_book.specs.declared.book_fault.BookFault.TheVariants as faults
 use Rattle.book_machine.specs.declared.caller.Caller.{Caller}
 use Rattle.book_machine.specs.declared.reply.Reply.{Reply}
 use Rattle.book_machine.specs.declared.reply.Reply.TheVariants as replies
@@ -75,8 +72,3 @@ pub record Publishes (old new : StateView) (number version : ℕ) (run : RunView
 -- a log that was just opened: version 0, without scenarios
 abbrev pub opening_state : List LogEntry → ℕ → StateView
 opening_state log spacing = record { spacing = spacing; opening = log; current = log; edits = []; listing = empty; shown = []; tickets = []; next_ticket = 1 }
-
--- the spacing is out of its limits, or it is not and a growth was refused
-abbrev pub IsFault : ℕ → BookFault → Type 0
-IsFault spacing faults.BadSpacing = IsSpacing spacing → ⊥
-IsFault spacing faults.Memory = IsSpacing spacing

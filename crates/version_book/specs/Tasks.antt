@@ -17,8 +17,9 @@ use Rattle.version_book.specs.Book.{PublishedView, ShownView, TicketView, StateV
 use Rattle.version_book.specs.Sound.{IsOfItsVersion}
 use Rattle.version_book.specs.Lookups.{has_id}
 use Rattle.version_book.specs.Steps.{Publishes}
-use Rattle.version_book.specs.declared.worker_refusal.ClaimRefusal.{ClaimRefusal}
-use Rattle.version_book.specs.declared.worker_refusal.ClaimRefusal.TheVariants as claim
+use Rattle.version_book.specs.declared.faults.TooManyTickets.{TooManyTickets}
+use Rattle.version_book.specs.declared.refusal.Refusal.{Refusal}
+use Rattle.version_book.specs.declared.refusal.Refusal.TheVariants as why
 
 -- what a task starts from: the published run with its version, and the edits that were accepted since
 pub record BaseView : Type 0 where
@@ -116,12 +117,12 @@ abbrev pub free_due : StateView → Option ℕ
 free_due s = if are_all_out (machine_at 0 s) then None else option_map (λ (x : ShownView). x.id) (due_shown s)
 
 -- what a claim is told, or the task that it is given
-abbrev pub IsNext : StateView → Result (Option TaskView) ClaimRefusal → Type 0
+abbrev pub IsNext : StateView → Result (Option TaskView) (Refusal TooManyTickets) → Type 0
 IsNext s (Ok None) = due_shown s ≡ None
 IsNext s (Ok (Some task)) = (x : ShownView) × (due_shown s ≡ Some x) × (length s.tickets < 256) × (task ≡ task_for s x)
-IsNext s (Err claim.JournalFull) = ⊥
-IsNext s (Err claim.TooManyTickets) = (x : ShownView) × (due_shown s ≡ Some x) × (256 ≤ length s.tickets)
-IsNext s (Err claim.Memory) = Unit {0}
+IsNext s (Err why.JournalFull) = ⊥
+IsNext s (Err (why.Fault fault)) = (x : ShownView) × (due_shown s ≡ Some x) × (256 ≤ length s.tickets)
+IsNext s (Err why.Memory) = Unit {0}
 
 -- ---- a view
 

@@ -2,11 +2,11 @@ ghost use Rattle.std.specs.Prelude.{◌≡◌, ◌&&◌, not, nat_lt, length, If
 ghost use Rattle.std.specs.Option.{option_map};
 ghost use Rattle.std.specs.Arc.{arc_value};
 ghost use Rattle.book_machine.specs.Noted.{noted_of};
-ghost use Rattle.checkpoints.specs.Spacing.{IsSpacing};
+ghost use Rattle.checkpoints.specs.Spacing.{IsRefusal, IsSpacing};
 
-use crate::book_fault::BookFault;
 use crate::state::State;
 use book_machine::{Note, SettleState};
+use checkpoints::RunFault;
 use job_table::JobTable;
 use scenarios::{ScenarioId, ScenarioList};
 use std::alloc::Allocator;
@@ -45,16 +45,16 @@ impl<A: Allocator + Copy> Book<A> {
     ghost use Rattle.book_machine.specs.Machine.{current, settled};
     ghost use Rattle.version_book.specs.Book.{machine_of};
     ghost use Rattle.version_book.specs.Sound.{IsBook};
-    ghost use Rattle.version_book.specs.Steps.{IsFault, opening_state};
+    ghost use Rattle.version_book.specs.Steps.{opening_state};
     ghost use Rattle.version_book.specs.Tasks.{free_due};
 
     /// A book that opens a log: version 0, no scenario, no note. Runs are to be made in segments of
     /// at most `spacing` event seconds. BadSpacing where that is not within 1 to 65,536; Memory
     /// where a growth was refused.
-    pub fn new(alloc: A, table: JobTable<A>, spacing: u32) -> Result<Book<A>, BookFault>
+    pub fn new(alloc: A, table: JobTable<A>, spacing: u32) -> Result<Book<A>, RunFault>
         ensures book { IfOk result (λ b. b ≡ record { state = opening_state table spacing; journal = [] }) }
         ensures spacing { OnOk result (IsSpacing spacing) }
-        ensures fault { IfErr result (λ f. IsFault spacing f) }
+        ensures fault { IfErr result (IsRefusal spacing) }
     {
         let state = State::new(alloc, table, spacing)?;
         Ok(Book {

@@ -14,10 +14,12 @@ ghost use Rattle.version_book.specs.Tasks.{Fits, IsOut, IsShownFor, PublishesFit
 use crate::book::Book;
 use crate::journal::{is_full, make_room, note};
 use crate::published::Published;
+use crate::refusal::{
+    AddRefusal, ClaimRefusal, DropRefusal, EditRefusal, FinishRefusal, GiveUpRefusal, RetryRefusal,
+    ViewRefusal,
+};
 use crate::replies;
-use crate::session_refusal::{AddRefusal, DropRefusal, EditRefusal, RetryRefusal, ViewRefusal};
 use crate::task::Task;
-use crate::worker_refusal::{ClaimRefusal, FinishRefusal, GiveUpRefusal};
 use book_machine::{Call, Caller, Name, NotedEdit};
 use checkpoints::Run;
 use job_table::Edit;

@@ -3,26 +3,30 @@
 #![tactic(auto)]
 
 mod book;
-mod book_fault;
 mod calls;
 mod delivery;
+mod faults;
 mod journal;
 mod lookups;
+mod named;
 mod published;
+mod refusal;
 mod replies;
-mod session_refusal;
 mod session_steps;
 mod shown;
 mod state;
 mod task;
 mod ticket;
-mod worker_refusal;
 mod worker_steps;
 
 pub use book::Book;
-pub use book_fault::BookFault;
 pub use book_machine::{Call, Caller, Note, Reply, SettleState};
+pub use checkpoints::RunFault as BookFault;
+pub use faults::{FinishFault, TooManyTickets, UnknownTicket, ViewFault};
+pub use named::Named;
 pub use published::Published;
-pub use session_refusal::{AddRefusal, DropRefusal, EditRefusal, RetryRefusal, ViewRefusal};
+pub use refusal::{
+    AddRefusal, ClaimRefusal, DropRefusal, EditRefusal, FinishRefusal, GiveUpRefusal, Refusal,
+    RetryRefusal, ViewRefusal,
+};
 pub use task::{Base, Task};
-pub use worker_refusal::{ClaimRefusal, FinishRefusal, GiveUpRefusal};

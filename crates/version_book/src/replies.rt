@@ -3,12 +3,15 @@ ghost use Rattle.std.specs.Prelude.{◌≡◌};
 ghost use Rattle.version_book.specs.Answers.{edit_answer, add_answer, drop_answer, retry_answer, view_answer, claim_answer, finish_answer, give_up_answer, fitted};
 ghost use Rattle.version_book.specs.Steps.{reply_in};
 
+use crate::faults::{FinishFault, TooManyTickets, UnknownTicket, ViewFault};
 use crate::published::Published;
-use crate::session_refusal::{AddRefusal, DropRefusal, EditRefusal, RetryRefusal, ViewRefusal};
+use crate::refusal::{
+    AddRefusal, ClaimRefusal, DropRefusal, EditRefusal, FinishRefusal, GiveUpRefusal, RetryRefusal,
+    ViewRefusal,
+};
 use crate::task::Task;
-use crate::worker_refusal::{ClaimRefusal, FinishRefusal, GiveUpRefusal};
 use book_machine::Reply;
-use scenarios::ScenarioId;
+use scenarios::{NoSuchScenario, ScenarioId};
 use std::alloc::Allocator;
 
 pub(crate) fn edit_reply(told: &Result<u64, EditRefusal>) -> Option<Reply>
@@ -36,7 +39,7 @@ pub(crate) fn drop_reply(told: &Result<ScenarioId, DropRefusal>) -> Option<Reply
 {
     match told {
         Ok(id) => Some(Reply::Dropped { id: *id }),
-        Err(DropRefusal::NoSuchScenario) => Some(Reply::NoSuchScenario),
+        Err(DropRefusal::Fault(NoSuchScenario)) => Some(Reply::NoSuchScenario),
         Err(DropRefusal::JournalFull) | Err(DropRefusal::Memory) => None,
     }
 }
@@ -46,7 +49,7 @@ pub(crate) fn retry_reply(told: &Result<(), RetryRefusal>) -> Option<Reply>
 {
     match told {
         Ok(()) => Some(Reply::Retried),
-        Err(RetryRefusal::NoSuchScenario) => Some(Reply::NoSuchScenario),
+        Err(RetryRefusal::Fault(NoSuchScenario)) => Some(Reply::NoSuchScenario),
         Err(RetryRefusal::JournalFull) | Err(RetryRefusal::Memory) => None,
     }
 }
@@ -60,9 +63,9 @@ pub(crate) fn view_reply<A: Allocator + Copy>(
         Ok(published) => Some(Reply::Shown {
             version: published.version(),
         }),
-        Err(ViewRefusal::NoSuchScenario) => Some(Reply::NoSuchScenario),
-        Err(ViewRefusal::NotYet) => Some(Reply::NotYet),
-        Err(ViewRefusal::Behind { seen, found }) => Some(Reply::Behind {
+        Err(ViewRefusal::Fault(ViewFault::NoSuchScenario)) => Some(Reply::NoSuchScenario),
+        Err(ViewRefusal::Fault(ViewFault::NotYet)) => Some(Reply::NotYet),
+        Err(ViewRefusal::Fault(ViewFault::Behind { seen, found })) => Some(Reply::Behind {
             seen: *seen,
             found: *found,
         }),
@@ -83,7 +86,7 @@ pub(crate) fn claim_reply<A: Allocator + Copy>(
             version: task.version(),
             base: task.base_version(),
         }),
-        Err(ClaimRefusal::TooManyTickets) => Some(Reply::TooManyTickets),
+        Err(ClaimRefusal::Fault(TooManyTickets)) => Some(Reply::TooManyTickets),
         Err(ClaimRefusal::JournalFull) | Err(ClaimRefusal::Memory) => None,
     }
 }
@@ -93,9 +96,9 @@ pub(crate) fn finish_reply(told: &Result<u64, FinishRefusal>) -> Option<Reply>
 {
     match told {
         Ok(version) => Some(Reply::Finished { version: *version }),
-        Err(FinishRefusal::UnknownTicket) => Some(Reply::UnknownTicket),
-        Err(FinishRefusal::Stranger) => Some(Reply::Stranger),
-        Err(FinishRefusal::Stale { published }) => Some(Reply::Stale {
+        Err(FinishRefusal::Fault(FinishFault::UnknownTicket)) => Some(Reply::UnknownTicket),
+        Err(FinishRefusal::Fault(FinishFault::Stranger)) => Some(Reply::Stranger),
+        Err(FinishRefusal::Fault(FinishFault::Stale { published })) => Some(Reply::Stale {
             published: *published,
         }),
         Err(FinishRefusal::JournalFull) | Err(FinishRefusal::Memory) => None,
@@ -106,7 +109,10 @@ pub(crate) fn finish_reply(told: &Result<u64, FinishRefusal>) -> Option<Reply>
 pub(crate) fn fitted(told: &Result<u64, FinishRefusal>) -> bool
     ensures { result ≡ fitted told.now }
 {
-    matches!(told, Ok(_) | Err(FinishRefusal::Stale { .. }))
+    matches!(
+        told,
+        Ok(_) | Err(FinishRefusal::Fault(FinishFault::Stale { .. }))
+    )
 }
 
 pub(crate) fn give_up_reply(told: &Result<(), GiveUpRefusal>) -> Option<Reply>
@@ -114,7 +120,7 @@ pub(crate) fn give_up_reply(told: &Result<(), GiveUpRefusal>) -> Option<Reply>
 {
     match told {
         Ok(()) => Some(Reply::GivenUp),
-        Err(GiveUpRefusal::UnknownTicket) => Some(Reply::UnknownTicket),
+        Err(GiveUpRefusal::Fault(UnknownTicket)) => Some(Reply::UnknownTicket),
         Err(GiveUpRefusal::JournalFull) | Err(GiveUpRefusal::Memory) => None,
     }
 }

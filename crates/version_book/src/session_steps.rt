@@ -8,9 +8,10 @@ ghost use Rattle.version_book.specs.Answers.{add_answer, drop_answer, edit_answe
 ghost use Rattle.version_book.specs.Steps.{Does};
 ghost use Rattle.version_book.specs.Tasks.{IsShownFor};
 
+use crate::faults::ViewFault;
 use crate::lookups::{close_all, hide, shown_of, unmark};
 use crate::published::Published;
-use crate::session_refusal::{AddRefusal, DropRefusal, EditRefusal, RetryRefusal, ViewRefusal};
+use crate::refusal::{AddRefusal, DropRefusal, EditRefusal, RetryRefusal, ViewRefusal};
 use crate::shown::Shown;
 use crate::state::State;
 use job_table::{Edit, JobTable};
@@ -100,7 +101,7 @@ impl<A: Allocator + Copy> State<A> {
                 close_all(&mut self.tickets, id);
                 Ok(id)
             }
-            Err(NoSuchScenario) => Err(DropRefusal::NoSuchScenario),
+            Err(NoSuchScenario) => Err(DropRefusal::Fault(NoSuchScenario)),
         }
     }
 
@@ -109,7 +110,7 @@ impl<A: Allocator + Copy> State<A> {
         ensures { Does self.old self.new (Retry id) (retry_answer result) }
     {
         if shown_of(self.shown.as_slice(), id).is_none() {
-            return Err(RetryRefusal::NoSuchScenario);
+            return Err(RetryRefusal::Fault(NoSuchScenario));
         }
         unmark(&mut self.shown, id);
         Ok(())
@@ -121,14 +122,14 @@ impl<A: Allocator + Copy> State<A> {
         ensures shown { IfOk result (IsShownFor self.now id seen) }
     {
         let Some(shown) = shown_of(self.shown.as_slice(), id) else {
-            return Err(ViewRefusal::NoSuchScenario);
+            return Err(ViewRefusal::Fault(ViewFault::NoSuchScenario));
         };
         let Some(published) = shown.published() else {
-            return Err(ViewRefusal::NotYet);
+            return Err(ViewRefusal::Fault(ViewFault::NotYet));
         };
         let found = published.version();
         if found < seen {
-            return Err(ViewRefusal::Behind { seen, found });
+            return Err(ViewRefusal::Fault(ViewFault::Behind { seen, found }));
         }
         Ok(published.copy()?)
     }

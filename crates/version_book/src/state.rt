@@ -7,12 +7,11 @@ ghost use Rattle.checkpoints.specs.Spacing.{IsSpacing, IsRefusal};
 ghost use Rattle.version_book.specs.Book.{StateView, machine_at};
 ghost use Rattle.version_book.specs.Sound.{IsSound};
 
-use crate::book_fault::BookFault;
 use crate::lookups::{first_due, settled};
 use crate::shown::Shown;
 use crate::ticket::Ticket;
 use book_machine::SettleState;
-use checkpoints::MAX_SPACING;
+use checkpoints::{MAX_SPACING, RunFault};
 use job_table::{Edit, JobTable};
 use scenarios::{ScenarioId, ScenarioList};
 use std::alloc::Allocator;
@@ -55,17 +54,17 @@ impl<A: Allocator + Copy> Model for State<A> {
 }
 
 impl<A: Allocator + Copy> State<A> {
-    ghost use Rattle.version_book.specs.Steps.{IsFault, opening_state};
+    ghost use Rattle.version_book.specs.Steps.{opening_state};
 
     // A log that was just opened.
-    pub(crate) fn new(alloc: A, table: JobTable<A>, spacing: u32) -> Result<State<A>, BookFault>
+    pub(crate) fn new(alloc: A, table: JobTable<A>, spacing: u32) -> Result<State<A>, RunFault>
         ensures state { IfOk result (λ s. s ≡ opening_state table spacing) }
         ensures sound { IfOk result IsSound }
         ensures spacing { OnOk result (IsSpacing spacing) }
-        ensures fault { IfErr result (λ f. IsFault spacing f) }
+        ensures fault { IfErr result (IsRefusal spacing) }
     {
         if spacing < 1 || spacing > MAX_SPACING {
-            return Err(BookFault::BadSpacing);
+            return Err(RunFault::BadSpacing);
         }
         prove!(table.len() <= ENTRY_LIMIT);
         let opening = Arc::new(alloc, table)?;

@@ -9,12 +9,13 @@ ghost use Rattle.version_book.specs.Sound.{IsOfItsVersion};
 ghost use Rattle.version_book.specs.Steps.{Does, Publishes};
 ghost use Rattle.version_book.specs.Tasks.{Fits, IsNext, PublishesFitting, Stands, base_since, bases_since, due_shown, task_for, ticket_for};
 
+use crate::faults::{FinishFault, TooManyTickets, UnknownTicket};
 use crate::lookups::{close, first_due, mark, publish, published_version, take_run, ticket_of};
 use crate::published::Published;
+use crate::refusal::{ClaimRefusal, FinishRefusal, GiveUpRefusal};
 use crate::shown::{Shown, is_below};
 use crate::state::{State, TICKET_LIMIT};
 use crate::task::{Base, Task};
-use crate::worker_refusal::{ClaimRefusal, FinishRefusal, GiveUpRefusal};
 use checkpoints::Run;
 use job_table::Edit;
 use scenarios::MAX_PROCS;
@@ -92,7 +93,7 @@ impl<A: Allocator + Copy> State<A> {
             return Ok(None);
         };
         if self.tickets.len() >= TICKET_LIMIT {
-            return Err(ClaimRefusal::TooManyTickets);
+            return Err(ClaimRefusal::Fault(TooManyTickets));
         }
         Ok(Some(self.task_for(shown)?))
     }
@@ -133,9 +134,9 @@ impl<A: Allocator + Copy> State<A> {
             publish(&mut self.shown, id, Published::new(version, run));
             return Ok(version);
         }
-        Err(FinishRefusal::Stale {
+        Err(FinishRefusal::Fault(FinishFault::Stale {
             published: found.unwrap_or(0),
-        })
+        }))
     }
 
     // Hands in a run for a ticket.
@@ -145,10 +146,10 @@ impl<A: Allocator + Copy> State<A> {
         ensures published { IfOk result (λ version. Publishes self.old self.new number version (arc_value run)) }
     {
         let Some(ticket) = ticket_of(self.tickets.as_slice(), number) else {
-            return Err(FinishRefusal::UnknownTicket);
+            return Err(FinishRefusal::Fault(FinishFault::UnknownTicket));
         };
         if !ticket.fits(&run) {
-            return Err(FinishRefusal::Stranger);
+            return Err(FinishRefusal::Fault(FinishFault::Stranger));
         }
         self.accept(number, run)
     }
@@ -161,7 +162,7 @@ impl<A: Allocator + Copy> State<A> {
         ensures published { IfSome result (λ told. IfOk told (PublishesFitting self.old self.new number)) }
     {
         if ticket_of(self.tickets.as_slice(), number).is_none() {
-            return Some(Err(FinishRefusal::UnknownTicket));
+            return Some(Err(FinishRefusal::Fault(FinishFault::UnknownTicket)));
         }
         let run = take_run(&mut self.tickets, number)?;
         Some(self.accept(number, run))
@@ -172,7 +173,7 @@ impl<A: Allocator + Copy> State<A> {
         ensures { Does self.old self.new (GiveUp number) (give_up_answer result) }
     {
         let Some(ticket) = ticket_of(self.tickets.as_slice(), number) else {
-            return Err(GiveUpRefusal::UnknownTicket);
+            return Err(GiveUpRefusal::Fault(UnknownTicket));
         };
         let id = ticket.id();
         let version = ticket.version();

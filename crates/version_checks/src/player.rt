@@ -2,12 +2,13 @@ use crate::inputs::{entry_of, table_of};
 use crate::said::{Handed, Said, Told, of_finish, of_task, of_view};
 use checkpoints::{Run, simulate};
 use job_table::{Edit, JobTable};
-use scenarios::{Order, Scenario, ScenarioId};
+use scenarios::{NoSuchScenario, Order, Scenario, ScenarioId};
 use std::alloc::Global;
 use std::sync::Arc;
 use swf_text::Value;
 use version_book::{
     AddRefusal, Book, ClaimRefusal, DropRefusal, EditRefusal, GiveUpRefusal, RetryRefusal, Task,
+    TooManyTickets, UnknownTicket,
 };
 
 /// A book with what was given out of it.
@@ -96,7 +97,7 @@ impl Player {
     fn drop_named(&mut self, name: &str) -> Told {
         match self.book.drop_scenario(SESSION, name) {
             Ok(id) => Told::Dropped(id.number()),
-            Err(DropRefusal::NoSuchScenario) => Told::NoSuchScenario,
+            Err(DropRefusal::Fault(NoSuchScenario)) => Told::NoSuchScenario,
             Err(DropRefusal::JournalFull) | Err(DropRefusal::Memory) => Told::Other,
         }
     }
@@ -112,7 +113,7 @@ impl Player {
         };
         match self.book.retry(SESSION, id) {
             Ok(()) => Told::Retried,
-            Err(RetryRefusal::NoSuchScenario) => Told::NoSuchScenario,
+            Err(RetryRefusal::Fault(NoSuchScenario)) => Told::NoSuchScenario,
             Err(RetryRefusal::JournalFull) | Err(RetryRefusal::Memory) => Told::Other,
         }
     }
@@ -136,7 +137,7 @@ impl Player {
         match self.book.claim(1) {
             Ok(Some(task)) => self.keep(task),
             Ok(None) => Told::NoneDue,
-            Err(ClaimRefusal::TooManyTickets) => Told::TooManyTickets,
+            Err(ClaimRefusal::Fault(TooManyTickets)) => Told::TooManyTickets,
             Err(ClaimRefusal::JournalFull) | Err(ClaimRefusal::Memory) => Told::Other,
         }
     }
@@ -193,7 +194,7 @@ impl Player {
     fn give_up(&mut self, ticket: u64) -> Told {
         match self.book.give_up(1, ticket) {
             Ok(()) => Told::GivenUp,
-            Err(GiveUpRefusal::UnknownTicket) => Told::UnknownTicket,
+            Err(GiveUpRefusal::Fault(UnknownTicket)) => Told::UnknownTicket,
             Err(GiveUpRefusal::JournalFull) | Err(GiveUpRefusal::Memory) => Told::Other,
         }
     }

@@ -1,6 +1,6 @@
 use job_table::EditFault;
 use std::alloc::Global;
-use version_book::{FinishRefusal, Published, Task, ViewRefusal};
+use version_book::{FinishFault, FinishRefusal, Published, Task, ViewFault, ViewRefusal};
 
 /// The run that is handed in for a ticket.
 #[derive(Clone, Copy)]
@@ -76,9 +76,9 @@ pub(crate) fn of_task(task: &Task<Global>) -> Told {
 pub(crate) fn of_finish(told: Result<u64, FinishRefusal>) -> Told {
     match told {
         Ok(version) => Told::Finished(version),
-        Err(FinishRefusal::UnknownTicket) => Told::UnknownTicket,
-        Err(FinishRefusal::Stranger) => Told::Stranger,
-        Err(FinishRefusal::Stale { published }) => Told::Stale(published),
+        Err(FinishRefusal::Fault(FinishFault::UnknownTicket)) => Told::UnknownTicket,
+        Err(FinishRefusal::Fault(FinishFault::Stranger)) => Told::Stranger,
+        Err(FinishRefusal::Fault(FinishFault::Stale { published })) => Told::Stale(published),
         Err(FinishRefusal::JournalFull) | Err(FinishRefusal::Memory) => Told::Other,
     }
 }
@@ -87,9 +87,9 @@ pub(crate) fn of_finish(told: Result<u64, FinishRefusal>) -> Told {
 pub(crate) fn of_view(told: &Result<Published<Global>, ViewRefusal>) -> Told {
     match told {
         Ok(published) => Told::Shown(published.version()),
-        Err(ViewRefusal::NoSuchScenario) => Told::NoSuchScenario,
-        Err(ViewRefusal::NotYet) => Told::NotYet,
-        Err(ViewRefusal::Behind { seen, found }) => Told::Behind(*seen, *found),
+        Err(ViewRefusal::Fault(ViewFault::NoSuchScenario)) => Told::NoSuchScenario,
+        Err(ViewRefusal::Fault(ViewFault::NotYet)) => Told::NotYet,
+        Err(ViewRefusal::Fault(ViewFault::Behind { seen, found })) => Told::Behind(*seen, *found),
         Err(ViewRefusal::JournalFull) | Err(ViewRefusal::Memory) => Told::Other,
     }
 }

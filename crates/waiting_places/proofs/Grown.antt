@@ -3,9 +3,10 @@ use Rattle.std.proofs.Common.{◌≡◌, ◌≢◌, ℕ, ◌+◌, ◌-◌, ◌*�
 use Rattle.std.proofs.lemmas.Bool.{cases_eq, cases_lt}
 use Rattle.std.proofs.lemmas.List.{length-append, length-set, get_or-set_same, get_or-set_other, get_or_append_left, get_or_push}
 use Rattle.waiting_places.specs.Bounds.{IsBelow, Keeps, LeastsView}
-use Rattle.waiting_places.specs.Places.{IsPlaces, at_place, room_of, waiting}
+use Rattle.waiting_places.specs.Places.{IsHead, IsPlaces, at_place, room_of, waiting}
 use Rattle.waiting_places.specs.Tree.{IsTree, halved, leaf_of, node_at}
 use Rattle.waiting_places.proofs.Below.{within}
+use Rattle.waiting_places.proofs.Heads.{head_comes}
 use Rattle.waiting_places.proofs.Standing.{no_more, one_comes, one_less}
 
 module _ {X : Type 0} (size estimate : X → ℕ) (nodes : List LeastsView) (places : List (Option X)) (tree : IsTree size estimate nodes places) where
@@ -70,13 +71,11 @@ module _ {X : Type 0} (size estimate : X → ℕ) (places : List (Option X)) (no
       → length places + 1 ≤ room_of (length nodes) → length more ≤ wide → IsPlaces size estimate more new (len + 1) head wide
   comes more new item wide e same keeps met l fit =
       let count = kept.count in
-      let front = kept.front in
       let small = kept.few in
       let longer = ap length e ∙ length-append places (Some item ∷ []) in
       record {
         count = omega (arith, count, ap length (one_comes places more item e), length-append (waiting places) (item ∷ []));
-        front = omega (arith, front, longer);
-        ahead = λ p before. ap (λ (ys : List (Option X)). at_place ys p) e ∙ get_or_append_left places (Some item ∷ []) None p (omega (arith, before, front)) ∙ kept.ahead p before;
+        first = head_comes places head kept.first more item e;
         fit = fit;
         list = omega (arith, longer, same, l);
         few = omega (arith, small, same);
@@ -85,26 +84,24 @@ module _ {X : Type 0} (size estimate : X → ℕ) (places : List (Option X)) (no
             grown size estimate nodes places tree new more item same e (omega (arith, l, many)) keeps met;
       }
 
-  pub leaves : (place : ℕ) (item : X) → at_place places place ≡ Some item → IsPlaces size estimate (set places place None) nodes (len - 1) head room
-  leaves place item is =
+  pub leaves : (place : ℕ) (item : X) → at_place places place ≡ Some item → (next : ℕ) → IsHead (set places place None) next → IsPlaces size estimate (set places place None) nodes (len - 1) next room
+  leaves place item is next first =
       let there = within size estimate places place item is in
       let count = kept.count in
-      let front = kept.front in
       let fit = kept.fit in
       let list = kept.list in
       let same = length-set {A = Option X} places place None in
       record {
         count = omega (arith, count, one_less places place item there is);
-        front = omega (arith, front, same);
-        ahead = λ p before. ⊎_elim
-            (λ (at : p ≡ place). ap (λ (i : ℕ). at_place (set places place None) i) at ∙ get_or-set_same places place None None there)
-            (λ (ne : p ≢ place). get_or-set_other places place p None None ne ∙ kept.ahead p before)
-            (cases_eq p place);
+        first = first;
         fit = omega (arith, fit, same);
         list = omega (arith, list, same);
         few = kept.few;
         tree = λ some. left size estimate nodes places (kept.tree some) place;
       }
+
+  pub place_fits : (place : ℕ) (item : X) → at_place places place ≡ Some item → place < 2 ^ 46
+  place_fits place item is = omega (arith, few, within size estimate places place item is)
 
   pub somebody : (place : ℕ) (item : X) → at_place places place ≡ Some item → 1 ≤ len
   somebody place item is = let count = kept.count in omega (arith, count, one_less places place item (within size estimate places place item is) is)

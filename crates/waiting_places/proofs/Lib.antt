@@ -8,4 +8,5 @@ mod First
 mod Parts
 mod Standing
 mod Found
+mod Heads
 mod Grown

@@ -8,7 +8,7 @@ use Rattle.std.proofs.Math.Seq.{drop-cons}
 use Rattle.waiting_places.specs.Places.{IsFirst, NonePasses, PlacesView, at_place, rank, waiting}
 
 module _ {X : Type 0} where
-  both : (xs ys : List (Option X)) → waiting (xs ++ ys) ≡ waiting xs ++ waiting ys
+  pub both : (xs ys : List (Option X)) → waiting (xs ++ ys) ≡ waiting xs ++ waiting ys
   both xs ys = filter_map-append (λ (x : Option X). x) xs ys
 
   -- who is seen at a place

@@ -1,5 +1,5 @@
 -- Those who wait, each at a place of its own in order of arrival; who left has left its place empty.
-use Rattle.std.specs.Prelude.{◌≡◌, ℕ, ◌*◌, ◌^◌, ◌≤◌, ◌<◌, Bool, false, true, max, List, length, slice_index_or, take, Option, None, Some}
+use Rattle.std.specs.Prelude.{◌≡◌, ℕ, ◌*◌, ◌^◌, ◌≤◌, ◌<◌, Bool, false, true, max, List, length, slice_index_or, take, is_some, Option, None, Some}
 use Rattle.std.specs.List.{filter_map}
 use Rattle.waiting_places.specs.Bounds.{LeastsView}
 use Rattle.waiting_places.specs.Tree.{IsTree}
@@ -37,15 +37,20 @@ module _ {X : Type 0} (test : Option X → Bool) (places : List (Option X)) wher
   IsFirst from to None = NonePasses from to
   IsFirst from to (Some k) = (from ≤ k) × (k < to) × (test (at_place places k) ≡ true) × NonePasses from k
 
+-- nobody waits before this place, and one waits there, or it is behind the last
+pub record IsHead {X : Type 0} (places : List (Option X)) (head : ℕ) : Type 0 where
+  pub front : head ≤ length places
+  pub ahead : (place : ℕ) → place < head → at_place places place ≡ None
+  pub met : head < length places → is_some (at_place places head) ≡ true
+
 -- how many places there may be beside so many nodes: without a tree at most 256, and 64 for each leaf
 abbrev pub room_of : ℕ → ℕ
 room_of nodes = max 256 (32 * nodes)
 
--- what the fields keep: how many wait, a place before which nobody waits, room, and a tree of bounds where there are many places
+-- what the fields keep: how many wait, the place of the first, room, and a tree of bounds where there are many places
 pub record IsPlaces {X : Type 0} (size estimate : X → ℕ) (places : List (Option X)) (nodes : List LeastsView) (len head room : ℕ) : Type 0 where
   pub count : len ≡ length (waiting places)
-  pub front : head ≤ length places
-  pub ahead : (place : ℕ) → place < head → at_place places place ≡ None
+  pub first : IsHead places head
   pub fit : length places ≤ room
   pub list : length places ≤ room_of (length nodes)
   pub few : length nodes ≤ 2 ^ 40

@@ -15,12 +15,15 @@ pub struct Offer {
     pub window: u64,
 }
 
-// Whether it fits the offer.
-fn fits<T: Waits>(item: &T, offer: &Offer) -> bool
-    ensures { result ≡ fits T.size T.estimate offer.now item.now }
-{
-    let size = item.size();
-    size <= offer.extra || (size <= offer.free && item.estimate() <= offer.window)
+impl Offer {
+    /// Whether it fits: it takes no more than is extra, or no more than is free and no longer than the
+    /// window.
+    pub fn fits<T: Waits>(&self, item: &T) -> bool
+        ensures { result ≡ fits T.size T.estimate self.now item.now }
+    {
+        let size = item.size();
+        size <= self.extra || (size <= self.free && item.estimate() <= self.window)
+    }
 }
 
 // Whether one waits at this place, and fits the offer.
@@ -28,7 +31,7 @@ pub(crate) fn holds<T: Waits>(place: &Option<T>, offer: &Offer) -> bool
     ensures { result ≡ holds (fits T.size T.estimate offer.now) place.now }
 {
     match place {
-        Some(item) => fits(item, offer),
+        Some(item) => offer.fits(item),
         None => false,
     }
 }

@@ -1,8 +1,8 @@
-ghost use Rattle.std.specs.Prelude.{◌≡◌, ◌⊎◌, ◌↔◌, ℕ, ◌+◌, ◌*◌, ◌/◌, ◌^◌, ◌≤◌, ◌<◌, [], ◌∷◌, ◌++◌, IfOk, IfSome, IsOk, IsTrue, None, OnErr, OnOk, Some, drop, find, is_some, length, map, option_copied, slice_get, slice_set};
+ghost use Rattle.std.specs.Prelude.{◌≡◌, ◌⊎◌, ◌↔◌, ℕ, ◌+◌, ◌*◌, ◌/◌, ◌^◌, ◌≤◌, ◌<◌, [], ◌∷◌, ◌++◌, IfOk, IfSome, IsOk, IsTrue, None, OnErr, OnOk, Some, drop, find, is_some, length, map, option_copied, slice_get, slice_set, take};
 ghost use Rattle.std.specs.List.{remove};
 ghost use Rattle.waiting_places.specs.Bounds.{IsBelow, Keeps};
 ghost use Rattle.waiting_places.specs.Offers.{fits, holds};
-ghost use Rattle.waiting_places.specs.Places.{IsFirst, at_place, found_at, rank, waiting};
+ghost use Rattle.waiting_places.specs.Places.{IsFirst, IsHead, at_place, found_at, rank, waiting};
 ghost use Rattle.waiting_places.specs.Tree.{halved, leaf_of, node_at};
 
 use crate::growth::{LIST, nodes_for};
@@ -28,7 +28,7 @@ pub struct Places<T: Waits, A: Allocator + Copy> {
     places: Vec<Option<T>, A>,
     nodes: Vec<Leasts, A>,
     len: usize,
-    // Nobody waits before this place.
+    // The place of the first who waits; where nobody does, behind the last place.
     head: usize,
 }
 
@@ -55,6 +55,33 @@ fn note<T: Waits>(nodes: &mut [Leasts], place: usize, item: &T)
     }
     let leaf = nodes.len() / 2 + place / SPAN;
     lower(nodes, leaf, item);
+}
+
+// The place of the first who waits, where nobody does before this one; behind the last place where nobody
+// waits.
+fn head_from<T: Waits>(places: &[Option<T>], from: usize) -> usize
+    requires within { from ≤ length places.now }
+    requires ahead { (place : ℕ) → place < from → at_place places.now place ≡ None }
+    ensures { IsHead places.now result }
+{
+    first_some(places, from).unwrap_or(places.len())
+}
+
+// The place behind which so many wait: it goes from the last place on.
+fn place_before<T: Waits>(places: &[Option<T>], count: usize) -> usize
+    requires { count ≤ length (waiting places.now) }
+    ensures within { result ≤ length places.now }
+    ensures behind { length (waiting (drop result places.now)) ≡ count }
+{
+    let mut place = places.len();
+    let mut left = count;
+    'places: while 0 < left {
+        place -= 1;
+        if places[place].is_some() {
+            left -= 1;
+        }
+    }
+    place
 }
 
 // Those who wait at these places, at the first places of others, of which there are so many at least.
@@ -164,16 +191,19 @@ impl<T: Waits, A: Allocator + Copy> Places<T, A> {
         place
     }
 
-    /// Who waits at a place leaves it empty; None where nobody does. It costs a step.
+    /// Who waits at a place leaves it empty; None where nobody does. It costs a step, and where the first
+    /// leaves one for each empty place behind it.
     pub fn take(&mut self, place: usize) -> Option<T>
         ensures item { result ≡ at_place self.old.places place }
         ensures places { self.new.places ≡ slice_set self.old.places place None }
         ensures waiting { IfSome result (λ _. waiting self.new.places ≡ remove (waiting self.old.places) (rank self.old.places place)) }
         ensures spare { self.new.spare ≡ self.old.spare }
+        ensures few { IfSome result (λ _. place < 2 ^ 46) }
     {
         let item = *self.get(place)?;
         self.places[place] = None;
         self.len -= 1;
+        self.head = head_from(self.places.as_slice(), self.head);
         Some(item)
     }
 
@@ -184,16 +214,16 @@ impl<T: Waits, A: Allocator + Copy> Places<T, A> {
         self.places.get(place)?.as_ref()
     }
 
-    /// The place of the first who waits; None where nobody does.
-    #[tactic(auto, using(crate::proofs::Found::found_first))]
-    pub fn first(&mut self) -> Option<usize>
-        ensures place { IsFirst is_some self.old.places 0 (length self.old.places) result }
-        ensures item { found_at self.old.places result ≡ slice_get (waiting self.old.places) 0 }
-        ensures same { self.new ≡ self.old }
+    /// The place of the first who waits; None where nobody does. It costs a step.
+    pub fn first(&self) -> Option<usize>
+        ensures place { IsFirst is_some self.now.places 0 (length self.now.places) result }
+        ensures item { found_at self.now.places result ≡ slice_get (waiting self.now.places) 0 }
     {
-        let first = first_some(self.places.as_slice(), self.head);
-        self.head = first.unwrap_or(self.places.len());
-        first
+        if self.head < self.places.len() {
+            Some(self.head)
+        } else {
+            None
+        }
     }
 
     /// The first place from one on where one waits who fits the offer; None where none does. What it
@@ -204,16 +234,48 @@ impl<T: Waits, A: Allocator + Copy> Places<T, A> {
         ensures item { found_at self.old.places result ≡ find (fits T.size T.estimate offer.now) (waiting (drop from self.old.places)) }
         ensures same { self.new ≡ self.old }
     {
+        let begin = from.max(self.head);
         if self.nodes.is_empty() {
-            return first_in(self.places.as_slice(), from, self.places.len(), offer);
+            return first_in(self.places.as_slice(), begin, self.places.len(), offer);
         }
-        first_in_tree(&mut self.nodes, self.places.as_slice(), from, offer)
+        first_in_tree(&mut self.nodes, self.places.as_slice(), begin, offer)
     }
 
     /// Those who wait, in order.
     pub fn iter(&self) -> Waiting<'_, T>
         ensures { result ≡ waiting self.now.places }
     {
-        Waiting::at(self.places.as_slice())
+        Waiting::at(&self.places[self.head..])
+    }
+
+    /// The places, in order.
+    pub fn as_slice(&self) -> &[Option<T>]
+        ensures { result.now ≡ self.now.places }
+    {
+        self.places.as_slice()
+    }
+
+    /// The place from which on all wait but so many first ones. It costs a step for each place from there
+    /// on.
+    pub fn place_behind(&self, count: usize) -> usize
+        requires { count ≤ length (waiting self.now.places) }
+        ensures within { result ≤ length self.now.places }
+        ensures front { waiting (take result self.now.places) ≡ take count (waiting self.now.places) }
+        ensures rest { waiting (drop result self.now.places) ≡ drop count (waiting self.now.places) }
+    {
+        place_before(self.places.as_slice(), self.len - count)
+    }
+
+    /// Those who wait but for so many first ones, in order. It costs a step for each place from theirs on.
+    pub fn iter_behind(&self, count: usize) -> Waiting<'_, T>
+        ensures { result ≡ drop count (waiting self.now.places) }
+    {
+        let place = self.place_behind(count.min(self.len));
+        Waiting::at(&self.places[place..])
+    }
+
+    /// The allocator that the places are kept on.
+    pub fn allocator(&self) -> A {
+        *self.places.allocator()
     }
 }

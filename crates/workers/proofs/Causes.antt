@@ -7,35 +7,35 @@ use Rattle.version_book.specs.Answers.{claim_answer, finish_answer, fitted, give
 use Rattle.version_book.specs.Book.{BookView}
 use Rattle.version_book.specs.Sound.{IsBook}
 use Rattle.version_book.specs.Steps.{Answers, memory}
-use Rattle.version_book.specs.declared.worker_refusal.ClaimRefusal.{ClaimRefusal}
-use Rattle.version_book.specs.declared.worker_refusal.ClaimRefusal.TheVariants as claim
-use Rattle.version_book.specs.declared.worker_refusal.FinishRefusal.{FinishRefusal}
-use Rattle.version_book.specs.declared.worker_refusal.FinishRefusal.TheVariants as finish
-use Rattle.version_book.specs.declared.worker_refusal.GiveUpRefusal.{GiveUpRefusal}
-use Rattle.version_book.specs.declared.worker_refusal.GiveUpRefusal.TheVariants as give_up
+use Rattle.version_book.specs.declared.faults.TooManyTickets.{TooManyTickets}
+use Rattle.version_book.specs.declared.faults.FinishFault.{FinishFault}
+use Rattle.version_book.specs.declared.faults.FinishFault.TheVariants as finish
+use Rattle.version_book.specs.declared.faults.UnknownTicket.{UnknownTicket}
+use Rattle.version_book.specs.declared.refusal.Refusal.{Refusal}
+use Rattle.version_book.specs.declared.refusal.Refusal.TheVariants as why
 use Rattle.workers.specs.Readings.{WasRefused}
-use Rattle.workers.specs.Work.{end_of_finish, end_of_give_up}
+use Rattle.workers.specs.Work.{end_of}
 use Rattle.workers.specs.declared.worker.WorkerEnd.TheVariants as ends
 
 -- a book answered so
 pub refused : (old new : BookView) (who : Caller) (call : BookCall) → IsBook old → Answers old new who call memory → WasRefused who
 refused old new who call book h = (old, call, book, (h.0, refl))
 
-pub refused-claim : (old new : BookView) (who : Caller) (why : ClaimRefusal) → why ≡ claim.Memory → IsBook old → Answers old new who Claim (claim_answer (Err why)) → WasRefused who
-refused-claim old new who claim.JournalFull is book h = cc
-refused-claim old new who claim.TooManyTickets is book h = cc
-refused-claim old new who claim.Memory is book h = refused old new who Claim book h
+pub refused-claim : (old new : BookView) (who : Caller) (refusal : Refusal TooManyTickets) → refusal ≡ why.Memory → IsBook old → Answers old new who Claim (claim_answer (Err refusal)) → WasRefused who
+refused-claim old new who why.JournalFull is book h = cc
+refused-claim old new who (why.Fault fault) is book h = cc
+refused-claim old new who why.Memory is book h = refused old new who Claim book h
 
-pub refused-finish : (old new : BookView) (who : Caller) (ticket : ℕ) (told : Result ℕ FinishRefusal) → IsBook old → Answers old new who (Finish ticket (fitted told)) (finish_answer told) → end_of_finish told ≡ Some ends.Memory → WasRefused who
+pub refused-finish : (old new : BookView) (who : Caller) (ticket : ℕ) (told : Result ℕ (Refusal FinishFault)) → IsBook old → Answers old new who (Finish ticket (fitted told)) (finish_answer told) → end_of told ≡ Some ends.Memory → WasRefused who
 refused-finish old new who ticket (Ok version) book h is = cc
-refused-finish old new who ticket (Err finish.JournalFull) book h is = cc
-refused-finish old new who ticket (Err finish.UnknownTicket) book h is = cc
-refused-finish old new who ticket (Err finish.Stranger) book h is = cc
-refused-finish old new who ticket (Err (finish.Stale published)) book h is = cc
-refused-finish old new who ticket (Err finish.Memory) book h is = refused old new who (Finish ticket false) book h
+refused-finish old new who ticket (Err why.JournalFull) book h is = cc
+refused-finish old new who ticket (Err (why.Fault finish.UnknownTicket)) book h is = cc
+refused-finish old new who ticket (Err (why.Fault finish.Stranger)) book h is = cc
+refused-finish old new who ticket (Err (why.Fault (finish.Stale published))) book h is = cc
+refused-finish old new who ticket (Err why.Memory) book h is = refused old new who (Finish ticket false) book h
 
-pub refused-give-up : (old new : BookView) (who : Caller) (ticket : ℕ) (told : Result (Unit {0}) GiveUpRefusal) → IsBook old → Answers old new who (GiveUp ticket) (give_up_answer told) → end_of_give_up told ≡ Some ends.Memory → WasRefused who
+pub refused-give-up : (old new : BookView) (who : Caller) (ticket : ℕ) (told : Result (Unit {0}) (Refusal UnknownTicket)) → IsBook old → Answers old new who (GiveUp ticket) (give_up_answer told) → end_of told ≡ Some ends.Memory → WasRefused who
 refused-give-up old new who ticket (Ok u) book h is = cc
-refused-give-up old new who ticket (Err give_up.JournalFull) book h is = cc
-refused-give-up old new who ticket (Err give_up.UnknownTicket) book h is = cc
-refused-give-up old new who ticket (Err give_up.Memory) book h is = refused old new who (GiveUp ticket) book h
+refused-give-up old new who ticket (Err why.JournalFull) book h is = cc
+refused-give-up old new who ticket (Err (why.Fault fault)) book h is = cc
+refused-give-up old new who ticket (Err why.Memory) book h is = refused old new who (GiveUp ticket) book h

@@ -7,14 +7,15 @@ use Rattle.book_machine.specs.declared.reply.Reply.{Reply}
 use Rattle.book_machine.specs.declared.reply.Reply.TheVariants as reply
 use Rattle.checkpoints.specs.RunView.{RunView}
 use Rattle.version_book.specs.Answers.{finish_answer, fitted, give_up_answer}
-use Rattle.version_book.specs.declared.worker_refusal.FinishRefusal.{FinishRefusal}
-use Rattle.version_book.specs.declared.worker_refusal.FinishRefusal.TheVariants as finish
-use Rattle.version_book.specs.declared.worker_refusal.GiveUpRefusal.{GiveUpRefusal}
-use Rattle.version_book.specs.declared.worker_refusal.GiveUpRefusal.TheVariants as give_up
+use Rattle.version_book.specs.declared.faults.FinishFault.{FinishFault}
+use Rattle.version_book.specs.declared.faults.FinishFault.TheVariants as finish
+use Rattle.version_book.specs.declared.faults.UnknownTicket.{UnknownTicket}
+use Rattle.version_book.specs.declared.refusal.Refusal.{Refusal}
+use Rattle.version_book.specs.declared.refusal.Refusal.TheVariants as why
 use Rattle.workers.specs.declared.worker.WorkerEnd.{WorkerEnd}
 use Rattle.workers.specs.declared.worker.WorkerEnd.TheVariants as ends
 use Rattle.workers.specs.Lists.{Exchanged, exchanged, Gains}
-use Rattle.workers.specs.Work.{HandsIn, HandsInWhat, held_after, held_after_call, HandsInOnce, WorksOn, WorksThrough, end_of_finish, end_of_give_up}
+use Rattle.workers.specs.Work.{HandsIn, HandsInWhat, held_after, held_after_call, HandsInOnce, WorksOn, WorksThrough, end_of}
 
 pub through_stays : (old new : List Exchanged) → new ≡ old → WorksThrough old new
 through_stays old new is = ([], is ∙ sym (append-nil old), refl)
@@ -91,19 +92,19 @@ through_finish old mid new t fits r h is = through_held old mid new t (Finish t 
 through_give_up : (old mid new : List Exchanged) (t : ℕ) (r : Reply) → Held old mid t → new ≡ mid ++ exchanged (GiveUp t) r ∷ [] → WorksThrough old new
 through_give_up old mid new t r h is = through_held old mid new t (GiveUp t) r h (give_up_lets t r) is
 
-finished : (old mid new : List Exchanged) (t : ℕ) (end : Option WorkerEnd) → Held old mid t → (answer : Result ℕ FinishRefusal) → Gains mid new (Finish t (fitted answer)) (finish_answer answer) → end ≡ end_of_finish answer → GoesOn old new end
+finished : (old mid new : List Exchanged) (t : ℕ) (end : Option WorkerEnd) → Held old mid t → (answer : Result ℕ (Refusal FinishFault)) → Gains mid new (Finish t (fitted answer)) (finish_answer answer) → end ≡ end_of answer → GoesOn old new end
 finished old mid new t end h (Ok v) g is = goes_through old new end is (through_finish old mid new t true (reply.Finished v) h g)
-finished old mid new t end h (Err finish.JournalFull) g is = goes_out old new end _ is (λ e. cc) (on_held old mid new t h g)
-finished old mid new t end h (Err finish.UnknownTicket) g is = goes_through old new end is (through_finish old mid new t false reply.UnknownTicket h g)
-finished old mid new t end h (Err finish.Stranger) g is = goes_through old new end is (through_finish old mid new t false reply.Stranger h g)
-finished old mid new t end h (Err (finish.Stale p)) g is = goes_through old new end is (through_finish old mid new t true (reply.Stale p) h g)
-finished old mid new t end h (Err finish.Memory) g is = goes_out old new end _ is (λ e. cc) (on_held old mid new t h g)
+finished old mid new t end h (Err why.JournalFull) g is = goes_out old new end _ is (λ e. cc) (on_held old mid new t h g)
+finished old mid new t end h (Err (why.Fault finish.UnknownTicket)) g is = goes_through old new end is (through_finish old mid new t false reply.UnknownTicket h g)
+finished old mid new t end h (Err (why.Fault finish.Stranger)) g is = goes_through old new end is (through_finish old mid new t false reply.Stranger h g)
+finished old mid new t end h (Err (why.Fault (finish.Stale p))) g is = goes_through old new end is (through_finish old mid new t true (reply.Stale p) h g)
+finished old mid new t end h (Err why.Memory) g is = goes_out old new end _ is (λ e. cc) (on_held old mid new t h g)
 
-given_up : (old mid new : List Exchanged) (t : ℕ) (end : Option WorkerEnd) → Held old mid t → (answer : Result (Unit {0}) GiveUpRefusal) → Gains mid new (GiveUp t) (give_up_answer answer) → end ≡ end_of_give_up answer → GoesOn old new end
+given_up : (old mid new : List Exchanged) (t : ℕ) (end : Option WorkerEnd) → Held old mid t → (answer : Result (Unit {0}) (Refusal UnknownTicket)) → Gains mid new (GiveUp t) (give_up_answer answer) → end ≡ end_of answer → GoesOn old new end
 given_up old mid new t end h (Ok u) g is = goes_through old new end is (through_give_up old mid new t reply.GivenUp h g)
-given_up old mid new t end h (Err give_up.JournalFull) g is = goes_out old new end _ is (λ e. cc) (on_held old mid new t h g)
-given_up old mid new t end h (Err give_up.UnknownTicket) g is = goes_through old new end is (through_give_up old mid new t reply.UnknownTicket h g)
-given_up old mid new t end h (Err give_up.Memory) g is = goes_out old new end _ is (λ e. cc) (on_held old mid new t h g)
+given_up old mid new t end h (Err why.JournalFull) g is = goes_out old new end _ is (λ e. cc) (on_held old mid new t h g)
+given_up old mid new t end h (Err (why.Fault fault)) g is = goes_through old new end is (through_give_up old mid new t reply.UnknownTicket h g)
+given_up old mid new t end h (Err why.Memory) g is = goes_out old new end _ is (λ e. cc) (on_held old mid new t h g)
 
 -- a ticket that was claimed was handed in or given up
 pub goes_on : (old mid new : List Exchanged) (t id v : ℕ) (base : Option ℕ) (end : Option WorkerEnd) → mid ≡ old ++ exchanged Claim (reply.Claimed t id v base) ∷ [] → HandsInOnce t mid new end → GoesOn old new end

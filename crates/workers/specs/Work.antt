@@ -10,10 +10,10 @@ use Rattle.version_book.specs.Answers.{claim_answer, finish_answer, fitted, give
 use Rattle.version_book.specs.Book.{BookView}
 use Rattle.version_book.specs.Steps.{Answers, full, memory}
 use Rattle.version_book.specs.Tasks.{TaskView, due_shown, free_due, task_for}
-use Rattle.version_book.specs.declared.worker_refusal.FinishRefusal.{FinishRefusal}
-use Rattle.version_book.specs.declared.worker_refusal.FinishRefusal.TheVariants as finish
-use Rattle.version_book.specs.declared.worker_refusal.GiveUpRefusal.{GiveUpRefusal}
-use Rattle.version_book.specs.declared.worker_refusal.GiveUpRefusal.TheVariants as give_up
+use Rattle.version_book.specs.declared.faults.FinishFault.{FinishFault}
+use Rattle.version_book.specs.declared.faults.UnknownTicket.{UnknownTicket}
+use Rattle.version_book.specs.declared.refusal.Refusal.{Refusal}
+use Rattle.version_book.specs.declared.refusal.Refusal.TheVariants as why
 use Rattle.workers.specs.Lists.{Exchanged, Gains}
 use Rattle.workers.specs.declared.worker.WorkerEnd.{WorkerEnd}
 use Rattle.workers.specs.declared.worker.WorkerEnd.TheVariants as ends
@@ -66,30 +66,22 @@ GainsClaim (Err end) old new = new ≡ old
 
 -- ---- how a ticket is handed in
 
--- a worker ends at a full journal and at want of memory; all else that a finish is told is passed over
-abbrev pub end_of_finish : Result ℕ FinishRefusal → Option WorkerEnd
-end_of_finish (Ok version) = None
-end_of_finish (Err finish.JournalFull) = Some ends.Full
-end_of_finish (Err finish.UnknownTicket) = None
-end_of_finish (Err finish.Stranger) = None
-end_of_finish (Err (finish.Stale published)) = None
-end_of_finish (Err finish.Memory) = Some ends.Memory
-
-abbrev pub end_of_give_up : {U : Type 0} → Result U GiveUpRefusal → Option WorkerEnd
-end_of_give_up (Ok _) = None
-end_of_give_up (Err give_up.JournalFull) = Some ends.Full
-end_of_give_up (Err give_up.UnknownTicket) = None
-end_of_give_up (Err give_up.Memory) = Some ends.Memory
+-- a worker ends at a full journal and at want of memory; all else that it is told is passed over
+abbrev pub end_of : {T F : Type 0} → Result T (Refusal F) → Option WorkerEnd
+end_of (Ok value) = None
+end_of (Err why.JournalFull) = Some ends.Full
+end_of (Err (why.Fault fault)) = None
+end_of (Err why.Memory) = Some ends.Memory
 
 -- the run for the ticket was handed in, the list has the answer, and the worker ends by it
 abbrev pub Finishes : ℕ → List Exchanged → List Exchanged → Option WorkerEnd → Type 0
 Finishes ticket old new end =
-    (answer : Result ℕ FinishRefusal) × Gains old new (Finish ticket (fitted answer)) (finish_answer answer) × (end ≡ end_of_finish answer)
+    (answer : Result ℕ (Refusal FinishFault)) × Gains old new (Finish ticket (fitted answer)) (finish_answer answer) × (end ≡ end_of answer)
 
 -- the ticket was given up, the list has the answer, and the worker ends by it
 abbrev pub GivesUp : ℕ → List Exchanged → List Exchanged → Option WorkerEnd → Type 0
 GivesUp ticket old new end =
-    (answer : Result (Unit {0}) GiveUpRefusal) × Gains old new (GiveUp ticket) (give_up_answer answer) × (end ≡ end_of_give_up answer)
+    (answer : Result (Unit {0}) (Refusal UnknownTicket)) × Gains old new (GiveUp ticket) (give_up_answer answer) × (end ≡ end_of answer)
 
 -- a run that was made is one of the task's log and setting
 abbrev pub IsWanted : TaskView → Option RunView → Type 0

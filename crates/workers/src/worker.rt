@@ -2,7 +2,7 @@ ghost use Rattle.std.specs.Prelude.{◌≡◌, Err, IfNone, Some};
 ghost use Rattle.workers.specs.Callers.{new_worker};
 ghost use Rattle.workers.specs.declared.worker.WorkerEnd.TheVariants as ends;
 ghost use Rattle.workers.specs.Readings.{LackedMemory, WasFull};
-ghost use Rattle.workers.specs.Work.{Finishes, GainsClaim, GivesUp, HandsInOnce, HandsInWhat, WorksOn, WorksThrough, end_of_finish, end_of_give_up};
+ghost use Rattle.workers.specs.Work.{Finishes, GainsClaim, GivesUp, HandsInOnce, HandsInWhat, WorksOn, WorksThrough, end_of};
 
 use crate::desk::Desk;
 use crate::exchange::{Exchange, make_room};
@@ -13,7 +13,7 @@ use std::alloc::Allocator;
 use std::marker::Model;
 use std::sync::{Arc, Wait};
 use swf_text::Memory;
-use version_book::{FinishRefusal, GiveUpRefusal, Task};
+use version_book::{Refusal, Task};
 
 /// Why a worker ended.
 #[derive(Clone, Copy, Debug, PartialEq, Eq)]
@@ -51,24 +51,13 @@ impl<A: Allocator + Copy> Model for Worker<A> {
     ghost view = { λ w. record { number = w.number; list = map exchanged_of w.list.items; room = vec_capacity w.list - vec_len w.list } };
 }
 
-// Whether a worker ends by what its finish was told.
-fn end_of_finish(told: Result<u64, FinishRefusal>) -> Option<WorkerEnd>
-    ensures { result ≡ end_of_finish told }
+// Whether a worker ends by what it was told.
+fn end_of<T: Copy, F: Copy>(told: Result<T, Refusal<F>>) -> Option<WorkerEnd>
+    ensures { result ≡ end_of told }
 {
     match told {
-        Err(FinishRefusal::JournalFull) => Some(WorkerEnd::Full),
-        Err(FinishRefusal::Memory) => Some(WorkerEnd::Memory),
-        _ => None,
-    }
-}
-
-// Whether a worker ends by what its give-up was told.
-fn end_of_give_up(told: Result<(), GiveUpRefusal>) -> Option<WorkerEnd>
-    ensures { result ≡ end_of_give_up told }
-{
-    match told {
-        Err(GiveUpRefusal::JournalFull) => Some(WorkerEnd::Full),
-        Err(GiveUpRefusal::Memory) => Some(WorkerEnd::Memory),
+        Err(Refusal::JournalFull) => Some(WorkerEnd::Full),
+        Err(Refusal::Memory) => Some(WorkerEnd::Memory),
         _ => None,
     }
 }
@@ -133,7 +122,7 @@ impl<A: Allocator + Copy> Worker<A> {
             .lock(rt)
             .finish_for(self.number, &mut self.list, ticket, run);
         desk.changed.notify_all();
-        end_of_finish(told)
+        end_of(told)
     }
 
     // Gives a ticket up, and wakes whoever waits.
@@ -151,7 +140,7 @@ impl<A: Allocator + Copy> Worker<A> {
             .lock(rt)
             .give_up_for(self.number, &mut self.list, ticket);
         desk.changed.notify_all();
-        end_of_give_up(told)
+        end_of(told)
     }
 
     // Makes the run for a ticket without the lock, and hands it in; or gives the ticket up, where a

@@ -10,7 +10,7 @@ ghost use Rattle.version_book.specs.Tasks.{Fits, due_shown, task_for};
 ghost use Rattle.version_book.specs.Sound.{IsBook};
 ghost use Rattle.workers.specs.Lists.{Gains, exchanged_of};
 ghost use Rattle.workers.specs.Readings.{WasFull, WasRefused, is_idle};
-ghost use Rattle.workers.specs.Work.{Finds, GainsClaim, end_of_finish, end_of_give_up};
+ghost use Rattle.workers.specs.Work.{Finds, GainsClaim, end_of};
 ghost use Rattle.workers.specs.declared.worker.WorkerEnd.TheVariants as ends;
 
 use crate::exchange::{Exchange, keep};
@@ -20,13 +20,16 @@ use book_machine::Call;
 use checkpoints::Run;
 use std::alloc::Allocator;
 use std::sync::Arc;
-use version_book::{ClaimRefusal, FinishRefusal, GiveUpRefusal, Task};
+use version_book::{ClaimRefusal, FinishFault, FinishRefusal, GiveUpRefusal, Task, TooManyTickets};
 
 // Whether the run fitted its ticket, as the answer tells.
 fn is_fitting(told: &Result<u64, FinishRefusal>) -> bool
     ensures { result ≡ fitted told.now }
 {
-    matches!(told, Ok(_) | Err(FinishRefusal::Stale { .. }))
+    matches!(
+        told,
+        Ok(_) | Err(FinishRefusal::Fault(FinishFault::Stale { .. }))
+    )
 }
 
 impl<A: Allocator + Copy> Shared<A> {
@@ -67,7 +70,7 @@ impl<A: Allocator + Copy> Shared<A> {
         match self.claim_for(worker, list) {
             Ok(Some(task)) => Ok(task),
             Ok(None) => unreachable!(),
-            Err(ClaimRefusal::TooManyTickets) => unreachable!(),
+            Err(ClaimRefusal::Fault(TooManyTickets)) => unreachable!(),
             Err(ClaimRefusal::JournalFull) => Err(WorkerEnd::Full),
             Err(ClaimRefusal::Memory) => Err(WorkerEnd::Memory),
         }
@@ -85,8 +88,8 @@ impl<A: Allocator + Copy> Shared<A> {
         ensures book { Answers self.old.book self.new.book (caller.Worker worker) (Finish ticket (fitted result)) (finish_answer result) }
         ensures list { Gains (map exchanged_of list.old.items) (map exchanged_of list.new.items) (Finish ticket (fitted result)) (finish_answer result) }
         ensures fits { TakesWhatFits (Fits self.old.book.state ticket (arc_value run)) result }
-        ensures full { end_of_finish result ≡ Some ends.Full → WasFull }
-        ensures memory { end_of_finish result ≡ Some ends.Memory → WasRefused (caller.Worker worker) }
+        ensures full { end_of result ≡ Some ends.Full → WasFull }
+        ensures memory { end_of result ≡ Some ends.Memory → WasRefused (caller.Worker worker) }
     {
         let notes = self.notes();
         let told = self.book.hand_in(worker, ticket, run);
@@ -109,8 +112,8 @@ impl<A: Allocator + Copy> Shared<A> {
         requires room { vec_len list.old < vec_capacity list.old }
         ensures book { Answers self.old.book self.new.book (caller.Worker worker) (GiveUp ticket) (give_up_answer result) }
         ensures list { Gains (map exchanged_of list.old.items) (map exchanged_of list.new.items) (GiveUp ticket) (give_up_answer result) }
-        ensures full { end_of_give_up result ≡ Some ends.Full → WasFull }
-        ensures memory { end_of_give_up result ≡ Some ends.Memory → WasRefused (caller.Worker worker) }
+        ensures full { end_of result ≡ Some ends.Full → WasFull }
+        ensures memory { end_of result ≡ Some ends.Memory → WasRefused (caller.Worker worker) }
     {
         let notes = self.notes();
         let told = self.book.give_up(worker, ticket);

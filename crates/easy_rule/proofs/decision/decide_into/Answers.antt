@@ -1,10 +1,12 @@
-use Rattle.std.proofs.Common.{◌∙◌, sym, ap, map}
-use Rattle.easy_rule.specs.Pass.{start_at}
-use Rattle.easy_rule.proofs.PassLemmas.{state_after-done, starts_at-done}
+use Rattle.std.proofs.Common.{subst, sym}
+use Rattle.cluster_state.specs.State.{ClusterView}
+use Rattle.easy_rule.specs.Decision.{IsDecision}
+use Rattle.easy_rule.proofs.Begun.{begun-done, begun-none}
 use Rattle.easy_rule.proofs.decision.decide_into.Goals as goal
 
-pub returns-in-Nobody-clause-state : goal.returns-in-Nobody-clause-state
-returns-in-Nobody-clause-state g c = sym (state_after-done c.args.cluster.now.state c.args.now c.in-Nobody.ensures.0)
-
-pub returns-in-Nobody-clause-starts : goal.returns-in-Nobody-clause-starts
-returns-in-Nobody-clause-starts g c = ap (map (start_at c.args.now)) c.clear.ensures.items ∙ sym (starts_at-done c.args.cluster.now.state c.args.now c.in-Nobody.ensures.0)
+pub returns-in-Nobody-clause-ok : goal.returns-in-Nobody-clause-ok
+returns-in-Nobody-clause-ok g c =
+    let v = c.args.cluster.now in
+    let items = c.clear.new.self.items in
+    subst (λ (d : ClusterView). IsDecision v d c.args.now items) (sym c.in-Nobody.ensures.same)
+    (begun-done v v c.args.now items c.in-Nobody.ensures.first.0 (begun-none v c.args.now items c.clear.ensures.items))

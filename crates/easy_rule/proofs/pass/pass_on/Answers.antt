@@ -1,74 +1,42 @@
-use Rattle.std.proofs.Common.{◌≡◌, ◌≤◌, ◌+◌, ◌-◌, ◌++◌, ◌∙◌, sym, ap, arith, subst, false, true, length, take, drop, map, All, List}
-use Rattle.std.proofs.lemmas.List.{map-append, length-append}
-use Rattle.scenarios.specs.Job.{EffectiveJob, IsWithinLimits}
-use Rattle.cluster_state.specs.State.{State, all_started}
-use Rattle.easy_rule.specs.Rule.{shadow_of}
-use Rattle.easy_rule.specs.Pass.{most_starts, start_at}
-use Rattle.easy_rule.proofs.PassLemmas.{All-in_order, length-row}
-use Rattle.easy_rule.proofs.ChoiceLemmas.{Picks, later-of, picks-all, started-on}
-use Rattle.easy_rule.proofs.pass.pass_on.Given.{Over}
+use Rattle.std.proofs.Common.{◌≡◌, ◌+◌, ◌≤◌, [], ◌∷◌, ◌++◌, ap, arith, rules, subst, sym}
+use Rattle.cluster_state.specs.State.{ClusterView}
+use Rattle.easy_rule.specs.Pass.{less}
+use Rattle.easy_rule.specs.Decision.{IsDecision}
+use Rattle.easy_rule.proofs.Begun.{begun-done, begun-more, next-shorter, room-then}
+use Rattle.easy_rule.proofs.CandidateLemmas.{candidate-started, candidate-starts}
 use Rattle.easy_rule.proofs.pass.pass_on.Goals as goal
 
-facts : (g : Over) (c : goal.In-Ok g)
-    → (let js = take (length c.deref.result.now - c.len-before.result) (drop c.len-before.result c.deref.result.now) in
-    Picks c.args.cluster.now.state c.args.now js c.choose-left.result × (c.deref.result.now ≡ c.args.chosen.now.items ++ js) × (length js + most_starts (all_started c.args.cluster.now.state js c.args.now) ≤ most_starts c.args.cluster.now.state))
-facts g c =
-    later-of c.args.cluster.now.state c.args.now c.free.result c.args.place c.len-before.result c.args.shadow c.choose-left.result c.row.result.now c.args.chosen.now.items c.deref.result.now c.requires.now c.free.ensures.sound c.requires.pass c.free.ensures.free c.row.ensures.jobs
-    (omega (arith, c.len-before.ensures, c.args.chosen.now.ok.0)) (c.deref.ensures.value ∙ c.choose-left.ensures.jobs) c.choose-left.ensures.left
+pub candidates-smaller : goal.candidates-smaller
+candidates-smaller g c =
+    let v : ClusterView = c.candidates.cluster in
+    let d : ClusterView = c.start_at-from.new.self in
+    let k = c.in-Some.ensures.some in
+    let is = candidate-starts v c.next_candidate.new.cluster d c.args.now c.candidates.left c.in-Some.at c.in-Some.job c.in-Some.ensures.same k c.start_at-from.ensures.state in
+    next-shorter v.state d.state c.args.now c.in-Some.job c.in-Some.ensures.sound k.found is
 
-pub choose-left-requires-clause-limits : goal.choose-left-requires-clause-limits
-choose-left-requires-clause-limits g c =
-    let s : State = c.args.cluster.now.state in
-    subst (λ (js : List EffectiveJob). All IsWithinLimits js) (sym c.row.ensures.jobs) (All-in_order IsWithinLimits s.order s.waiting c.row.ensures.sound.waiting_limits)
+pub candidates-preserved : goal.candidates-preserved
+candidates-preserved g c =
+    let v : ClusterView = c.candidates.cluster in
+    let m : ClusterView = c.next_candidate.new.cluster in
+    let d : ClusterView = c.start_at-from.new.self in
+    let same = c.in-Some.ensures.same in
+    let h = c.in-Some.ensures.sound in
+    let k = c.in-Some.ensures.some in
+    let now = c.args.now in
+    let job = c.in-Some.job in
+    let is = candidate-starts v m d now c.candidates.left c.in-Some.at job same k c.start_at-from.ensures.state in
+    let spare : v.spare ≤ d.spare + 1 = let e = ap (λ (z : ClusterView). z.spare) same in let s = c.start_at-from.ensures.spare in omega (arith, e, s) in
+    let items : c.push.new.self.items ≡ c.candidates.chosen.items ++ job ∷ [] = search rules in
+    let left : c.left_by-left.result ≡ less c.candidates.left now job = search rules in
+    record {
+      begun = λ first b. begun-more first v d now c.candidates.chosen.items c.push.new.self.items job h k.found is spare items (c.candidates.invariant.begun first b);
+      pass = candidate-started v m d now c.candidates.left c.left_by-left.result c.in-Some.at c.start_at-from.result job same h k is c.start_at-from.ensures.rest left;
+      room = room-then v d now _ _ _ _ job h k.found c.candidates.invariant.room is spare c.in-Ok.ensures.len c.push.ensures.capacity;
+    }
 
-pub choose-left-requires-clause-room : goal.choose-left-requires-clause-room
-choose-left-requires-clause-room g c =
-    let len = ap length c.row.ensures.jobs ∙ length-row c.args.cluster.now.state in
-    omega (arith, len, c.free.ensures.free, c.requires.room)
-
-pub start_all-requires-clause-fits : goal.start_all-requires-clause-fits
-start_all-requires-clause-fits g c =
-    (later-of c.args.cluster.now.state c.args.now c.free.result c.args.place c.len-before.result c.args.shadow c.choose-left.result c.row.result.now c.args.chosen.now.items c.deref.result.now c.requires.now c.free.ensures.sound c.requires.pass c.free.ensures.free c.row.ensures.jobs
-    (omega (arith, c.len-before.ensures, c.args.chosen.now.ok.0)) (c.deref.ensures.value ∙ c.choose-left.ensures.jobs) c.choose-left.ensures.left).0.first.can
-
-pub unreachable-requires : goal.unreachable-requires
-unreachable-requires g c =
-    let fewer = (later-of c.args.cluster.now.state c.args.now c.free.result c.args.place c.len-before.result c.args.shadow c.choose-left.result c.row.result.now c.args.chosen.now.items c.deref.result.now c.requires.now c.free.ensures.sound c.requires.pass c.free.ensures.free c.row.ensures.jobs
-    (omega (arith, c.len-before.ensures, c.args.chosen.now.ok.0)) (c.deref.ensures.value ∙ c.choose-left.ensures.jobs) c.choose-left.ensures.left).2 in
-    let room : false ≡ true = c.in_default.ensures.room (omega (arith, fewer, c.requires.spare)) in
-    cc
-
-pub returns-clause-state : goal.returns-clause-state
-returns-clause-state g c = c.in-Ok.ensures.ok ∙ (picks-all _ _ _ _ (facts g c).0).0
-
-pub returns-clause-starts : goal.returns-clause-starts
-returns-clause-starts g c =
-    let k = facts g c in
-    let js = take (length c.deref.result.now - c.len-before.result) (drop c.len-before.result c.deref.result.now) in
-    ap (map (start_at c.args.now)) (sym c.deref.ensures.value ∙ k.1) ∙ map-append (start_at c.args.now) c.args.chosen.now.items js
-    ∙ ap (λ l. map (start_at c.args.now) c.args.chosen.now.items ++ l) (picks-all c.args.cluster.now.state c.args.now js c.choose-left.result k.0).1
-
-pub returns-clause-shadow : goal.returns-clause-shadow
-returns-clause-shadow g c = ap shadow_of c.in-Ok.ensures.ok ∙ (facts g c).0.shadow
-
-pub returns-clause-fewer : goal.returns-clause-fewer
-returns-clause-fewer g c =
-    let k = facts g c in
-    let js = take (length c.deref.result.now - c.len-before.result) (drop c.len-before.result c.deref.result.now) in
-    let all = ap length k.1 in
-    omega (arith, all, length-append c.args.chosen.now.items js, k.2, c.deref.ensures.len, c.args.chosen.now.ok.0)
-
-pub returns-clause-left : goal.returns-clause-left
-returns-clause-left g c =
-    let k = facts g c in
-    let js = take (length c.deref.result.now - c.len-before.result) (drop c.len-before.result c.deref.result.now) in
-    let all = ap length k.1 in
-    let told = ap length c.deref.ensures.value in
-    let spare = c.start_all.ensures.spare in
-    omega (arith, all, told, spare, length-append c.args.chosen.now.items js)
-
-pub returns-clause-jobs : goal.returns-clause-jobs
-returns-clause-jobs g c = λ s.
-    let k = facts g c in
-    let js = take (length c.deref.result.now - c.len-before.result) (drop c.len-before.result c.deref.result.now) in
-    started-on s c.args.cluster.now.state _ c.args.now c.args.chosen.now.items js _ k.0.first.can c.in-Ok.ensures.ok (sym c.deref.ensures.value ∙ k.1)
+pub returns-clause-decided : goal.returns-clause-decided
+returns-clause-decided g c = λ first b.
+    let same = c.in_default.ensures.same in
+    let items = c.candidates.chosen.items in
+    subst (λ (v : ClusterView). IsDecision first v c.args.now items) (sym same)
+    (begun-done first c.candidates.cluster c.args.now items c.in_default.ensures.none (c.candidates.invariant.begun first b))

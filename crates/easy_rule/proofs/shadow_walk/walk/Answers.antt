@@ -1,11 +1,11 @@
 use Rattle.std.proofs.Common.{◌≤◌, ◌<◌, ◌⊎◌, arith, refl, inl, inr}
 use Rattle.scenarios.specs.Placed.{expected_end}
-use Rattle.easy_rule.proofs.WalkLemmas.{walk-begins, walk-more, walk-shadow, walk-least, walk-stops, walk-ends, walk-room, walk-few, walk-reads, walk-reads-all, early-end}
+use Rattle.easy_rule.proofs.WalkLemmas.{walk-begins, walk-more, walk-shadow, walk-least, walk-stops, walk-ends, walk-room, walk-few, walk-reads, walk-reads-all, walk-early, early-end}
 use Rattle.easy_rule.proofs.shadow_walk.walk.Goals.{else-need-room-via-then-need-room+else-time-end, else-need-room-via-else-need-room}
 use Rattle.easy_rule.proofs.shadow_walk.walk.Goals as goal
 
 pub loop-r-init : goal.loop-r-init
-loop-r-init g c = rw c.into_iter-r-iterator.ensures.into_iter_gives (walk-begins c.running_past-room.ensures.past)
+loop-r-init g c = rw c.into_iter-r-iterator.ensures.into_iter_gives (walk-begins c.running_past-room.ensures.past (c.running_past-room.ensures.most c.requires.within))
 
 pub expected_end-end-requires : goal.expected_end-end-requires
 expected_end-end-requires g c = early-end c.loop-r.invariant c.in-Some.ensures.steps c.running_past-room.ensures.sound
@@ -27,6 +27,9 @@ returns-then-time-end-clause-least g c =
 
 pub returns-then-time-end-clause-reads : goal.returns-then-time-end-clause-reads
 returns-then-time-end-clause-reads g c = walk-reads c.loop-r.invariant c.if-need-room.true c.in-Some.ensures.steps
+
+pub returns-then-time-end-clause-few : goal.returns-then-time-end-clause-few
+returns-then-time-end-clause-few g c = walk-early c.loop-r.invariant c.if-need-room.true
 
 pub overflow_add-room : goal.overflow_add-room
 overflow_add-room g c =
@@ -60,3 +63,9 @@ pub returns-clause-reads : goal.returns-clause-reads
 returns-clause-reads g c =
     let e = walk-ends c.loop-r.invariant c.running_past-room.ensures.sound c.requires.within c.in-None.ensures.steps.0 in
     walk-reads-all c.loop-r.invariant e.0
+
+pub returns-clause-few : goal.returns-clause-few
+returns-clause-few g c =
+    let e = walk-ends c.loop-r.invariant c.running_past-room.ensures.sound c.requires.within c.in-None.ensures.steps.0 in
+    let early = walk-early c.loop-r.invariant e.0 in
+    omega (arith, early)

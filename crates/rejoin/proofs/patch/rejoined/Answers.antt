@@ -1,4 +1,4 @@
-use Rattle.std.proofs.Common.{map, ap, arith}
+use Rattle.std.proofs.Common.{◌≡◌, length, map, ap, arith}
 use Rattle.std.specs.Arc.{arc_value}
 use Rattle.rejoin.proofs.Placed.{from-none}
 use Rattle.rejoin.proofs.Turns.{stands-begun}
@@ -10,3 +10,11 @@ loop-at-init g c = record {
   places = from-none c.args.change.now.old _ _ (ap (map arc_value) c.new.ensures.items) c.new-2.ensures.items;
   few = omega arith;
 }
+
+pub finish-requires-clause-stands : goal.finish-requires-clause-stands
+finish-requires-clause-stands g c =
+    let count = c.len-at-end.ensures.count in
+    let within = c.loop-at.auto.at-end in
+    let past = c.loop-at-test.false in
+    let last : c.loop-at.at ≡ length c.args.change.now.old = omega (arith, count, within, past) in
+    rw last at c.loop-at.invariant.stands

@@ -10,3 +10,10 @@ returns-clause-past g c =
       gives = omega (arith, c.past-held.ensures.rest.hold, c.self.invariant.accounted);
       short = omega (arith, c.past-held.ensures.fewer);
     })
+
+pub returns-clause-most : goal.returns-clause-most
+returns-clause-most g c =
+    rw (← c.self.view_is)
+    (λ within.
+    let most = c.past-held.ensures.most (omega (arith, within, c.self.invariant.accounted)) in
+    omega (arith, most, c.requires))

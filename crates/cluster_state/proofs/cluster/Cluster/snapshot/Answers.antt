@@ -6,7 +6,7 @@ use Rattle.cluster_state.proofs.cluster.Cluster.snapshot.Goals as goal
 
 pub of-requires : goal.of-requires
 of-requires g c =
-    rw (c.waiting.ensures.jobs, c.in_ok-running.ensures.numbers, ← c.self.view_is)
+    rw c.in_ok-running.ensures.numbers
     (sound-numbers (state_of c.self.inside) c.self.invariant.sound (subst NumbersRise c.in_ok-running.ensures.numbers c.in_ok-running.ensures.rise))
 
 pub starts_of-requires : goal.starts_of-requires

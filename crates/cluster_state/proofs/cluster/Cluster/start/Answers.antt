@@ -30,7 +30,7 @@ invariant_of-self-2 g c =
     let running : c.join.new.self.running ≡ placed r c.self.inside.running.running = c.join.ensures.running ∙ ap (placed r) c.reserve.ensures.running in
     record {
       accounted = rw running (omega (arith, held, f.2, c.self.invariant.accounted, c.size.ensures.value));
-      sound = rw (c.remove.ensures, ← f.1, running) f.3;
+      sound = rw (c.remove.ensures.order, c.remove.ensures.jobs, ← f.1, running) f.3;
     }
 
 pub returns-clause-ok : goal.returns-clause-ok
@@ -39,5 +39,5 @@ returns-clause-ok g c =
     let s = state_of c.self.inside in
     let r : Placed = record { job = c.in-Some.job; start = c.args.now } in
     let running : c.join.new.self.running ≡ placed r s.running = c.join.ensures.running ∙ ap (placed r) c.reserve.ensures.running in
-    rw (c.remove.ensures, ← f.1, running, ← c.self.view_is)
+    rw (c.remove.ensures.order, c.remove.ensures.jobs, ← f.1, running, ← c.self.view_is)
     (sym (ap (λ o. option_map_or (λ job. started s job c.args.now) o s) (subst (λ m. waiting_job s m ≡ Some c.in-Some.job) (sym f.1) f.0)))

@@ -1,6 +1,5 @@
-use Rattle.std.proofs.Common.{◌≡◌, ◌∙◌, ap, sym, arith, subst, false, List, length}
+use Rattle.std.proofs.Common.{◌≡◌, ◌∙◌, ap, sym, arith, subst, false}
 use Rattle.std.proofs.lemmas.Bool.{true≢false}
-use Rattle.scenarios.specs.Job.{EffectiveJob}
 use Rattle.scenarios.specs.Plan.{Plan}
 use Rattle.scenarios.specs.PlanView.{plan_in}
 use Rattle.cluster_state.specs.State.{State}
@@ -9,7 +8,7 @@ use Rattle.timeline.proofs.Lemmas.{second-is, before-more}
 use Rattle.event_loop.specs.Events.{Progress}
 use Rattle.event_loop.specs.Stepped.{StartIn}
 use Rattle.event_loop.proofs.Kept.{start-in}
-use Rattle.event_loop.proofs.EventLemmas.{midway-at, ready-at, sound-ready, known-settled, known-stands}
+use Rattle.event_loop.proofs.EventLemmas.{midway-at, ready-at, sound-ready, known-front}
 use Rattle.event_loop.proofs.engine.Engine.work.Goals as goal
 
 pub arrive-requires-clause-coming : goal.arrive-requires-clause-coming
@@ -31,15 +30,6 @@ decide_knowing-requires-clause-now g c =
     let l = r.small in
     omega (arith, l)
 
-pub decide_knowing-requires-clause-settled : goal.decide_knowing-requires-clause-settled
-decide_knowing-requires-clause-settled g c =
-    let plan : Plan = plan_in c.self.inside.plan in
-    let t = c.args.second in
-    let r = ready-at c.args.self.now plan c.self.inside.cluster.state c.self.inside.coming c.self.inside.known c.self.inside.position c.self.inside.handled t c.self.inside.failed c.self.view_is c.self.invariant c.requires.going c.requires.next in
-    let l = r.small in
-    let ready-is = second-is plan c.self.inside.cluster.state c.finish_until.new.self.state c.arrive.new.cluster.state t (omega (arith, l)) c.self.invariant.is_plan r.is c.finish_until.ensures.state (rw c.view.ensures.same at c.in_ok-arrive.ensures.state) in
-    known-settled plan c.self.inside.cluster.state c.arrive.new.cluster.state t (length c.waiting-settled.result.now) c.standing_at-known.result r.is ready-is (ap (λ (js : List EffectiveJob). length js) c.waiting-settled.ensures.jobs) c.standing_at-known.ensures.stands
-
 pub decide_knowing-requires-clause-known : goal.decide_knowing-requires-clause-known
 decide_knowing-requires-clause-known g c =
     let plan : Plan = plan_in c.self.inside.plan in
@@ -48,7 +38,7 @@ decide_knowing-requires-clause-known g c =
     let l = r.small in
     let ready-is = second-is plan c.self.inside.cluster.state c.finish_until.new.self.state c.arrive.new.cluster.state t (omega (arith, l)) c.self.invariant.is_plan r.is c.finish_until.ensures.state (rw c.view.ensures.same at c.in_ok-arrive.ensures.state) in
     let going : c.self.inside.failed ≡ false = ap (λ (p : Progress). p.failed) c.self.view_is ∙ c.requires.going in
-    known-stands plan c.self.inside.cluster.state c.arrive.new.cluster.state t c.self.inside.known c.standing_at-known.result r.is ready-is (c.self.invariant.known_is going) c.standing_at-known.ensures.known c.standing_at-known.ensures.stands
+    known-front plan c.self.inside.cluster.state c.arrive.new.cluster.state t c.waiting_count-settled.result c.self.inside.known c.standing_at-known.result r.is ready-is c.waiting_count-settled.ensures.count (c.self.invariant.known_is going) c.standing_at-known.ensures.known c.standing_at-known.ensures.stands
 
 pub invariant_of-self : goal.invariant_of-self
 invariant_of-self g c = record {
@@ -69,7 +59,7 @@ invariant_of-self-in_err-left g c = record {
   coming_is = λ e. absurd (true≢false e);
   known_is = λ e. absurd (true≢false e);
   failed_is = λ _. midway-at c.args.self.now (plan_in c.self.inside.plan) c.self.inside.cluster.state c.finish_until.new.self.state c.decide_knowing.new.cluster.state c.self.inside.coming c.self.inside.known c.self.inside.position c.self.inside.handled c.args.second c.self.inside.failed
-      c.self.view_is c.self.invariant c.requires.going c.requires.next c.finish_until.ensures.state (ap (λ (s : State). s.running) c.in_err-left.ensures.err ∙ c.arrive.ensures.running);
+      c.self.view_is c.self.invariant c.requires.going c.requires.next c.finish_until.ensures.state (ap (λ (s : State). s.running) c.in_err-left.ensures.err.state ∙ c.arrive.ensures.running);
 }
 
 pub overflow_add-self : goal.overflow_add-self
@@ -100,7 +90,7 @@ invariant_of-self-2 g c =
     record {
       is_plan = c.self.invariant.is_plan;
       counted = omega (arith, f, k);
-      state_is = λ _. c.in_ok-left.ensures.state ∙ ap (λ (s : State). state_after s t) ready-is ∙ sym (before-more plan t);
+      state_is = λ _. c.in_ok-left.ensures.ok.state ∙ ap (λ (s : State). state_after s t) ready-is ∙ sym (before-more plan t);
       coming_is = λ _. rw c.view.ensures.same at c.in_ok-arrive.ensures.coming;
       known_is = λ _. c.in_ok-left.ensures.shadow;
       failed_is = λ e. absurd (true≢false (sym e));
@@ -114,4 +104,4 @@ returns-clause-started g c =
     let l = r.small in
     let ready-is = second-is plan c.self.inside.cluster.state c.finish_until.new.self.state c.arrive.new.cluster.state t (omega (arith, l)) c.self.invariant.is_plan r.is c.finish_until.ensures.state (rw c.view.ensures.same at c.in_ok-arrive.ensures.state) in
     subst (λ (p : Progress). StartIn p.plan t c.decide_knowing.new.started.items) c.self.view_is
-    (start-in plan c.arrive.new.cluster.state _ t c.decide_knowing.new.started.items c.self.invariant.is_plan ready-is c.in_ok-left.ensures.jobs c.in_ok-left.ensures.starts)
+    (start-in plan c.arrive.new.cluster.state _ t c.decide_knowing.new.started.items c.self.invariant.is_plan ready-is c.in_ok-left.ensures.ok.started c.in_ok-left.ensures.ok.starts)

@@ -1,9 +1,9 @@
 use Rattle.std.proofs.Common.{map, ◌∙◌, ap, subst, inl, inr, refl}
 use Rattle.report.specs.Side.{side_line, side_text}
 use Rattle.scenarios.specs.ScenarioList.{Listing}
-use Rattle.scripts.specs.declared.answer.Refusal.TheVariants as why
+use Rattle.version_book.specs.declared.refusal.Refusal.TheVariants as why
+use Rattle.scripts.proofs.Lemmas.{side-text}
 use Rattle.shared_scripts.specs.Side.{AreBeside}
-use Rattle.shared_scripts.proofs.Sides.{side-text}
 use Rattle.shared_scripts.proofs.seat.Seat.side.Goals as goal
 
 pub returns-in-Ok-side_text : goal.returns-in-Ok-side_text

@@ -4,7 +4,7 @@ use Rattle.book_machine.specs.declared.caller.Caller.TheVariants as caller
 use Rattle.book_machine.specs.Call.{DropScenario}
 use Rattle.book_machine.specs.Machine.{note_limit}
 use Rattle.book_machine.specs.Noted.{noted_of}
-use Rattle.version_book.specs.declared.session_refusal.DropRefusal.TheVariants as refusals
+use Rattle.version_book.specs.declared.refusal.Refusal.TheVariants as refusals
 use Rattle.version_book.specs.Book.{BookView}
 use Rattle.version_book.specs.Answers.{drop_answer}
 use Rattle.version_book.proofs.Histories.{called, answered, is-full, has-room, journal-is, as-it-was}

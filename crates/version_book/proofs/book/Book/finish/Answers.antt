@@ -5,7 +5,7 @@ use Rattle.book_machine.specs.declared.caller.Caller.TheVariants as caller
 use Rattle.book_machine.specs.Call.{Finish}
 use Rattle.book_machine.specs.Machine.{note_limit}
 use Rattle.book_machine.specs.Noted.{noted_of}
-use Rattle.version_book.specs.declared.worker_refusal.FinishRefusal.TheVariants as refusals
+use Rattle.version_book.specs.declared.refusal.Refusal.TheVariants as refusals
 use Rattle.version_book.specs.Book.{BookView}
 use Rattle.version_book.specs.Answers.{finish_answer, fitted}
 use Rattle.version_book.proofs.Histories.{called, answered, is-full, has-room, journal-is, as-it-was}

@@ -4,12 +4,13 @@ use Rattle.book_machine.specs.declared.caller.Caller.TheVariants as caller
 use Rattle.book_machine.specs.Call.{Finish}
 use Rattle.book_machine.specs.Machine.{note_limit}
 use Rattle.book_machine.specs.Noted.{noted_of}
-use Rattle.version_book.specs.declared.worker_refusal.FinishRefusal.{FinishRefusal}
-use Rattle.version_book.specs.declared.worker_refusal.FinishRefusal.TheVariants as refusals
+use Rattle.version_book.specs.declared.faults.FinishFault.{FinishFault}
+use Rattle.version_book.specs.declared.refusal.Refusal.{Refusal}
+use Rattle.version_book.specs.declared.refusal.Refusal.TheVariants as refusals
 use Rattle.version_book.specs.Book.{BookView, StateView}
-use Rattle.version_book.specs.Answers.{AnswersOfRun, TellsStanding, finish_answer, fitted, told_of_run}
+use Rattle.version_book.specs.Answers.{AnswersOfRun, TellsStanding, fitted, told_of_run}
 use Rattle.version_book.specs.Steps.{Answers, memory}
-use Rattle.version_book.specs.Tasks.{PublishesFitting, Stands}
+use Rattle.version_book.specs.Tasks.{Stands}
 use Rattle.version_book.proofs.Histories.{called, answered, is-full, has-room, journal-is, as-it-was}
 use Rattle.version_book.proofs.WorkerSteps.{fitting-as, published-left}
 use Rattle.version_book.proofs.book.Book.finish_delivered.Goals as goal
@@ -24,7 +25,7 @@ returns-in_err-make_room-clause-answer g c =
     let test : nat_le note_limit (length c.self.inside.journal.items) ≡ false = search rules in
     let told : c.from_residual.result ≡ Err refusals.Memory = search rules in
     let new : BookView = record { state = c.self.inside.state; journal = map noted_of c.make_room.new.journal.items } in
-    subst (λ (r : Result (Option ℕ) FinishRefusal). AnswersOfRun c.args.self.now new (caller.Worker c.args.worker) c.args.ticket (told_of_run r)) (sym told) (as-it-was noted_of c.self.inside.journal.items c.make_room.new.journal.items (caller.Worker c.args.worker) (Finish c.args.ticket false) memory c.self.view_is refl c.in_err-make_room.ensures.items test refl)
+    subst (λ (r : Result (Option ℕ) (Refusal FinishFault)). AnswersOfRun c.args.self.now new (caller.Worker c.args.worker) c.args.ticket (told_of_run r)) (sym told) (as-it-was noted_of c.self.inside.journal.items c.make_room.new.journal.items (caller.Worker c.args.worker) (Finish c.args.ticket false) memory c.self.view_is refl c.in_err-make_room.ensures.items test refl)
 
 pub returns-in_default-clause-answer : goal.returns-in_default-clause-answer
 returns-in_default-clause-answer g c =

@@ -1,6 +1,6 @@
 use Rattle.std.proofs.Common.{rules, refl}
 use Rattle.std.specs.Prelude.{Err}
-use Rattle.version_book.specs.declared.worker_refusal.GiveUpRefusal.TheVariants as refusals
+use Rattle.version_book.specs.declared.refusal.Refusal.TheVariants as refusals
 use Rattle.workers.proofs.worker.Worker.give_up.Goals as goal
 
 pub returns-then-is_err-clause-list : goal.returns-then-is_err-clause-list

@@ -1,0 +1,36 @@
+ghost use Rattle.std.specs.Prelude.{◌≡◌, ◌≤◌, length};
+
+use std::marker::Model;
+use version_book::Named;
+
+/// The name of a refusal, which is what is written of it.
+#[derive(Drop)]
+pub struct RefusalName {
+    name: &'static str,
+    ghost short: { length name.now ≤ 16 },
+}
+
+impl Model for RefusalName {
+    ghost use Rattle.std.specs.Prelude.{ℕ, List};
+
+    ghost Value = { List ℕ };
+
+    ghost view = { λ n. n.name.now };
+}
+
+impl RefusalName {
+    // The name of a refusal, or of a fault.
+    pub(crate) fn of<N: Named>(why: &N) -> RefusalName
+        ensures { result ≡ N.name why.now }
+    {
+        RefusalName { name: why.name() }
+    }
+
+    // The name.
+    pub(crate) fn as_str(&self) -> &'static str
+        ensures name { result.now ≡ self.now }
+        ensures short { length result.now ≤ 16 }
+    {
+        self.name
+    }
+}
