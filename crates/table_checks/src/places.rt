@@ -81,6 +81,9 @@ fn a_guest_leaves(rt: HostRuntime) {
 // The second of four guests leaves, and those behind the first of the others are asked for.
 fn tells_those_behind(places: &mut Places<Guest, Global>) -> bool {
     places.take(1);
+    if places.len() != 3 {
+        return false;
+    }
     let mut rest = places.iter_behind(1);
     places.place_behind(1) == 2
         && places.place_behind(3) == 4
@@ -131,13 +134,14 @@ fn come<A: Allocator + Copy>(places: &mut Places<Guest, A>, size: u64, estimate:
     }
 }
 
-// 1,000 guests. At place 500 one of size 5 waits, at place 900 one of size 9 and estimate 50.
-fn thousand(alloc: Global) -> Option<Places<Guest, Global>> {
+// 2,000 guests, beside whom a tree stands. At place 500 one of size 5 waits, at place 1,900 one of size 9
+// and estimate 50.
+fn two_thousand(alloc: Global) -> Option<Places<Guest, Global>> {
     let mut places = Places::new(alloc);
-    places.reserve(1001).ok()?;
+    places.reserve(2001).ok()?;
     fill(&mut places, 500);
     come(&mut places, 5, 1000);
-    fill(&mut places, 399);
+    fill(&mut places, 1399);
     come(&mut places, 9, 50);
     fill(&mut places, 99);
     Some(places)
@@ -145,17 +149,17 @@ fn thousand(alloc: Global) -> Option<Places<Guest, Global>> {
 
 fn finds_both(places: &mut Places<Guest, Global>) -> bool {
     let wide = offer(9, 5, 60);
-    places.len() == 1000
+    places.len() == 2000
         && places.first_fit(0, &wide) == Some(500)
-        && places.first_fit(501, &wide) == Some(900)
-        && places.first_fit(901, &wide).is_none()
+        && places.first_fit(501, &wide) == Some(1900)
+        && places.first_fit(1901, &wide).is_none()
         && places.first_fit(501, &offer(9, 5, 49)).is_none()
-        && places.first_fit(501, &wide) == Some(900)
+        && places.first_fit(501, &wide) == Some(1900)
 }
 
 #[test]
-fn two_of_a_thousand_fit(rt: HostRuntime) {
-    let places = thousand(rt.alloc());
+fn two_of_two_thousand_fit(rt: HostRuntime) {
+    let places = two_thousand(rt.alloc());
     assert!(rt; places.is_some_and(|mut places| finds_both(&mut places)));
 }
 
@@ -165,12 +169,12 @@ fn finds_the_last(places: &mut Places<Guest, Global>) -> bool {
     let taken = places.take(500);
     let none = places.first_fit(0, &narrow).is_none();
     come(places, 6, 60);
-    taken == Some(guest_of(5, 1000)) && none && places.first_fit(0, &narrow) == Some(1000)
+    taken == Some(guest_of(5, 1000)) && none && places.first_fit(0, &narrow) == Some(2000)
 }
 
 #[test]
 fn one_who_comes_late_fits(rt: HostRuntime) {
-    let places = thousand(rt.alloc());
+    let places = two_thousand(rt.alloc());
     assert!(rt; places.is_some_and(|mut places| finds_the_last(&mut places)));
 }
 
@@ -181,17 +185,17 @@ enum Call {
     CloseUp,
 }
 
-// Room for 300 guests, who then take no memory.
+// Room for 1,200 guests, who then take no memory.
 fn reserves<A: Allocator + Copy>(alloc: A) -> Outcome {
     let mut places = Places::new(alloc);
-    if places.reserve(300).is_err() {
+    if places.reserve(1200).is_err() {
         return Outcome::memory_if(places.spare() == 0);
     }
-    fill(&mut places, 300);
-    Outcome::right_if(places.len() == 300)
+    fill(&mut places, 1200);
+    Outcome::right_if(places.len() == 1200)
 }
 
-// 64 guests, the first of whom leaves before room is made for 300 more.
+// 64 guests, the first of whom leaves before room is made for 1,200 more.
 fn closes<A: Allocator + Copy>(alloc: A) -> Outcome {
     let mut places = Places::new(alloc);
     if places.reserve(64).is_err() {
@@ -199,7 +203,7 @@ fn closes<A: Allocator + Copy>(alloc: A) -> Outcome {
     }
     fill(&mut places, 64);
     places.take(0);
-    if places.reserve(300).is_err() {
+    if places.reserve(1200).is_err() {
         return Outcome::memory_if(places.first() == Some(1));
     }
     Outcome::right_if(places.first() == Some(0) && places.len() == 63)
