@@ -220,7 +220,7 @@ start-all P n xs a all e =
     subst P f.2 (All-find (λ (x : Start). P x.at) (λ (y : Start). nat_eq y.number n) xs f.0 f.1 all)
 
 -- what is added behind comes no earlier
-final : (a b o : Option ℕ) (t start : ℕ) → o ≡ option_or a b → ((u : ℕ) → a ≡ Some u → u < t) → ((u : ℕ) → b ≡ Some u → t ≤ u) → (a ≡ Some start) ↔ ((o ≡ Some start) × (start < t))
+pub final : (a b o : Option ℕ) (t start : ℕ) → o ≡ option_or a b → ((u : ℕ) → a ≡ Some u → u < t) → ((u : ℕ) → b ≡ Some u → t ≤ u) → (a ≡ Some start) ↔ ((o ≡ Some start) × (start < t))
 final None b o t start e f g = (
   (λ h. absurd (let k : None ≡ Some start = h in cc)),
   (λ (h, l). absurd (let k = g start (sym e ∙ h) in omega (arith, k, l))),

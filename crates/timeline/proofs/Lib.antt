@@ -16,4 +16,6 @@ mod Standing
 mod Closed
 mod Ledger
 mod Meeting
+mod Places
+mod Stretched
 pub mod Lemmas

@@ -4,6 +4,7 @@ ghost use Rattle.timeline.specs.Laws.{HeadsStartByTheirShadowTimes, ShadowTimesN
 ghost use Rattle.timeline.specs.Closed.{NumbersStandUntilTheyEnd, StartsAreFinal, StatesFollowFromStarts};
 ghost use Rattle.timeline.specs.Ledger.{LedgersSwap, NotesKeepTheLedger};
 ghost use Rattle.timeline.specs.Meeting.{EachHasMet, SnapshotsMeet, StatesMeet};
+ghost use Rattle.timeline.specs.Stretches.{AllStartsTell, LaterStartsTell, StatesStandInStretches};
 
 /// Each job of a plan starts exactly once, at its submit second or later, and nobody else starts.
 pub fn each_job_starts_once()
@@ -76,4 +77,14 @@ pub fn states_meet()
 pub fn ledgers_are_kept_by_starts()
     ensures notes { NotesKeepTheLedger }
     ensures swap { LedgersSwap }
+{}
+
+/// The numbers of the states before rising seconds are what stands at each place of two lists of
+/// stretches: of each job of the plan the places at which it waits, in the order of the log, and those
+/// at which it runs, where each place's numbers are put in order. The starts that tell them may be
+/// those of the whole simulation, or those before any second that comes no earlier than these.
+pub fn states_stand_in_stretches()
+    ensures states { StatesStandInStretches }
+    ensures all { AllStartsTell }
+    ensures later { LaterStartsTell }
 {}
