@@ -45,7 +45,7 @@ module _ {X : Type 0} where
 
   -- ---- what the code makes of a block that it has read
   module _ (k : ℕ) (cs : List (List X)) (b : List X) (lt : k < length cs) (read : b ≡ get_or cs k b) where
-    read_is : b ≡ get_or cs k []
+    pub read_is : b ≡ get_or cs k []
     read_is = get_or_read cs k b lt read []
 
     pub put_by : (at : ℕ) (x : X) (new : List X) → new ≡ insert b at x → set cs k new ≡ set cs k (insert (get_or cs k []) at x)

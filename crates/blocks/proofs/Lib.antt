@@ -6,3 +6,4 @@ mod Edits
 mod Rooms
 mod Order
 mod Found
+mod Weighed

@@ -16,67 +16,85 @@ module _ {X : Type 0} (f : X → ℕ) where
       let most : sum_by f xs ≤ length xs * 18446744073709551616 = sum_by-le f 18446744073709551616 xs (All-weaker Fit (λ x. f x ≤ 18446744073709551616) (λ x (k : f x < 2 ^ 64). omega (arith, k)) xs h) in
       omega (arith, most, le)
 
-  pub block_light : (weight room : ℕ) (xs : List X) → IsBlock f weight room xs → weight < 2 ^ 80
-  block_light weight room xs b = omega (arith, b.sum, light xs b.fit b.most)
+  -- none of these weighs less
+  abbrev Below : ℕ → List X → Type 0
+  Below least xs = All (λ x. least ≤ f x) xs
+
+  lower : (least less : ℕ) (xs : List X) → less ≤ least → Below least xs → Below less xs
+  lower least less xs le h = All-weaker (λ x. least ≤ f x) (λ x. less ≤ f x) (λ x (k : least ≤ f x). omega (arith, k, le)) xs h
+
+  pub block_light : (weight least room : ℕ) (xs : List X) → IsBlock f weight least room xs → weight < 2 ^ 80
+  block_light weight least room xs b = omega (arith, b.sum, light xs b.fit b.most)
 
   -- a part from one place on
-  pub back_light : (weight room k : ℕ) (xs back : List X) → IsBlock f weight room xs → back ≡ drop k xs → (sum_by f back < 2 ^ 80) × (sum_by f back ≤ weight)
-  back_light weight room k xs back b e =
+  pub back_light : (weight least room k : ℕ) (xs back : List X) → IsBlock f weight least room xs → back ≡ drop k xs → (sum_by f back < 2 ^ 80) × (sum_by f back ≤ weight)
+  back_light weight least room k xs back b e =
       let parts : sum_by f (take k xs) + sum_by f (drop k xs) ≡ sum_by f xs = sum_by-take-drop f xs k in
       (omega (arith, ap (sum_by f) e, parts, light xs b.fit b.most), omega (arith, ap (sum_by f) e, parts, b.sum))
 
-  pub block_empty : (room : ℕ) → 128 ≤ room → IsBlock f 0 room []
-  block_empty room le = record { sum = omega arith; fit = All-nil Fit; most = omega arith; wide = le }
+  pub block_empty : (least room : ℕ) → 128 ≤ room → IsBlock f 0 least room []
+  block_empty least room le = record { sum = omega arith; bound = All-nil (λ x. least ≤ f x); fit = All-nil Fit; most = omega arith; wide = le }
 
-  pub block_insert : (weight room more at : ℕ) (xs ys : List X) (x : X) (room' : ℕ) → IsBlock f weight room xs → at ≤ length xs → length xs < 128 → more ≡ f x → more < 2 ^ 64 → ys ≡ insert xs at x → room ≤ room' → IsBlock f (weight + more) room' ys
-  block_insert weight room more at xs ys x room' b le lt e fits is wide =
+  pub block_insert : (weight least room more at : ℕ) (xs ys : List X) (x : X) (least' room' : ℕ) → IsBlock f weight least room xs → at ≤ length xs → length xs < 128 → more ≡ f x → more < 2 ^ 64 → ys ≡ insert xs at x → least' ≤ least → least' ≤ more → room ≤ room' → IsBlock f (weight + more) least' room' ys
+  block_insert weight least room more at xs ys x least' room' b le lt e fits is low under wide =
       let fit : f x < 2 ^ 64 = omega (arith, e, fits) in
-      subst (IsBlock f (weight + more) room') (sym is)
+      let low' : least' ≤ f x = omega (arith, e, under) in
+      let bound : Below least' xs = lower least least' xs low b.bound in
+      subst (IsBlock f (weight + more) least' room') (sym is)
       (record {
         sum = omega (arith, sum_by-insert f xs at x, b.sum, e);
+        bound = All-append (λ y. least' ≤ f y) (take at xs) (x ∷ drop at xs) (All-take (λ y. least' ≤ f y) at xs bound) (All-cons (λ y. least' ≤ f y) x (drop at xs) low' (All-drop (λ y. least' ≤ f y) at xs bound));
         fit = All-append Fit (take at xs) (x ∷ drop at xs) (All-take Fit at xs b.fit) (All-cons Fit x (drop at xs) fit (All-drop Fit at xs b.fit));
         most = omega (arith, length-insert xs at x le);
         wide = omega (arith, b.wide, wide);
       })
 
-  pub block_remove : (weight room less at : ℕ) (xs ys : List X) (x : X) (room' : ℕ) → IsBlock f weight room xs → at < length xs → x ≡ get_or xs at x → less ≡ f x → ys ≡ remove xs at → room' ≡ room → IsBlock f (weight - less) room' ys
-  block_remove weight room less at xs ys x room' b lt here e is same =
+  pub block_remove : (weight least room less at : ℕ) (xs ys : List X) (x : X) (room' : ℕ) → IsBlock f weight least room xs → at < length xs → x ≡ get_or xs at x → less ≡ f x → ys ≡ remove xs at → room' ≡ room → IsBlock f (weight - less) least room' ys
+  block_remove weight least room less at xs ys x room' b lt here e is same =
       let left : sum_by f (remove xs at) + f (get_or xs at x) ≡ sum_by f xs = sum_by-remove f xs at x lt in
-      subst (IsBlock f (weight - less) room') (sym is)
+      subst (IsBlock f (weight - less) least room') (sym is)
       (record {
         sum = omega (arith, left, ap f here, b.sum, e);
+        bound = All-append (λ y. least ≤ f y) (take at xs) (drop (suc at) xs) (All-take (λ y. least ≤ f y) at xs b.bound) (All-drop (λ y. least ≤ f y) (suc at) xs b.bound);
         fit = All-append Fit (take at xs) (drop (suc at) xs) (All-take Fit at xs b.fit) (All-drop Fit (suc at) xs b.fit);
         most = omega (arith, length-remove xs at lt, b.most);
         wide = omega (arith, b.wide, same);
       })
 
-  pub block_low : (weight room more k : ℕ) (xs ys back : List X) (room' : ℕ) → IsBlock f weight room xs → back ≡ drop k xs → more ≡ sum_by f back → ys ≡ take k xs → room' ≡ room → IsBlock f (weight - more) room' ys
-  block_low weight room more k xs ys back room' b e s is same =
+  pub block_low : (weight least room more k : ℕ) (xs ys back : List X) (room' : ℕ) → IsBlock f weight least room xs → back ≡ drop k xs → more ≡ sum_by f back → ys ≡ take k xs → room' ≡ room → IsBlock f (weight - more) least room' ys
+  block_low weight least room more k xs ys back room' b e s is same =
       let parts : sum_by f (take k xs) + sum_by f (drop k xs) ≡ sum_by f xs = sum_by-take-drop f xs k in
-      subst (IsBlock f (weight - more) room') (sym is)
+      subst (IsBlock f (weight - more) least room') (sym is)
       (record {
         sum = omega (arith, parts, b.sum, s, ap (sum_by f) e);
+        bound = All-take (λ y. least ≤ f y) k xs b.bound;
         fit = All-take Fit k xs b.fit;
         most = omega (arith, length-take k xs, b.most);
         wide = omega (arith, b.wide, same);
       })
 
-  pub block_high : (weight room more k : ℕ) (xs ys back : List X) (room' : ℕ) → IsBlock f weight room xs → back ≡ drop k xs → more ≡ sum_by f back → ys ≡ back → 128 ≤ room' → IsBlock f more room' ys
-  block_high weight room more k xs ys back room' b e s is wide =
-      subst (IsBlock f more room') (sym (is ∙ e))
+  pub block_high : (weight least room more k : ℕ) (xs ys back : List X) (room' : ℕ) → IsBlock f weight least room xs → back ≡ drop k xs → more ≡ sum_by f back → ys ≡ back → 128 ≤ room' → IsBlock f more least room' ys
+  block_high weight least room more k xs ys back room' b e s is wide =
+      subst (IsBlock f more least room') (sym (is ∙ e))
       (record {
         sum = omega (arith, s, ap (sum_by f) e);
+        bound = All-drop (λ y. least ≤ f y) k xs b.bound;
         fit = All-drop Fit k xs b.fit;
         most = omega (arith, length-drop k xs, b.most);
         wide = wide;
       })
 
-  pub block_join : (weight room weight' room' : ℕ) (xs next ys : List X) (room'' : ℕ) → IsBlock f weight room xs → IsBlock f weight' room' next → length xs + length next ≤ 128 → ys ≡ xs ++ next → room ≤ room'' → IsBlock f (weight + weight') room'' ys
-  block_join weight room weight' room' xs next ys room'' a b le is wide =
-      subst (IsBlock f (weight + weight') room'') (sym is)
+  pub block_join : (weight least room weight' least' room' : ℕ) (xs next ys : List X) (both room'' : ℕ) → IsBlock f weight least room xs → IsBlock f weight' least' room' next → length xs + length next ≤ 128 → ys ≡ xs ++ next → both ≤ least → both ≤ least' → room ≤ room'' → IsBlock f (weight + weight') both room'' ys
+  block_join weight least room weight' least' room' xs next ys both room'' a b le is first second wide =
+      subst (IsBlock f (weight + weight') both room'') (sym is)
       (record {
         sum = omega (arith, sum_by-append f xs next, a.sum, b.sum);
+        bound = All-append (λ y. both ≤ f y) xs next (lower least both xs first a.bound) (lower least' both next second b.bound);
         fit = All-append Fit xs next a.fit b.fit;
         most = omega (arith, length-append xs next);
         wide = omega (arith, a.wide, wide);
       })
+
+  -- the same items under another bound that holds of them
+  pub block_bound : (weight least room : ℕ) (xs : List X) (least' : ℕ) → IsBlock f weight least room xs → Below least' xs → IsBlock f weight least' room xs
+  block_bound weight least room xs least' b low = record { sum = b.sum; bound = low; fit = b.fit; most = b.most; wide = b.wide }

@@ -79,9 +79,10 @@ pub record IsRow {X : Type 0} (used empty : List (List X)) (over len used_room e
   pub usable : length used + length empty ≤ used_room
   pub returnable : length used + length empty ≤ empty_room
 
--- what the fields of a block keep: what its items weigh together, and their room
-pub record IsBlock {X : Type 0} (weigh : X → ℕ) (weight room : ℕ) (items : List X) : Type 0 where
+-- what the fields of a block keep: what its items weigh together, what none of them weighs less than, and their room
+pub record IsBlock {X : Type 0} (weigh : X → ℕ) (weight least room : ℕ) (items : List X) : Type 0 where
   pub sum : weight ≡ sum_by weigh items
+  pub bound : All (λ x. least ≤ weigh x) items
   pub fit : All (λ x. weigh x < 2 ^ 64) items
   pub most : length items ≤ 128
   pub wide : 128 ≤ room

@@ -1,5 +1,6 @@
-ghost use Rattle.std.specs.Prelude.{◌≡◌, ◌≤◌, ◌<◌, ◌+◌, ◌++◌, ◌^◌, [], IfOk, length, sum_by, take, drop, slice_index_or};
+ghost use Rattle.std.specs.Prelude.{◌≡◌, ◌≤◌, ◌<◌, ◌+◌, ◌++◌, ◌^◌, [], All, IfOk, length, sum_by, take, drop, slice_index_or};
 ghost use Rattle.std.specs.List.{insert, remove};
+ghost use Rattle.blocks.specs.Light.{IsFirstLight};
 
 use crate::ranked::Ranked;
 use std::alloc::Allocator;
@@ -17,6 +18,9 @@ pub(crate) const BLOCK_HALF: usize = 64;
 pub(crate) struct Block<T: Ranked, A: Allocator + Copy> {
     items: Vec<T, A>,
     weight: u128,
+    // None of the items weighs less than this; all may weigh more. An insertion lowers it at once, a
+    // removal leaves it, and only a search that found nothing raises it.
+    least: u64,
 }
 
 impl<T: Ranked, A: Allocator + Copy> Model for Block<T, A> {
@@ -27,7 +31,7 @@ impl<T: Ranked, A: Allocator + Copy> Model for Block<T, A> {
 
     ghost view = { λ b. b.items.items };
 
-    ghost invariant = { λ b. IsBlock T.weight b.weight (vec_capacity b.items) b.items.items };
+    ghost invariant = { λ b. IsBlock T.weight b.weight b.least (vec_capacity b.items) b.items.items };
 }
 
 // What these items weigh together.
@@ -38,6 +42,29 @@ fn weight_of<T: Ranked>(items: &[T]) -> u128
     items.iter().map(|item| u128::from(item.weight())).sum()
 }
 
+// What none of these items weighs less than.
+fn least_of<T: Ranked>(items: &[T]) -> u64
+    ensures { All (λ x. result ≤ T.weight x) items.now }
+{
+    let mut least = u64::MAX;
+    for item in items {
+        least = least.min(item.weight());
+    }
+    least
+}
+
+// The first place from one on whose item weighs at most so much.
+fn light_of<T: Ranked>(items: &[T], from: usize, limit: u64) -> Option<usize>
+    ensures { IsFirstLight T.weight limit items.now from (length items.now) result }
+{
+    for place in from..items.len() {
+        if items[place].weight() <= limit {
+            return Some(place);
+        }
+    }
+    None
+}
+
 impl<T: Ranked, A: Allocator + Copy> Block<T, A> {
     // No items, with room for 128.
     pub(crate) fn new(alloc: A) -> Result<Block<T, A>, Memory>
@@ -46,6 +73,7 @@ impl<T: Ranked, A: Allocator + Copy> Block<T, A> {
         Ok(Block {
             items: Vec::with_capacity(alloc, BLOCK_LIMIT)?,
             weight: 0,
+            least: u64::MAX,
         })
     }
 
@@ -71,7 +99,9 @@ impl<T: Ranked, A: Allocator + Copy> Block<T, A> {
         requires room { length self.old < 128 }
         ensures { self.new ≡ insert self.old at item }
     {
-        self.weight += u128::from(item.weight());
+        let weight = item.weight();
+        self.weight += u128::from(weight);
+        self.least = self.least.min(weight);
         let Ok(()) = self.items.insert(at, item) else {
             unreachable!()
         };
@@ -101,6 +131,7 @@ impl<T: Ranked, A: Allocator + Copy> Block<T, A> {
             unreachable!()
         };
         high.weight = weight;
+        high.least = self.least;
         self.items.truncate(BLOCK_HALF);
         self.weight -= weight;
     }
@@ -115,6 +146,7 @@ impl<T: Ranked, A: Allocator + Copy> Block<T, A> {
             unreachable!()
         };
         self.weight += next.weight;
+        self.least = self.least.min(next.least);
         next.clear();
     }
 
@@ -124,5 +156,22 @@ impl<T: Ranked, A: Allocator + Copy> Block<T, A> {
     {
         self.items.clear();
         self.weight = 0;
+        self.least = u64::MAX;
+    }
+
+    // The first place from one on whose item weighs at most so much; None where there is none. Where
+    // all items were looked at for nothing, it is known from then on what they weigh at least.
+    pub(crate) fn first_light(&mut self, from: usize, limit: u64) -> Option<usize>
+        ensures first { IsFirstLight T.weight limit self.old from (length self.old) result }
+        ensures same { self.new ≡ self.old }
+    {
+        if limit < self.least {
+            return None;
+        }
+        let found = light_of(self.items.as_slice(), from, limit);
+        if found.is_none() && from == 0 {
+            self.least = least_of(self.items.as_slice());
+        }
+        found
     }
 }

@@ -1,9 +1,11 @@
 ghost use Rattle.std.specs.Prelude.{◌≡◌, ◌≤◌, ◌<◌, ◌+◌, ◌-◌, ◌^◌, [], ◌∷◌, IfOk, OnErr, OnOk, IsOk, length, slice_index_or, slice_set, vec_capacity};
 ghost use Rattle.std.specs.List.{insert, remove};
+ghost use Rattle.blocks.specs.Light.{IsFirstLight};
 ghost use Rattle.blocks.specs.Rows.{AreFilled, block_of, cut_at, flat, joined_at, start};
 
 use crate::block::{BLOCK_HALF, BLOCK_LIMIT, Block};
 use crate::growth::another;
+use crate::light::first_light;
 use crate::place::{Place, halved, items_of, mate, open_place};
 use crate::ranked::Ranked;
 use std::alloc::Allocator;
@@ -264,6 +266,15 @@ impl<T: Ranked, A: Allocator + Copy> BlockRow<T, A> {
         self.settle(place.block);
         item
     }
+
+    // The first place from one to another whose item weighs at most so much.
+    pub(crate) fn first_light(&mut self, from: usize, end: usize, limit: u64) -> Option<usize>
+        ensures place { IsFirstLight T.weight limit (flat self.old.blocks) from end result }
+        ensures same { self.new ≡ self.old }
+    {
+        first_light(self.used.as_mut_slice(), from, end, limit)
+    }
+
     // Lets all items go; their blocks are empty then.
     pub(crate) fn clear(&mut self)
         ensures blocks { self.new.blocks ≡ [] }

@@ -6,6 +6,7 @@ mod block_row;
 mod front;
 mod growth;
 mod items;
+mod light;
 mod place;
 mod ranked;
 mod search;

@@ -1,4 +1,5 @@
 ghost use Rattle.std.specs.Prelude.{◌≡◌, ◌≤◌, ◌<◌, ◌+◌, ◌-◌, ◌↔◌, [], IsOk, IsTrue, OnErr, OnOk, drop, find, length, option_copied, slice_get, slice_index_or, sum_by, take};
+ghost use Rattle.blocks.specs.Light.{IsFirstLight};
 ghost use Rattle.blocks.specs.Rows.{AreFilled, Rises, block_of, entered, flat, is_at, without_first};
 
 use crate::block_row::BlockRow;
@@ -170,6 +171,16 @@ impl<T: Ranked, A: Allocator + Copy> Blocks<T, A> {
         ensures most { result.0 < length self.now.blocks → than ≤ result.1 + sum_by T.weight (block_of self.now.blocks result.0) }
     {
         lighter(self.row.blocks(), than)
+    }
+
+    /// The first place from one to another whose item weighs at most so much; None where there is none.
+    /// Blocks are passed over of which it is known that all their items weigh more; where a block was
+    /// looked through for nothing, that is known of it from then on.
+    pub fn first_light(&mut self, from: usize, end: usize, limit: u64) -> Option<usize>
+        ensures place { IsFirstLight T.weight limit (flat self.old.blocks) from end result }
+        ensures same { self.new ≡ self.old }
+    {
+        self.row.first_light(from, end, limit)
     }
 
     /// All items, in order.

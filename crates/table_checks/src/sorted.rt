@@ -65,6 +65,23 @@ fn marks_stand_in_their_order(rt: HostRuntime) {
     assert!(rt; row.is_some_and(|row| reads_four(&row)));
 }
 
+// Of the four, in their order, the weights are 40, 20, 30 and 10. What a search that found nothing has
+// learnt doesn't hide the one that just weighs as much.
+fn finds_the_light(row: &mut Blocks<Mark, Global>) -> bool {
+    row.first_light(0, 4, 20) == Some(1)
+        && row.first_light(2, 4, 20) == Some(3)
+        && row.first_light(0, 1, 20).is_none()
+        && row.first_light(0, 4, 9).is_none()
+        && row.first_light(0, 4, 10) == Some(3)
+        && row.first_light(0, 4, 40) == Some(0)
+}
+
+#[test]
+fn light_marks_are_found(rt: HostRuntime) {
+    let row = four(rt.alloc());
+    assert!(rt; row.is_some_and(|mut row| finds_the_light(&mut row)));
+}
+
 // Takes one of four marks out, asks for it again, and lets the others go.
 fn removes_one(row: &mut Blocks<Mark, Global>) -> bool {
     let taken = row.remove(1, 2);

@@ -1,0 +1,110 @@
+-- Items that weigh at most so much, by their places.
+use Rattle.std.proofs.Common.{◌≡◌, ℕ, suc, ◌+◌, ◌-◌, ◌<◌, ◌≤◌, Bool, true, false, nat_le, nat_lt, Option, Some, None, List, [], ◌∷◌, ◌++◌, length, length-append, take, drop, slice_get, get_or, set, refl, ap, sym, subst, ◌∙◌, arith, ⊎_elim}
+use Rattle.std.specs.List.{All}
+use Rattle.std.specs.Prelude.{if◌then◌else◌}
+use Rattle.std.proofs.lemmas.Bool.Decides.{nat_tests}
+use Rattle.std.proofs.lemmas.Bool.{cases_lt}
+use Rattle.std.proofs.lemmas.List.{append-nil, set-get_or, take_all, take_more}
+use Rattle.std.proofs.lemmas.List.Concat.{flat_map-append}
+use Rattle.std.proofs.lemmas.Option.{slice_get_cases, slice_get_past}
+use Rattle.blocks.specs.Rows.{flat, passes, start}
+use Rattle.blocks.specs.Light.{IsFirstLight, NoneLight, is_light}
+use Rattle.blocks.proofs.Changes.{flat_at}
+use Rattle.blocks.proofs.Edits.{read_is}
+use Rattle.blocks.proofs.Found.{get_is, inside_flat}
+
+module _ {X : Type 0} (f : X → ℕ) (limit : ℕ) where
+  too_heavy : (x : X) (least : ℕ) → limit < least → least ≤ f x → nat_le (f x) limit ≡ false
+  too_heavy x least lt le = grind (arith, nat_tests)
+
+  -- none is light where all weigh more
+  pub none_light : (xs : List X) (least from to : ℕ) → limit < least → All (λ x. least ≤ f x) xs → NoneLight f limit xs from to
+  none_light xs least from to lt low place _ _ =
+      ⊎_elim
+      (λ (h : (x : X) × (place < length xs) × (slice_get xs place ≡ Some x) × (get_or xs place x ≡ x)).
+      let heavy : nat_le (f h.0) limit ≡ false = too_heavy h.0 least lt (omega (arith, low place h.0 h.1, ap f h.3)) in
+      ap (passes (λ x. nat_le (f x) limit)) h.2 ∙ heavy)
+      (λ (h : (length xs ≤ place) × (slice_get xs place ≡ None)). ap (passes (λ x. nat_le (f x) limit)) h.1)
+      (slice_get_cases xs place).1
+
+  -- ---- a walk over the blocks
+  module _ (i from : ℕ) (cs : List (List X)) (b : List X) (lt : i < length cs) (read : b ≡ get_or cs i b) where
+    here : b ≡ get_or cs i []
+    here = read_is i cs b lt read
+
+    same_at : (at : ℕ) → at < length b → is_light f limit (flat cs) (start i cs + at) ≡ is_light f limit b at
+    same_at at le = ap (passes (λ x. nat_le (f x) limit)) (get_is i at cs (λ _. omega (arith, ap length here, le)) ∙ ap (λ (l : List X). slice_get l at) (sym here))
+
+    -- none before the block, and none of its first items
+    pub on : (n : ℕ) → n ≤ length b → NoneLight f limit (flat cs) from (start i cs) → NoneLight f limit b (from - start i cs) n → NoneLight f limit (flat cs) from (start i cs + n)
+    on n le none these place low high =
+        ⊎_elim
+        (λ (l : place < start i cs). none place low l)
+        (λ (g : start i cs ≤ place).
+        let at = place - start i cs in
+        let back : start i cs + at ≡ place = omega (arith, g) in
+        ap (is_light f limit (flat cs)) (sym back) ∙ same_at at (omega (arith, high, le, g)) ∙ these at (omega (arith, low)) (omega (arith, high, g)))
+        (cases_lt place (start i cs))
+
+    next : start (i + 1) cs ≡ start i cs + length b
+    next = ap (λ (r : List (List X)). length (flat r)) (take_more cs i [] lt) ∙ ap length (flat_map-append (λ (c : List X). c) (take i cs) (get_or cs i [] ∷ [])) ∙ length-append (flat (take i cs)) (flat (get_or cs i [] ∷ [])) ∙ ap (λ (n : ℕ). start i cs + n) (ap length (append-nil (get_or cs i [])) ∙ ap length (sym here))
+
+    pub found : (end at : ℕ) → NoneLight f limit (flat cs) from (start i cs) → IsFirstLight f limit b (from - start i cs) (length b) (Some at) → IsFirstLight f limit (flat cs) from end (if nat_lt (start i cs + at) end then Some (start i cs + at) else None)
+    found end at none first = go (nat_lt (start i cs + at) end) refl
+      where
+        before : NoneLight f limit (flat cs) from (start i cs + at)
+        before = on at (let u = first.1 in omega (arith, u)) none first.3
+
+        go : (t : Bool) → nat_lt (start i cs + at) end ≡ t → IsFirstLight f limit (flat cs) from end (if t then Some (start i cs + at) else None)
+        go true e = let l = first.0 in (omega (arith, l), grind (arith, nat_tests, e), same_at at first.1 ∙ first.2, before)
+        go false e = λ place low high. before place low (grind (arith, nat_tests, e, high))
+
+  -- none at all
+  pub none_left : (cs : List (List X)) (from end begin : ℕ) → begin ≡ start (length cs) cs → NoneLight f limit (flat cs) from begin → NoneLight f limit (flat cs) from end
+  none_left cs from end begin e none place low high =
+      ⊎_elim
+      (λ (l : place < begin). none place low l)
+      (λ (g : begin ≤ place). ap (passes (λ x. nat_le (f x) limit)) (slice_get_past (flat cs) place (let all : start (length cs) cs ≡ length (flat cs) = ap (λ (r : List (List X)). length (flat r)) (take_all (length cs) cs (omega arith)) in omega (arith, all, e, g))))
+      (cases_lt place begin)
+
+  -- ---- what the search has of a block that it reads
+  module _ (n from : ℕ) (cs now : List (List X)) (b : List X) (begin first : ℕ) (same : now ≡ cs) (within : n < length now) (read : b ≡ get_or now n b) (at_start : begin ≡ start n cs) (skip : first ≡ from - begin) (none : NoneLight f limit (flat cs) from begin) where
+    there : n < length cs
+    there = subst (λ (l : List (List X)). n < length l) same within
+
+    read_here : b ≡ get_or cs n b
+    read_here = read ∙ ap (λ (l : List (List X)). get_or l n b) same
+
+    b_is : b ≡ get_or cs n []
+    b_is = read_is n cs b there read_here
+
+    none_here : NoneLight f limit (flat cs) from (start n cs)
+    none_here = subst (λ (k : ℕ). NoneLight f limit (flat cs) from k) at_start none
+
+    first_here : (r : Option ℕ) → IsFirstLight f limit (get_or now n b) first (length (get_or now n b)) r → IsFirstLight f limit b (from - start n cs) (length b) r
+    first_here r h = subst (λ (k : ℕ). IsFirstLight f limit b k (length b) r) (skip ∙ ap (λ (k : ℕ). from - k) at_start) (subst (λ (l : List X). IsFirstLight f limit l first (length l) r) (sym read) h)
+
+    pub fits_found : (at size : ℕ) → length (flat cs) < size → at < length (get_or now n b) → begin + at < size
+    fits_found at size le lt = omega (arith, le, at_start, inside_flat n at cs (subst (λ (l : List X). at < length l) (sym read ∙ b_is) lt))
+
+    pub found_by : (end at : ℕ) → IsFirstLight f limit (get_or now n b) first (length (get_or now n b)) (Some at) → IsFirstLight f limit (flat cs) from end (if nat_lt (begin + at) end then Some (begin + at) else None)
+    found_by end at h =
+        subst (λ (k : ℕ). IsFirstLight f limit (flat cs) from end (if nat_lt (k + at) end then Some (k + at) else None)) (sym at_start)
+        (found n from cs b there read_here end at none_here (first_here (Some at) h))
+
+    pub next_by : (len : ℕ) → len ≡ length b → begin + len ≡ start (n + 1) cs
+    next_by len e = omega (arith, e, at_start, next n from cs b there read_here)
+
+    pub fits_next : (len size : ℕ) → length (flat cs) < size → len ≡ length b → begin + len < size
+    fits_next len size le e = omega (arith, le, at_start, e, ap length b_is, ap length (flat_at n cs), length-append (flat (take n cs)) (get_or cs n [] ++ flat (drop (suc n) cs)), length-append (get_or cs n []) (flat (drop (suc n) cs)))
+
+    pub none_by : (len : ℕ) → len ≡ length b → IsFirstLight f limit (get_or now n b) first (length (get_or now n b)) None → NoneLight f limit (flat cs) from (begin + len)
+    none_by len e h =
+        subst (λ (k : ℕ). NoneLight f limit (flat cs) from k) (ap (λ (k : ℕ). k + length b) (sym at_start) ∙ ap (λ (k : ℕ). begin + k) (sym e))
+        (on n from cs b there read_here (length b) (omega arith) none_here (first_here None h))
+
+    pub same_by : (new : List X) → new ≡ get_or now n b → set now n new ≡ cs
+    same_by new e = ap (set now n) e ∙ set-get_or now n b ∙ same
+
+  pub same_length : (n : ℕ) (now : List (List X)) (a b items : List X) → n < length now → a ≡ get_or now n a → b ≡ get_or now n b → items ≡ a → length items ≡ length b
+  same_length n now a b items lt one two e = ap length (e ∙ read_is n now a lt one ∙ sym (read_is n now b lt two))
