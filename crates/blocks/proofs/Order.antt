@@ -1,10 +1,10 @@
 -- Items that rise by two numbers.
-use Rattle.std.proofs.Common.{◌≡◌, ℕ, zero, suc, ◌+◌, Bool, true, false, cond, not, nat_lt, ◌==◌, ◌&&◌, ◌||◌, Some, None, List, [], ◌∷◌, find, slice_get, insert, remove, one-add, refl, ap, ◌∙◌, arith}
+use Rattle.std.proofs.Common.{◌≡◌, ℕ, zero, suc, ◌+◌, ◌<◌, ◌≤◌, Bool, true, false, cond, not, nat_lt, ◌==◌, ◌&&◌, ◌||◌, Some, None, List, [], ◌∷◌, find, slice_get, insert, remove, one-add, refl, ap, ◌∙◌, arith}
 use Rattle.std.specs.List.{All}
 use Rattle.std.specs.List.Sorted.{IsPartitionedBy}
 use Rattle.std.proofs.lemmas.Bool.Decides.{nat_tests}
 use Rattle.std.proofs.lemmas.List.Elements.{All-cons, All-head, All-nil, All-tail, All-weaker}
-use Rattle.blocks.specs.Rows.{Rises, entered, is_at, place_in, stands, without_first}
+use Rattle.blocks.specs.Rows.{AreBefore, Rises, entered, is_at, passes, place_in, stands, without_first}
 
 -- ---- pairs of numbers
 abbrev less : ℕ → ℕ → ℕ → ℕ → Bool
@@ -126,3 +126,32 @@ module _ {X : Type 0} (major minor : X → ℕ) where
             none (y ∷ xs)
             (All-cons (λ x. is_at major minor a b x ≡ false) y xs (h y refl)
             (All-weaker (IsBehind y) (λ x. is_at major minor a b x ≡ false) (λ x (k : IsBehind y x). behind-differs (major x) (minor x) (major y) (minor y) a b k t (h y refl)) xs s.0))
+
+  -- ---- those before the first that doesn't stand before two numbers
+  module _ (a b : ℕ) where
+    front-stands : (xs : List X) (k : ℕ) → k < place_in major minor a b xs → passes (stands major minor a b) (slice_get xs k) ≡ true
+    front-stands [] k lt = absurd (omega (arith, lt))
+    front-stands (x ∷ xs) k lt = go (stands major minor a b x) refl (front-stands xs) k lt
+      where
+        go : (c : Bool) → stands major minor a b x ≡ c → ((i : ℕ) → i < place_in major minor a b xs → passes (stands major minor a b) (slice_get xs i) ≡ true) → (i : ℕ) → i < cond (not (not c)) (1 + place_in major minor a b xs) 0 → passes (stands major minor a b) (slice_get (x ∷ xs) i) ≡ true
+        go true e more zero lt = e
+        go true e more (suc i) lt = more i (omega (arith, lt))
+        go false e more i lt = absurd (omega (arith, lt))
+
+    all-behind : (x : X) (xs : List X) (k : ℕ) → stands major minor a b x ≡ false → All (IsBehind x) xs → passes (stands major minor a b) (slice_get xs k) ≡ false
+    all-behind x [] k e h = refl
+    all-behind x (y ∷ xs) zero e h = not-less (major y) (minor y) (major x) (minor x) a b e (All-head (IsBehind x) y xs h)
+    all-behind x (y ∷ xs) (suc k) e h = all-behind x xs k e (All-tail (IsBehind x) y xs h)
+
+    rest-stands : (xs : List X) (k : ℕ) → Rises major minor xs → place_in major minor a b xs ≤ k → passes (stands major minor a b) (slice_get xs k) ≡ false
+    rest-stands [] k s le = refl
+    rest-stands (x ∷ xs) k s le = go (stands major minor a b x) refl (λ i. rest-stands xs i s.1) k le
+      where
+        go : (c : Bool) → stands major minor a b x ≡ c → ((i : ℕ) → place_in major minor a b xs ≤ i → passes (stands major minor a b) (slice_get xs i) ≡ false) → (i : ℕ) → cond (not (not c)) (1 + place_in major minor a b xs) 0 ≤ i → passes (stands major minor a b) (slice_get (x ∷ xs) i) ≡ false
+        go true e more zero le = absurd (omega (arith, le))
+        go true e more (suc i) le = more i (omega (arith, le))
+        go false e more zero le = e
+        go false e more (suc i) le = all-behind x xs i e s.0
+
+    pub are_before : (xs : List X) (count : ℕ) → Rises major minor xs → count ≡ place_in major minor a b xs → AreBefore major minor a b xs count
+    are_before xs count s e = record { front = λ k lt. front-stands xs k (omega (arith, e, lt)); rest = λ k le. rest-stands xs k s (omega (arith, e, le)) }

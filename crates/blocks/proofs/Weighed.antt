@@ -1,4 +1,4 @@
--- Items that weigh at most so much, by their places.
+-- Items that weigh at most so much, by their places, and where blocks begin.
 use Rattle.std.proofs.Common.{◌≡◌, ℕ, suc, ◌+◌, ◌-◌, ◌<◌, ◌≤◌, Bool, true, false, nat_le, nat_lt, Option, Some, None, List, [], ◌∷◌, ◌++◌, length, length-append, take, drop, slice_get, get_or, set, refl, ap, sym, subst, ◌∙◌, arith, ⊎_elim}
 use Rattle.std.specs.List.{All}
 use Rattle.std.specs.Prelude.{if◌then◌else◌}
@@ -12,6 +12,11 @@ use Rattle.blocks.specs.Light.{IsFirstLight, NoneLight, is_light}
 use Rattle.blocks.proofs.Changes.{flat_at}
 use Rattle.blocks.proofs.Edits.{read_is}
 use Rattle.blocks.proofs.Found.{get_is, inside_flat}
+
+next : {X : Type 0} (i : ℕ) (cs : List (List X)) (b : List X) → i < length cs → b ≡ get_or cs i b → start (i + 1) cs ≡ start i cs + length b
+next {X} i cs b lt read =
+    ap (λ (r : List (List X)). length (flat r)) (take_more cs i [] lt) ∙ ap length (flat_map-append (λ (c : List X). c) (take i cs) (get_or cs i [] ∷ [])) ∙ length-append (flat (take i cs)) (flat (get_or cs i [] ∷ []))
+    ∙ ap (λ (n : ℕ). start i cs + n) (ap length (append-nil (get_or cs i [])) ∙ ap length (sym (read_is i cs b lt read)))
 
 module _ {X : Type 0} (f : X → ℕ) (limit : ℕ) where
   too_heavy : (x : X) (least : ℕ) → limit < least → least ≤ f x → nat_le (f x) limit ≡ false
@@ -45,9 +50,6 @@ module _ {X : Type 0} (f : X → ℕ) (limit : ℕ) where
         let back : start i cs + at ≡ place = omega (arith, g) in
         ap (is_light f limit (flat cs)) (sym back) ∙ same_at at (omega (arith, high, le, g)) ∙ these at (omega (arith, low)) (omega (arith, high, g)))
         (cases_lt place (start i cs))
-
-    next : start (i + 1) cs ≡ start i cs + length b
-    next = ap (λ (r : List (List X)). length (flat r)) (take_more cs i [] lt) ∙ ap length (flat_map-append (λ (c : List X). c) (take i cs) (get_or cs i [] ∷ [])) ∙ length-append (flat (take i cs)) (flat (get_or cs i [] ∷ [])) ∙ ap (λ (n : ℕ). start i cs + n) (ap length (append-nil (get_or cs i [])) ∙ ap length (sym here))
 
     pub found : (end at : ℕ) → NoneLight f limit (flat cs) from (start i cs) → IsFirstLight f limit b (from - start i cs) (length b) (Some at) → IsFirstLight f limit (flat cs) from end (if nat_lt (start i cs + at) end then Some (start i cs + at) else None)
     found end at none first = go (nat_lt (start i cs + at) end) refl
@@ -93,7 +95,7 @@ module _ {X : Type 0} (f : X → ℕ) (limit : ℕ) where
         (found n from cs b there read_here end at none_here (first_here (Some at) h))
 
     pub next_by : (len : ℕ) → len ≡ length b → begin + len ≡ start (n + 1) cs
-    next_by len e = omega (arith, e, at_start, next n from cs b there read_here)
+    next_by len e = omega (arith, e, at_start, next n cs b there read_here)
 
     pub fits_next : (len size : ℕ) → length (flat cs) < size → len ≡ length b → begin + len < size
     fits_next len size le e = omega (arith, le, at_start, e, ap length b_is, ap length (flat_at n cs), length-append (flat (take n cs)) (get_or cs n [] ++ flat (drop (suc n) cs)), length-append (get_or cs n []) (flat (drop (suc n) cs)))
@@ -108,3 +110,15 @@ module _ {X : Type 0} (f : X → ℕ) (limit : ℕ) where
 
   pub same_length : (n : ℕ) (now : List (List X)) (a b items : List X) → n < length now → a ≡ get_or now n a → b ≡ get_or now n b → items ≡ a → length items ≡ length b
   same_length n now a b items lt one two e = ap length (e ∙ read_is n now a lt one ∙ sym (read_is n now b lt two))
+
+-- ---- how many items the blocks before one have
+module _ {X : Type 0} (n : ℕ) (cs : List (List X)) (b items : List X) (begin : ℕ) where
+  block_is : n < length cs → b ≡ get_or cs n b → items ≡ b → items ≡ get_or cs n []
+  block_is lt read e = e ∙ read_is n cs b lt read
+
+  pub block_fits : (size : ℕ) → n < length cs → b ≡ get_or cs n b → items ≡ b → begin ≡ start n cs → length (flat cs) < size → begin + length items < size
+  block_fits size lt read e at le =
+      omega (arith, le, at, ap length (block_is lt read e), ap length (flat_at n cs), length-append (flat (take n cs)) (get_or cs n [] ++ flat (drop (suc n) cs)), length-append (get_or cs n []) (flat (drop (suc n) cs)))
+
+  pub block_next : n < length cs → b ≡ get_or cs n b → items ≡ b → begin ≡ start n cs → begin + length items ≡ start (n + 1) cs
+  block_next lt read e at = omega (arith, at, ap length e, next n cs b lt read)

@@ -1,5 +1,5 @@
 -- A sorted row in blocks.
-use Rattle.std.specs.Prelude.{◌≡◌, ℕ, ◌≤◌, ◌<◌, ◌+◌, ◌-◌, ◌^◌, ◌*◌, ◌==◌, ◌&&◌, ◌||◌, nat_lt, not, Bool, false, Option, Some, None, if◌then◌else◌, List, [], ◌∷◌, ◌++◌, length, take, drop, slice_get, slice_index_or, slice_set, sum_by, All}
+use Rattle.std.specs.Prelude.{◌≡◌, ℕ, ◌≤◌, ◌<◌, ◌+◌, ◌-◌, ◌^◌, ◌*◌, ◌==◌, ◌&&◌, ◌||◌, nat_lt, not, Bool, true, false, Option, Some, None, if◌then◌else◌, List, [], ◌∷◌, ◌++◌, length, take, drop, slice_get, slice_index_or, slice_set, sum_by, All}
 use Rattle.std.specs.List.{flat_map, insert, position_or_len, remove}
 
 -- What callers see of a row: its blocks, each with its items, and how many insertions surely find room.
@@ -99,6 +99,11 @@ module _ {X : Type 0} (major minor : X → ℕ) where
   -- the place of the first item that doesn't stand before one with these two numbers; past the last where there is none
   abbrev pub place_in : ℕ → ℕ → List X → ℕ
   place_in a b xs = position_or_len (λ x. not (stands a b x)) xs
+
+  -- of these, so many first ones stand before one with these two numbers, and no others
+  pub record AreBefore (a b : ℕ) (xs : List X) (count : ℕ) : Type 0 where
+    pub front : (place : ℕ) → place < count → passes (stands a b) (slice_get xs place) ≡ true
+    pub rest : (place : ℕ) → count ≤ place → passes (stands a b) (slice_get xs place) ≡ false
 
   -- one item more, before the first that doesn't stand before it
   abbrev pub entered : X → List X → List X

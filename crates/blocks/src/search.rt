@@ -1,7 +1,7 @@
-ghost use Rattle.std.specs.Prelude.{◌≡◌, ◌≤◌, ◌<◌, ◌+◌, IfSome, MatchOption, None, find, length, not, option_copied, slice_get};
+ghost use Rattle.std.specs.Prelude.{◌≡◌, ◌≤◌, ◌<◌, ◌+◌, ◌^◌, IfSome, MatchOption, None, find, length, not, option_copied, slice_get};
 ghost use Rattle.std.specs.List.{position_or_len, remove};
 ghost use Rattle.std.specs.List.Sorted.{IsPartitionedBy};
-ghost use Rattle.blocks.specs.Rows.{AreFilled, Rises, block_of, ends_by, flat, is_at, passes, place_in, stands, start, without_first};
+ghost use Rattle.blocks.specs.Rows.{AreBefore, AreFilled, Rises, block_of, ends_by, flat, is_at, passes, place_in, stands, start, without_first};
 
 use crate::block::Block;
 use crate::place::{Place, items_of};
@@ -88,6 +88,34 @@ pub(crate) fn place_of<T: Ranked, A: Allocator + Copy>(
     let block = block_before(blocks, major, minor);
     let at = before(items_of(blocks, block), major, minor);
     Place { block, at }
+}
+
+// How many items the blocks before one have.
+fn start_of<T: Ranked, A: Allocator + Copy>(blocks: &[Block<T, A>], block: usize) -> usize
+    requires within { block ≤ length blocks.now }
+    requires few { length (flat blocks.now) < 2 ^ 64 }
+    ensures { result ≡ start block blocks.now }
+{
+    let mut start = 0;
+    for number in 0..block {
+        start += blocks[number].as_slice().len();
+    }
+    start
+}
+
+// How many items stand before one with these two numbers.
+pub(crate) fn count_before<T: Ranked, A: Allocator + Copy>(
+    blocks: &[Block<T, A>],
+    major: u128,
+    minor: u64,
+) -> usize
+    requires filled { AreFilled blocks.now }
+    requires rises { Rises T.major T.minor (flat blocks.now) }
+    requires few { length (flat blocks.now) < 2 ^ 64 }
+    ensures { AreBefore T.major T.minor major minor (flat blocks.now) result }
+{
+    let place = place_of(blocks, major, minor);
+    start_of(blocks, place.block) + place.at
 }
 
 // Whether an item has these two numbers.

@@ -1,13 +1,13 @@
 ghost use Rattle.std.specs.Prelude.{◌≡◌, ◌≤◌, ◌<◌, ◌+◌, ◌-◌, ◌↔◌, [], IsOk, IsTrue, OnErr, OnOk, drop, find, length, option_copied, slice_get, slice_index_or, sum_by, take};
 ghost use Rattle.blocks.specs.Light.{IsFirstLight};
-ghost use Rattle.blocks.specs.Rows.{AreFilled, Rises, block_of, entered, flat, is_at, without_first};
+ghost use Rattle.blocks.specs.Rows.{AreBefore, AreFilled, Rises, block_of, entered, flat, is_at, without_first};
 
 use crate::block_row::BlockRow;
 use crate::front::lighter;
 use crate::items::Items;
 use crate::place::items_of;
 use crate::ranked::Ranked;
-use crate::search::{item_at, place_of, place_with};
+use crate::search::{count_before, item_at, place_of, place_with};
 use std::alloc::Allocator;
 use std::marker::Model;
 use swf_text::Memory;
@@ -171,6 +171,14 @@ impl<T: Ranked, A: Allocator + Copy> Blocks<T, A> {
         ensures most { result.0 < length self.now.blocks → than ≤ result.1 + sum_by T.weight (block_of self.now.blocks result.0) }
     {
         lighter(self.row.blocks(), than)
+    }
+
+    /// How many items stand before one with these two numbers. It takes one step a block.
+    pub fn before(&self, major: u128, minor: u64) -> usize
+        ensures { AreBefore T.major T.minor major minor (flat self.now.blocks) result }
+    {
+        let _len = self.row.len();
+        count_before(self.row.blocks(), major, minor)
     }
 
     /// The first place from one to another whose item weighs at most so much; None where there is none.
