@@ -1,79 +1,37 @@
-use crate::tables::{change, insertion};
+use crate::tables::{LOG, Written, change, edit_of, table};
 use job_table::{Edit, JobTable};
 use std::alloc::Global;
-use std::test::Fail;
-use swf_text::{Entry, Value, read_swf};
-
-/// Four jobs. As a table they stand in one chunk of four entries, and the index in one of four
-/// pairs.
-const LOG: &str = "1 0 -1 100 6 -1 -1 6 100 -1 1 7 -1 -1 -1 -1 -1 -1
-2 1 -1 50 8 -1 -1 8 50 -1 1 8 -1 -1 -1 -1 -1 -1
-3 2 -1 90 4 -1 -1 4 90 -1 1 7 -1 -1 -1 -1 -1 -1
-4 3 -1 500 2 -1 -1 2 500 -1 1 8 -1 -1 -1 -1 -1 -1
-";
+use swf_text::read_swf;
 
 /// A fifth job.
 const FIFTH: &str = "5 4 -1 500 2 -1 -1 2 500 -1 1 8 -1 -1 -1 -1 -1 -1\n";
 
-fn table(alloc: Global) -> Option<JobTable<Global>> {
-    let text = read_swf(alloc, LOG.as_bytes()).ok()?;
-    JobTable::from_text(alloc, &text).ok()
+/// How many entries and pairs an edit of the four jobs copies or moves. As a table they stand in one
+/// chunk of four entries, and the index in one of four pairs.
+const OF_FOUR: [(Written, u32); 4] = [
+    // The new entry, the four pairs of the chunk that its pair joins, and the four entries of the one
+    // that it joins itself: 1 + 4 + 4. No chunk is split.
+    (Written::Insert(FIFTH), 9),
+    // The four pairs and the four entries of the chunks that it leaves: 4 + 4.
+    (Written::Remove(2), 8),
+    // The changed entry alone: it is exchanged where it stands, and the index stays.
+    (Written::Change(2, 3, "9.5"), 1),
+    // The changed entry, the four entries of the chunk that it leaves, and the three that are left
+    // there, which it joins again: 1 + 4 + 3. Its pair is exchanged where it stands.
+    (Written::Change(3, 2, "300"), 8),
+];
+
+// What an edit of a table counts.
+fn count(table: Option<JobTable<Global>>, edit: Option<Edit<Global>>) -> Option<u32> {
+    table?.apply_counted(&edit?).ok()
 }
 
-// How many entries and pairs an edit of the four jobs copies or moves.
-fn count(alloc: Global, edit: &Edit<Global>) -> Option<u32> {
-    let mut table = table(alloc)?;
-    table.apply_counted(edit).ok()
-}
-
-fn fifth(alloc: Global) -> Option<Entry<Global>> {
-    let text = read_swf(alloc, FIFTH.as_bytes()).ok()?;
-    text.entries().first()?.copy().ok()
-}
-
-fn inserted(alloc: Global) -> Option<u32> {
-    let edit = Edit::Insert(fifth(alloc)?);
-    count(alloc, &edit)
-}
-
-fn changed(alloc: Global, number: u64, field: u8, word: &str) -> Option<u32> {
-    let value = Value::from_bytes(word.as_bytes())?;
-    let edit = Edit::Change {
-        number,
-        field,
-        value,
-    };
-    count(alloc, &edit)
-}
-
-// The new entry, the four pairs of the chunk that its pair joins, and the four entries of the one
-// that it joins itself: 1 + 4 + 4. No chunk is split.
 #[test]
-fn counts_an_insertion(rt: HostRuntime) -> Result<(), Fail> {
-    assert!(rt; inserted(rt.alloc()) == Some(9));
-    Ok(())
-}
-
-// The four pairs and the four entries of the chunks that it leaves: 4 + 4.
-#[test]
-fn counts_a_removal(rt: HostRuntime) -> Result<(), Fail> {
-    assert!(rt; count(rt.alloc(), &Edit::Remove(2)) == Some(8));
-    Ok(())
-}
-
-// The changed entry alone: it is exchanged where it stands, and the index stays.
-#[test]
-fn counts_a_change_in_place(rt: HostRuntime) -> Result<(), Fail> {
-    assert!(rt; changed(rt.alloc(), 2, 3, "9.5") == Some(1));
-    Ok(())
-}
-
-// The changed entry, the four entries of the chunk that it leaves, and the three that are left there,
-// which it joins again: 1 + 4 + 3. Its pair is exchanged where it stands.
-#[test]
-fn counts_a_change_that_moves(rt: HostRuntime) -> Result<(), Fail> {
-    assert!(rt; changed(rt.alloc(), 3, 2, "300") == Some(8));
-    Ok(())
+fn edits_of_four_jobs_count_so(rt: HostRuntime) {
+    for (written, wanted) in &OF_FOUR {
+        let edit = edit_of(rt.alloc(), *written);
+        assert!(rt; count(table(rt.alloc(), LOG), edit) == Some(*wanted));
+    }
 }
 
 // Adds the line of a job that is submitted at the second of its number.
@@ -92,40 +50,38 @@ fn full_table(alloc: Global) -> Option<JobTable<Global>> {
     JobTable::from_text(alloc, &text).ok()
 }
 
-// How many entries and pairs an edit of the full chunks copies or moves.
-fn full_count(alloc: Global, edit: Option<Edit<Global>>) -> Option<u32> {
-    full_table(alloc)?.apply_counted(&edit?).ok()
+/// The same of edits of the full chunks.
+const OF_FULL: [(Written, u32); 3] = [
+    // The new entry, and of the pairs and of the entries a full chunk, of which 129 move: 1 + 385 + 385.
+    (
+        Written::Insert("5 5 -1 9 1 -1 -1 1 9 -1 1 7 -1 -1 -1 -1 -1 -1\n"),
+        771,
+    ),
+    // A full chunk of pairs and one of entries: 256 + 256.
+    (Written::Remove(2), 512),
+    // The changed entry, the full chunk that it leaves, the one that it joins, of which 129 move, and
+    // the one of its pair, which shares the memory of the other: 1 + 256 + 385 + 256.
+    (Written::Change(2, 2, "1023"), 898),
+];
+
+#[test]
+fn edits_of_full_chunks_count_so(rt: HostRuntime) {
+    for (written, wanted) in &OF_FULL {
+        let edit = edit_of(rt.alloc(), *written);
+        assert!(rt; count(full_table(rt.alloc()), edit) == Some(*wanted));
+    }
 }
 
-// The new entry, and of the pairs and of the entries a full chunk, of which 129 move: 1 + 385 + 385.
-#[test]
-fn counts_an_insertion_into_full_chunks(rt: HostRuntime) {
-    let edit = insertion(
-        rt.alloc(),
-        "5 5 -1 9 1 -1 -1 1 9 -1 1 7 -1 -1 -1 -1 -1 -1\n",
-    );
-    assert!(rt; full_count(rt.alloc(), edit) == Some(771));
-}
-
-// A full chunk of pairs and one of entries: 256 + 256.
-#[test]
-fn counts_a_removal_from_full_chunks(rt: HostRuntime) {
-    assert!(rt; full_count(rt.alloc(), Some(Edit::Remove(2))) == Some(512));
-}
-
-// The changed entry, the full chunk that it leaves, the one that it joins, of which 129 move, and the
-// one of its pair, which shares the memory of the other: 1 + 256 + 385 + 256.
-#[test]
-fn counts_a_move_between_full_chunks(rt: HostRuntime) {
-    assert!(rt; full_count(rt.alloc(), change(2, 2, "1023")) == Some(898));
+// What a change of a job's third field counts.
+fn change_count(table: &mut JobTable<Global>, number: u64, word: &str) -> Option<u32> {
+    table.apply_counted(&change(number, 3, word)?).ok()
 }
 
 // The counts of two changes of the first chunk that move nothing, one after the other.
 fn two_in_place(alloc: Global) -> Option<(u32, u32)> {
     let mut table = full_table(alloc)?;
-    let first = table.apply_counted(&change(4, 3, "9.5")?).ok()?;
-    let second = table.apply_counted(&change(6, 3, "7")?).ok()?;
-    Some((first, second))
+    let first = change_count(&mut table, 4, "9.5")?;
+    Some((first, change_count(&mut table, 6, "7")?))
 }
 
 // The chunks of a log share its memory, so the first change copies the chunk, 1 + 256; the second

@@ -1,18 +1,17 @@
 use chunks::{Chunks, Numbered};
 use std::alloc::Global;
 
-// So many pairs, whose numbers rise from the first by one.
-fn pairs(alloc: Global, first: u64, count: u64) -> Option<Vec<Numbered>> {
+// So many pairs, whose numbers rise from 0 by one.
+fn pairs(alloc: Global, count: u64) -> Option<Vec<Numbered>> {
     let mut pairs = Vec::new(alloc);
-    for place in 0..count {
-        let number = first.wrapping_add(place);
+    for number in 0..count {
         pairs.push(Numbered { number, submit: 7 }).ok()?;
     }
     Some(pairs)
 }
 
-fn list(alloc: Global, first: u64, count: u64) -> Option<Chunks<Numbered, Global>> {
-    Chunks::of(alloc, pairs(alloc, first, count)?).ok()
+fn list(alloc: Global, count: u64) -> Option<Chunks<Numbered, Global>> {
+    Chunks::of(alloc, pairs(alloc, count)?).ok()
 }
 
 // Whether the numbers of a list are those from 0 on, so many.
@@ -26,18 +25,19 @@ fn gives(list: &Chunks<Numbered, Global>, count: u64) -> bool {
     rest.peek().is_none()
 }
 
-#[test]
-fn gives_what_it_is_made_of(rt: HostRuntime) {
-    assert!(rt; list(rt.alloc(), 0, 600).is_some_and(|list| gives(&list, 600)));
-}
-
 // The first number of a list's copy.
 fn first_of_copy(list: &Chunks<Numbered, Global>) -> Option<u64> {
     let copy = list.copy().ok()?;
     copy.iter().peek().map(|pair| pair.number)
 }
 
+// Whether a list of three chunks gives its pairs, and its copy the same first one.
+fn is_listed(alloc: Global) -> Option<bool> {
+    let list = list(alloc, 600)?;
+    Some(gives(&list, 600) && first_of_copy(&list) == Some(0))
+}
+
 #[test]
-fn a_copy_has_the_same_first_pair(rt: HostRuntime) {
-    assert!(rt; list(rt.alloc(), 3, 2).is_some_and(|list| first_of_copy(&list) == Some(3)));
+fn gives_what_it_is_made_of(rt: HostRuntime) {
+    assert!(rt; is_listed(rt.alloc()) == Some(true));
 }

@@ -155,11 +155,8 @@ fn keeps_many(alloc: Global, falling: bool) -> Option<bool> {
 }
 
 #[test]
-fn keeps_a_thousand_jobs_that_come_by_rising_second(rt: HostRuntime) {
-    assert!(rt; keeps_many(rt.alloc(), false) == Some(true));
-}
-
-#[test]
-fn keeps_a_thousand_jobs_that_come_by_falling_second(rt: HostRuntime) {
-    assert!(rt; keeps_many(rt.alloc(), true) == Some(true));
+fn keeps_a_thousand_jobs_that_come_by_rising_or_falling_second(rt: HostRuntime) {
+    for falling in [false, true] {
+        assert!(rt; keeps_many(rt.alloc(), falling) == Some(true));
+    }
 }

@@ -59,12 +59,6 @@ fn reads_four(row: &Blocks<Mark, Global>) -> bool {
         && row.blocks() == 1
 }
 
-#[test]
-fn marks_stand_in_their_order(rt: HostRuntime) {
-    let row = four(rt.alloc());
-    assert!(rt; row.is_some_and(|row| reads_four(&row)));
-}
-
 // Of the four, in their order, the weights are 40, 20, 30 and 10. What a search that found nothing has
 // learnt doesn't hide the one that just weighs as much.
 fn finds_the_light(row: &mut Blocks<Mark, Global>) -> bool {
@@ -74,12 +68,6 @@ fn finds_the_light(row: &mut Blocks<Mark, Global>) -> bool {
         && row.first_light(0, 4, 9).is_none()
         && row.first_light(0, 4, 10) == Some(3)
         && row.first_light(0, 4, 40) == Some(0)
-}
-
-#[test]
-fn light_marks_are_found(rt: HostRuntime) {
-    let row = four(rt.alloc());
-    assert!(rt; row.is_some_and(|mut row| finds_the_light(&mut row)));
 }
 
 // Takes one of four marks out, asks for it again, and lets the others go.
@@ -92,10 +80,15 @@ fn removes_one(row: &mut Blocks<Mark, Global>) -> bool {
     taken == Some(mark_at(1, 2, 20)) && again.is_none() && left && row.is_empty()
 }
 
+// Whether all that goes so with four marks.
+fn goes_with_four(alloc: Global) -> Option<bool> {
+    let mut row = four(alloc)?;
+    Some(reads_four(&row) && finds_the_light(&mut row) && removes_one(&mut row))
+}
+
 #[test]
-fn a_mark_leaves(rt: HostRuntime) {
-    let row = four(rt.alloc());
-    assert!(rt; row.is_some_and(|mut row| removes_one(&mut row)));
+fn marks_stand_in_their_order_and_leave(rt: HostRuntime) {
+    assert!(rt; goes_with_four(rt.alloc()) == Some(true));
 }
 
 // Puts so many marks more at the end, each of weight 1, where there is room for each.
@@ -121,12 +114,6 @@ fn begins_with(row: &Blocks<Mark, Global>, blocks: usize, weight: u128) -> bool 
     row.blocks() == blocks && blocks > 0 && row.weight(0) == weight && row.block(0).len() == 64
 }
 
-#[test]
-fn a_full_block_is_cut(rt: HostRuntime) {
-    let row = two_hundred(rt.alloc());
-    assert!(rt; row.is_some_and(|row| begins_with(&row, 3, 64)));
-}
-
 // Takes the marks of these majors out.
 fn take_out(row: &mut Blocks<Mark, Global>, from: u64, end: u64) {
     for major in from..end {
@@ -142,12 +129,6 @@ fn goes_over_the_light(row: &Blocks<Mark, Global>) -> bool {
         && row.lighter(129) == (2, 128)
         && row.lighter(200) == (2, 128)
         && row.lighter(201) == (3, 200)
-}
-
-#[test]
-fn light_blocks_are_gone_over(rt: HostRuntime) {
-    let row = two_hundred(rt.alloc());
-    assert!(rt; row.is_some_and(|row| goes_over_the_light(&row)));
 }
 
 // Whether the marks go on from a block with this major, one after another, up to 199.
@@ -174,12 +155,6 @@ fn goes_on_from_each(row: &Blocks<Mark, Global>) -> bool {
         && goes_on_from(row, 3, 200)
 }
 
-#[test]
-fn items_go_on_from_a_block(rt: HostRuntime) {
-    let row = two_hundred(rt.alloc());
-    assert!(rt; row.is_some_and(|row| goes_on_from_each(&row)));
-}
-
 // 24 marks leave the second block and 40 the first, which then joins the 40 that are left there.
 fn joins_two(row: &mut Blocks<Mark, Global>) -> bool {
     take_out(row, 64, 88);
@@ -187,10 +162,16 @@ fn joins_two(row: &mut Blocks<Mark, Global>) -> bool {
     begins_with(row, 2, 64)
 }
 
+// Whether full blocks are cut and gone over, and short ones joined.
+fn goes_with_blocks(alloc: Global) -> Option<bool> {
+    let mut row = two_hundred(alloc)?;
+    let is_cut = begins_with(&row, 3, 64);
+    Some(is_cut && goes_over_the_light(&row) && goes_on_from_each(&row) && joins_two(&mut row))
+}
+
 #[test]
-fn short_blocks_are_joined(rt: HostRuntime) {
-    let row = two_hundred(rt.alloc());
-    assert!(rt; row.is_some_and(|mut row| joins_two(&mut row)));
+fn blocks_are_cut_and_joined(rt: HostRuntime) {
+    assert!(rt; goes_with_blocks(rt.alloc()) == Some(true));
 }
 
 /// Calls that take memory.

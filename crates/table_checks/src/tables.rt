@@ -1,6 +1,6 @@
 use job_table::{Cursor, Edit, JobTable};
 use std::alloc::Global;
-use swf_text::{SwfText, Value, read_swf, write_swf};
+use swf_text::{SwfText, Value, read_swf};
 
 /// Four jobs on ten processors, with a partial line of the second.
 pub(crate) const LOG: &str = "; four jobs
@@ -12,7 +12,7 @@ pub(crate) const LOG: &str = "; four jobs
 ";
 
 /// The same in another order.
-const SHUFFLED: &str = "4 3 -1 500 2 -1 -1 2 500 -1 1 8 -1 -1 -1 -1 -1 -1
+pub(crate) const SHUFFLED: &str = "4 3 -1 500 2 -1 -1 2 500 -1 1 8 -1 -1 -1 -1 -1 -1
 2 1 -1 50 8 -1 -1 8 50 -1 1 8 -1 -1 -1 -1 -1 -1
 2 1 -1 20 8 -1 -1 8 50 -1 2 8 -1 -1 -1 -1 -1 -1
 ; four jobs
@@ -20,7 +20,19 @@ const SHUFFLED: &str = "4 3 -1 500 2 -1 -1 2 500 -1 1 8 -1 -1 -1 -1 -1 -1
 3 2 -1 90 4 -1 -1 4 90 -1 1 7 -1 -1 -1 -1 -1 -1
 ";
 
-fn read(alloc: Global, text: &str) -> Option<SwfText<Global>> {
+/// An edit, as it is written.
+#[derive(Clone, Copy)]
+pub(crate) enum Written {
+    /// The first entry of this log joins.
+    Insert(&'static str),
+    /// The job of this number leaves.
+    Remove(u64),
+    /// A field of a job gets the number that a word spells.
+    Change(u64, u8, &'static str),
+}
+
+/// The log that is read of a text.
+pub(crate) fn read(alloc: Global, text: &str) -> Option<SwfText<Global>> {
     read_swf(alloc, text.as_bytes()).ok()
 }
 
@@ -44,16 +56,22 @@ pub(crate) fn change(number: u64, field: u8, word: &str) -> Option<Edit<Global>>
     })
 }
 
-/// Whether an edit was made and accepted.
-pub(crate) fn applies(table: &mut JobTable<Global>, edit: Option<Edit<Global>>) -> bool {
-    match edit {
-        Some(edit) => table.apply(&edit).is_ok(),
-        None => false,
+// The edit that is written so.
+fn made(alloc: Global, written: Written) -> Option<Edit<Global>> {
+    match written {
+        Written::Insert(text) => insertion(alloc, text),
+        Written::Remove(number) => Some(Edit::Remove(number)),
+        Written::Change(number, field, word) => change(number, field, word),
     }
 }
 
-/// Whether a cursor gives the entries with these numbers.
-pub(crate) fn gives(mut cursor: Cursor<'_, Global>, wanted: &[u64]) -> bool {
+/// A copy of the edit that is written so.
+pub(crate) fn edit_of(alloc: Global, written: Written) -> Option<Edit<Global>> {
+    made(alloc, written)?.copy().ok()
+}
+
+// Whether a cursor gives the entries with these numbers.
+fn gives(mut cursor: Cursor<'_, Global>, wanted: &[u64]) -> bool {
     for number in wanted {
         if cursor.next().map(|entry| entry.number()) != Some(*number) {
             return false;
@@ -62,82 +80,49 @@ pub(crate) fn gives(mut cursor: Cursor<'_, Global>, wanted: &[u64]) -> bool {
     cursor.peek().is_none()
 }
 
-/// Whether a table has the jobs of these numbers, in this order.
-pub(crate) fn has(table: &JobTable<Global>, wanted: &[u64]) -> bool {
-    table.len() == wanted.len() && gives(table.from_second(0), wanted)
-}
-
-// Whether these are the bytes of a text.
-fn writes(alloc: Global, text: &SwfText<Global>, wanted: &str) -> bool {
-    let mut out = Vec::new(alloc);
-    write_swf(text, &mut out).is_ok() && out.as_slice() == wanted.as_bytes()
-}
-
-// Whether a table makes these bytes, with these comments.
-fn is_written(alloc: Global, table: &JobTable<Global>, comments: &[Vec<u8>], wanted: &str) -> bool {
-    match table.to_text(comments) {
-        Ok(text) => writes(alloc, &text, wanted),
-        Err(_) => false,
-    }
-}
-
-// Whether the shuffled log is arranged, and given back so.
-fn is_arranged(alloc: Global) -> Option<bool> {
-    let text = read(alloc, SHUFFLED)?;
-    let table = JobTable::from_text(alloc, &text).ok()?;
-    Some(has(&table, &[1, 2, 3, 4]) && is_written(alloc, &table, text.comments(), LOG))
-}
-
-#[test]
-fn arranges_a_log_and_gives_it_back(rt: HostRuntime) {
-    assert!(rt; is_arranged(rt.alloc()) == Some(true));
-}
-
-// Moves two jobs to second 0, one of them by a fraction.
-fn has_two_moved(alloc: Global) -> Option<bool> {
-    let mut table = table(alloc, SHUFFLED)?;
-    let moves = applies(&mut table, change(4, 2, "0")) && applies(&mut table, change(3, 2, "0.4"));
-    Some(moves && has(&table, &[1, 3, 4, 2]))
-}
-
-#[test]
-fn arranges_jobs_of_one_second_by_number(rt: HostRuntime) {
-    assert!(rt; has_two_moved(rt.alloc()) == Some(true));
-}
-
 /// The submit second of a job; none where it is not there.
 pub(crate) fn submit_of(table: &JobTable<Global>, number: u64) -> Option<u64> {
     table.get(number).map(|entry| entry.submit())
 }
 
-// Whether job 3 is found, and no job 5 or 0.
-fn finds_the_third(alloc: Global) -> Option<bool> {
-    let table = table(alloc, SHUFFLED)?;
-    let finds_none = submit_of(&table, 5).is_none() && submit_of(&table, 0).is_none();
-    Some(finds_none && submit_of(&table, 3) == Some(2))
-}
-
-#[test]
-fn gets_the_job_of_a_number(rt: HostRuntime) {
-    assert!(rt; finds_the_third(rt.alloc()) == Some(true));
-}
-
-// Whether a cursor gives job 3 and then job 4, which it shows before.
-fn gives_three_and_four(mut cursor: Cursor<'_, Global>) -> bool {
+// Whether a cursor shows job 3 before it gives it, and then job 4.
+fn shows_the_third(mut cursor: Cursor<'_, Global>) -> bool {
     let shown = cursor.peek().map(|entry| entry.number());
     let given = cursor.next().map(|entry| entry.number());
-    let next = cursor.peek().map(|entry| entry.number());
-    (shown, given, next) == (Some(3), Some(3), Some(4)) && gives(cursor, &[4])
+    (shown, given) == (Some(3), Some(3)) && gives(cursor, &[4])
 }
 
-fn gives_the_late_jobs(alloc: Global) -> Option<bool> {
-    let table = table(alloc, LOG)?;
-    Some(gives_three_and_four(table.from_second(2)) && gives(table.from_second(4), &[]))
+/// Seconds of the log, and the jobs that are submitted from there on.
+const FROM: [(u64, &[u64]); 4] = [(0, &[1, 2, 3, 4]), (2, &[3, 4]), (3, &[4]), (4, &[])];
+
+// Whether the table of the log gives them.
+fn gives_from_each(table: &JobTable<Global>) -> bool {
+    for (second, jobs) in &FROM {
+        if !gives(table.from_second(*second), jobs) {
+            return false;
+        }
+    }
+    shows_the_third(table.from_second(2))
+}
+
+// Whether job 3 is found, and no job 5 or 0.
+fn finds_the_third(table: &JobTable<Global>) -> bool {
+    (
+        submit_of(table, 3),
+        submit_of(table, 5),
+        submit_of(table, 0),
+    ) == (Some(2), None, None)
+}
+
+// Whether the table of the shuffled log reads so.
+fn is_read(alloc: Global) -> Option<bool> {
+    let table = table(alloc, SHUFFLED)?;
+    Some(table.len() == 4 && gives_from_each(&table) && finds_the_third(&table))
 }
 
 #[test]
-fn gives_what_is_submitted_from_a_second_on(rt: HostRuntime) {
-    assert!(rt; gives_the_late_jobs(rt.alloc()) == Some(true));
+fn gives_jobs_by_second_and_by_number(rt: HostRuntime) {
+    assert!(rt; is_read(rt.alloc()) == Some(true));
 }
 
 const IN_ONE_STATE: &str =
@@ -154,6 +139,7 @@ fn are_same(alloc: Global, one: &str, other: &str) -> Option<bool> {
 
 #[test]
 fn tells_tables_apart_by_their_parts(rt: HostRuntime) {
-    assert!(rt; are_same(rt.alloc(), IN_ONE_STATE, IN_ONE_STATE) == Some(true));
-    assert!(rt; are_same(rt.alloc(), IN_ONE_STATE, IN_ANOTHER) == Some(false));
+    for (other, same) in [(IN_ONE_STATE, true), (IN_ANOTHER, false)] {
+        assert!(rt; are_same(rt.alloc(), IN_ONE_STATE, other) == Some(same));
+    }
 }
