@@ -8,8 +8,6 @@ mod counts;
 #[cfg(test)]
 mod edits;
 #[cfg(test)]
-mod frames;
-#[cfg(test)]
 mod lists;
 #[cfg(test)]
 mod many;
@@ -17,5 +15,7 @@ mod many;
 mod places;
 #[cfg(test)]
 mod sorted;
+#[cfg(test)]
+mod stretches;
 #[cfg(test)]
 mod tables;
