@@ -1,10 +1,10 @@
 -- The items that stand at a place, one stretch after another.
-use Rattle.std.proofs.Common.{◌≡◌, ℕ, ◌+◌, ◌≤◌, Bool, true, false, cond, ◌&&◌, nat_le, List, [], ◌∷◌, length, map, filter, count_by, refl, sym, ap, ◌∙◌, arith}
-use Rattle.std.proofs.lemmas.Bool.{le-ltb}
+use Rattle.std.proofs.Common.{◌≡◌, ℕ, ◌+◌, ◌≤◌, ◌<◌, Bool, true, false, cond, ◌&&◌, nat_le, nat_lt, List, [], ◌∷◌, length, map, filter, count_by, refl, sym, ap, ◌∙◌, arith, ⊎_elim}
+use Rattle.std.proofs.lemmas.Bool.{cases_Bool, cases_lt, cond-true, cond-false, le-ltb, lt-leb, ltb-false}
 use Rattle.std.proofs.lemmas.List.{length-map}
 use Rattle.std.proofs.lemmas.List.Sums.{length-filter, sum_by-cons}
 use Rattle.frames.specs.declared.stretch.Stretch.{Stretch}
-use Rattle.frames.specs.Frames.{once, stands, standing_at}
+use Rattle.frames.specs.Frames.{EmptyStretchesStandNowhere, once, stands, stands_somewhere, standing_at}
 
 never : (b : Bool) → (b && false) ≡ false
 never true = refl
@@ -45,3 +45,29 @@ module _ {X : Type 0} where
   alone_later n (x ∷ xs) l =
       let after : stands n (once x) ≡ false = ap (λ (b : Bool). nat_le 0 n && b) (le-ltb n 1 l) ∙ never (nat_le 0 n) in
       sym (elsewhere n (map once (x ∷ xs)) (map once (x ∷ xs)) (map once xs) (once x) refl refl after) ∙ alone_later n xs l
+
+  -- a stretch that stands nowhere stands at no place
+  nowhere : (place : ℕ) (s : Stretch X) → stands_somewhere s ≡ false → stands place s ≡ false
+  nowhere place s e =
+      let l = ltb-false s.from s.to e in
+      ⊎_elim
+      (λ (m : place < s.from). ap (λ (b : Bool). b && nat_lt place s.to) (lt-leb s.from place m))
+      (λ (m : s.from ≤ place). ap (λ (b : Bool). nat_le s.from place && b) (le-ltb place s.to (omega (arith, l, m))) ∙ never (nat_le s.from place))
+      (cases_lt place s.from)
+
+  pub without-empty : EmptyStretchesStandNowhere X
+  without-empty place [] = refl
+  without-empty place (s ∷ ss) =
+      ⊎_elim
+      (λ (y : stands_somewhere s ≡ true).
+      ap (standing_at place) (cond-true (stands_somewhere s) (s ∷ filter stands_somewhere ss) (filter stands_somewhere ss) y) ∙ one (stands place s) (without-empty place ss))
+      (λ (y : stands_somewhere s ≡ false).
+      ap (standing_at place) (cond-false (stands_somewhere s) (s ∷ filter stands_somewhere ss) (filter stands_somewhere ss) y)
+      ∙ without-empty place ss
+      ∙ sym (ap (map (λ (x : Stretch X). x.item)) (cond-false (stands place s) (s ∷ filter (stands place) ss) (filter (stands place) ss) (nowhere place s y))))
+      (cases_Bool (stands_somewhere s))
+    where
+      one : (b : Bool) → standing_at place (filter stands_somewhere ss) ≡ standing_at place ss
+          → map (λ (x : Stretch X). x.item) (cond b (s ∷ filter (stands place) (filter stands_somewhere ss)) (filter (stands place) (filter stands_somewhere ss))) ≡ map (λ (x : Stretch X). x.item) (cond b (s ∷ filter (stands place) ss) (filter (stands place) ss))
+      one true h = ap (λ (l : List X). s.item ∷ l) h
+      one false h = h

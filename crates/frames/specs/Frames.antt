@@ -1,5 +1,5 @@
 -- The lists that stand at neighbouring places, in one: each item once, with the stretch of places at which it stands.
-use Rattle.std.specs.Prelude.{ℕ, Bool, ◌&&◌, nat_le, nat_lt, if◌then◌else◌, List, [], ◌∷◌, map, filter}
+use Rattle.std.specs.Prelude.{◌≡◌, ℕ, Bool, ◌&&◌, nat_le, nat_lt, if◌then◌else◌, List, [], ◌∷◌, map, filter}
 use Rattle.frames.specs.declared.stretch.Stretch.{Stretch}
 
 module _ {X : Type 0} where
@@ -14,6 +14,14 @@ module _ {X : Type 0} where
   -- the items that stand at a place, in the order of the stretches
   abbrev pub standing_at : ℕ → List (Stretch X) → List X
   standing_at place stretches = map (λ s. s.item) (filter (stands place) stretches)
+
+  -- it stands at some place
+  abbrev pub stands_somewhere : Stretch X → Bool
+  stands_somewhere s = nat_lt s.from s.to
+
+-- without the stretches that stand nowhere, the same items stand at each place
+abbrev pub EmptyStretchesStandNowhere : Type 0 → Type 0
+EmptyStretchesStandNowhere X = (place : ℕ) (stretches : List (Stretch X)) → standing_at place (filter stands_somewhere stretches) ≡ standing_at place stretches
 
 module _ {X : Type 0} (key : X → ℕ) where
   -- one more item, before the first whose key is not smaller

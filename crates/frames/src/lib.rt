@@ -4,6 +4,7 @@
 
 mod frame;
 mod keyed;
+pub mod laws;
 mod standing;
 mod stretch;
 

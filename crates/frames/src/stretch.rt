@@ -1,5 +1,5 @@
 ghost use Rattle.std.specs.Prelude.{◌≡◌};
-ghost use Rattle.frames.specs.Frames.{once, stands};
+ghost use Rattle.frames.specs.Frames.{once, stands, stands_somewhere};
 
 /// An item, with the places at which it stands: from `from` on, and before `to`. So the last place at
 /// which one can stand is 4,294,967,294; a stretch of which `to` isn't above `from` stands nowhere.
@@ -30,5 +30,13 @@ impl<T: Copy> Stretch<T> {
         ensures { result ≡ stands place self.now }
     {
         self.from <= place && place < self.to
+    }
+
+    /// Whether there is a place at which the item stands. A stretch of which this doesn't hold may be left
+    /// out of a frame (`laws::empty_stretches_stand_nowhere`).
+    pub fn stands_somewhere(&self) -> bool
+        ensures { result ≡ stands_somewhere self.now }
+    {
+        self.from < self.to
     }
 }
