@@ -103,6 +103,7 @@ fn a_stretch_stands_before_its_end(rt: HostRuntime) {
     let two = stretch(8, 3, 5);
     assert!(rt; !two.stands(2) && two.stands(3) && two.stands(4) && !two.stands(5));
     assert!(rt; Stretch::once(8) == stretch(8, 0, 1));
+    assert!(rt; two.stands_somewhere() && !stretch(8, 5, 5).stands_somewhere());
 }
 
 /// A guest at a table of this number.
