@@ -8,7 +8,7 @@ mod LeavingLemmas
 mod NumberLemmas
 mod KeyLemmas
 mod PlaceLemmas
+mod TicketLemmas
 mod StartLemmas
-mod LineLemmas
 mod PastLemmas
 pub mod Lemmas

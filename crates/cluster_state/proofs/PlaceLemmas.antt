@@ -22,10 +22,10 @@ Having n js = count_by (λ (j : EffectiveJob). nat_eq j.number n) js
 abbrev pub Once : List EffectiveJob → Type 0
 Once js = (n : ℕ) → Having n js ≤ 1
 
-counts : (n : ℕ) (j : EffectiveJob) (js : List EffectiveJob) → Having n (j ∷ js) ≡ cond (nat_eq j.number n) 1 0 + Having n js
+pub counts : (n : ℕ) (j : EffectiveJob) (js : List EffectiveJob) → Having n (j ∷ js) ≡ cond (nat_eq j.number n) 1 0 + Having n js
 counts n j js = sum_by-cons (λ (j : EffectiveJob). cond {A = ℕ} (nat_eq j.number n) 1 0) j js
 
-one : (n : ℕ) (j : EffectiveJob) → nat_eq j.number n ≡ true → cond {A = ℕ} (nat_eq j.number n) 1 0 ≡ 1
+pub one : (n : ℕ) (j : EffectiveJob) → nat_eq j.number n ≡ true → cond {A = ℕ} (nat_eq j.number n) 1 0 ≡ 1
 one n j e = cond-true {A = ℕ} (nat_eq j.number n) 1 0 e
 
 fewer : (n : ℕ) (j : EffectiveJob) (js : List EffectiveJob) → Having n (j ∷ js) ≤ 1 → Having n js ≤ 1
@@ -59,7 +59,7 @@ waiting-push xs new x e = ap waiting e ∙ filter_map-append (λ (place : Option
 
 -- ---- one leaves
 -- who stands there is counted
-counted : (xs : List (Option EffectiveJob)) (k : ℕ) (x : EffectiveJob) → at_place xs k ≡ Some x → 1 ≤ Having x.number (waiting xs)
+pub counted : (xs : List (Option EffectiveJob)) (k : ℕ) (x : EffectiveJob) → at_place xs k ≡ Some x → 1 ≤ Having x.number (waiting xs)
 counted [] k x e = cc
 counted (None ∷ xs) zero x e = cc
 counted (None ∷ xs) (suc k) x e = counted xs k x e
@@ -69,7 +69,7 @@ counted (Some y ∷ xs) zero x e =
 counted (Some y ∷ xs) (suc k) x e = omega (arith, counts x.number y (waiting xs), counted xs k x e)
 
 -- the one before has another number
-other : (y : EffectiveJob) (js : List EffectiveJob) (n : ℕ) → Having n (y ∷ js) ≤ 1 → 1 ≤ Having n js → nat_eq y.number n ≡ false
+pub other : (y : EffectiveJob) (js : List EffectiveJob) (n : ℕ) → Having n (y ∷ js) ≤ 1 → 1 ≤ Having n js → nat_eq y.number n ≡ false
 other y js n once l =
     ⊎_elim
     (λ (e : nat_eq y.number n ≡ true). absurd (omega (arith, once, counts n y js, one n y e, l)))
@@ -103,6 +103,18 @@ leaves-there xs k once = go (at_place xs k) refl
     go : (o : Option EffectiveJob) → at_place xs k ≡ o → IfSome o (λ x. waiting (set xs k None) ≡ without x.number (waiting xs))
     go None is = tt
     go (Some x) is = waiting-set xs k x (once x.number) is
+
+-- the number of one who is found by it stands once, and so does each where no number stands twice
+pub once-numbered : (xs : List (Option EffectiveJob)) (k n : ℕ) → Having n (waiting xs) ≤ 1 → holds (λ (j : EffectiveJob). nat_eq j.number n) (at_place xs k) ≡ true → IfSome (at_place xs k) (λ x. Having x.number (waiting xs) ≤ 1)
+once-numbered xs k n once e = go (at_place xs k) e
+  where
+    go : (o : Option EffectiveJob) → holds (λ (j : EffectiveJob). nat_eq j.number n) o ≡ true → IfSome o (λ x. Having x.number (waiting xs) ≤ 1)
+    go None h = tt
+    go (Some x) h = subst (λ m. Having m (waiting xs) ≤ 1) (sym (eqb-true x.number n h)) once
+
+pub once-there : (js : List EffectiveJob) (o : Option EffectiveJob) → Once js → IfSome o (λ x. Having x.number js ≤ 1)
+once-there js None once = tt
+once-there js (Some x) once = once x.number
 
 -- nobody has the number
 pub without-nobody : (n : ℕ) (xs : List (Option EffectiveJob)) → NonePasses (holds (λ (j : EffectiveJob). nat_eq j.number n)) xs 0 (length xs) → waiting xs ≡ without n (waiting xs)

@@ -9,7 +9,7 @@ use Rattle.scenarios.specs.Job.{EffectiveJob}
 use Rattle.scenarios.specs.declared.order.Order.{Order}
 use Rattle.scenarios.specs.declared.order.Order.TheVariants.{Arrival, Shortest}
 use Rattle.cluster_state.specs.State.{without}
-use Rattle.cluster_state.specs.Row.{put, by_estimate, in_order, row_of, row_with, put_last}
+use Rattle.cluster_state.specs.Row.{put, by_estimate, in_order, row_of, put_last}
 
 -- the two cases of `put`
 pub put-before : (j x : EffectiveJob) (xs : List EffectiveJob) → j.estimate ≤ x.estimate → put j (x ∷ xs) ≡ j ∷ x ∷ xs
@@ -57,18 +57,6 @@ rises-put j (x ∷ xs) r =
 pub rises-by_estimate : (js : List EffectiveJob) → RisesByEstimate (by_estimate js)
 rises-by_estimate [] = tt
 rises-by_estimate (j ∷ js) = rises-put j (by_estimate js) (rises-by_estimate js)
-
--- the same by places
-rising-places : (xs : List EffectiveJob) → RisesByEstimate xs → IsNonDecreasingBy (λ (x : EffectiveJob). x.estimate) xs
-rising-places [] r i j d le lt = absurd (omega arith)
-rising-places (x ∷ xs) r zero zero d le lt = omega arith
-rising-places (x ∷ xs) r zero (suc j) d le lt = All-get_or (λ y. x.estimate ≤ y.estimate) xs j d (omega arith) r.0
-rising-places (x ∷ xs) r (suc i) zero d le lt = absurd (omega arith)
-rising-places (x ∷ xs) r (suc i) (suc j) d le lt = rising-places xs r.1 i j d (omega arith) (omega arith)
-
-pub rises-row_of : (o : Order) (js : List EffectiveJob) → IsNonDecreasingBy (λ (x : EffectiveJob). x.estimate) (row_of o js)
-rises-row_of Arrival js = rising-places [] tt
-rises-row_of Shortest js = rising-places (by_estimate js) (rises-by_estimate js)
 
 pub All-by_estimate : (P : EffectiveJob → Type 0) (js : List EffectiveJob) → All P js → All P (by_estimate js)
 All-by_estimate P [] a = a
@@ -191,14 +179,6 @@ pub by_estimate-arrived : (js : List EffectiveJob) (job : EffectiveJob) → by_e
 by_estimate-arrived [] job = refl
 by_estimate-arrived (j ∷ js) job = ap (put j) (by_estimate-arrived js job) ∙ put-put_last j job (by_estimate js)
 
-pub put_last-at : (j : EffectiveJob) (js : List EffectiveJob) → put_last j js ≡ insert js (position_or_len (λ (x : EffectiveJob). nat_lt j.estimate x.estimate) js) j
-put_last-at j [] = refl
-put_last-at j (x ∷ xs) =
-    elim (nat_lt j.estimate x.estimate) as (λ b. cond b (j ∷ x ∷ xs) (x ∷ put_last j xs) ≡ insert (x ∷ xs) (cond (not b) (1 + position_or_len (λ (x : EffectiveJob). nat_lt j.estimate x.estimate) xs) 0) j) [
-      | true ↦ refl
-      | false ↦ rw one-add (ap (λ l. x ∷ l) (put_last-at j xs))
-    ]
-
 -- whom the test refuses may as well not stand there
 pub find-put : (q : EffectiveJob → Bool) (j : EffectiveJob) (xs : List EffectiveJob) → q j ≡ false → find q (put j xs) ≡ find q xs
 find-put q j [] e = cond-false (q j) (Some j) None e
@@ -211,11 +191,7 @@ pub find-in_order : (q : EffectiveJob → Bool) (o : Order) (j : EffectiveJob) (
 find-in_order q Arrival j js e = cond-false (q j) (Some j) (find q js) e
 find-in_order q Shortest j js e = find-put q j (by_estimate js) e
 
--- the kept row, as jobs come and go
-pub row-arrived : (o : Order) (js : List EffectiveJob) (job : EffectiveJob) → row_with o job (row_of o js) ≡ row_of o (js ++ job ∷ [])
-row-arrived Arrival js job = refl
-row-arrived Shortest js job = sym (by_estimate-arrived js job)
-
+-- the kept row, as a job goes
 pub row-started : (o : Order) (n : ℕ) (js : List EffectiveJob) → count_by (λ (j : EffectiveJob). nat_eq j.number n) js ≤ 1 → without n (row_of o js) ≡ row_of o (without n js)
 row-started Arrival n js once = refl
 row-started Shortest n js once = without-by_estimate n js once

@@ -1,33 +1,24 @@
 -- The fields of a cluster and of its two rooms, as contracts see them.
-use Rattle.std.specs.Prelude.{◌≡◌, ℕ, ◌+◌, ◌-◌, ◌≤◌, min, drop, sum_by, count_by, nat_eq, vec_len, vec_capacity}
+use Rattle.std.specs.Prelude.{◌≡◌, ℕ, ◌+◌, ◌-◌, ◌≤◌, min, sum_by, count_by, nat_eq}
 use Rattle.std.specs.BinaryHeap.{heap_items, heap_len, heap_capacity, IsHeap}
 use Rattle.blocks.specs.Rows.{flat}
 use Rattle.cluster_state.specs.State.{State, ClusterView, IsSound, busy}
 use Rattle.waiting_places.specs.Places.{waiting}
-use Rattle.cluster_state.specs.Row.{row_of, row_places}
+use Rattle.cluster_state.specs.Row.{IsKept, jobs_of, row_places}
 use Rattle.cluster_state.specs.Ends.{by_number, end_of, falling, RisesByEnd}
 use Rattle.cluster_state.specs.declared.ends.End.{End}
-use Rattle.cluster_state.specs.Rooms.{LineView, QueueView, RunningView}
+use Rattle.cluster_state.specs.Rooms.{QueueView, RunningView}
 use Rattle.cluster_state.specs.declared.cluster.Cluster.TheInside.{Inside}
-use Rattle.cluster_state.specs.declared.line.Line.TheInside as line
 use Rattle.cluster_state.specs.declared.queue.Queue.TheInside as queue
 use Rattle.cluster_state.specs.declared.running_set.RunningSet.TheInside as set
 
--- the jobs behind the gap, and the room that is left
-abbrev pub line_of : {A : Type 0} → line.Inside A → LineView
-line_of l = record { jobs = drop l.gone l.places.items; spare = vec_capacity l.places - vec_len l.places }
-
--- what the fields of such a row keep: the gap ends within the Vec
-abbrev pub IsLine : {A : Type 0} → line.Inside A → Type 0
-IsLine l = l.gone ≤ vec_len l.places
-
 -- the order, the waiting jobs, and the places of the row
 abbrev pub queue_of : {A : Type 0} → queue.Inside A → QueueView
-queue_of q = record { order = q.order; jobs = waiting q.jobs.places; places = row_places q.order q.jobs.places q.row.jobs }
+queue_of q = record { order = q.order; jobs = waiting q.jobs.places; places = row_places q.order q.jobs.places (jobs_of (flat q.row.blocks)) }
 
--- what the fields of the queue keep: the row is that of the waiting jobs
+-- what the fields of the queue keep: the row is that of those who wait
 abbrev pub IsQueue : {A : Type 0} → queue.Inside A → Type 0
-IsQueue q = q.row.jobs ≡ row_of q.order (waiting q.jobs.places)
+IsQueue q = IsKept q.order q.jobs.places (flat q.row.blocks)
 
 -- the room for running jobs that is left: in the row by expected ends and in the heap of ends
 abbrev pub spare_of : {A : Type 0} → set.Inside A → ℕ

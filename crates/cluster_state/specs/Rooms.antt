@@ -6,11 +6,6 @@ use Rattle.scenarios.specs.declared.placed.Placed.{Placed}
 use Rattle.cluster_state.specs.State.{busy}
 use Rattle.cluster_state.specs.Ends.{by_end}
 
--- Jobs in a row, and how many more surely find room.
-pub record LineView : Type 0 where
-  pub jobs : List EffectiveJob
-  pub spare : ℕ
-
 -- The waiting jobs in order of arrival, the order in which the later ones are looked at, and the places of the row in which they are.
 pub record QueueView : Type 0 where
   pub order : Order

@@ -1,11 +1,12 @@
 -- The order in which the later waiting jobs are looked at.
-use Rattle.std.specs.Prelude.{◌≡◌, ℕ, ◌≤◌, nat_le, nat_lt, if◌then◌else◌, Bool, List, [], ◌∷◌, map, Option, Some, IsSomeAnd}
+use Rattle.std.specs.Prelude.{◌≡◌, ℕ, ◌≤◌, nat_le, nat_lt, if◌then◌else◌, Bool, List, [], ◌∷◌, map, Option, Some, IsSomeAnd, All}
 use Rattle.scenarios.specs.Job.{EffectiveJob}
 use Rattle.scenarios.specs.declared.order.Order.{Order}
 use Rattle.scenarios.specs.declared.order.Order.TheVariants.{Arrival, Shortest}
 use Rattle.waiting_places.specs.declared.offer.Offer.{Offer}
 use Rattle.waiting_places.specs.Offers.{fits}
 use Rattle.waiting_places.specs.Places.{at_place, waiting}
+use Rattle.cluster_state.specs.declared.ticket.Ticket.{Ticket}
 use Rattle.cluster_state.specs.State.{ClusterView, free}
 
 -- a job among others, before the first whose estimate is not shorter
@@ -23,6 +24,10 @@ abbrev pub in_order : Order → List EffectiveJob → List EffectiveJob
 in_order Arrival js = js
 in_order Shortest js = by_estimate js
 
+-- the jobs of a row by estimate, each of which has a ticket with its place
+abbrev pub jobs_of : List Ticket → List EffectiveJob
+jobs_of row = map (λ t. t.job) row
+
 -- the row that a cluster keeps beside its queue: none in order of arrival, where the queue itself serves
 abbrev pub row_of : Order → List EffectiveJob → List EffectiveJob
 row_of Arrival js = []
@@ -33,10 +38,10 @@ abbrev pub put_last : EffectiveJob → List EffectiveJob → List EffectiveJob
 put_last job [] = job ∷ []
 put_last job (x ∷ xs) = if nat_lt job.estimate x.estimate then job ∷ x ∷ xs else x ∷ put_last job xs
 
--- the kept row with one more job, behind those of its estimate
-abbrev pub row_with : Order → EffectiveJob → List EffectiveJob → List EffectiveJob
-row_with Arrival job row = row
-row_with Shortest job row = put_last job row
+-- what a row keeps: it is that of those who wait at these places, and each waits at the place of its ticket
+pub record IsKept (order : Order) (places : List (Option EffectiveJob)) (row : List Ticket) : Type 0 where
+  pub jobs : jobs_of row ≡ row_of order (waiting places)
+  pub placed : All (λ t. at_place places t.place ≡ Some t.job) row
 
 -- the places of the row: in order of arrival those of the queue itself, else one for each job of the kept row
 abbrev pub row_places : Order → List (Option EffectiveJob) → List EffectiveJob → List (Option EffectiveJob)

@@ -6,13 +6,13 @@ mod changes;
 mod cluster;
 mod ends;
 pub mod laws;
-mod line;
 mod lookup;
 mod queue;
 mod row;
 mod runner;
 mod running_set;
 mod snapshot;
+mod ticket;
 mod waiter;
 mod waiting;
 

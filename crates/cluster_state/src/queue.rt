@@ -1,15 +1,17 @@
 ghost use Rattle.std.specs.Prelude.{◌≡◌, ◌≤◌, ◌<◌, ◌+◌, ℕ, [], ◌∷◌, ◌++◌, OnOk, OnErr, IfSome, IsSome, Some, length, drop, find, remove, take, nat_eq, count_by, option_copied, slice_get};
+ghost use Rattle.blocks.specs.Rows.{flat};
 ghost use Rattle.scenarios.specs.Job.{IsWithinLimits};
 ghost use Rattle.scenarios.specs.declared.order.Order.TheVariants.{Arrival, Shortest};
 ghost use Rattle.waiting_places.specs.Offers.{holds};
 ghost use Rattle.waiting_places.specs.Places.{IsFirst, at_place, waiting};
 ghost use Rattle.cluster_state.specs.State.{without};
-ghost use Rattle.cluster_state.specs.Row.{fits_offer, in_order};
+ghost use Rattle.cluster_state.specs.Row.{fits_offer, in_order, jobs_of};
 
-use crate::line::Line;
-use crate::row::{first_fit, put_job, remove_job};
+use crate::row::{arrive, first_fit, leave_at, take_by_estimate};
+use crate::ticket::Ticket;
 use crate::waiter::Waiter;
 use crate::waiting::Waiting;
+use blocks::Blocks;
 use scenarios::{Job, Order};
 use std::alloc::Allocator;
 use std::marker::Model;
@@ -22,7 +24,7 @@ use waiting_places::{Offer, Places};
 pub(crate) struct Queue<A: Allocator + Copy> {
     order: Order,
     jobs: Places<Waiter, A>,
-    row: Line<A>,
+    row: Blocks<Ticket, A>,
 }
 
 impl<A: Allocator + Copy> Model for Queue<A> {
@@ -45,7 +47,7 @@ impl<A: Allocator + Copy> Queue<A> {
         Queue {
             order,
             jobs: Places::new(alloc),
-            row: Line::new(alloc),
+            row: Blocks::new(alloc),
         }
     }
 
@@ -110,7 +112,7 @@ impl<A: Allocator + Copy> Queue<A> {
     {
         match self.order {
             Order::Arrival => job_in(&self.jobs, place),
-            Order::Shortest => self.row.jobs().get(place),
+            Order::Shortest => job_at(&self.row, place),
         }
     }
 
@@ -138,7 +140,7 @@ impl<A: Allocator + Copy> Queue<A> {
     {
         match self.order {
             Order::Arrival => self.jobs.first_fit(from, offer),
-            Order::Shortest => first_fit(self.row.jobs(), from, offer),
+            Order::Shortest => first_fit(&mut self.row, from, offer),
         }
     }
 
@@ -149,9 +151,13 @@ impl<A: Allocator + Copy> Queue<A> {
         ensures err { OnErr result (self.new.jobs ≡ self.old.jobs) }
         ensures limits { IsWithinLimits job }
     {
-        self.jobs.reserve(1)?;
-        put_job(&mut self.row, self.order, job)?;
-        self.jobs.push(Waiter { job });
+        match self.order {
+            Order::Arrival => {
+                self.jobs.reserve(1)?;
+                self.jobs.push(Waiter { job });
+            }
+            Order::Shortest => arrive(&mut self.jobs, &mut self.row, job)?,
+        }
         Ok(())
     }
 
@@ -161,8 +167,9 @@ impl<A: Allocator + Copy> Queue<A> {
         ensures order { self.new.order ≡ self.old.order }
         ensures jobs { self.new.jobs ≡ without number self.old.jobs }
     {
-        leave(&mut self.jobs, number);
-        remove_job(&mut self.row, number);
+        if let Some(place) = place_numbered(self.jobs.as_slice(), number) {
+            leave_at(self.order, &mut self.jobs, &mut self.row, place);
+        }
     }
 
     // The first job leaves.
@@ -171,11 +178,8 @@ impl<A: Allocator + Copy> Queue<A> {
         ensures order { self.new.order ≡ self.old.order }
         ensures jobs { IfSome (slice_get self.old.jobs 0) (λ job. self.new.jobs ≡ without job.number self.old.jobs) }
     {
-        let Some(place) = self.jobs.first() else {
-            return;
-        };
-        if let Some(waiter) = self.jobs.take(place) {
-            remove_job(&mut self.row, waiter.job.number());
+        if let Some(place) = self.jobs.first() {
+            leave_at(self.order, &mut self.jobs, &mut self.row, place);
         }
     }
 
@@ -212,6 +216,13 @@ fn job_in<A: Allocator + Copy>(jobs: &Places<Waiter, A>, place: usize) -> Option
     Some(&jobs.get(place)?.job)
 }
 
+// The job at this place of a row.
+fn job_at<A: Allocator + Copy>(row: &Blocks<Ticket, A>, place: usize) -> Option<&Job>
+    ensures { option_copied result ≡ slice_get (jobs_of (flat row.now.blocks)) place }
+{
+    Some(&row.at(place)?.job)
+}
+
 // Whether a job of this number waits at this place.
 fn has_number(place: &Option<Waiter>, number: u64) -> bool
     ensures { result ≡ holds (λ j. nat_eq j.number number) place.now }
@@ -232,31 +243,4 @@ fn place_numbered(places: &[Option<Waiter>], number: u64) -> Option<usize>
         }
     }
     None
-}
-
-// The job of this number leaves its place.
-fn leave<A: Allocator + Copy>(jobs: &mut Places<Waiter, A>, number: u64)
-    requires { count_by (λ j. nat_eq j.number number) (waiting jobs.old.places) ≤ 1 }
-    ensures { waiting jobs.new.places ≡ without number (waiting jobs.old.places) }
-{
-    let Some(place) = place_numbered(jobs.as_slice(), number) else {
-        return;
-    };
-    jobs.take(place);
-}
-
-// The job at this place of a row by estimate leaves the row and its place.
-fn take_by_estimate<A: Allocator + Copy>(
-    jobs: &mut Places<Waiter, A>,
-    row: &mut Line<A>,
-    place: usize,
-)
-    requires once { (n : ℕ) → count_by (λ j. nat_eq j.number n) (waiting jobs.old.places) ≤ 1 }
-    requires there { place < length row.old.jobs }
-    ensures jobs { IfSome (slice_get row.old.jobs place) (λ job. waiting jobs.new.places ≡ without job.number (waiting jobs.old.places)) }
-    ensures row { row.new.jobs ≡ remove row.old.jobs place }
-{
-    let number = row.jobs()[place].number();
-    row.remove(place);
-    leave(jobs, number);
 }

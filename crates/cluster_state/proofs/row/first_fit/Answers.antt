@@ -1,9 +1,27 @@
-use Rattle.std.proofs.Common.{◌<◌, length, rules, sym, ◌∙◌}
-use Rattle.cluster_state.specs.Row.{fits_offer}
-use Rattle.cluster_state.proofs.PlaceLemmas.{none_more}
+use Rattle.std.proofs.Common.{◌≡◌, ◌+◌, ℕ, List, None, Option, Some, ap, length, max, subst, sym, ◌∙◌}
+use Rattle.blocks.specs.Light.{IsFirstLight}
+use Rattle.blocks.specs.Rows.{AreBefore, BlocksView, flat}
+use Rattle.cluster_state.specs.declared.ticket.Ticket.{Ticket}
+use Rattle.cluster_state.proofs.TicketLemmas.{estimate, found_behind, found_front, place, size}
 use Rattle.cluster_state.proofs.row.first_fit.Goals as goal
 
-pub loop-place-preserved : goal.loop-place-preserved
-loop-place-preserved c =
-    let there : c.loop-place.place < length c.args.row.now = search rules in
-    none_more (fits_offer c.args.offer.now) c.args.row.now c.args.from c.loop-place.place c.index-row-place.result there c.index-row-place.is (sym c.fits.ensures ∙ c.if-fits.false) c.loop-place.invariant
+pub returns-in-Some-clause-first : goal.returns-in-Some-clause-first
+returns-in-Some-clause-first g c =
+    let row = flat c.args.row.now.blocks in
+    let offer = c.args.offer.now in
+    let longer = c.before-longer.result in
+    let parts = subst (λ (n : ℕ). AreBefore estimate place n 0 row longer) (ap (λ (n : ℕ). n + 1) c.from.ensures) c.before-longer.ensures in
+    let found = subst (λ (n : ℕ). IsFirstLight size n row c.args.from longer (Some c.in-Some.place)) c.max.ensures c.in-Some.ensures.place in
+    found_front offer row longer parts c.args.from c.in-Some.place found
+
+pub returns-clause-first : goal.returns-clause-first
+returns-clause-first g c =
+    let row = flat c.args.row.now.blocks in
+    let offer = c.args.offer.now in
+    let longer = c.before-longer.result in
+    let parts = subst (λ (n : ℕ). AreBefore estimate place n 0 row longer) (ap (λ (n : ℕ). n + 1) c.from.ensures) c.before-longer.ensures in
+    let none = subst (λ (n : ℕ). IsFirstLight size n row c.args.from longer None) c.max.ensures c.in_default.ensures.place in
+    let same : flat c.first_light.new.self.blocks ≡ row = ap (λ (v : BlocksView Ticket). flat v.blocks) c.first_light.ensures.same in
+    let rest = subst (λ (n : ℕ). IsFirstLight size offer.extra row n c.len.result c.first_light-2.result) c.max-2.ensures
+    (subst (λ (l : List Ticket). IsFirstLight size offer.extra l c.max-2.result c.len.result c.first_light-2.result) same c.first_light-2.ensures.place) in
+    found_behind offer row longer parts c.args.from c.len.result c.first_light-2.result none (c.len.ensures ∙ ap (λ (l : List Ticket). length l) same) rest
