@@ -1,5 +1,5 @@
 -- The row by estimate: a ticket for each who waits, with its place.
-use Rattle.std.proofs.Common.{◌≡◌, ℕ, zero, suc, ◌+◌, ◌≤◌, ◌<◌, Bool, true, false, cond, nat_eq, nat_le, nat_lt, ◌==◌, ◌&&◌, ◌||◌, max, List, [], ◌∷◌, ◌++◌, length, take, drop, set, map, remove, count_by, slice_get, get_or, Option, Some, None, IfSome, All, refl, sym, ◌∙◌, ap, arith, subst, ⊎_elim}
+use Rattle.std.proofs.Common.{◌≡◌, ℕ, zero, suc, ◌+◌, ◌≤◌, ◌<◌, Bool, true, false, cond, nat_eq, nat_le, nat_lt, max, List, [], ◌∷◌, ◌++◌, length, take, drop, set, map, slice_get, get_or, Option, Some, None, All, refl, sym, ◌∙◌, ap, arith, subst, ⊎_elim}
 use Rattle.std.proofs.lemmas.Bool.{cond-true, cond-false, cases_Bool, cases_lt, eq-eqb, eqb-true, true≢false}
 use Rattle.std.proofs.lemmas.Bool.Decides.{nat_tests}
 use Rattle.std.proofs.lemmas.List.Elements.{All-cons, All-head, All-nil, All-tail, All-weaker, filter_map-append}
@@ -15,7 +15,7 @@ use Rattle.waiting_places.specs.Places.{IsFirst, NonePasses, at_place, waiting}
 use Rattle.cluster_state.specs.declared.ticket.Ticket.{Ticket}
 use Rattle.cluster_state.specs.State.{without}
 use Rattle.cluster_state.specs.Row.{IsKept, by_estimate, fits_offer, jobs_of, put_last, row_of}
-use Rattle.cluster_state.proofs.PlaceLemmas.{Having, Once, counted, counts, one, other, once-by_estimate, waiting-push, waiting-set}
+use Rattle.cluster_state.proofs.PlaceLemmas.{Having, counted, counts, one, waiting-push, waiting-set}
 use Rattle.cluster_state.proofs.RowLemmas.{by_estimate-arrived, row-started, sum_by-by_estimate}
 
 abbrev pub estimate : Ticket → ℕ

@@ -1,4 +1,4 @@
-use Rattle.std.proofs.Common.{◌≡◌, ◌++◌, [], ◌∷◌, List, ap, subst, sym, ◌∙◌}
+use Rattle.std.proofs.Common.{◌++◌, [], ◌∷◌, List, ap, subst, sym, ◌∙◌}
 use Rattle.blocks.specs.Rows.{flat}
 use Rattle.scenarios.specs.declared.order.Order.TheVariants.{Shortest}
 use Rattle.scenarios.specs.Job.{EffectiveJob}

@@ -1,4 +1,4 @@
-use Rattle.std.proofs.Common.{None, Some, ap, refl, sym, ◌∙◌}
+use Rattle.std.proofs.Common.{None, Some, ap, refl, sym}
 use Rattle.blocks.specs.Rows.{flat}
 use Rattle.scenarios.specs.Job.{EffectiveJob}
 use Rattle.cluster_state.proofs.TicketLemmas.{filling-none, filling-one}

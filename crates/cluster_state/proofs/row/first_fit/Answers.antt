@@ -1,4 +1,4 @@
-use Rattle.std.proofs.Common.{◌≡◌, ◌+◌, ℕ, List, None, Option, Some, ap, length, max, subst, sym, ◌∙◌}
+use Rattle.std.proofs.Common.{◌≡◌, ◌+◌, ℕ, List, None, Some, ap, length, subst, ◌∙◌}
 use Rattle.blocks.specs.Light.{IsFirstLight}
 use Rattle.blocks.specs.Rows.{AreBefore, BlocksView, flat}
 use Rattle.cluster_state.specs.declared.ticket.Ticket.{Ticket}

@@ -1,4 +1,4 @@
-use Rattle.std.proofs.Common.{◌≡◌, ◌≤◌, ℕ, IfSome, List, Option, ap, subst, sym, ◌∙◌}
+use Rattle.std.proofs.Common.{◌≤◌, ℕ, IfSome, List, Option, ap, subst, sym, ◌∙◌}
 use Rattle.blocks.specs.Rows.{flat, is_at, without_first}
 use Rattle.scenarios.specs.Job.{EffectiveJob}
 use Rattle.waiting_places.specs.Places.{waiting}

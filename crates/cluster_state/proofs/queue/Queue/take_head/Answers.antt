@@ -1,4 +1,4 @@
-use Rattle.std.proofs.Common.{◌≡◌, IfSome, List, None, Option, set, subst, sym}
+use Rattle.std.proofs.Common.{◌≡◌, IfSome, List, Option, subst, sym}
 use Rattle.scenarios.specs.Job.{EffectiveJob}
 use Rattle.waiting_places.specs.Places.{at_place, waiting}
 use Rattle.cluster_state.specs.State.{without}
