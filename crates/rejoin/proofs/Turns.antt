@@ -97,7 +97,7 @@ pub stands-begins : (c : ChangeView) (n at : ℕ) (now : Progress) (ss : List Se
 stands-begins c n at now ss handled reused (us, count, going, plan, on) = on-begun c n (drop at c.old) ss us now.position (handled + now.handled) on
 
 -- a segment begins at most one second after the bound
-bounded : (q : Plan) (b : ℕ) → IsPlan q → MayBegin q b → b ≤ bound q + 1
+pub bounded : (q : Plan) (b : ℕ) → IsPlan q → MayBegin q b → b ≤ bound q + 1
 bounded q b p (inl e) = omega (arith, e)
 bounded q b p (inr (t, e, ev)) = let l = events-end-by-the-bound q t p ev in omega (arith, l, e)
 

@@ -2,15 +2,21 @@ ghost use Rattle.std.specs.Prelude.{◌≡◌, ◌≤◌, ◌<◌, ◌+◌, ◌^
 ghost use Rattle.std.specs.Arc.{arc_value};
 ghost use Rattle.job_table.specs.Accepted.{AreAccepted};
 ghost use Rattle.job_table.specs.Edit.{edit_of, log_after};
-ghost use Rattle.scenarios.specs.Plan.{plan_of};
+ghost use Rattle.scenarios.specs.Job.{EffectiveJob};
+ghost use Rattle.scenarios.specs.Plan.{plan_of, job_numbered};
 ghost use Rattle.cluster_state.specs.Snapshot.{numbers_of};
 ghost use Rattle.easy_rule.specs.Simulation.{before};
 ghost use Rattle.event_loop.specs.Events.{begun};
+ghost use Rattle.timeline.specs.Ledger.{apart_until};
+ghost use Rattle.timeline.specs.Meeting.{NoneOf};
 ghost use Rattle.checkpoints.specs.Segment.{SegmentView};
 ghost use Rattle.rejoin.specs.Kept.{next_first, IsKept, MayBegin};
+ghost use Rattle.rejoin.specs.Noted.{among, IsNoted};
 ghost use Rattle.rejoin.specs.Rejoining.{IsChange, IsClear};
 
-use crate::kept::{is_kept, none_within};
+use crate::kept::{none_stands, none_within};
+use crate::ledger::Ledger;
+use crate::search::is_among;
 use crate::touched::{touched_numbers, touched_submits};
 use checkpoints::{Run, RunFault, Segment};
 use event_loop::Engine;
@@ -111,27 +117,71 @@ impl<'a, A: Allocator + Copy> Change<'a, A> {
         none_within(self.submits.as_slice(), first, self.first(at + 1))
     }
 
-    // Whether the old segment at this place is kept, by an engine that stands before its first second.
-    pub(crate) fn keeps(&self, at: usize, engine: &Engine<A>) -> Result<bool, RunFault>
+    // Whether a number is touched.
+    pub(crate) fn is_touched(&self, number: u64) -> bool
+        ensures { result ≡ among self.now.touched number }
+    {
+        is_among(self.touched.as_slice(), number)
+    }
+
+    // Of two seconds at which the new plan's job of this number starts: one second past the later of
+    // its ends, where they differ; or 0.
+    pub(crate) fn apart_until(&self, number: u64, at: u64, other: u64) -> u64
+        ensures { (job : EffectiveJob) → job_numbered self.now.is.jobs number ≡ Some job → at < 2 ^ 49 → other < 2 ^ 49 → result ≡ apart_until job (Some at) (Some other) }
+    {
+        if at == other {
+            return 0;
+        }
+        match PlanRef::of(self.table, self.run.scenario()).job(number) {
+            None => 0,
+            Some(job) => at.max(other).saturating_add(job.length()).saturating_add(1),
+        }
+    }
+
+    // Whether the old segment at this place is kept, by an engine that stands before its first
+    // second and a ledger of the starts before it.
+    pub(crate) fn keeps(
+        &self,
+        at: usize,
+        engine: &Engine<A>,
+        ledger: &Ledger<A>,
+    ) -> Result<bool, RunFault>
         requires within { at < length self.now.old }
         requires going { engine.now.failed ≡ false }
         requires plan { engine.now.plan ≡ self.now.is }
         requires begins { MayBegin self.now.is engine.now.position }
         requires here { (s : SegmentView) (rest : List SegmentView) → drop at self.now.old ≡ s ∷ rest → engine.now.position ≡ s.first }
+        requires noted { IsNoted self.now at engine.now.position ledger.now.was ledger.now.is ledger.now.until }
         ensures kept { IfOk result (λ kept. (s : SegmentView) (rest : List SegmentView) → drop at self.now.old ≡ s ∷ rest → IsTrue kept ↔ IsKept self.now.was self.now.is s.first (next_first rest)) }
         ensures fault { IfErr result (λ f. f ≡ RunFault.Memory) }
     {
         let old = self.segment(at);
+        if !ledger.has_met(old.first()) {
+            return Ok(false);
+        }
+        if !self.is_clear(at) {
+            return Ok(false);
+        }
+        let none = self.is_without(at, engine)?;
+        Ok(none)
+    }
+
+    // Whether no touched number waits or runs before the first second of the old segment at this place,
+    // at which the engine stands.
+    fn is_without(&self, at: usize, engine: &Engine<A>) -> Result<bool, RunFault>
+        requires within { at < length self.now.old }
+        requires going { engine.now.failed ≡ false }
+        requires plan { engine.now.plan ≡ self.now.is }
+        requires here { (s : SegmentView) (rest : List SegmentView) → drop at self.now.old ≡ s ∷ rest → engine.now.position ≡ s.first }
+        ensures none { IfOk result (λ none. IsTrue none ↔ (NoneOf (among self.now.touched) (numbers_of (before self.now.was engine.now.position)) × NoneOf (among self.now.touched) (numbers_of (before self.now.is engine.now.position)))) }
+        ensures fault { IfErr result (λ f. f ≡ RunFault.Memory) }
+    {
+        let touched = self.touched.as_slice();
+        if !none_stands(touched, self.segment(at).before()) {
+            return Ok(false);
+        }
         let now = engine.snapshot()?;
-        let next = self.first(at + 1);
-        Ok(is_kept(
-            old.before(),
-            &now,
-            self.touched.as_slice(),
-            self.submits.as_slice(),
-            old.first(),
-            next,
-        ))
+        Ok(none_stands(touched, &now))
     }
 
     // An engine of the new plan before second 0.

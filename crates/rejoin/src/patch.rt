@@ -1,12 +1,15 @@
 ghost use Rattle.std.specs.Prelude.{◌≡◌, ℕ, ◌≤◌, ◌<◌, ◌+◌, ◌^◌, ◌∷◌, ◌++◌, [], Some, true, false, drop, map, length, IfOk, IfErr, OnOk};
 ghost use Rattle.std.specs.Arc.{arc_value};
 ghost use Rattle.checkpoints.specs.Coming.{NoneComes};
+ghost use Rattle.checkpoints.specs.Cut.{Spans};
 ghost use Rattle.checkpoints.specs.Groups.{AreFrom};
-ghost use Rattle.rejoin.specs.Kept.{next_first};
+ghost use Rattle.rejoin.specs.Kept.{next_first, MayBegin};
+ghost use Rattle.rejoin.specs.Noted.{IsNoted, IsNotedBehind};
 ghost use Rattle.rejoin.specs.Patch.{IsRejoined};
 ghost use Rattle.rejoin.specs.Rejoining.{Stands};
 
 use crate::change::Change;
+use crate::ledger::Ledger;
 use checkpoints::{RunFault, Segment, comes_before, next_segment};
 use event_loop::Engine;
 use std::alloc::Allocator;
@@ -18,12 +21,31 @@ pub(crate) struct Patch<A: Allocator + Copy> {
     engine: Engine<A>,
     // Whether the last new segment is an old one: the engine has stayed behind then.
     kept: bool,
+    // In what the starts of both simulations differ, where the engine is at work.
+    ledger: Ledger<A>,
     pub(crate) segments: Vec<Arc<Segment<A>, A>, A>,
     // The place of each among the old segments, where it was taken over.
     pub(crate) places: Vec<Option<usize>, A>,
     // The event seconds that were worked, but for those of an engine that is still at work.
     pub(crate) handled: u64,
     pub(crate) reused: u64,
+}
+
+// Notes the starts of a worked segment, where an old one comes behind it, which is at this place.
+fn note_worked<A: Allocator + Copy>(
+    change: &Change<'_, A>,
+    at: usize,
+    segment: &Segment<A>,
+    ledger: &mut Ledger<A>,
+) -> Result<(), RunFault>
+    ensures noted { OnOk result ((a b : ℕ) → Spans change.now.is segment.now a b → IsNoted change.now at a ledger.old.was ledger.old.is ledger.old.until → IsNoted change.now at b ledger.new.was ledger.new.is ledger.new.until) }
+    ensures fault { IfErr result (λ f. f ≡ RunFault.Memory) }
+{
+    if change.first(at).is_none() {
+        return Ok(());
+    }
+    ledger.note_new(change, segment.starts())?;
+    Ok(())
 }
 
 // Works event seconds up to the first second of the old segment at this place, or to the end.
@@ -37,6 +59,8 @@ fn work_to<A: Allocator + Copy>(
     requires spacing { 1 ≤ spacing }
     requires stands { Stands change.now spacing at false patch.old.engine (map arc_value patch.old.segments.items) patch.old.handled patch.old.reused }
     requires places { AreFrom change.now.old (map arc_value patch.old.segments.items) patch.old.places.items }
+    requires noted { IsNoted change.now at patch.old.engine.position patch.old.ledger.was patch.old.ledger.is patch.old.ledger.until }
+    ensures noted { OnOk result (IsNoted change.now at patch.new.engine.position patch.new.ledger.was patch.new.ledger.is patch.new.ledger.until) }
     ensures stands { OnOk result (Stands change.now spacing at false patch.new.engine (map arc_value patch.new.segments.items) patch.new.handled patch.new.reused) }
     ensures places { OnOk result (AreFrom change.now.old (map arc_value patch.new.segments.items) patch.new.places.items) }
     ensures reached { OnOk result (NoneComes patch.new.engine (next_first (drop at change.now.old))) }
@@ -47,6 +71,7 @@ fn work_to<A: Allocator + Copy>(
     let end = change.first(at);
     'segments: while comes_before(&patch.engine, end) {
         let segment = next_segment(alloc, &mut patch.engine, spacing, end)?;
+        note_worked(change, at, &segment, &mut patch.ledger)?;
         patch.segments.push(Arc::new(alloc, segment)?)?;
         patch.places.push(None)?;
     }
@@ -75,6 +100,21 @@ fn take<A: Allocator + Copy>(
     Ok(())
 }
 
+// Passes over the old segment at this place: notes its starts.
+fn pass<A: Allocator + Copy>(
+    change: &Change<'_, A>,
+    at: usize,
+    ledger: &mut Ledger<A>,
+) -> Result<(), RunFault>
+    requires within { at < length change.now.old }
+    ensures noted { OnOk result ((position : ℕ) → MayBegin change.now.is position → IsNoted change.now at position ledger.old.was ledger.old.is ledger.old.until
+        → IsNoted change.now (at + 1) position ledger.new.was ledger.new.is ledger.new.until) }
+    ensures fault { IfErr result (λ f. f ≡ RunFault.Memory) }
+{
+    ledger.note_old(change, change.segment(at).starts())?;
+    Ok(())
+}
+
 // Works up to the old segment at this place, and takes it over where it is reached and kept.
 fn reach<A: Allocator + Copy>(
     alloc: A,
@@ -88,18 +128,22 @@ fn reach<A: Allocator + Copy>(
     requires few { patch.old.reused ≤ at }
     requires behind { patch.old.kept ≡ false }
     requires stands { Stands change.now spacing at false patch.old.engine (map arc_value patch.old.segments.items) patch.old.handled patch.old.reused }
+    requires noted { IsNoted change.now at patch.old.engine.position patch.old.ledger.was patch.old.ledger.is patch.old.ledger.until }
     requires places { AreFrom change.now.old (map arc_value patch.old.segments.items) patch.old.places.items }
     ensures stands { OnOk result (Stands change.now spacing (at + 1) patch.new.kept patch.new.engine (map arc_value patch.new.segments.items) patch.new.handled patch.new.reused) }
     ensures places { OnOk result (AreFrom change.now.old (map arc_value patch.new.segments.items) patch.new.places.items) }
     ensures few { OnOk result (patch.new.reused ≤ at + 1) }
+    ensures noted { OnOk result (IsNotedBehind change.now (at + 1) patch.new.kept patch.new.engine.position patch.new.ledger.was patch.new.ledger.is patch.new.ledger.until) }
     ensures fault { IfErr result (λ f. f ≡ RunFault.Memory) }
 {
     work_to(alloc, change, at, spacing, patch)?;
     let segment = change.segment(at);
     if patch.engine.position() != segment.first() {
+        pass(change, at, &mut patch.ledger)?;
         return Ok(());
     }
-    if !change.keeps(at, &patch.engine)? {
+    if !change.keeps(at, &patch.engine, &patch.ledger)? {
+        pass(change, at, &mut patch.ledger)?;
         return Ok(());
     }
     patch.handled += patch.engine.handled();
@@ -123,6 +167,7 @@ fn follow<A: Allocator + Copy>(
         → Stands change.now n (at + 1) patch.new.kept patch.new.engine (map arc_value patch.new.segments.items) patch.new.handled patch.new.reused) }
     ensures places { OnOk result (AreFrom change.now.old (map arc_value patch.new.segments.items) patch.new.places.items) }
     ensures few { OnOk result (patch.new.reused ≤ at + 1) }
+    ensures noted { OnOk result (IsNotedBehind change.now (at + 1) patch.new.kept patch.new.engine.position patch.new.ledger.was patch.new.ledger.is patch.new.ledger.until) }
     ensures fault { IfErr result (λ f. f ≡ RunFault.Memory) }
 {
     let segment = change.segment(at);
@@ -132,6 +177,8 @@ fn follow<A: Allocator + Copy>(
     }
     patch.engine = change.resume(alloc, at)?;
     patch.kept = false;
+    patch.ledger = Ledger::new(alloc);
+    pass(change, at, &mut patch.ledger)?;
     Ok(())
 }
 
@@ -144,6 +191,7 @@ fn finish<A: Allocator + Copy>(
 ) -> Result<(), RunFault>
     requires spacing { 1 ≤ spacing }
     requires stands { Stands change.now spacing (length change.now.old) patch.old.kept patch.old.engine (map arc_value patch.old.segments.items) patch.old.handled patch.old.reused }
+    requires noted { IsNotedBehind change.now (length change.now.old) patch.old.kept patch.old.engine.position patch.old.ledger.was patch.old.ledger.is patch.old.ledger.until }
     requires places { AreFrom change.now.old (map arc_value patch.old.segments.items) patch.old.places.items }
     ensures places { OnOk result (AreFrom change.now.old (map arc_value patch.new.segments.items) patch.new.places.items) }
     ensures done { OnOk result (IsRejoined change.now.was change.now.is change.now.old spacing (map arc_value patch.new.segments.items) patch.new.handled patch.new.reused) }
@@ -171,10 +219,12 @@ fn turn<A: Allocator + Copy>(
     requires within { at < length change.now.old }
     requires few { patch.old.reused ≤ at }
     requires stands { Stands change.now spacing at patch.old.kept patch.old.engine (map arc_value patch.old.segments.items) patch.old.handled patch.old.reused }
+    requires noted { IsNotedBehind change.now at patch.old.kept patch.old.engine.position patch.old.ledger.was patch.old.ledger.is patch.old.ledger.until }
     requires places { AreFrom change.now.old (map arc_value patch.old.segments.items) patch.old.places.items }
     ensures stands { OnOk result (Stands change.now spacing (at + 1) patch.new.kept patch.new.engine (map arc_value patch.new.segments.items) patch.new.handled patch.new.reused) }
     ensures places { OnOk result (AreFrom change.now.old (map arc_value patch.new.segments.items) patch.new.places.items) }
     ensures few { OnOk result (patch.new.reused ≤ at + 1) }
+    ensures noted { OnOk result (IsNotedBehind change.now (at + 1) patch.new.kept patch.new.engine.position patch.new.ledger.was patch.new.ledger.is patch.new.ledger.until) }
     ensures fault { IfErr result (λ f. f ≡ RunFault.Memory) }
 {
     if patch.kept {
@@ -199,6 +249,7 @@ pub(crate) fn rejoined<A: Allocator + Copy>(
     let mut patch = Patch {
         engine: change.begin(alloc)?,
         kept: false,
+        ledger: Ledger::new(alloc),
         segments: Vec::new(alloc),
         places: Vec::new(alloc),
         handled: 0,

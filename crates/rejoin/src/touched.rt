@@ -1,4 +1,5 @@
 ghost use Rattle.std.specs.Prelude.{◌≡◌, ◌↔◌, ◌++◌, IsTrue, IfOk, OnOk, map};
+ghost use Rattle.std.specs.List.Sorted.{IsNonDecreasing};
 ghost use Rattle.job_table.specs.Accepted.{AreAccepted};
 ghost use Rattle.job_table.specs.Edit.{edit_of, log_after};
 ghost use Rattle.job_table.specs.Table.{IsTable};
@@ -7,6 +8,7 @@ ghost use Rattle.rejoin.specs.Named.{named, submit_in};
 ghost use Rattle.rejoin.specs.Tested.{AreThose};
 ghost use Rattle.rejoin.specs.Touched.{IsTouched, IsTouchedSubmit};
 
+use crate::search::rising;
 use job_table::Edit;
 use scenarios::{Job, PlanRef};
 use std::alloc::Allocator;
@@ -34,7 +36,7 @@ fn is_touched<A: Allocator + Copy>(
     old_plan.job(number) != new_plan.job(number)
 }
 
-// The touched numbers among those of the edits, one look-up in each plan for each edit.
+// The touched numbers among those of the edits, rising, by one look-up in each plan for each edit.
 pub(crate) fn touched_numbers<A: Allocator + Copy>(
     alloc: A,
     old_plan: &PlanRef<'_, A>,
@@ -44,7 +46,8 @@ pub(crate) fn touched_numbers<A: Allocator + Copy>(
     requires table { IsTable old_plan.now.log }
     requires accepted { AreAccepted old_plan.now.log (map edit_of edits.now) }
     requires edited { new_plan.now ≡ record old_plan.now { log = log_after old_plan.now.log (map edit_of edits.now) } }
-    ensures { IfOk result (λ numbers. AreThose (IsTouched (plan_in old_plan.now) (plan_in new_plan.now)) numbers.items) }
+    ensures those { IfOk result (λ numbers. AreThose (IsTouched (plan_in old_plan.now) (plan_in new_plan.now)) numbers.items) }
+    ensures rising { IfOk result (λ numbers. IsNonDecreasing numbers.items) }
 {
     let mut numbers = Vec::new(alloc);
     for edit in edits {
@@ -53,7 +56,7 @@ pub(crate) fn touched_numbers<A: Allocator + Copy>(
             numbers.push(number)?;
         }
     }
-    Ok(numbers)
+    Ok(rising(numbers))
 }
 
 // Adds the submit second of a job, where there is one.
@@ -69,7 +72,7 @@ fn add_submit<A: Allocator + Copy>(
     Ok(())
 }
 
-// The submit seconds of the touched numbers, in the old plan and in the new one.
+// The submit seconds of the touched numbers, in the old plan and in the new one, rising.
 pub(crate) fn touched_submits<A: Allocator + Copy>(
     alloc: A,
     old_plan: &PlanRef<'_, A>,
@@ -77,12 +80,13 @@ pub(crate) fn touched_submits<A: Allocator + Copy>(
     numbers: &[u64],
 ) -> Result<Vec<u64, A>, Memory>
     requires { AreThose (IsTouched (plan_in old_plan.now) (plan_in new_plan.now)) numbers.now }
-    ensures { IfOk result (λ submits. AreThose (IsTouchedSubmit (plan_in old_plan.now) (plan_in new_plan.now)) submits.items) }
+    ensures those { IfOk result (λ submits. AreThose (IsTouchedSubmit (plan_in old_plan.now) (plan_in new_plan.now)) submits.items) }
+    ensures rising { IfOk result (λ submits. IsNonDecreasing submits.items) }
 {
     let mut submits = Vec::new(alloc);
     for number in numbers {
         add_submit(&mut submits, old_plan.job(*number))?;
         add_submit(&mut submits, new_plan.job(*number))?;
     }
-    Ok(submits)
+    Ok(rising(submits))
 }

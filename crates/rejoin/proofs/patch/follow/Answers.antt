@@ -5,6 +5,7 @@ use Rattle.cluster_state.specs.Snapshot.{numbers_of}
 use Rattle.easy_rule.specs.Simulation.{before}
 use Rattle.checkpoints.specs.Segment.{SegmentView}
 use Rattle.rejoin.proofs.Deciding.{heads}
+use Rattle.rejoin.proofs.Meeting.{behind-true, behind-false, resumed-noted}
 use Rattle.rejoin.proofs.Placed.{from-taken}
 use Rattle.rejoin.proofs.Turns.{keep-behind, behind-snapshot, resumed-behind, stands-taken}
 use Rattle.rejoin.proofs.patch.follow.Goals as goal
@@ -43,3 +44,14 @@ pub returns-then-is_clear-clause-places : goal.returns-then-is_clear-clause-plac
 returns-then-is_clear-clause-places g c =
     let p = c.args.patch.now in
     from-taken c.args.change.now.old (map arc_value p.segments.items) _ p.places.items _ (arc_value c.segment-segment.result.now) c.args.at (drop (c.args.at + 1) c.args.change.now.old) c.requires.places c.segment-segment.ensures.here c.in_ok-take.ensures.segments c.in_ok-take.ensures.places
+
+pub returns-then-is_clear-clause-noted : goal.returns-then-is_clear-clause-noted
+returns-then-is_clear-clause-noted g c = behind-true c.args.change.now (c.args.at + 1) c.take.new.patch.kept _ _ _ _ c.in_ok-take.ensures.kept
+
+pub returns-clause-noted : goal.returns-clause-noted
+returns-clause-noted g c =
+    let change = c.args.change.now in
+    let s = arc_value c.segment-segment.result.now in
+    let here = c.segment-segment.ensures.here in
+    resumed-noted change c.segment-segment.ensures.sound c.requires.stands.0 c.args.at s here c.args.patch.now.engine c.in_ok-patch.field-0 (map arc_value c.args.patch.now.segments.items) c.args.patch.now.handled c.args.patch.now.reused c.requires.stands.1 (c.in_ok-patch.ensures.ok s (drop (c.args.at + 1) change.old) here) _ _ _ c.new.ensures.was c.new.ensures.is c.new.ensures.until _ _ _
+    (λ position begins noted. c.in_ok-pass.ensures.noted position begins noted)

@@ -2,6 +2,7 @@ use Rattle.std.proofs.Common.{rules, ◌≡◌, ◌∙◌, ◌+◌, ◌∷◌, �
 use Rattle.std.specs.Arc.{arc_value}
 use Rattle.std.proofs.lemmas.Bool.{false≢true}
 use Rattle.checkpoints.specs.Segment.{SegmentView}
+use Rattle.rejoin.proofs.Meeting.{behind-false, behind-true}
 use Rattle.rejoin.proofs.Placed.{from-taken}
 use Rattle.rejoin.proofs.Turns.{pass-missed, pass-refused, keep-reached, stands-begins, stands-short, stands-passed, stands-taken}
 use Rattle.rejoin.proofs.patch.reach.Goals as goal
@@ -58,3 +59,18 @@ pub returns-clause-places : goal.returns-clause-places
 returns-clause-places g c =
     let p = c.work_to.new.patch in
     from-taken c.args.change.now.old (map arc_value p.segments.items) _ p.places.items _ (arc_value c.segment-segment.result.now) c.args.at (drop (c.args.at + 1) c.args.change.now.old) c.in_ok-work_to.ensures.places c.segment-segment.ensures.here c.in_ok-take.ensures.segments c.in_ok-take.ensures.places
+
+pub returns-then-position-first-clause-noted : goal.returns-then-position-first-clause-noted
+returns-then-position-first-clause-noted g c =
+    let p = c.work_to.new.patch in
+    let begins = stands-begins c.args.change.now c.args.spacing c.args.at p.engine (map arc_value p.segments.items) p.handled p.reused c.in_ok-work_to.ensures.stands in
+    behind-false c.args.change.now (c.args.at + 1) p.kept p.engine.position _ _ _ (c.in_ok-work_to.ensures.kept ∙ c.requires.behind) (c.in_ok-pass.ensures.noted p.engine.position begins c.in_ok-work_to.ensures.noted)
+
+pub returns-then-not-branch-clause-noted : goal.returns-then-not-branch-clause-noted
+returns-then-not-branch-clause-noted g c =
+    let p = c.work_to.new.patch in
+    let begins = stands-begins c.args.change.now c.args.spacing c.args.at p.engine (map arc_value p.segments.items) p.handled p.reused c.in_ok-work_to.ensures.stands in
+    behind-false c.args.change.now (c.args.at + 1) p.kept p.engine.position _ _ _ (c.in_ok-work_to.ensures.kept ∙ c.requires.behind) (c.in_ok-pass-2.ensures.noted p.engine.position begins c.in_ok-work_to.ensures.noted)
+
+pub returns-clause-noted : goal.returns-clause-noted
+returns-clause-noted g c = behind-true c.args.change.now (c.args.at + 1) c.take.new.patch.kept _ _ _ _ c.in_ok-take.ensures.kept

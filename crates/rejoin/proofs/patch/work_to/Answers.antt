@@ -5,6 +5,7 @@ use Rattle.checkpoints.specs.Coming.{NoneComes}
 use Rattle.checkpoints.specs.Segment.{SegmentView}
 use Rattle.checkpoints.proofs.Lemmas.{push-seen}
 use Rattle.rejoin.specs.Rejoining.{Stands}
+use Rattle.rejoin.proofs.Meeting.{stands-spans}
 use Rattle.rejoin.proofs.Placed.{from-worked}
 use Rattle.rejoin.proofs.Turns.{stands-worked, work-down}
 use Rattle.rejoin.proofs.patch.work_to.Goals as goal
@@ -22,6 +23,7 @@ segments-preserved g c =
       stands = subst (λ (ss : List SegmentView). Stands c.args.change.now c.args.spacing c.args.at false new ss c.segments.patch.handled c.segments.patch.reused)
           (sym (push-seen arc_value c.segments.patch.segments.items c.push.new.self.items c.in_ok-new.field-0 s c.in_ok-push.ensures.items c.in_ok-new.ensures.ok)) more;
       places = from-worked c.args.change.now.old before' _ c.segments.patch.places.items _ s c.segments.invariant.places (push-seen arc_value c.segments.patch.segments.items c.push.new.self.items c.in_ok-new.field-0 s c.in_ok-push.ensures.items c.in_ok-new.ensures.ok) c.in_ok-push-2.ensures.items;
+      noted = c.in_ok-note_worked.ensures.noted now.position new.position (stands-spans c.args.change.now c.args.spacing c.args.at now before' c.segments.patch.handled c.segments.patch.reused c.segments.invariant.stands s now.position new.position c.in_ok-segment.ensures.spans) c.segments.invariant.noted;
       kept = c.segments.invariant.kept;
       reused = c.segments.invariant.reused;
     }

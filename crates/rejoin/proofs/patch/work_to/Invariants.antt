@@ -2,6 +2,7 @@ use Rattle.std.proofs.Common.{◌≡◌, ◌+◌, ◌-◌, false, map}
 use Rattle.std.specs.Arc.{arc_value}
 use Rattle.easy_rule.specs.Simulation.{bound}
 use Rattle.checkpoints.specs.Groups.{AreFrom}
+use Rattle.rejoin.specs.Noted.{IsNoted}
 use Rattle.rejoin.specs.Rejoining.{Stands}
 use Rattle.rejoin.proofs.patch.work_to.Given as goal
 
@@ -9,6 +10,7 @@ abbrev pub invariant-segments : goal.invariant-segments
 invariant-segments g l = record {
   stands : Stands l.change l.spacing l.at false l.patch.engine (map arc_value l.patch.segments.items) l.patch.handled l.patch.reused;
   places : AreFrom l.change.old (map arc_value l.patch.segments.items) l.patch.places.items;
+  noted : IsNoted l.change l.at l.patch.engine.position l.patch.ledger.was l.patch.ledger.is l.patch.ledger.until;
   kept : l.patch.kept ≡ l.fn.patch.kept;
   reused : l.patch.reused ≡ l.fn.patch.reused;
 }

@@ -6,6 +6,7 @@ use Rattle.scenarios.specs.PlanView.{PlanView, plan_in}
 use Rattle.rejoin.specs.Named.{named}
 use Rattle.rejoin.specs.Tested.{AreThose}
 use Rattle.rejoin.specs.Touched.{IsTouched}
+use Rattle.rejoin.proofs.Finding.{those-permuted}
 use Rattle.rejoin.proofs.Collecting.{Collected, touched-more, untouched-more, touched-all}
 use Rattle.rejoin.proofs.touched.touched_numbers.Goals as goal
 use Rattle.rejoin.proofs.touched.touched_numbers.Goals.{then-is_touched+in_ok-push, else-is_touched}
@@ -20,10 +21,11 @@ loop-edit-preserved g c =
       | else-is_touched w ↦ untouched-more edit_of p q c.args.edits.now c.loop-edit.edit-index c.edit-item.result c.number_of-number.result c.loop-edit.numbers.items _ c.loop-edit-test.true is (λ t. false≢true (sym w.if-is_touched.false ∙ c.is_touched.ensures.1 t)) (search rules) c.loop-edit.invariant
     ]
 
-pub returns : goal.returns
-returns g c =
+pub returns-clause-those : goal.returns-clause-those
+returns-clause-those g c =
     let old : PlanView = c.args.old_plan.now in
     let numbers = c.loop-edit.numbers.items in
-    subst (λ (v : PlanView). AreThose (IsTouched (plan_in old) (plan_in v)) numbers) (sym c.requires.edited)
+    those-permuted (IsTouched (plan_in old) (plan_in c.args.new_plan.now)) numbers _ c.rising.ensures.same
+    (subst (λ (v : PlanView). AreThose (IsTouched (plan_in old) (plan_in v)) numbers) (sym c.requires.edited)
     (touched-all edit_of old.log (log_after old.log (map edit_of c.args.edits.now)) old.setting c.args.edits.now c.loop-edit.edit-index numbers c.loop-edit-test.false c.requires.table c.requires.accepted refl
-    (subst (λ (v : PlanView). Collected (plan_in old) (plan_in v) (map edit_of (take c.loop-edit.edit-index c.args.edits.now)) numbers) c.requires.edited c.loop-edit.invariant))
+    (subst (λ (v : PlanView). Collected (plan_in old) (plan_in v) (map edit_of (take c.loop-edit.edit-index c.args.edits.now)) numbers) c.requires.edited c.loop-edit.invariant)))

@@ -1,0 +1,52 @@
+-- How a ledger of the starts of two simulations is kept.
+use Rattle.std.specs.Prelude.{◌≡◌, ℕ, ◌≤◌, ◌<◌, ◌^◌, ◌↔◌, Bool, true, false, nat_eq, ◌||◌, count_by, List, [], ◌∷◌, All, drop, Option, Some, None, IfSome, IsSome}
+use Rattle.std.specs.Ordering.{nat_cmp}
+use Rattle.std.specs.BTreeMap.{BTreeMap, get}
+use Rattle.scenarios.specs.Job.{EffectiveJob}
+use Rattle.scenarios.specs.Plan.{job_numbered}
+use Rattle.easy_rule.specs.declared.start.Start.{Start}
+use Rattle.easy_rule.specs.Simulation.{start_of, starts_before}
+use Rattle.timeline.specs.Ledger.{Ledger, ledger_of}
+use Rattle.rejoin.specs.Kept.{next_first}
+use Rattle.rejoin.specs.Rejoining.{ChangeView}
+
+-- whether a number is one of these
+abbrev pub among : List ℕ → ℕ → Bool
+among [] n = false
+among (m ∷ ms) n = nat_eq m n || among ms n
+
+-- of no number
+abbrev pub HasNone : BTreeMap ℕ ℕ → Type 0
+HasNone seconds = (n : ℕ) → get nat_cmp seconds n ≡ None
+
+-- of each number the second of these starts that is its own
+abbrev pub Tells : BTreeMap ℕ ℕ → List Start → Type 0
+Tells seconds starts = (n : ℕ) → get nat_cmp seconds n ≡ start_of starts n
+
+-- The seconds by number are those of the ledger's starts; and whoever asks from a second on whether its last second has
+-- come is told by this one.
+pub record Keeps (from : ℕ) (l : Ledger) (here there : BTreeMap ℕ ℕ) (until : ℕ) : Type 0 where
+  pub tells_here : Tells here l.here
+  pub tells_there : Tells there l.there
+  pub tells_until : (t : ℕ) → from ≤ t → (until ≤ t) ↔ (l.until ≤ t)
+
+-- starts of which no two have one number, each of one of these jobs, unless its number is touched, and none late
+pub record AreStarts (touched : ℕ → Bool) (jobs : List EffectiveJob) (starts : List Start) : Type 0 where
+  pub single : (n : ℕ) → count_by (λ (j : EffectiveJob). nat_eq j.number n) jobs ≤ 1
+  pub once : (n : ℕ) → count_by (λ (x : Start). nat_eq x.number n) starts ≤ 1
+  pub have_jobs : All (λ (x : Start). touched x.number ≡ false → IsSome (job_numbered jobs x.number)) starts
+  pub early : All (λ (x : Start). x.at < 2 ^ 49) starts
+
+-- the ledger of the starts of the old plan before a second, and of those of the new plan before another
+abbrev pub ledger_at : ChangeView → ℕ → ℕ → Ledger
+ledger_at c a b = ledger_of (among c.touched) c.is.jobs (starts_before c.was a) (starts_before c.is b)
+
+-- noted are the starts of the old plan before the first of the old segments that are left, if there is one, and those of
+-- the new plan before the position
+abbrev pub IsNoted : ChangeView → ℕ → ℕ → BTreeMap ℕ ℕ → BTreeMap ℕ ℕ → ℕ → Type 0
+IsNoted c at position old new until = IfSome (next_first (drop at c.old)) (λ a. Keeps position (ledger_at c a position) old new until)
+
+-- the same, unless the last new segment is a kept old one, where nothing needs to be noted
+abbrev pub IsNotedBehind : ChangeView → ℕ → Bool → ℕ → BTreeMap ℕ ℕ → BTreeMap ℕ ℕ → ℕ → Type 0
+IsNotedBehind c at true position old new until = Unit {0}
+IsNotedBehind c at false position old new until = IsNoted c at position old new until

@@ -1,0 +1,148 @@
+// In what the starts of two simulations differ, kept start by start.
+ghost use Rattle.std.specs.Prelude.{◌≡◌, ◌≤◌, ◌<◌, ◌^◌, ◌++◌, ◌∷◌, [], ℕ, List, All, None, Some, nat_eq, is_none, ◌&&◌, ◌↔◌, max, if◌then◌else◌, IfOk, OnOk, IsTrue};
+ghost use Rattle.std.specs.Ordering.{nat_cmp};
+ghost use Rattle.std.specs.BTreeMap.{get};
+ghost use Rattle.scenarios.specs.Job.{EffectiveJob};
+ghost use Rattle.scenarios.specs.Plan.{job_numbered};
+ghost use Rattle.easy_rule.specs.declared.start.Start.{Start as StartView};
+ghost use Rattle.easy_rule.specs.Simulation.{start_of};
+ghost use Rattle.timeline.specs.Ledger.{Ledger as LedgerView, ledger_of};
+ghost use Rattle.rejoin.specs.Noted.{among, AreStarts, Keeps, HasNone};
+
+use crate::change::Change;
+use easy_rule::Start;
+use std::alloc::Allocator;
+use std::collections::BTreeMap;
+use swf_text::Memory;
+
+// The seconds of some starts, by number.
+pub(crate) type Seconds<A> = BTreeMap<u64, u64, A>;
+
+// The starts of the old simulation whose numbers have none in the new one yet, and those of the new
+// one that have none in the old one yet; and the second from which on nobody runs any more who
+// started in both at different seconds.
+#[derive(Drop)]
+pub(crate) struct Ledger<A: Allocator + Copy> {
+    pub(crate) was: Seconds<A>,
+    pub(crate) is: Seconds<A>,
+    pub(crate) until: u64,
+}
+
+// Takes out the start that a number has there; where it has none, its start here is put in.
+fn exchange<A: Allocator + Copy>(
+    here: &mut Seconds<A>,
+    there: &mut Seconds<A>,
+    number: u64,
+    at: u64,
+) -> Result<Option<u64>, Memory>
+    ensures other { IfOk result (λ other. other ≡ get nat_cmp there.old number) }
+    ensures there { OnOk result ((n : ℕ) → get nat_cmp there.new n ≡ if nat_eq number n then None else get nat_cmp there.old n) }
+    ensures here { IfOk result (λ other. (n : ℕ) → get nat_cmp here.new n ≡ if nat_eq number n && is_none other then Some at else get nat_cmp here.old n) }
+{
+    match there.remove(&number) {
+        None => {
+            here.insert(number, at)?;
+            Ok(None)
+        }
+        Some(other) => Ok(Some(other)),
+    }
+}
+
+// Whether it has no start.
+fn has_none<A: Allocator + Copy>(seconds: &Seconds<A>) -> bool
+    ensures { IsTrue result ↔ HasNone seconds.now }
+{
+    seconds.is_empty()
+}
+
+// Notes a start of one simulation, of which and of the other these are the starts that the other has
+// not. The second from which on its number runs in neither any more, where it started in both, at
+// different seconds; or 0.
+fn note<A: Allocator + Copy>(
+    change: &Change<'_, A>,
+    start: Start,
+    here: &mut Seconds<A>,
+    there: &mut Seconds<A>,
+) -> Result<u64, Memory>
+    ensures { IfOk result (λ apart. (from until : ℕ) (starts others : List StartView) → AreStarts (among change.now.touched) change.now.is.jobs (starts ++ start ∷ []) → All (λ x. x.at < 2 ^ 49) others
+        → Keeps from (ledger_of (among change.now.touched) change.now.is.jobs starts others) here.old there.old until
+        → Keeps from (ledger_of (among change.now.touched) change.now.is.jobs (starts ++ start ∷ []) others) here.new there.new (max until apart)) }
+{
+    if change.is_touched(start.number) {
+        return Ok(0);
+    }
+    match exchange(here, there, start.number, start.at)? {
+        None => Ok(0),
+        Some(other) => Ok(change.apart_until(start.number, start.at, other)),
+    }
+}
+
+// Notes starts of one simulation, in order.
+fn note_all<A: Allocator + Copy>(
+    change: &Change<'_, A>,
+    new: &[Start],
+    here: &mut Seconds<A>,
+    there: &mut Seconds<A>,
+    until: &mut u64,
+) -> Result<(), Memory>
+    ensures { OnOk result ((from : ℕ) (starts others : List StartView) → AreStarts (among change.now.touched) change.now.is.jobs (starts ++ new.now) → All (λ x. x.at < 2 ^ 49) others
+        → Keeps from (ledger_of (among change.now.touched) change.now.is.jobs starts others) here.old there.old until.old
+        → Keeps from (ledger_of (among change.now.touched) change.now.is.jobs (starts ++ new.now) others) here.new there.new until.new) }
+{
+    for start in new {
+        let apart = note(change, *start, here, there)?;
+        *until = (*until).max(apart);
+    }
+    Ok(())
+}
+
+impl<A: Allocator + Copy> Ledger<A> {
+    // The ledger of two simulations that have met.
+    pub(crate) fn new(alloc: A) -> Ledger<A>
+        ensures was { HasNone result.was }
+        ensures is { HasNone result.is }
+        ensures until { result.until ≡ 0 }
+    {
+        Ledger {
+            was: BTreeMap::new(alloc),
+            is: BTreeMap::new(alloc),
+            until: 0,
+        }
+    }
+
+    // Notes starts of the old simulation.
+    pub(crate) fn note_old(
+        &mut self,
+        change: &Change<'_, A>,
+        starts: &[Start],
+    ) -> Result<(), Memory>
+        ensures { OnOk result ((from : ℕ) (old others : List StartView) → AreStarts (among change.now.touched) change.now.is.jobs (old ++ starts.now) → All (λ x. x.at < 2 ^ 49) others
+            → Keeps from (ledger_of (among change.now.touched) change.now.is.jobs old others) self.old.was self.old.is self.old.until
+            → Keeps from (ledger_of (among change.now.touched) change.now.is.jobs (old ++ starts.now) others) self.new.was self.new.is self.new.until) }
+    {
+        note_all(change, starts, &mut self.was, &mut self.is, &mut self.until)?;
+        Ok(())
+    }
+
+    // Notes starts of the new simulation.
+    pub(crate) fn note_new(
+        &mut self,
+        change: &Change<'_, A>,
+        starts: &[Start],
+    ) -> Result<(), Memory>
+        ensures { OnOk result ((from : ℕ) (new others : List StartView) → AreStarts (among change.now.touched) change.now.is.jobs (new ++ starts.now) → All (λ x. x.at < 2 ^ 49) others
+            → Keeps from (ledger_of (among change.now.touched) change.now.is.jobs others new) self.old.was self.old.is self.old.until
+            → Keeps from (ledger_of (among change.now.touched) change.now.is.jobs others (new ++ starts.now)) self.new.was self.new.is self.new.until) }
+    {
+        note_all(change, starts, &mut self.is, &mut self.was, &mut self.until)?;
+        Ok(())
+    }
+
+    // Whether the same numbers that are not touched have started before the second in both, and none
+    // that started at different seconds runs any more.
+    pub(crate) fn has_met(&self, second: u64) -> bool
+        ensures { IsTrue result ↔ (HasNone self.now.was × HasNone self.now.is × (self.now.until ≤ second)) }
+    {
+        has_none(&self.was) && has_none(&self.is) && self.until <= second
+    }
+}

@@ -1,0 +1,40 @@
+// Searches in rising numbers.
+ghost use Rattle.std.specs.Prelude.{◌≡◌, ◌↔◌, IsTrue};
+ghost use Rattle.std.specs.List.{Contains};
+ghost use Rattle.std.specs.List.Sorted.{IsNonDecreasing, IsPermutation};
+ghost use Rattle.rejoin.specs.Search.{IsLeastFrom};
+
+use std::alloc::Allocator;
+
+// The same numbers, rising.
+pub(crate) fn rising<A: Allocator + Copy>(numbers: Vec<u64, A>) -> Vec<u64, A>
+    ensures same { IsPermutation numbers.items result.items }
+    ensures rising { IsNonDecreasing result.items }
+{
+    let mut sorted = numbers;
+    sorted.sort_unstable();
+    sorted
+}
+
+// The least of these rising numbers that is not below the bound, where there is one.
+pub(crate) fn least_from(numbers: &[u64], bound: u64) -> Option<u64>
+    requires { IsNonDecreasing numbers.now }
+    ensures { IsLeastFrom numbers.now bound result }
+{
+    let place = numbers.partition_point(|number| *number < bound);
+    if place < numbers.len() {
+        return Some(numbers[place]);
+    }
+    None
+}
+
+// Whether a number is one of these rising ones.
+pub(crate) fn is_among(numbers: &[u64], number: u64) -> bool
+    requires { IsNonDecreasing numbers.now }
+    ensures { IsTrue result ↔ Contains numbers.now number }
+{
+    match least_from(numbers, number) {
+        None => false,
+        Some(least) => least == number,
+    }
+}
