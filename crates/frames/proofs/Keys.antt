@@ -2,7 +2,7 @@
 use Rattle.std.proofs.Common.{◌≡◌, ℕ, suc, ◌≤◌, ◌<◌, Bool, true, false, cond, not, ◌&&◌, nat_eq, nat_le, List, [], ◌∷◌, length, map, filter, slice_index_or, All, refl, sym, ap, arith, ◌∙◌, ⊎_elim}
 use Rattle.std.specs.List.Sorted.{IsNonDecreasingBy, IsStableByKey, ties}
 use Rattle.std.specs.Ordering.{nat_cmp, is_lt}
-use Rattle.std.proofs.lemmas.Bool.{cases_Bool, cases_eq, cases_lt, cond_both, eq-eqb, eqb-true, ne_eqb, lt-ltb, le-ltb, leb-true, leb-false, true≢false}
+use Rattle.std.proofs.lemmas.Bool.{cases_eq, cases_lt, cond_both, eq-eqb, eqb-true, ne_eqb, lt-ltb, le-ltb, leb-true, leb-false, true≢false}
 use Rattle.std.proofs.lemmas.List.Elements.{All-nil, All-cons, All-filter, All-from_get_or, All-head, All-tail, All-weaker}
 use Rattle.frames.specs.declared.stretch.Stretch.{Stretch}
 use Rattle.frames.specs.Frames.{by_key, stands, standing_at, with_key}

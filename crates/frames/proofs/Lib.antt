@@ -1,2 +1,3 @@
 mod Splits
 mod Keys
+mod Growth
