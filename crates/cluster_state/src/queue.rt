@@ -178,8 +178,8 @@ impl<A: Allocator + Copy> Queue<A> {
         ensures order { self.new.order ≡ self.old.order }
         ensures jobs { IfSome (slice_get self.old.jobs 0) (λ job. self.new.jobs ≡ without job.number self.old.jobs) }
     {
-        if let Some(place) = self.jobs.first() {
-            leave_at(self.order, &mut self.jobs, &mut self.row, place);
+        if let Some(head) = self.jobs.first() {
+            leave_at(self.order, &mut self.jobs, &mut self.row, head);
         }
     }
 

@@ -56,6 +56,8 @@ fn reads_four(row: &Blocks<Mark, Global>) -> bool {
         && row.at(4).is_none()
         && row.find(2, 5) == Some(&mark_at(2, 5, 30))
         && row.find(2, 6).is_none()
+        && row.before(2, 0) == 2
+        && row.before(3, 2) == 4
         && row.blocks() == 1
 }
 

@@ -8,7 +8,7 @@ use Rattle.cluster_state.proofs.queue.Queue.take_head.Goals as goal
 pub leave_at-requires-clause-once : goal.leave_at-requires-clause-once
 leave_at-requires-clause-once g c =
     let places = c.self.inside.jobs.places in
-    once-there (waiting places) (at_place places c.in-Some.place) (rw (← c.self.view_is) at c.requires)
+    once-there (waiting places) (at_place places c.in-Some.head) (rw (← c.self.view_is) at c.requires)
 
 pub returns-in-Some-clause-jobs : goal.returns-in-Some-clause-jobs
 returns-in-Some-clause-jobs g c =
@@ -16,5 +16,5 @@ returns-in-Some-clause-jobs g c =
     let once = rw (← c.self.view_is) at c.requires in
     rw (← c.self.view_is)
     (subst (λ (o : Option EffectiveJob). IfSome o (λ (job : EffectiveJob). waiting c.leave_at.new.jobs.places ≡ without job.number (waiting places))) c.in-Some.ensures.item
-    (subst (λ (new : List (Option EffectiveJob)). IfSome (at_place places c.in-Some.place) (λ (job : EffectiveJob). waiting new ≡ without job.number (waiting places))) (sym c.leave_at.ensures.places)
-    (leaves-there places c.in-Some.place once)))
+    (subst (λ (new : List (Option EffectiveJob)). IfSome (at_place places c.in-Some.head) (λ (job : EffectiveJob). waiting new ≡ without job.number (waiting places))) (sym c.leave_at.ensures.places)
+    (leaves-there places c.in-Some.head once)))
