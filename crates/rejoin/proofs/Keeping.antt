@@ -1,10 +1,10 @@
 -- A ledger is kept by each start.
-use Rattle.std.proofs.Common.{◌≡◌, ℕ, ◌+◌, ◌≤◌, ◌<◌, ◌^◌, ◌&&◌, ◌↔◌, Bool, true, false, cond, not, max, nat_eq, count_by, List, [], ◌∷◌, ◌++◌, length, get_or, take, drop, All, filter, Option, Some, None, refl, sym, ◌∙◌, ap, subst, arith, ⊎_elim}
+use Rattle.std.proofs.Common.{◌≡◌, ℕ, ◌+◌, ◌≤◌, ◌<◌, ◌^◌, ◌&&◌, ◌↔◌, Bool, true, false, cond, not, max, nat_eq, count_by, List, [], ◌∷◌, ◌++◌, length, get_or, take, drop, All, filter, Option, Some, None, refl, sym, ◌∙◌, ap, subst, arith}
 use Rattle.std.specs.Prelude.{is_none, IsSome}
 use Rattle.std.proofs.Math.IntN.{pos}
 use Rattle.std.specs.Ordering.{nat_cmp}
 use Rattle.std.specs.BTreeMap.{BTreeMap, get}
-use Rattle.std.proofs.lemmas.Bool.{cond-true, cond-false, cases_Bool, cases_lt, eq-eqb, eqb-true, false≢true}
+use Rattle.std.proofs.lemmas.Bool.{cond-true, cond-false, eq-eqb, eqb-true, false≢true}
 use Rattle.std.proofs.lemmas.List.{append_assoc, take_more, take-append-drop}
 use Rattle.std.proofs.lemmas.List.Elements.{All-nil, All-cons, All-head, All-tail}
 use Rattle.std.proofs.lemmas.List.Sums.{sum_by-cons, sum_by-append}
@@ -12,8 +12,8 @@ use Rattle.scenarios.specs.Job.{EffectiveJob}
 use Rattle.scenarios.specs.Plan.{job_numbered}
 use Rattle.easy_rule.specs.declared.start.Start.{Start}
 use Rattle.easy_rule.specs.Simulation.{start_of}
-use Rattle.timeline.specs.Ledger.{Ledger, NotesKeepTheLedger, LedgersSwap, all_apart_until, apart_until, ledger_of, noted, noted_beside}
-use Rattle.rejoin.specs.Noted.{AreStarts, Keeps, Tells}
+use Rattle.timeline.specs.Ledger.{Ledger, NotesKeepTheLedger, LedgersSwap, all_apart_until, apart_until, ledger_of, noted_beside}
+use Rattle.rejoin.specs.Noted.{AreStarts, Keeps}
 use Rattle.rejoin.proofs.Noting.{start-cons, start-push, start-without, start-among, no-count}
 
 abbrev map_of : Type 0

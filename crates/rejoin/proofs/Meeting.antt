@@ -1,5 +1,5 @@
 -- Where a ledger says that two simulations have met.
-use Rattle.std.proofs.Common.{◌≡◌, ℕ, zero, suc, ◌+◌, ◌-◌, ◌≤◌, ◌<◌, ◌^◌, ◌↔◌, ◌||◌, Bool, true, false, cond, nat_eq, find, count_by, List, [], ◌∷◌, ◌++◌, length, get_or, take, drop, All, IsTrue, Option, Some, None, refl, sym, ◌∙◌, ap, subst, arith, ⊎_elim, inr}
+use Rattle.std.proofs.Common.{◌≡◌, ℕ, zero, suc, ◌+◌, ◌-◌, ◌≤◌, ◌<◌, ◌^◌, ◌↔◌, ◌||◌, Bool, true, false, cond, nat_eq, count_by, List, [], ◌∷◌, ◌++◌, length, get_or, take, drop, All, IsTrue, Option, Some, None, refl, sym, ◌∙◌, ap, subst, arith, ⊎_elim, inr}
 use Rattle.std.specs.Prelude.{IfSome, IsSome}
 use Rattle.std.specs.List.{Contains}
 use Rattle.std.specs.BTreeMap.{BTreeMap}

@@ -1,5 +1,5 @@
 -- Starts by number, in lists and in maps.
-use Rattle.std.proofs.Common.{◌≡◌, ℕ, ◌+◌, ◌≤◌, Bool, true, false, cond, not, nat_eq, Equal, List, [], ◌∷◌, ◌++◌, length, count_by, filter, find, Option, Some, None, refl, sym, ◌∙◌, ap, arith, ⊎_elim}
+use Rattle.std.proofs.Common.{◌≡◌, ℕ, Bool, true, false, cond, not, nat_eq, Equal, List, [], ◌∷◌, ◌++◌, length, count_by, filter, find, Option, Some, None, refl, sym, ◌∙◌, ap, arith, ⊎_elim}
 use Rattle.std.specs.Option.{option_map}
 use Rattle.std.specs.Ordering.{nat_cmp, is_eq}
 use Rattle.std.specs.Cmp.{nat_cmp_is}

@@ -1,5 +1,5 @@
 -- New segments, one more after the others.
-use Rattle.std.proofs.Common.{◌≡◌, ℕ, ◌+◌, ◌≤◌, List, [], ◌∷◌, ◌++◌, refl, sym, ◌∙◌, ap, subst, arith, append_assoc, append-nil, inl, inr}
+use Rattle.std.proofs.Common.{◌≡◌, ℕ, ◌+◌, List, [], ◌∷◌, ◌++◌, refl, sym, ◌∙◌, ap, subst, arith, append_assoc, append-nil, inl, inr}
 use Rattle.scenarios.specs.Plan.{Plan}
 use Rattle.event_loop.specs.Events.{events_before}
 use Rattle.checkpoints.specs.Segment.{SegmentView}

@@ -1,5 +1,5 @@
 -- How a ledger of the starts of two simulations is kept.
-use Rattle.std.specs.Prelude.{◌≡◌, ℕ, ◌≤◌, ◌<◌, ◌^◌, ◌↔◌, Bool, true, false, nat_eq, ◌||◌, count_by, List, [], ◌∷◌, All, drop, Option, Some, None, IfSome, IsSome}
+use Rattle.std.specs.Prelude.{◌≡◌, ℕ, ◌≤◌, ◌<◌, ◌^◌, ◌↔◌, Bool, true, false, nat_eq, ◌||◌, count_by, List, [], ◌∷◌, All, drop, None, IfSome, IsSome}
 use Rattle.std.specs.Ordering.{nat_cmp}
 use Rattle.std.specs.BTreeMap.{BTreeMap, get}
 use Rattle.scenarios.specs.Job.{EffectiveJob}

@@ -1,4 +1,4 @@
-use Rattle.std.proofs.Common.{rules, ◌≡◌, false, true, None, Some, sym, ◌∙◌, refl}
+use Rattle.std.proofs.Common.{sym, ◌∙◌}
 use Rattle.timeline.proofs.Lemmas.{notes-keep-the-ledger}
 use Rattle.rejoin.specs.Noted.{among}
 use Rattle.rejoin.proofs.Keeping.{keeps-touched, keeps-alone, keeps-apart}

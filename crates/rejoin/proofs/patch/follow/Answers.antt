@@ -5,7 +5,7 @@ use Rattle.cluster_state.specs.Snapshot.{numbers_of}
 use Rattle.easy_rule.specs.Simulation.{before}
 use Rattle.checkpoints.specs.Segment.{SegmentView}
 use Rattle.rejoin.proofs.Deciding.{heads}
-use Rattle.rejoin.proofs.Meeting.{behind-true, behind-false, resumed-noted}
+use Rattle.rejoin.proofs.Meeting.{behind-true, resumed-noted}
 use Rattle.rejoin.proofs.Placed.{from-taken}
 use Rattle.rejoin.proofs.Turns.{keep-behind, behind-snapshot, resumed-behind, stands-taken}
 use Rattle.rejoin.proofs.patch.follow.Goals as goal

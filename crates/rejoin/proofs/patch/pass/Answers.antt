@@ -1,6 +1,5 @@
-use Rattle.std.proofs.Common.{rules, ◌≡◌, ◌++◌, List}
+use Rattle.std.proofs.Common.{rules, ◌≡◌}
 use Rattle.std.specs.Arc.{arc_value}
-use Rattle.easy_rule.specs.declared.start.Start.{Start}
 use Rattle.rejoin.proofs.Meeting.{noted-passed}
 use Rattle.rejoin.proofs.patch.pass.Goals as goal
 
