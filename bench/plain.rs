@@ -1,5 +1,5 @@
 // A plain single-threaded program to compare with: it reads a log from standard input, simulates it by EASY backfilling in
-// order of arrival, and writes the schedule. `plain --procs N`; with `--time` it tells on standard error what each part took.
+// order of arrival, and writes the schedule. `plain --procs N`; with `--time` it prints on standard error what each part took.
 //
 //   rustc -O -C target-cpu=native plain.rs
 //
@@ -46,7 +46,7 @@ fn fields(line: &[u8]) -> Option<[i64; 18]> {
     (count == 18).then_some(fields)
 }
 
-/// The job of a line's numbers on a machine of so many processors; none where it is skipped.
+/// The job of a line's numbers on a machine of so many processors; none if it is skipped.
 fn job(fields: &[i64; 18], procs: u64) -> Option<Job> {
     let size = if fields[7] > 0 { fields[7] } else { fields[4] };
     let run = fields[3];
@@ -144,7 +144,7 @@ impl Machine<'_> {
     }
 }
 
-/// Starts what may start now. Where no job has ended, only those that stand behind `settled` may.
+/// Starts what may start now. If no job has ended, only those that stand behind `settled` may.
 fn decide(machine: &mut Machine, queue: &mut Vec<usize>, known: &mut Option<(u64, u64)>, settled: usize, now: u64) {
     let jobs = machine.jobs;
     let mut begin = settled.max(1);
