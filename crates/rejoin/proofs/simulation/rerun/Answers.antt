@@ -1,6 +1,9 @@
-use Rattle.std.proofs.Common.{rules, ◌≡◌, map}
+use Rattle.std.proofs.Common.{rules, arith, ◌≡◌, map, subst, sym, IfErr}
+use Rattle.std.specs.Prelude.{Err}
 use Rattle.std.specs.Arc.{arc_value}
 use Rattle.scenarios.specs.Plan.{plan_of}
+use Rattle.checkpoints.specs.Spacing.{IsRefusal}
+use Rattle.checkpoints.specs.declared.fault.RunFault.TheVariants as faults
 use Rattle.rejoin.proofs.Turns.{rejoined-cut}
 use Rattle.rejoin.proofs.Untouched.{taken-over-all}
 use Rattle.rejoin.proofs.simulation.rerun.Goals as goal
@@ -18,3 +21,10 @@ returns-clause-untouched g c =
     let patch = c.in_ok-patch.patch in
     taken-over-all change (plan_of c.args.run.now.log c.args.run.now.setting) (plan_of (arc_value c.args.table) c.args.run.now.setting) c.args.run.now.segments (map arc_value patch.segments.items) c.in_ok-again.again.segments c.args.spacing patch.handled patch.reused
     c.in_ok-change.ensures.sound c.in_ok-change.ensures.was c.in_ok-change.ensures.is c.in_ok-change.ensures.old c.in_ok-again.ensures.segments c.in_ok-patch.ensures.rejoined
+
+pub returns-in_err-again-clause-fault : goal.returns-in_err-again-clause-fault
+returns-in_err-again-clause-fault g c =
+    let told : c.from_residual-in_err-again.result ≡ Err faults.Memory = search rules in
+    let some = c.if-spacing-lt1.false in
+    let limited = c.if-spacing-gt-MAX_SPACING.false in
+    subst (λ r. IfErr r (λ f. IsRefusal c.args.spacing f)) (sym told) (record { some = omega (arith, some); limited = omega (arith, limited) })
