@@ -1,5 +1,5 @@
 use crate::calls::{CALLS, Called, call, gives_up, retries, works};
-use crate::standing::{Standing, reading_of, reads_as, set_up, shows, two};
+use crate::standing::{Reading, Standing, reading_of, reads_as, set_up, shows, two};
 use job_table::JobTable;
 use refusing::{Outcome, Trial, survives_refusals};
 use scenarios::ScenarioId;
@@ -33,18 +33,28 @@ fn is_ready<A: Allocator + Copy>(at: &mut Standing<A>, called: Called) -> bool {
 }
 
 // Makes the call; where memory is wanting, the book reads as it did and the task makes its run.
-fn compared<A: Allocator + Copy>(alloc: A, at: &mut Standing<A>, called: Called) -> Outcome {
-    let Some(before) = reading_of(alloc, &at.book) else {
-        return Outcome::Before;
-    };
-    let told = call(alloc, at, called);
-    if told != Outcome::Memory {
-        return told;
+fn told_beside<A: Allocator + Copy>(
+    alloc: A,
+    at: &mut Standing<A>,
+    called: Called,
+    before: &Reading<A>,
+) -> Outcome {
+    match call(alloc, at, called) {
+        Outcome::Memory => Outcome::memory_if(
+            reads_as(&at.book, before)
+                && shows(&mut at.book, at.first)
+                && works(&at.task) == Outcome::Right,
+        ),
+        told => told,
     }
-    let is_same = reads_as(&at.book, &before);
-    Outcome::memory_if(
-        is_same && shows(&mut at.book, at.first) && works(&at.task) == Outcome::Right,
-    )
+}
+
+// The same, beside how the book reads before.
+fn compared<A: Allocator + Copy>(alloc: A, at: &mut Standing<A>, called: Called) -> Outcome {
+    match reading_of(alloc, &at.book) {
+        Some(before) => told_beside(alloc, at, called, &before),
+        None => Outcome::Before,
+    }
 }
 
 // Makes the call once the book is ready for it.
@@ -56,7 +66,7 @@ fn readied<A: Allocator + Copy>(alloc: A, at: &mut Standing<A>, called: Called) 
     }
 }
 
-// Opens the log.
+// Opens the log of a table.
 fn opens<A: Allocator + Copy>(alloc: A, table: JobTable<A>) -> Outcome {
     match Book::new(alloc, table, 1) {
         Ok(book) => Outcome::right_if(book.version() == 0 && book.journal().is_empty()),
@@ -64,35 +74,45 @@ fn opens<A: Allocator + Copy>(alloc: A, table: JobTable<A>) -> Outcome {
     }
 }
 
-impl Trial for Called {
-    fn outcome<A: Allocator + Copy>(&self, alloc: A) -> Outcome {
-        match set_up(alloc) {
-            Some(mut at) => readied(alloc, &mut at, *self),
-            None => Outcome::Before,
-        }
+// Opens the log of two jobs.
+fn opens_two<A: Allocator + Copy>(alloc: A) -> Outcome {
+    match two(alloc) {
+        Some(table) => opens(alloc, table),
+        None => Outcome::Before,
     }
 }
 
-/// Opening the log.
-struct Opening;
+// Makes the call on a book at work.
+fn calls<A: Allocator + Copy>(alloc: A, called: Called) -> Outcome {
+    match set_up(alloc) {
+        Some(mut at) => readied(alloc, &mut at, called),
+        None => Outcome::Before,
+    }
+}
 
-impl Trial for Opening {
+/// A call, or the opening of a log.
+#[derive(Clone, Copy)]
+enum Taken {
+    Open,
+    Call(Called),
+}
+
+impl Trial for Taken {
     fn outcome<A: Allocator + Copy>(&self, alloc: A) -> Outcome {
-        match two(alloc) {
-            Some(table) => opens(alloc, table),
-            None => Outcome::Before,
+        match *self {
+            Taken::Open => opens_two(alloc),
+            Taken::Call(called) => calls(alloc, called),
         }
     }
 }
 
 #[test]
 fn a_call_without_memory_changes_nothing(rt: HostRuntime) {
+    assert!(rt; survives_refusals(rt.alloc(), &Taken::Open));
     for (place, called) in CALLS.iter().enumerate() {
-        assert!(rt; survives_refusals(rt.alloc(), called), "call {place}");
+        assert!(rt;
+            survives_refusals(rt.alloc(), &Taken::Call(*called)),
+            "call {place}"
+        );
     }
-}
-
-#[test]
-fn a_book_without_memory_is_refused(rt: HostRuntime) {
-    assert!(rt; survives_refusals(rt.alloc(), &Opening));
 }

@@ -94,8 +94,8 @@ pub(crate) fn two<A: Allocator + Copy>(alloc: A) -> Option<JobTable<A>> {
     table_of(alloc, TWO)
 }
 
-// Adds a scenario on ten processors; none where memory is short.
-fn add<A: Allocator + Copy>(book: &mut Book<A>, name: &str) -> Option<ScenarioId> {
+/// Adds a scenario on ten processors; none where memory is short.
+pub(crate) fn add<A: Allocator + Copy>(book: &mut Book<A>, name: &str) -> Option<ScenarioId> {
     book.add_scenario(7, name, Scenario::new(10, 1000)?).ok()
 }
 
