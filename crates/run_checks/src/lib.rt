@@ -22,11 +22,9 @@ mod plain;
 #[cfg(test)]
 mod refusals;
 #[cfg(test)]
-mod rerun_growths;
-#[cfg(test)]
-mod rerun_pieces;
-#[cfg(test)]
 mod rerun_rows;
+#[cfg(test)]
+mod reruns;
 #[cfg(test)]
 mod runs;
 #[cfg(test)]

@@ -14,6 +14,26 @@ pub(crate) const NOTED: &[u8] = b"; four jobs
 4 3 -1 500 2 -1 -1 2 500 -1 1 8 -1 -1 -1 -1 -1 -1
 ";
 
+/// Three jobs of the whole machine for 10 seconds each, every 100 seconds.
+pub(crate) const THREE: &[u8] = b"1 0 -1 10 10 -1 -1 10 10 -1 1 7 -1 -1 -1 -1 -1 -1
+2 100 -1 10 10 -1 -1 10 10 -1 1 7 -1 -1 -1 -1 -1 -1
+3 200 -1 10 10 -1 -1 10 10 -1 1 7 -1 -1 -1 -1 -1 -1
+";
+
+/// Six of them.
+pub(crate) const SIX: &[u8] = b"1 0 -1 10 10 -1 -1 10 10 -1 1 7 -1 -1 -1 -1 -1 -1
+2 100 -1 10 10 -1 -1 10 10 -1 1 7 -1 -1 -1 -1 -1 -1
+3 200 -1 10 10 -1 -1 10 10 -1 1 7 -1 -1 -1 -1 -1 -1
+4 300 -1 10 10 -1 -1 10 10 -1 1 7 -1 -1 -1 -1 -1 -1
+5 400 -1 10 10 -1 -1 10 10 -1 1 7 -1 -1 -1 -1 -1 -1
+6 500 -1 10 10 -1 -1 10 10 -1 1 7 -1 -1 -1 -1 -1 -1
+";
+
+/// A job of the whole machine that runs for half its estimate, and one that waits for it.
+pub(crate) const SHORT: &[u8] = b"1 0 -1 50 10 -1 -1 10 100 -1 1 7 -1 -1 -1 -1 -1 -1
+2 10 -1 10 10 -1 -1 10 10 -1 1 7 -1 -1 -1 -1 -1 -1
+";
+
 /// The table of a log; none where memory is short.
 pub(crate) fn table_of<A: Allocator + Copy>(alloc: A, log: &[u8]) -> Option<JobTable<A>> {
     let text = read_swf(alloc, log).ok()?;

@@ -2,8 +2,8 @@
 ghost use Rattle.std.specs.Prelude.{◌≡◌, map, IfOk};
 ghost use Rattle.std.specs.Arc.{arc_value};
 
-use crate::logs::{NOTED, run_of};
-use crate::runs::{THREE, is_of_four, outcome_of};
+use crate::logs::{NOTED, SHORT, THREE, run_of};
+use crate::runs::{is_of_four, outcome_of};
 use checkpoints::{Run, Segment};
 use refusing::Outcome;
 use scenarios::{Order, Scenario};
@@ -17,11 +17,6 @@ const LATER: &[u8] = b"1 0 -1 100 6 -1 -1 6 100 -1 1 7 -1 -1 -1 -1 -1 -1
 2 1 -1 50 8 -1 -1 8 50 -1 1 8 -1 -1 -1 -1 -1 -1
 3 300 -1 90 4 -1 -1 4 90 -1 1 7 -1 -1 -1 -1 -1 -1
 4 3 -1 500 2 -1 -1 2 500 -1 1 8 -1 -1 -1 -1 -1 -1
-";
-
-/// A job that runs for half its estimate, and one that waits for it.
-const SHORT: &[u8] = b"1 0 -1 50 10 -1 -1 10 100 -1 1 7 -1 -1 -1 -1 -1 -1
-2 10 -1 10 10 -1 -1 10 10 -1 1 7 -1 -1 -1 -1 -1 -1
 ";
 
 /// A job of one processor, a billion seconds after the origin.

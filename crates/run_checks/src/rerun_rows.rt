@@ -1,45 +1,10 @@
-ghost use Rattle.std.specs.Prelude.{◌≡◌, map, IfSome, OnSome};
-ghost use Rattle.std.specs.Arc.{arc_value};
-ghost use Rattle.job_table.specs.Accepted.{AreAccepted};
-ghost use Rattle.job_table.specs.Edit.{edit_of, log_after};
+// What is made anew of runs after edits, worked by hand.
+use crate::logs::{NOTED, SHORT, SIX, THREE};
+use crate::tables::Written;
+use rejoin::Work;
 
-use checkpoints::{Run, simulate};
-use job_table::{Edit, JobTable};
-use rejoin::{edited, rerun};
-use scenarios::{Order, Scenario};
-use std::alloc::Global;
-use std::process::Abort;
-use std::sync::Arc;
-use swf_text::{Entry, Value, read_swf};
-
-/// Jobs of sizes 6, 8, 4 and 2 at 0 to 3.
-const FOUR: &[u8] = b"1 0 -1 100 6 -1 -1 6 100 -1 1 7 -1 -1 -1 -1 -1 -1
-2 1 -1 50 8 -1 -1 8 50 -1 1 8 -1 -1 -1 -1 -1 -1
-3 2 -1 90 4 -1 -1 4 90 -1 1 7 -1 -1 -1 -1 -1 -1
-4 3 -1 500 2 -1 -1 2 500 -1 1 8 -1 -1 -1 -1 -1 -1
-";
-
-/// Six jobs of the whole machine for 10 seconds each, every 100 seconds.
-pub(crate) const SIX: &[u8] = b"1 0 -1 10 10 -1 -1 10 10 -1 1 7 -1 -1 -1 -1 -1 -1
-2 100 -1 10 10 -1 -1 10 10 -1 1 7 -1 -1 -1 -1 -1 -1
-3 200 -1 10 10 -1 -1 10 10 -1 1 7 -1 -1 -1 -1 -1 -1
-4 300 -1 10 10 -1 -1 10 10 -1 1 7 -1 -1 -1 -1 -1 -1
-5 400 -1 10 10 -1 -1 10 10 -1 1 7 -1 -1 -1 -1 -1 -1
-6 500 -1 10 10 -1 -1 10 10 -1 1 7 -1 -1 -1 -1 -1 -1
-";
-
-/// The first three of them.
-pub(crate) const THREE: &[u8] = b"1 0 -1 10 10 -1 -1 10 10 -1 1 7 -1 -1 -1 -1 -1 -1
-2 100 -1 10 10 -1 -1 10 10 -1 1 7 -1 -1 -1 -1 -1 -1
-3 200 -1 10 10 -1 -1 10 10 -1 1 7 -1 -1 -1 -1 -1 -1
-";
-
-/// A job of the whole machine that runs for half its estimate, and one that waits for it.
-const SHORT: &[u8] = b"1 0 -1 50 10 -1 -1 10 100 -1 1 7 -1 -1 -1 -1 -1 -1
-2 10 -1 10 10 -1 -1 10 10 -1 1 7 -1 -1 -1 -1 -1 -1
-";
-
-/// The same, where the second job has a long estimate.
+/// A job of the whole machine that runs for half its estimate, and one with a long estimate that waits
+/// for it.
 const LONG: &[u8] = b"1 0 -1 50 10 -1 -1 10 100 -1 1 7 -1 -1 -1 -1 -1 -1
 2 10 -1 10 10 -1 -1 10 100 -1 1 7 -1 -1 -1 -1 -1 -1
 ";
@@ -52,201 +17,201 @@ const SECOND: &[u8] = b"2 5 -1 10 10 -1 -1 10 10 -1 1 7 -1 -1 -1 -1 -1 -1\n";
 
 const THIRD: &[u8] = b"3 8 -1 20 10 -1 -1 10 20 -1 1 7 -1 -1 -1 -1 -1 -1\n";
 
-/// An edit, as it is written.
-pub(crate) enum Written {
-    /// A field of a job gets another value.
-    Change(u64, u8, &'static [u8]),
-    /// The entry of this line joins the log.
-    Insert(&'static [u8]),
+/// A log on ten processors, edits of it, and the run then.
+pub(crate) struct Row {
+    pub(crate) log: &'static [u8],
+    /// How many event seconds a segment of the old run has at most, and one that is made anew.
+    pub(crate) spacings: (u32, u32),
+    pub(crate) edits: &'static [Written],
+    /// The event seconds that are worked, and how many segments are taken over; None where the spacing is
+    /// refused.
+    pub(crate) work: Option<Work>,
+    /// The first seconds of the segments.
+    pub(crate) firsts: &'static [u64],
+    /// The processor seconds of all jobs.
+    pub(crate) busy: u128,
+    /// The jobs' starts.
+    pub(crate) starts: &'static [(u64, u64)],
 }
 
-/// A log on ten processors with a segment for each event second, edits of it, and what is worked
-/// and taken over then.
-struct Row {
-    log: &'static [u8],
-    edits: &'static [Written],
-    /// The event seconds that are worked.
-    handled: u64,
-    /// The first seconds of the segments that are taken over.
-    reused: &'static [u64],
-    /// The jobs' starts.
-    starts: &'static [(u64, u64)],
-}
+/// Job 2 runs for 20 seconds.
+const LONGER: &[Written] = &[Written::Change(2, 4, b"20"), Written::Change(2, 9, b"20")];
+
+/// The same, with an estimate that stays: 10, 50 and 70 are worked, and the first segment is taken over.
+pub(crate) const GROWN: Row = Row {
+    log: LONG,
+    spacings: (1, 1),
+    edits: &[Written::Change(2, 4, b"20")],
+    work: Some(Work {
+        handled: 3,
+        reused: 1,
+    }),
+    firsts: &[0, 1, 11, 51],
+    busy: 700,
+    starts: &[(1, 0), (2, 50)],
+};
+
+/// The starts of three jobs, also where job 2 runs for 20 seconds.
+const OF_THREE: &[(u64, u64)] = &[(1, 0), (2, 100), (3, 200)];
+
+/// The same of six.
+const OF_SIX: &[(u64, u64)] = &[(1, 0), (2, 100), (3, 200), (4, 300), (5, 400), (6, 500)];
 
 /// Worked by hand.
-const ROWS: &[Row] = &[
+pub(crate) const ROWS: &[Row] = &[
     // Job 3 is submitted later: 3, 100, 150, 300, 390 and 503 are worked.
     Row {
-        log: FOUR,
+        log: NOTED,
+        spacings: (1, 1),
         edits: &[Written::Change(3, 2, b"300")],
-        handled: 6,
-        reused: &[0, 1],
+        work: Some(Work {
+            handled: 6,
+            reused: 2,
+        }),
+        firsts: &[0, 1, 2, 4, 101, 151, 301, 391],
+        busy: 2360,
         starts: &[(1, 0), (2, 100), (4, 3), (3, 300)],
     },
-    // Job 2 runs longer: 100, 120 and 200.
+    // Job 2 runs longer: 100, 120 and 200, and the segments from 0, 1 and 201 are taken over.
     Row {
         log: THREE,
-        edits: &[Written::Change(2, 4, b"20"), Written::Change(2, 9, b"20")],
-        handled: 3,
-        reused: &[0, 1, 201],
-        starts: &[(1, 0), (2, 100), (3, 200)],
+        spacings: (1, 1),
+        edits: LONGER,
+        work: Some(Work {
+            handled: 3,
+            reused: 3,
+        }),
+        firsts: &[0, 1, 11, 101, 121, 201],
+        busy: 400,
+        starts: OF_THREE,
     },
     // Job 1 runs longer, and the same numbers wait and run at 1 and 11: 0, 10, 70 and 80.
     Row {
         log: SHORT,
+        spacings: (1, 1),
         edits: &[Written::Change(1, 4, b"70")],
-        handled: 4,
-        reused: &[],
+        work: Some(Work {
+            handled: 4,
+            reused: 0,
+        }),
+        firsts: &[0, 1, 11, 71],
+        busy: 800,
         starts: &[(1, 0), (2, 70)],
     },
-    // A field that no job depends on.
+    // A field that no job depends on: all is taken over.
     Row {
-        log: FOUR,
+        log: NOTED,
+        spacings: (1, 1),
         edits: &[Written::Change(1, 3, b"5")],
-        handled: 0,
-        reused: &[0, 1, 2, 3, 4, 93, 101, 151],
+        work: Some(Work {
+            handled: 0,
+            reused: 8,
+        }),
+        firsts: &[0, 1, 2, 3, 4, 93, 101, 151],
+        busy: 2360,
         starts: &[(1, 0), (2, 100), (3, 2), (4, 92)],
     },
-    // Jobs 2 and 5 run longer: 100, 120, 200, 400, 420 and 500.
+    // Jobs 2 and 5 run longer: 100, 120, 200, 400, 420 and 500, and the segments from 0, 1, 201, 211, 301
+    // and 501 are taken over.
     Row {
         log: SIX,
+        spacings: (1, 1),
         edits: &[
             Written::Change(2, 4, b"20"),
             Written::Change(2, 9, b"20"),
             Written::Change(5, 4, b"20"),
             Written::Change(5, 9, b"20"),
         ],
-        handled: 6,
-        reused: &[0, 1, 201, 211, 301, 501],
-        starts: &[(1, 0), (2, 100), (3, 200), (4, 300), (5, 400), (6, 500)],
+        work: Some(Work {
+            handled: 6,
+            reused: 6,
+        }),
+        firsts: &[0, 1, 11, 101, 121, 201, 211, 301, 311, 401, 421, 501],
+        busy: 800,
+        starts: OF_SIX,
     },
-    // Job 2 runs longer: 10, 50 and 70.
-    Row {
-        log: LONG,
-        edits: &[Written::Change(2, 4, b"20")],
-        handled: 3,
-        reused: &[0],
-        starts: &[(1, 0), (2, 50)],
-    },
+    GROWN,
     // There was no job, and two come: 5, 8, 15 and 35.
     Row {
         log: SKIPPED,
+        spacings: (1, 1),
         edits: &[Written::Insert(SECOND), Written::Insert(THIRD)],
-        handled: 4,
-        reused: &[],
+        work: Some(Work {
+            handled: 4,
+            reused: 0,
+        }),
+        firsts: &[0, 6, 9, 16],
+        busy: 300,
         starts: &[(2, 5), (3, 15)],
     },
-];
-
-/// The run of a log on ten processors, in segments of so many event seconds.
-pub(crate) fn run_of(alloc: Global, log: &[u8], order: Order, spacing: u32) -> Option<Run<Global>> {
-    let text = read_swf(alloc, log).ok()?;
-    let table = Arc::new(alloc, JobTable::from_text(alloc, &text).ok()?).ok()?;
-    simulate(
-        alloc,
-        table,
-        Scenario::new(10, 1000)?.ordered(order),
-        spacing,
-    )
-    .ok()
-}
-
-// The entry of a line.
-fn read_entry(alloc: Global, line: &[u8]) -> Option<Entry<Global>> {
-    let text = read_swf(alloc, line).ok()?;
-    text.entries().first()?.copy().ok()
-}
-
-// The edit that is written so.
-fn read_edit(alloc: Global, written: &Written) -> Option<Edit<Global>> {
-    match written {
-        Written::Change(number, field, value) => Some(Edit::Change {
-            number: *number,
-            field: *field,
-            value: Value::from_bytes(value)?,
+    // 120 is an event second then, and 110 is none: 100 is the last one before 111; 120 and 200 fill a
+    // segment; 210 is the last of all.
+    Row {
+        log: THREE,
+        spacings: (2, 2),
+        edits: LONGER,
+        work: Some(Work {
+            handled: 4,
+            reused: 1,
         }),
-        Written::Insert(line) => Some(Edit::Insert(read_entry(alloc, line)?)),
-    }
-}
-
-/// The edits that are written so.
-pub(crate) fn edits_of(alloc: Global, written: &[Written]) -> Option<Vec<Edit<Global>>> {
-    let mut edits = Vec::new(alloc);
-    for each in written {
-        edits.push(read_edit(alloc, each)?).ok()?;
-    }
-    Some(edits)
-}
-
-/// The run's table after edits.
-pub(crate) fn table_after(
-    alloc: Global,
-    run: &Run<Global>,
-    edits: &[Edit<Global>],
-) -> Option<Arc<JobTable<Global>>>
-    ensures accepted { OnSome result (AreAccepted run.now.log (map edit_of edits.now)) }
-    ensures table { IfSome result (λ table. arc_value table ≡ log_after run.now.log (map edit_of edits.now)) }
-{
-    Arc::new(alloc, edited(run.table(), edits).ok()?).ok()
-}
-
-// Whether the jobs start at these seconds.
-fn has_starts(run: &Run<Global>, starts: &[(u64, u64)]) -> bool {
-    for (number, start) in starts {
-        if run.start_of(*number) != Some(*start) {
-            return false;
-        }
-    }
-    true
-}
-
-// Whether a segment begins at this second.
-fn begins(run: &Run<Global>, second: u64) -> bool {
-    for segment in run.segments() {
-        if segment.first() == second {
-            return true;
-        }
-    }
-    false
-}
-
-// Whether segments begin at each of these seconds.
-fn all_begin(run: &Run<Global>, seconds: &[u64]) -> bool {
-    for second in seconds {
-        if !begins(run, *second) {
-            return false;
-        }
-    }
-    true
-}
-
-// Whether a row holds of a run and the edits.
-fn answers(alloc: Global, row: &Row, run: &Run<Global>, edits: &[Edit<Global>]) -> Option<bool> {
-    let table = table_after(alloc, run, edits)?;
-    let (again, work) = rerun(alloc, run, edits, table, 1).ok()?;
-    if work.handled != row.handled || work.reused != row.reused.len() as u64 {
-        return Some(false);
-    }
-    Some(has_starts(&again, row.starts) && all_begin(&again, row.reused))
-}
-
-// Whether a row holds in this order of backfills.
-fn holds(alloc: Global, row: &Row, order: Order) -> Option<bool> {
-    let run = run_of(alloc, row.log, order, 1)?;
-    let edits = edits_of(alloc, row.edits)?;
-    answers(alloc, row, &run, edits.as_slice())
-}
-
-#[test]
-fn rows_hold_in_order_of_arrival(rt: HostRuntime) {
-    for row in ROWS {
-        assert!(rt; holds(rt.alloc(), row, Order::Arrival) == Some(true));
-    }
-}
-
-#[test]
-fn rows_hold_with_the_shortest_first(rt: HostRuntime) {
-    for row in ROWS {
-        assert!(rt; holds(rt.alloc(), row, Order::Shortest) == Some(true));
-    }
-}
+        firsts: &[0, 11, 101, 201],
+        busy: 400,
+        starts: OF_THREE,
+    },
+    // 210 is the last one before 211, where the old segments are taken over again.
+    Row {
+        log: SIX,
+        spacings: (2, 2),
+        edits: LONGER,
+        work: Some(Work {
+            handled: 4,
+            reused: 4,
+        }),
+        firsts: &[0, 11, 101, 201, 211, 311, 411],
+        busy: 700,
+        starts: OF_SIX,
+    },
+    // The limits of a spacing.
+    Row {
+        log: THREE,
+        spacings: (2, 0),
+        edits: LONGER,
+        work: None,
+        firsts: &[],
+        busy: 0,
+        starts: &[],
+    },
+    Row {
+        log: THREE,
+        spacings: (2, 1),
+        edits: LONGER,
+        work: Some(Work {
+            handled: 4,
+            reused: 1,
+        }),
+        firsts: &[0, 11, 101, 121, 201],
+        busy: 400,
+        starts: OF_THREE,
+    },
+    Row {
+        log: THREE,
+        spacings: (2, 65_536),
+        edits: LONGER,
+        work: Some(Work {
+            handled: 4,
+            reused: 1,
+        }),
+        firsts: &[0, 11, 101],
+        busy: 400,
+        starts: OF_THREE,
+    },
+    Row {
+        log: THREE,
+        spacings: (2, 65_537),
+        edits: LONGER,
+        work: None,
+        firsts: &[],
+        busy: 0,
+        starts: &[],
+    },
+];

@@ -1,5 +1,5 @@
 // Runs: their segments, and the numbers over all jobs.
-use crate::logs::{NOTED, run_of, shared_table};
+use crate::logs::{NOTED, SIX, THREE, run_of, shared_table};
 use checkpoints::{Row, Run, RunFault, simulate};
 use job_table::JobTable;
 use metrics::{Overall, Part, Skips, Tables, UserRow};
@@ -129,40 +129,38 @@ fn four_jobs_at_each_spacing(rt: HostRuntime) {
     assert!(rt; cuts_at_each(rt.alloc()) == Some(true));
 }
 
-/// Three jobs of the whole machine, one after another, with quiet seconds between.
-pub(crate) const THREE: &[u8] = b"1 0 -1 10 10 -1 -1 10 10 -1 1 7 -1 -1 -1 -1 -1 -1
-2 100 -1 10 10 -1 -1 10 10 -1 1 7 -1 -1 -1 -1 -1 -1
-3 200 -1 10 10 -1 -1 10 10 -1 1 7 -1 -1 -1 -1 -1 -1
-";
+/// Logs, spacings, and the first seconds of the segments.
+const FIRSTS: [(&[u8], u32, &[u64]); 3] = [
+    (THREE, 1, &[0, 1, 11, 101, 111, 201]),
+    (THREE, 2, &[0, 11, 111]),
+    (SIX, 2, &[0, 11, 111, 211, 311, 411]),
+];
 
-// Whether the segments begin at these seconds.
-fn firsts_are(run: &Run<Global>, wanted: &[u64]) -> bool {
-    let mut place = 0usize;
-    for segment in run.segments() {
-        if wanted.get(place) != Some(&segment.first()) {
-            return false;
-        }
-        place = place.saturating_add(1);
-    }
-    place == wanted.len()
+/// Whether a run's segments begin at these seconds.
+pub(crate) fn begin_at<A: Allocator + Copy>(run: &Run<A>, firsts: &[u64]) -> bool {
+    let segments = run.segments();
+    segments.len() == firsts.len() && segments.iter().zip(firsts).all(|(s, f)| s.first() == *f)
 }
 
-// Whether the last segment has one job that runs before it, and no start.
-fn ends_quietly(run: &Run<Global>) -> bool {
+// Whether the last segment has one job that runs before it.
+fn ends_at_work(run: &Run<Global>) -> bool {
     match run.segments().last() {
-        Some(last) => last.before().running().len() == 1 && last.starts().is_empty(),
+        Some(last) => last.before().running().len() == 1,
         None => false,
     }
 }
 
-fn cuts_three(alloc: Global) -> Option<bool> {
-    let run = run_of(alloc, THREE, Scenario::new(10, 1000)?, 1)?;
-    Some(firsts_are(&run, &[0, 1, 11, 101, 111, 201]) && ends_quietly(&run))
+// Whether the run of a log on ten processors is cut so.
+fn is_cut(alloc: Global, log: &[u8], spacing: u32, firsts: &[u64]) -> Option<bool> {
+    let run = run_of(alloc, log, Scenario::new(10, 1000)?, spacing)?;
+    Some(begin_at(&run, firsts) && (spacing > 1 || ends_at_work(&run)))
 }
 
 #[test]
-fn three_jobs_cut_at_each_event(rt: HostRuntime) {
-    assert!(rt; cuts_three(rt.alloc()) == Some(true));
+fn segments_begin_behind_event_seconds(rt: HostRuntime) {
+    for (log, spacing, firsts) in &FIRSTS {
+        assert!(rt; is_cut(rt.alloc(), log, *spacing, firsts) == Some(true));
+    }
 }
 
 // Whether a spacing is refused.

@@ -4,7 +4,7 @@ use crate::logs::{NOTED, shared_table};
 use cluster_state::Snapshot;
 use event_loop::{Engine, EngineFault};
 use job_table::JobTable;
-use refusing::{Outcome, Refusing};
+use refusing::Outcome;
 use scenarios::{Job, Scenario};
 use std::alloc::{Allocator, Global};
 use std::process::Abort;
@@ -73,7 +73,17 @@ fn failed_between_steps<A: Allocator + Copy>(
         && has_failed(engine)
 }
 
-// All of it is worked; where memory is short, the engine has failed between two steps.
+// Want of memory behind second 0 where this holds, or before anything was worked.
+fn short_at(position: u64, holds: bool) -> Outcome {
+    match (holds, position) {
+        (false, _) => Outcome::Wrong,
+        (true, 0) => Outcome::Before,
+        (true, _) => Outcome::Memory,
+    }
+}
+
+// All of it is worked; where memory is short, the engine has failed between two steps, and what was
+// worked stays so.
 fn works_beside<A: Allocator + Copy>(
     alloc: A,
     span: Span,
@@ -82,7 +92,8 @@ fn works_beside<A: Allocator + Copy>(
 ) -> Outcome {
     match works(engine, span) {
         Ok(is_right) => Outcome::right_if(is_right),
-        Err(fault) => Outcome::memory_if(
+        Err(fault) => short_at(
+            engine.position(),
             fault == EngineFault::Memory && failed_between_steps(alloc, engine, fresh),
         ),
     }
@@ -158,36 +169,6 @@ pub(crate) fn goes_far<A: Allocator + Copy>(alloc: A, span: Span, scenario: Scen
     match engine_of(alloc, span, scenario) {
         Some(mut engine) => goes_with_another(alloc, span, scenario, &mut engine),
         None => Outcome::Before,
-    }
-}
-
-// Whether the engine fails behind second 0.
-fn fails_behind_zero<A: Allocator + Copy>(alloc: A, span: Span, scenario: Scenario) -> bool {
-    match engine_of(alloc, span, scenario) {
-        Some(mut engine) => works(&mut engine, span).is_err() && engine.position() > 0,
-        None => false,
-    }
-}
-
-// Whether it does so at some growth that is refused.
-fn fails_on_its_way(alloc: Global, span: Span) -> Option<bool> {
-    let scenario = Scenario::new(10, 1000)?;
-    for nth in 1..10_000 {
-        let heap = Refusing::new(alloc, nth);
-        if fails_behind_zero(&heap, span, scenario) {
-            return Some(true);
-        }
-        if !heap.refused() {
-            return Some(false);
-        }
-    }
-    None
-}
-
-#[test]
-fn what_was_worked_stays_so_where_memory_is_short(rt: HostRuntime) {
-    for span in [Span::UpToThree, Span::ToTheEnd] {
-        assert!(rt; fails_on_its_way(rt.alloc(), span) == Some(true));
     }
 }
 

@@ -3,7 +3,7 @@ use crate::logs::{NOTED, table_of};
 use job_table::{Edit, EditFault, JobTable};
 use refusing::Outcome;
 use std::alloc::Allocator;
-use swf_text::{Entry, Memory, Value, read_swf};
+use swf_text::{Entry, Memory, SwfText, Value, read_swf};
 
 // Copies an entry with one partial line.
 fn copies<A: Allocator + Copy>(entry: &Entry<A>) -> Outcome {
@@ -46,43 +46,46 @@ pub(crate) fn copies_a_table<A: Allocator + Copy>(alloc: A) -> Outcome {
     }
 }
 
-/// A fifth job, with a partial line.
-const FIFTH: &[u8] = b"5 4 -1 500 2 -1 -1 2 500 -1 1 8 -1 -1 -1 -1 -1 -1
-5 4 -1 100 2 -1 -1 2 500 -1 2 8 -1 -1 -1 -1 -1 -1
-";
-
-/// An edit of the table of the log.
+/// An edit, as it is written.
 #[derive(Clone, Copy)]
-pub(crate) enum Kind {
-    Insertion,
-    Removal,
-    Move,
-    Exchange,
+pub(crate) enum Written {
+    /// The first entry of this log joins.
+    Insert(&'static [u8]),
+    /// The job of this number leaves.
+    Remove(u64),
+    /// A field of a job gets another value.
+    Change(u64, u8, &'static [u8]),
 }
 
-// The edit by which job 5 joins.
-fn insertion<A: Allocator + Copy>(alloc: A) -> Option<Edit<A>> {
-    let text = read_swf(alloc, FIFTH).ok()?;
-    Some(Edit::Insert(text.entries().first()?.copy().ok()?))
+// A copy of a log's first entry.
+fn first_of<A: Allocator + Copy>(text: &SwfText<A>) -> Option<Entry<A>> {
+    text.entries().first()?.copy().ok()
 }
 
-// The edit by which a field of job 3 is 300.
-fn change<A: Allocator + Copy>(field: u8) -> Option<Edit<A>> {
-    let value = Value::from_bytes(b"300")?;
+// The edit by which the first entry of a log joins.
+fn insertion<A: Allocator + Copy>(alloc: A, log: &[u8]) -> Option<Edit<A>> {
+    match read_swf(alloc, log) {
+        Ok(text) => Some(Edit::Insert(first_of(&text)?)),
+        Err(_) => None,
+    }
+}
+
+// The edit by which a field of a job is another one.
+fn change<A: Allocator + Copy>(number: u64, field: u8, value: &[u8]) -> Option<Edit<A>> {
+    let value = Value::from_bytes(value)?;
     Some(Edit::Change {
-        number: 3,
+        number,
         field,
         value,
     })
 }
 
-// The edit of a kind: job 5 joins, job 1 leaves, or job 3 is submitted in second 300 or runs for so long.
-fn edit_of<A: Allocator + Copy>(alloc: A, kind: Kind) -> Option<Edit<A>> {
-    match kind {
-        Kind::Insertion => insertion(alloc),
-        Kind::Removal => Some(Edit::Remove(1)),
-        Kind::Move => change(2),
-        Kind::Exchange => change(4),
+/// The edit that is written so; none where memory is short.
+pub(crate) fn edit_of<A: Allocator + Copy>(alloc: A, written: Written) -> Option<Edit<A>> {
+    match written {
+        Written::Insert(log) => insertion(alloc, log),
+        Written::Remove(number) => Some(Edit::Remove(number)),
+        Written::Change(number, field, value) => change(number, field, value),
     }
 }
 
@@ -108,7 +111,7 @@ fn exchanges<A: Allocator + Copy>(
     copy: &JobTable<A>,
     fresh: &JobTable<A>,
 ) -> Outcome {
-    let Some(later) = change(9) else {
+    let Some(later) = change(3, 9, b"300") else {
         return Outcome::Wrong;
     };
     match table.apply(&later) {
@@ -144,8 +147,8 @@ fn edits_the_log<A: Allocator + Copy>(alloc: A, edit: &Edit<A>) -> Outcome {
 }
 
 /// Makes an edit of the table of the log, of which a copy stays.
-pub(crate) fn edits<A: Allocator + Copy>(alloc: A, kind: Kind) -> Outcome {
-    match edit_of(alloc, kind) {
+pub(crate) fn edits<A: Allocator + Copy>(alloc: A, written: Written) -> Outcome {
+    match edit_of(alloc, written) {
         Some(edit) => edits_the_log(alloc, &edit),
         None => Outcome::Before,
     }

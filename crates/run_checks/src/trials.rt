@@ -5,9 +5,11 @@ use crate::engines::{Way, goes};
 use crate::openings::{adds_a_scenario, opens_and_saves};
 use crate::own_segments::makes_again;
 use crate::plain::{WORKED, works};
+use crate::rerun_rows::GROWN;
+use crate::reruns::reruns;
 use crate::runs::{cuts_four, makes_up_the_whole};
 use crate::spans::{Span, goes_far};
-use crate::tables::{Kind, copies_a_table, copies_an_entry, edits};
+use crate::tables::{Written, copies_a_table, copies_an_entry, edits};
 use crate::texts::{is_put_beside, is_reported};
 use crate::two_ends::starts_two;
 use refusing::{Outcome, Trial, survives_refusals};
@@ -19,7 +21,7 @@ use std::alloc::Allocator;
 enum Call {
     CopyEntry,
     CopyTable,
-    Edit(Kind),
+    Edit(Written),
     AddScenario,
     OpenAndSave,
     Plan,
@@ -32,18 +34,24 @@ enum Call {
     Simulate,
     MakeAgain,
     MakeUp,
+    Rerun(Order),
     Report,
     PutBeside,
 }
 
+/// A fifth job, with a partial line.
+const FIFTH: &[u8] = b"5 4 -1 500 2 -1 -1 2 500 -1 1 8 -1 -1 -1 -1 -1 -1
+5 4 -1 100 2 -1 -1 2 500 -1 2 8 -1 -1 -1 -1 -1 -1
+";
+
 /// All of them.
-const CALLS: [Call; 26] = [
+const CALLS: [Call; 28] = [
     Call::CopyEntry,
     Call::CopyTable,
-    Call::Edit(Kind::Insertion),
-    Call::Edit(Kind::Removal),
-    Call::Edit(Kind::Move),
-    Call::Edit(Kind::Exchange),
+    Call::Edit(Written::Insert(FIFTH)),
+    Call::Edit(Written::Remove(1)),
+    Call::Edit(Written::Change(3, 2, b"300")),
+    Call::Edit(Written::Change(3, 4, b"300")),
     Call::AddScenario,
     Call::OpenAndSave,
     Call::Plan,
@@ -62,6 +70,8 @@ const CALLS: [Call; 26] = [
     Call::Simulate,
     Call::MakeAgain,
     Call::MakeUp,
+    Call::Rerun(Order::Arrival),
+    Call::Rerun(Order::Shortest),
     Call::Report,
     Call::PutBeside,
 ];
@@ -74,7 +84,7 @@ impl Trial for Call {
         match *self {
             Call::CopyEntry => copies_an_entry(alloc),
             Call::CopyTable => copies_a_table(alloc),
-            Call::Edit(kind) => edits(alloc, kind),
+            Call::Edit(written) => edits(alloc, written),
             Call::AddScenario => adds_a_scenario(alloc, ten),
             Call::OpenAndSave => opens_and_saves(alloc),
             Call::Plan => works(alloc, &WORKED, Order::Shortest),
@@ -87,6 +97,7 @@ impl Trial for Call {
             Call::Simulate => cuts_four(alloc, ten, 2, 4),
             Call::MakeAgain => makes_again(alloc, ten),
             Call::MakeUp => makes_up_the_whole(alloc, ten),
+            Call::Rerun(order) => reruns(alloc, &GROWN, ten.ordered(order)),
             Call::Report => is_reported(alloc, ten),
             Call::PutBeside => is_put_beside(alloc, ten),
         }
