@@ -3,7 +3,7 @@ use std::alloc::Allocator;
 use std::sync::Wait;
 use std::sync::atomic::{AtomicBool, Ordering};
 use version_book::Book;
-use workers::{Desk, NoGate, Session, Worker, WorkerEnd, close};
+use workers::{CloseFault, Desk, Gate, Session, Worker, WorkerEnd, close};
 
 /// A desk with its callers.
 #[derive(Drop)]
@@ -48,13 +48,14 @@ fn workers_of<R: Wait, A: Allocator + Copy>(
 }
 
 /// Has a worker work until the desk is stopped, and sets the flag where it ended before.
-pub(crate) fn works<R: Wait, A: Allocator + Copy>(
+pub(crate) fn works<R: Wait, A: Allocator + Copy, G: Gate>(
     rt: &R,
     desk: &Desk<A>,
     worker: &mut Worker<A>,
+    gate: &G,
     has_ended: &AtomicBool,
 ) {
-    if worker.run(rt, desk, &NoGate) != WorkerEnd::Stopped {
+    if worker.run(rt, desk, gate) != WorkerEnd::Stopped {
         has_ended.store(true, Ordering::SeqCst);
     }
 }
@@ -83,6 +84,18 @@ impl<A: Allocator + Copy> Crew<A> {
         match close(self.desk, self.sessions, self.workers) {
             Ok(book) => Ok(book),
             Err(_) => Err(Wrong::Close),
+        }
+    }
+
+    /// All that is handed back where the desk does not close, since a caller is still out.
+    pub(crate) fn still_out(self) -> Result<Crew<A>, Wrong> {
+        match close(self.desk, self.sessions, self.workers) {
+            Err((CloseFault::StillOut, desk, sessions, workers)) => Ok(Crew {
+                desk,
+                sessions,
+                workers,
+            }),
+            _ => Err(Wrong::Close),
         }
     }
 }

@@ -1,25 +1,32 @@
-//! Plays at desks, and looks whether all goes as it should: eight sessions on threads edit a log, add,
-//! drop and retry scenarios, settle and look at them, as it comes by chance, while four workers make
-//! the runs; a session and a worker on an allocator that refuses each growth in turn; both at a full
-//! journal; and as many as a desk opens. Each desk is then closed, and its journal judged by the plain
-//! program. It prints a line for each of the four, whatever the threads' order; at the first thing wrong
-//! it tells so on standard error, and its status is 1.
+//! Plays at desks, and looks whether all goes as it should: sessions and workers that gates and flags
+//! hold, what they are told, when they wait and end, and how a desk is closed; as many of them as a desk
+//! opens; eight sessions on threads that edit a log, add, drop and retry scenarios, settle and look at
+//! them, as it comes by chance, while four workers make the runs; a session and a worker on an allocator
+//! that refuses each growth in turn; and both at a full journal. The journals of these last three are
+//! judged by the plain program. It prints a line for each of the eight, whatever the threads' order; at
+//! the first thing wrong it tells so on standard error, and its status is 1.
 #![tactic(auto)]
 
+mod again;
 mod analyst;
 mod callers;
 mod crew;
+mod flags;
 mod full;
 mod growths;
 mod history;
 mod inputs;
 mod judge;
+mod late;
 mod logs;
 mod looks;
 mod pair;
 mod player;
 mod said;
+mod scripts;
 mod seat;
+mod settling;
+mod together;
 mod words;
 mod wrong;
 
@@ -29,15 +36,66 @@ use std::process::ExitCode;
 use std::sync::Wait;
 use std::thread::Threads;
 
-/// What is told of each part.
-const HISTORY: &str = "eight sessions and four workers, 10000 calls: one legal history";
+/// What is played.
+#[derive(Clone, Copy)]
+enum Part {
+    Together,
+    Late,
+    Again,
+    Settling,
+    Callers,
+    History,
+    Growths,
+    Full,
+}
 
-const GROWTHS: &str =
-    "a session and a worker, each growth refused in turn: told once, and nothing lost";
+/// All of it, and what is told of each.
+const PARTS: [(Part, &str); 8] = [
+    (
+        Part::Together,
+        "two sessions: one version for both, and no end without both",
+    ),
+    (
+        Part::Late,
+        "two workers beside each other: a run that comes late is stale",
+    ),
+    (
+        Part::Again,
+        "a scenario added again: its old ticket is unknown",
+    ),
+    (
+        Part::Settling,
+        "what was given up: tried again, or left where the desk is stopped",
+    ),
+    (Part::Callers, "64 sessions and 64 workers, and no more"),
+    (
+        Part::History,
+        "eight sessions and four workers, 10000 calls: one legal history",
+    ),
+    (
+        Part::Growths,
+        "a session and a worker, each growth refused in turn: told once, and nothing lost",
+    ),
+    (
+        Part::Full,
+        "a full journal: each call refused, and nothing changed",
+    ),
+];
 
-const FULL: &str = "a full journal: each call refused, and nothing changed";
-
-const CALLERS: &str = "64 sessions and 64 workers, and no more";
+// Plays a part: what is found.
+fn found<R: AllocGlobal + Threads + Wait + Sync>(rt: &R, part: Part) -> Found {
+    let alloc = rt.alloc();
+    match part {
+        Part::Together => together::is_right(rt, alloc),
+        Part::Late => late::is_right(rt, alloc),
+        Part::Again => again::is_right(rt, alloc),
+        Part::Settling => settling::is_right(rt, alloc),
+        Part::Callers => callers::is_right(rt, alloc),
+        Part::History => history::is_right(rt, alloc),
+        Part::Growths => growths::is_right(rt, alloc),
+        Part::Full => full::is_right(rt, alloc),
+    }
+}
 
 // Tells what was found: whether nothing is wrong.
 fn tell<R: Print + Eprint>(rt: &R, found: Found, text: &str) -> Result<bool> {
@@ -54,15 +112,14 @@ fn tell<R: Print + Eprint>(rt: &R, found: Found, text: &str) -> Result<bool> {
     }
 }
 
-// Plays, and tells what was found: whether nothing is wrong.
+// Plays all, and tells what was found: whether nothing is wrong.
 fn run<R: AllocGlobal + Print + Eprint + Threads + Wait + Sync>(rt: &R) -> Result<bool> {
-    let alloc = rt.alloc();
-    Ok(
-        tell(rt, history::is_right(rt, alloc), HISTORY)?
-            && tell(rt, growths::is_right(rt, alloc), GROWTHS)?
-            && tell(rt, full::is_right(rt, alloc), FULL)?
-            && tell(rt, callers::is_right(rt, alloc), CALLERS)?,
-    )
+    for (part, text) in &PARTS {
+        if !tell(rt, found(rt, *part), text)? {
+            return Ok(false);
+        }
+    }
+    Ok(true)
 }
 
 fn main(rt: HostRuntime) -> ExitCode {

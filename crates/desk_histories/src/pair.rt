@@ -11,7 +11,7 @@ use std::sync::Wait;
 use std::sync::atomic::{AtomicBool, Ordering};
 use std::thread;
 use std::thread::Threads;
-use workers::{Desk, Gate, Session, Settled, Worker, WorkerEnd};
+use workers::{Desk, Gate, NoGate, Session, Settled, Worker, WorkerEnd};
 
 /// Stops the desk before a run is made.
 #[derive(Drop)]
@@ -170,7 +170,7 @@ fn plays_with<R: Threads + Wait + Sync, A: Allocator + Copy + Send + Sync>(
     thread::scope(thread::scope_env(), rt, |scope| {
         for worker in workers.iter_mut() {
             if scope
-                .spawn(move || works(rt, desk, worker, has_ended))
+                .spawn(move || works(rt, desk, worker, &NoGate, has_ended))
                 .is_err()
             {
                 desk.stop(rt);

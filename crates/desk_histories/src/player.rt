@@ -1,6 +1,7 @@
 // What a session calls in a history, and what it may be told.
 use crate::inputs;
 use crate::logs::ten;
+use crate::scripts::Script;
 use crate::words::{Words, words_of};
 use crate::wrong::{Wrong, right_if};
 use scenarios::{NoSuchScenario, Scenario, ScenarioId};
@@ -142,17 +143,29 @@ impl<R: Wait> Player<'_, R> {
     }
 }
 
-/// Makes all calls of a session, each of which is listed.
-pub(crate) fn plays<R: Wait>(
-    rt: &R,
-    alloc: Global,
-    desk: &Desk<Global>,
-    session: &mut Session<Global>,
-) -> Result<(), Wrong> {
-    let player = Player { rt, alloc, desk };
-    let mut words = words_of(session.number());
-    for place in 0..CALLS {
-        player.turns(session, &mut words, place)?;
+/// What comes by chance, from the numbers that a session's own number determines.
+#[derive(Drop)]
+pub(crate) struct Chance {
+    pub(crate) alloc: Global,
+}
+
+impl Script for Chance {
+    // Makes all calls of a session, each of which is listed.
+    fn play<R: Wait>(
+        &self,
+        rt: &R,
+        desk: &Desk<Global>,
+        session: &mut Session<Global>,
+    ) -> Result<(), Wrong> {
+        let player = Player {
+            rt,
+            alloc: self.alloc,
+            desk,
+        };
+        let mut words = words_of(session.number());
+        for place in 0..CALLS {
+            player.turns(session, &mut words, place)?;
+        }
+        right_if(session.list().len() == CALLS, Wrong::Listed)
     }
-    right_if(session.list().len() == CALLS, Wrong::Listed)
 }
