@@ -1,0 +1,34 @@
+-- A legal history goes on by each event that the machine accepts.
+use Rattle.std.proofs.Common.{◌≡◌, ◌∙◌, List, [], ◌∷◌, ◌++◌, Option, None, Some, refl, ap, sym, subst}
+use Rattle.std.proofs.lemmas.List.{append-nil}
+use Rattle.std.specs.List.{cons_option}
+use Rattle.book_machine.specs.declared.caller.Caller.{Caller}
+use Rattle.book_machine.specs.Machine.{Machine, after}
+use Rattle.book_machine.specs.History.{Noted, IsLegal, after_all}
+use Rattle.chronicle.specs.Events.{Happened, Called, Opened, Stopped, note_in, notes_of, IsLegalFrom, state_after, IsAccepted}
+
+-- the notes of more events are those before, and then the others
+pub notes_append : (before more : List Happened) → notes_of (before ++ more) ≡ notes_of before ++ notes_of more
+notes_append [] more = refl
+notes_append (e ∷ before) more = go (note_in e) (notes_append before more)
+  where
+    go : (o : Option Noted) → notes_of (before ++ more) ≡ notes_of before ++ notes_of more → cons_option o (notes_of (before ++ more)) ≡ cons_option o (notes_of before) ++ notes_of more
+    go None h = h
+    go (Some note) h = ap (λ notes. note ∷ notes) h
+
+legal_end : (m : Machine) (notes : List Noted) (note : Noted) → IsLegal m notes → IsAccepted (after_all m notes) note → IsLegal m (notes ++ note ∷ [])
+legal_end m [] note legal fits = (fits.0, fits.1, tt)
+legal_end m (n ∷ notes) note legal fits = (legal.0, legal.1, legal_end (after n.call m) notes note legal.2 fits)
+
+pub legal_called : (m : Machine) (events : List Happened) (note : Noted) → IsLegalFrom m events → IsAccepted (state_after m events) note → IsLegalFrom m (events ++ Called note ∷ [])
+legal_called m events note legal fits = subst (IsLegal m) (sym (notes_append events (Called note ∷ []))) (legal_end m (notes_of events) note legal fits)
+
+-- what is no call changes no calls
+same_notes : (events : List Happened) → notes_of events ++ [] ≡ notes_of events
+same_notes events = append-nil (notes_of events)
+
+pub legal_opened : (m : Machine) (events : List Happened) (who : Caller) → IsLegalFrom m events → IsLegalFrom m (events ++ Opened who ∷ [])
+legal_opened m events who legal = subst (IsLegal m) (sym (notes_append events (Opened who ∷ []) ∙ same_notes events)) legal
+
+pub legal_stopped : (m : Machine) (events : List Happened) → IsLegalFrom m events → IsLegalFrom m (events ++ Stopped ∷ [])
+legal_stopped m events legal = subst (IsLegal m) (sym (notes_append events (Stopped ∷ []) ∙ same_notes events)) legal

@@ -1,0 +1,74 @@
+use crate::event::Event;
+use book_machine::{Caller, Note};
+use logbook::{Gain, Plain, Play, Rule};
+use std::alloc::Allocator;
+
+// The rule of the log: the word is its length.
+pub struct Law;
+
+impl Rule<Event, u64> for Law {
+    ghost use Rattle.std.specs.Prelude.{[]};
+    ghost use base.Fml.{ftrue};
+    ghost use Rattle.chronicle.specs.Rules.{IsCounted};
+
+    ghost holds = { λ cells log. IsCounted cells log };
+
+    ghost first = { [] };
+
+    ghost hinted = { λ n log. Unit {0} };
+
+    ghost shows = { λ log. [] };
+
+    ghost keeps = { λ names log. ftrue };
+
+    ghost moves = { λ ask before after answer. Unit {0} };
+}
+
+// Callers trade nothing.
+pub struct Nothing;
+
+impl Gain<Event, u64> for Nothing {
+    ghost use base.Fml.{ftrue};
+
+    ghost after = { λ names about answer. ftrue };
+}
+
+// A step that adds an event.
+pub struct Add;
+
+impl Play<Event, u64> for Add {
+    ghost use Rattle.chronicle.specs.Rules.{Adds};
+
+    ghost then = { Adds };
+}
+
+// The event that a note tells.
+impl<A: Allocator + Copy> Plain<Note<A>, Event, u64> for Add {
+    ghost use Rattle.std.specs.Prelude.{None};
+    ghost use Rattle.book_machine.specs.Noted.{noted_of};
+    ghost use Rattle.chronicle.specs.Events.{Called};
+
+    ghost ask = { λ note. Called (noted_of note) };
+
+    ghost state = { λ note. None };
+}
+
+// That this caller was opened.
+impl Plain<Caller, Event, u64> for Add {
+    ghost use Rattle.std.specs.Prelude.{None};
+    ghost use Rattle.chronicle.specs.Events.{Opened};
+
+    ghost ask = { λ who. Opened who };
+
+    ghost state = { λ who. None };
+}
+
+// That the desk was stopped.
+impl Plain<(), Event, u64> for Add {
+    ghost use Rattle.std.specs.Prelude.{None};
+    ghost use Rattle.chronicle.specs.Events.{Stopped};
+
+    ghost ask = { λ nothing. Stopped };
+
+    ghost state = { λ nothing. None };
+}

@@ -1,0 +1,46 @@
+ghost use Rattle.std.specs.Prelude.{◌≡◌, []};
+ghost use Rattle.chronicle.specs.Rules.{head_of};
+
+use crate::event::Event;
+use crate::front::Front;
+use crate::law::Law;
+use crate::naming::Naming;
+use crate::whole::Whole;
+use logbook::{Seen, Start, Word};
+use std::marker::PhantomData;
+
+/// A history of no events, which has no name yet.
+#[derive(Drop)]
+pub struct Unnamed {
+    head: Word<Event, u64, Law>,
+    seen: Seen<Event, u64, Law>,
+    pub ghost empty: { seen.log ≡ [] },
+    pub ghost head_is: { head ≡ head_of seen.book },
+}
+
+impl Unnamed {
+    /// A history of no events. It takes no memory.
+    pub fn new() -> Unnamed {
+        let (seen, mut first, _second) = Seen::open(Start::alone(), 0, 0);
+        Unnamed {
+            head: Word::tracked(0, &mut first),
+            seen,
+        }
+    }
+
+    /// The history under the name that was picked for it.
+    pub fn named<J: Naming>(self) -> Whole<J>
+        requires { self.seen.book ≡ J.book }
+        ensures { result ≡ [] }
+    {
+        let Unnamed { head, seen } = self;
+        Whole {
+            head,
+            front: Front {
+                events: 0,
+                seen,
+                of: PhantomData,
+            },
+        }
+    }
+}
