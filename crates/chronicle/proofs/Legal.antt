@@ -6,6 +6,7 @@ use Rattle.book_machine.specs.declared.caller.Caller.{Caller}
 use Rattle.book_machine.specs.Machine.{Machine, after}
 use Rattle.book_machine.specs.History.{Noted, IsLegal, after_all}
 use Rattle.chronicle.specs.Events.{Happened, Called, Opened, Stopped, note_in, notes_of, IsLegalFrom, state_after, IsAccepted}
+use Rattle.chronicle.specs.Laws.{EachBeginningLeadsOn, NotesBeginToo}
 
 -- the notes of more events are those before, and then the others
 pub notes_append : (before more : List Happened) → notes_of (before ++ more) ≡ notes_of before ++ notes_of more
@@ -32,3 +33,29 @@ legal_opened m events who legal = subst (IsLegal m) (sym (notes_append events (O
 
 pub legal_stopped : (m : Machine) (events : List Happened) → IsLegalFrom m events → IsLegalFrom m (events ++ Stopped ∷ [])
 legal_stopped m events legal = subst (IsLegal m) (sym (notes_append events (Stopped ∷ []) ∙ same_notes events)) legal
+
+-- ---- beginnings
+
+legal_first : (m : Machine) (notes more : List Noted) → IsLegal m (notes ++ more) → IsLegal m notes
+legal_first m [] more legal = tt
+legal_first m (n ∷ notes) more legal = (legal.0, legal.1, legal_first (after n.call m) notes more legal.2)
+
+legal_rest : (m : Machine) (notes more : List Noted) → IsLegal m (notes ++ more) → IsLegal (after_all m notes) more
+legal_rest m [] more legal = legal
+legal_rest m (n ∷ notes) more legal = legal_rest (after n.call m) notes more legal.2
+
+after_append : (m : Machine) (notes more : List Noted) → after_all m (notes ++ more) ≡ after_all (after_all m notes) more
+after_append m [] more = refl
+after_append m (n ∷ notes) more = after_append (after n.call m) notes more
+
+pub leads_on : EachBeginningLeadsOn
+leads_on m events more legal =
+    let both = notes_append events more in
+    let apart : IsLegal m (notes_of events ++ notes_of more) = subst (IsLegal m) both legal in (
+      legal_first m (notes_of events) (notes_of more) apart,
+      legal_rest m (notes_of events) (notes_of more) apart,
+      ap (after_all m) both ∙ after_append m (notes_of events) (notes_of more),
+    )
+
+pub notes_begin : NotesBeginToo
+notes_begin events more p = (notes_of p.0, sym (notes_append events p.0) ∙ ap notes_of p.1)

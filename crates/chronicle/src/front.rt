@@ -6,6 +6,7 @@ ghost use Rattle.chronicle.specs.Rules.{head_of};
 use crate::event::Event;
 use crate::law::{Add, Law, Nothing};
 use crate::naming::Naming;
+use crate::whole::Whole;
 use logbook::{Offer, Plain, Seen, Word};
 use std::marker::{Model, PhantomData};
 
@@ -34,7 +35,8 @@ impl<J: Naming> Front<J> {
         ensures count { result ≡ length self.now }
         ensures legal { IsLegalFrom J.opening self.now }
     {
-        self.events
+        let Front { events, .. } = self;
+        *events
     }
 
     /// The same front once more.
@@ -47,6 +49,7 @@ impl<J: Naming> Front<J> {
             of: PhantomData,
         }
     }
+
     /// Whether it is a beginning of the other.
     pub fn begins(&self, other: &Front<J>) -> bool
         ensures test { IsTrue result ↔ IsPrefix self.now other.now }
@@ -78,6 +81,20 @@ impl<J: Naming> Front<J> {
     {
         *self = self.longer(other);
     }
+
+    /// Becomes all of the history, if it is a beginning of it, and says whether it is. It always is
+    /// when it runs, which no contract can say.
+    pub fn follow(&mut self, whole: &Whole<J>) -> bool
+        ensures test { IsTrue result ↔ IsPrefix self.old whole.now }
+        ensures end { MatchBool result (self.new ≡ whole.now) (self.new ≡ self.old) }
+    {
+        if !self.begins(&whole.front) {
+            return false;
+        }
+        *self = whole.front();
+        true
+    }
+
     // Adds the event that this value tells to all that was seen, and says whether it did.
     pub(crate) fn add<X, M: Plain<X, Event, u64>>(
         &mut self,

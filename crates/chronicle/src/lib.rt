@@ -6,6 +6,7 @@
 mod event;
 mod front;
 mod law;
+pub mod laws;
 mod naming;
 mod unnamed;
 mod whole;
@@ -15,3 +16,6 @@ pub use front::Front;
 pub use naming::Naming;
 pub use unnamed::Unnamed;
 pub use whole::Whole;
+
+#[cfg(test)]
+mod tests;

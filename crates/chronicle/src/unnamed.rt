@@ -1,5 +1,4 @@
 ghost use Rattle.std.specs.Prelude.{◌≡◌, []};
-ghost use Rattle.chronicle.specs.Rules.{head_of};
 
 use crate::event::Event;
 use crate::front::Front;
@@ -7,15 +6,26 @@ use crate::law::Law;
 use crate::naming::Naming;
 use crate::whole::Whole;
 use logbook::{Seen, Start, Word};
-use std::marker::PhantomData;
+use std::marker::{Model, PhantomData};
 
-/// A history of no events, which has no name yet.
+/// A history of no events, which no name was picked for yet. Contracts see it as the book that keeps
+/// it.
 #[derive(Drop)]
 pub struct Unnamed {
     head: Word<Event, u64, Law>,
     seen: Seen<Event, u64, Law>,
-    pub ghost empty: { seen.log ≡ [] },
-    pub ghost head_is: { head ≡ head_of seen.book },
+}
+
+impl Model for Unnamed {
+    ghost use Rattle.std.specs.Prelude.{◌≡◌, []};
+    ghost use Rattle.logbook.specs.Pages.{Book};
+    ghost use Rattle.chronicle.specs.Rules.{head_of};
+
+    ghost Value = { Book };
+
+    ghost view = { λ u. u.seen.book };
+
+    ghost invariant = { λ u. (u.seen.log ≡ []) × (u.head ≡ head_of u.seen.book) };
 }
 
 impl Unnamed {
@@ -30,7 +40,7 @@ impl Unnamed {
 
     /// The history under the name that was picked for it.
     pub fn named<J: Naming>(self) -> Whole<J>
-        requires { self.seen.book ≡ J.book }
+        requires { self ≡ J.book }
         ensures { result ≡ [] }
     {
         let Unnamed { head, seen } = self;

@@ -1,6 +1,6 @@
 ghost use Rattle.std.specs.Prelude.{◌≡◌, ◌++◌, ◌∷◌, [], MatchBool};
 ghost use Rattle.book_machine.specs.Noted.{noted_of};
-ghost use Rattle.chronicle.specs.Events.{Called, Opened, Stopped, IsAccepted, state_after};
+ghost use Rattle.chronicle.specs.Events.{Called, Opened, Stopped, IsAccepted, IsLegalFrom, state_after};
 
 use crate::event::Event;
 use crate::front::Front;
@@ -34,8 +34,10 @@ impl<J: Naming> Model for Whole<J> {
 impl<J: Naming> Whole<J> {
     /// All of it, as a front.
     pub fn front(&self) -> Front<J>
-        ensures { result ≡ self.now }
+        ensures all { result ≡ self.now }
+        ensures legal { IsLegalFrom J.opening self.now }
     {
+        let _events = self.front.count();
         self.front.again()
     }
 
