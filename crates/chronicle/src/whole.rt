@@ -43,6 +43,7 @@ impl<J: Naming> Whole<J> {
 
     /// Adds a call that was noted, and says whether it did. It always does when it runs, which no
     /// contract can say.
+    #[tactic(auto, using(crate::proofs::Legal::legal_called))]
     pub fn call<A: Allocator + Copy>(&mut self, note: &Note<A>) -> bool
         requires { IsAccepted (state_after J.opening self.old) (noted_of note.now) }
         ensures { MatchBool result (self.new ≡ self.old ++ Called (noted_of note.now) ∷ []) (self.new ≡ self.old) }
@@ -51,6 +52,7 @@ impl<J: Naming> Whole<J> {
     }
 
     /// Adds that this caller was opened, and says whether it did, as `call` does.
+    #[tactic(auto, using(crate::proofs::Legal::legal_opened))]
     pub fn open(&mut self, who: Caller) -> bool
         ensures { MatchBool result (self.new ≡ self.old ++ Opened who ∷ []) (self.new ≡ self.old) }
     {
@@ -58,6 +60,7 @@ impl<J: Naming> Whole<J> {
     }
 
     /// Adds that the desk was stopped, and says whether it did, as `call` does.
+    #[tactic(auto, using(crate::proofs::Legal::legal_stopped))]
     pub fn stop(&mut self) -> bool
         ensures { MatchBool result (self.new ≡ self.old ++ Stopped ∷ []) (self.new ≡ self.old) }
     {
