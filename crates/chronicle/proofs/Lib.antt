@@ -1,3 +1,3 @@
-pub mod Fronts
-pub mod Adding
-pub mod Legal
+mod Fronts
+mod Adding
+mod Legal
