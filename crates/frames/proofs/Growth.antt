@@ -1,7 +1,7 @@
 -- One more list: what a stretch that goes on, a new one, and one that is taken over as it stands do to the list at each place.
 use Rattle.std.proofs.Common.{◌≡◌, ◌≢◌, ℕ, zero, suc, ◌+◌, ◌≤◌, ◌<◌, Bool, true, false, cond, ◌&&◌, nat_eq, nat_le, nat_lt, List, [], ◌∷◌, ◌++◌, length, map, filter, slice_index_or, refl, sym, ap, arith, ◌∙◌, ⊎_elim}
 use Rattle.std.proofs.lemmas.Bool.{cases_lt, eqb-true, le-leb, le-ltb, lt-leb, lt-ltb, ltb-true, true≢false}
-use Rattle.std.proofs.lemmas.List.{append-nil, append_assoc, get_or_append_left, get_or-append-add, get_or_past, length-append, length-map, map-append}
+use Rattle.std.proofs.lemmas.List.{append-nil, append_assoc, get_or_append_left, get_or-append-add, get_or_past, length-append, map-append}
 use Rattle.std.proofs.lemmas.List.Elements.{filter-append}
 use Rattle.frames.specs.declared.stretch.Stretch.{Stretch}
 use Rattle.frames.specs.Frames.{alone, ends_at, lists, longer, stands, standing_at}
@@ -180,19 +180,3 @@ module _ {X : Type 0} where
 
   pub free_later : (n : ℕ) (ss ts : List (Stretch X)) → ((place : ℕ) → n ≤ place → standing_at place ss ≡ []) → ((place : ℕ) → place ≢ n → standing_at place ts ≡ standing_at place ss) → (place : ℕ) → n + 1 ≤ place → standing_at place ts ≡ []
   free_later n ss ts free elsewhere place le = elsewhere place (λ e. omega (arith, le, e)) ∙ free place (omega (arith, le))
-
-  -- no list is longer than the stretches are many
-  fewer : (p : Stretch X → Bool) (ss : List (Stretch X)) → length (filter p ss) ≤ length ss
-  fewer p [] = omega arith
-  fewer p (s ∷ ss) = let l = fewer p ss in go (p s) l
-    where
-      go : (b : Bool) → length (filter p ss) ≤ length ss → length (cond b (s ∷ filter p ss) (filter p ss)) ≤ suc (length ss)
-      go true l = omega (arith, l)
-      go false l = omega (arith, l)
-
-  pub no_longer : (n : ℕ) (ss : List (Stretch X)) → ((place : ℕ) → n ≤ place → standing_at place ss ≡ []) → (place : ℕ) → length (slice_index_or (lists n ss) place []) ≤ length ss
-  no_longer n ss free place =
-      let same = ap length (listed_all n ss free place) in
-      let mapped = length-map (filter (stands place) ss) (λ (s : Stretch X). s.item) in
-      let few = fewer (stands place) ss in
-      omega (arith, same, mapped, few)

@@ -1,4 +1,4 @@
-ghost use Rattle.std.specs.Prelude.{◌≡◌, ℕ, ◌≤◌, ◌++◌, [], ◌∷◌, IfOk, IsTrue, OnErr, OnOk, if◌then◌else◌, length, nat_lt, slice_index_or};
+ghost use Rattle.std.specs.Prelude.{◌≡◌, ℕ, ◌++◌, [], ◌∷◌, IfOk, IsTrue, OnErr, OnOk, if◌then◌else◌, length, nat_lt, slice_index_or};
 ghost use Rattle.frames.specs.Frames.{standing_at};
 
 use crate::frame::Frame;
@@ -76,13 +76,6 @@ impl<T: Same, A: Allocator + Copy> Growing<T, A> {
         ensures { result ≡ length self.now }
     {
         self.len as usize
-    }
-
-    /// How many stretches it keeps: no fewer than a list has items.
-    pub fn stretches_count(&self) -> usize
-        ensures { (place : ℕ) → length (slice_index_or self.now place []) ≤ result }
-    {
-        self.stretches.len()
     }
 
     /// The frame of the lists: each stands at its place, and nothing stands behind the last.

@@ -233,10 +233,13 @@ fn shares<A: Allocator + Copy>(alloc: A, lists: &[&[u64]], stretches: usize) -> 
     let Some(growing) = grown(alloc, lists) else {
         return false;
     };
-    if growing.len() != lists.len() || growing.stretches_count() != stretches {
+    if growing.len() != lists.len() {
         return false;
     }
     let frame = growing.finish();
+    if frame.stretches().len() != stretches {
+        return false;
+    }
     let mut place = 0;
     for list in lists {
         if !stand(&frame, place, list) {
