@@ -1,3 +1,2 @@
 mod Splits
 mod Keys
-mod Growth

@@ -1,23 +1,11 @@
 -- The lists that stand at neighbouring places, in one: each item once, with the stretch of places at which it stands.
-use Rattle.std.specs.Prelude.{◌≡◌, ℕ, Bool, ◌&&◌, nat_le, nat_lt, if◌then◌else◌, List, [], ◌∷◌, ◌++◌, map, filter, zero, suc, ◌+◌, nat_eq}
+use Rattle.std.specs.Prelude.{◌≡◌, ℕ, Bool, ◌&&◌, nat_le, nat_lt, if◌then◌else◌, List, [], ◌∷◌, map, filter}
 use Rattle.frames.specs.declared.stretch.Stretch.{Stretch}
 
 module _ {X : Type 0} where
   -- the item stands at place 0 alone
   abbrev pub once : X → Stretch X
   once x = record { item = x; from = 0; to = 1 }
-
-  -- the item stands at this place alone
-  abbrev pub alone : ℕ → X → Stretch X
-  alone place x = record { item = x; from = place; to = place + 1 }
-
-  -- a place is the one behind the last at which the item of this stretch stands
-  abbrev pub ends_at : ℕ → Stretch X → Bool
-  ends_at place s = nat_lt s.from place && nat_eq s.to place
-
-  -- the stretch with one more place
-  abbrev pub longer : Stretch X → Stretch X
-  longer s = record { item = s.item; from = s.from; to = s.to + 1 }
 
   -- the item of this stretch stands at a place: from its first place on, and before the place behind its last
   abbrev pub stands : ℕ → Stretch X → Bool
@@ -30,11 +18,6 @@ module _ {X : Type 0} where
   -- it stands at some place
   abbrev pub stands_somewhere : Stretch X → Bool
   stands_somewhere s = nat_lt s.from s.to
-
-  -- the lists that stand at the first places, so many of them
-  unfoldable pub lists : ℕ → List (Stretch X) → List (List X)
-  lists zero stretches = []
-  lists (suc n) stretches = lists n stretches ++ standing_at n stretches ∷ []
 
 -- without the stretches that stand nowhere, the same items stand at each place
 abbrev pub EmptyStretchesStandNowhere : Type 0 → Type 0

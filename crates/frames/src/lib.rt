@@ -3,16 +3,13 @@
 #![tactic(auto)]
 
 mod frame;
-mod growing;
 mod keyed;
 pub mod laws;
-mod merge;
 mod same;
 mod standing;
 mod stretch;
 
 pub use frame::Frame;
-pub use growing::Growing;
 pub use keyed::Keyed;
 pub use same::Same;
 pub use standing::Standing;

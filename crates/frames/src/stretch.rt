@@ -1,5 +1,5 @@
-ghost use Rattle.std.specs.Prelude.{◌≡◌, ◌<◌};
-ghost use Rattle.frames.specs.Frames.{alone, ends_at, longer, once, stands, stands_somewhere};
+ghost use Rattle.std.specs.Prelude.{◌≡◌};
+ghost use Rattle.frames.specs.Frames.{once, stands, stands_somewhere};
 
 /// An item, with the places at which it stands: from `from` on, and before `to`. So the last place at
 /// which one can stand is 4,294,967,294; a stretch of which `to` isn't above `from` stands nowhere.
@@ -22,37 +22,6 @@ impl<T: Copy> Stretch<T> {
             item,
             from: 0,
             to: 1,
-        }
-    }
-
-    // An item that stands at one place alone.
-    pub(crate) fn at(item: T, place: u32) -> Stretch<T>
-        requires { place < 4294967295 }
-        ensures { result ≡ alone place item }
-    {
-        Stretch {
-            item,
-            from: place,
-            to: place + 1,
-        }
-    }
-
-    // Whether a place is the one behind the last at which the item stands.
-    pub(crate) fn ends_at(&self, place: u32) -> bool
-        ensures { result ≡ ends_at place self.now }
-    {
-        self.from < place && self.to == place
-    }
-
-    // The stretch with one more place.
-    pub(crate) fn longer(&self) -> Stretch<T>
-        requires { self.now.to < 4294967295 }
-        ensures { result ≡ longer self.now }
-    {
-        Stretch {
-            item: self.item,
-            from: self.from,
-            to: self.to + 1,
         }
     }
 

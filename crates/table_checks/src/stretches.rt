@@ -1,4 +1,4 @@
-use frames::{Frame, Growing, Keyed, Same, Standing, Stretch};
+use frames::{Frame, Keyed, Same, Standing, Stretch};
 use refusing::{Outcome, Trial, survives_refusals};
 use std::alloc::{Allocator, Global};
 
@@ -162,7 +162,6 @@ fn guests_of_one_table_stay_as_they_stand(rt: HostRuntime) {
 enum Call {
     Single,
     Sort,
-    Push,
 }
 
 fn makes<A: Allocator + Copy>(alloc: A) -> Outcome {
@@ -205,7 +204,6 @@ impl Trial for Call {
         match *self {
             Call::Single => makes(alloc),
             Call::Sort => sorts(alloc),
-            Call::Push => pushes(alloc),
         }
     }
 }
@@ -214,70 +212,9 @@ impl Trial for Call {
 fn calls_tell_memory(rt: HostRuntime) {
     assert!(rt; survives_refusals(rt.alloc(), &Call::Single));
     assert!(rt; survives_refusals(rt.alloc(), &Call::Sort));
-    assert!(rt; survives_refusals(rt.alloc(), &Call::Push));
 }
-
-// These lists, pushed one after another, where each is taken.
-fn grown<A: Allocator + Copy>(alloc: A, lists: &[&[u64]]) -> Option<Growing<u64, A>> {
-    let mut growing = Growing::new(alloc);
-    for list in lists {
-        if growing.push(list) != Ok(true) {
-            return None;
-        }
-    }
-    Some(growing)
-}
-
-// Whether it keeps so many stretches for these lists, and each then stands at its place, and none behind.
-fn shares<A: Allocator + Copy>(alloc: A, lists: &[&[u64]], stretches: usize) -> bool {
-    let Some(growing) = grown(alloc, lists) else {
-        return false;
-    };
-    if growing.len() != lists.len() {
-        return false;
-    }
-    let frame = growing.finish();
-    if frame.stretches().len() != stretches {
-        return false;
-    }
-    let mut place = 0;
-    for list in lists {
-        if !stand(&frame, place, list) {
-            return false;
-        }
-        place = place.saturating_add(1);
-    }
-    stand(&frame, place, &[])
-}
-
-// Those who wait, in order of arrival: some leave anywhere, new ones come at the end; the last list is in another
-// order.
-const ARRIVALS: [&[u64]; 6] = [&[5, 3, 9], &[5, 9, 1], &[], &[4, 2], &[4, 2, 8, 6], &[2, 4]];
-
-// Those who run, by number: some leave anywhere, new ones come in between.
-const NUMBERS: [&[u64]; 5] = [
-    &[2, 5, 7],
-    &[1, 2, 4, 7],
-    &[1, 2, 3, 4, 6, 8],
-    &[3, 8],
-    &[3, 5, 8],
-];
 
 #[test]
-fn lists_of_either_order_share_their_items(rt: HostRuntime) {
-    assert!(rt; shares(rt.alloc(), &ARRIVALS, 9));
-    assert!(rt; shares(rt.alloc(), &NUMBERS, 9));
-    assert!(rt; shares(rt.alloc(), &[], 0));
+fn a_number_is_the_same_as_itself(rt: HostRuntime) {
     assert!(rt; 7u64.is(&7) && !7u64.is(&8));
-}
-
-// A list that was refused leaves the one before it.
-fn pushes<A: Allocator + Copy>(alloc: A) -> Outcome {
-    let Some(mut growing) = grown(alloc, &[&[2, 5]]) else {
-        return Outcome::Before;
-    };
-    match growing.push(&[2, 3, 5]) {
-        Ok(pushed) => Outcome::right_if(pushed && stand(&growing.finish(), 1, &[2, 3, 5])),
-        Err(_) => Outcome::memory_if(growing.len() == 1 && stand(&growing.finish(), 1, &[])),
-    }
 }
