@@ -1,4 +1,5 @@
 mod Weights
+mod Bounds
 mod Changes
 mod Places
 mod Halves

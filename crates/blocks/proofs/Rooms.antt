@@ -1,10 +1,10 @@
 -- What a row keeps through each edit.
-use Rattle.std.proofs.Common.{◌≡◌, ℕ, ◌+◌, ◌-◌, ◌*◌, ◌^◌, ◌<◌, ◌≤◌, List, [], ◌∷◌, ◌++◌, length, take, get_or, set, insert, remove, ap, sym, subst, ◌∙◌, ◌⊎◌, inl, inr, arith}
+use Rattle.std.proofs.Common.{◌≡◌, ℕ, ◌+◌, ◌-◌, ◌*◌, ◌^◌, ◌<◌, ◌≤◌, List, [], ◌∷◌, ◌++◌, length, take, get_or, set, insert, refl, remove, ap, sym, subst, ◌∙◌, ◌⊎◌, inl, inr, arith}
 use Rattle.std.specs.List.{All, sum_by}
 use Rattle.std.proofs.lemmas.Bool.{cases_lt}
-use Rattle.std.proofs.lemmas.List.{length-set, length-take-le, length_push}
+use Rattle.std.proofs.lemmas.List.{get_or_at, length-set, length-take-le, length_push}
 use Rattle.std.proofs.lemmas.List.Edits.{length-insert, length-remove}
-use Rattle.std.proofs.lemmas.List.Elements.{All-push, All-take}
+use Rattle.std.proofs.lemmas.List.Elements.{All-get_or, All-push, All-take}
 use Rattle.std.proofs.lemmas.List.Sums.{get_or-le-sum_by, sum_by-cons, sum_by-le-sum_by, sum_by-remove, sum_by-set}
 use Rattle.blocks.specs.Rows.{AreFilled, IsFilled, IsRow, cut_at, flat, joined_at, over_of, room_of}
 use Rattle.blocks.proofs.Edits.{all_is, cut_filled, cut_flat, cut_length, cut_over, filled-remove, filled-set, filled_here, join_filled, join_flat, join_length, join_over}
@@ -47,6 +47,44 @@ module _ {X : Type 0} where
     -- a block has some of the items
     pub here_all : (k : ℕ) → k < length used → length (get_or used k []) ≤ len
     here_all k lt = omega (arith, row.all, all_is used, get_or-le-sum_by (λ (c : List X). length c) used k [] lt)
+
+    pub begun_row : (x : X) (new rest : List (List X)) (ur' er' : ℕ) → used ≡ [] → 1 ≤ room_of (length used) (length empty) over → new ≡ (x ∷ []) ∷ [] → rest ≡ take (length empty - 1) empty → ur ≤ ur' → er' ≡ er → IsRow new rest over 1 ur' er'
+    begun_row x new rest ur' er' none room e f wide same =
+        let some : 1 ≤ length empty = omega (arith, room) in
+        let fewer : length rest + 1 ≡ length empty = left_length rest some f in
+        let count : length new ≡ length used + 1 = omega (arith, ap (λ (r : List (List X)). length r) e, ap (λ (r : List (List X)). length r) none) in
+        let over_none : over ≡ 0 = row.overs ∙ ap (sum_by over_of) none in
+        record {
+          filled = subst AreFilled (sym e) (record { low = omega arith; high = omega arith }, tt);
+          cleared = left_clear rest f;
+          overs = over_none ∙ sym (ap (sum_by over_of) e);
+          owed = omega (arith, over_none);
+          all = sym (ap (λ (r : List (List X)). length (flat r)) e);
+          few = omega (arith, row.few);
+          usable = omega (arith, row.usable);
+          returnable = omega (arith, row.returnable);
+        }
+
+    -- the block that was taken from the empty ones, with its first item
+    pub begun : (x : X) (rest : List (List X)) (b c : List X) → empty ≡ rest ++ b ∷ [] → c ≡ insert b 0 x → c ≡ x ∷ []
+    begun x rest b c e f =
+        let none : b ≡ [] = sym (get_or_at rest b [] [] (length rest) refl) ∙ All-get_or IsClear (rest ++ b ∷ []) (length rest) [] (omega (arith, length_push rest b)) (subst (All IsClear) e row.cleared) in
+        f ∙ ap (λ (l : List X). insert l 0 x) none
+
+    pub grown_row : (more rest : List (List X)) (b : List X) (ur' er' : ℕ) → more ≡ used → b ≡ [] → rest ≡ empty ++ b ∷ [] → length used + length empty < 2 ^ 40 → length used + length empty < ur' → length used + length empty < er' → IsRow more rest over len ur' er'
+    grown_row more rest b ur' er' e none f few wide room =
+        let count : length more ≡ length used = ap (λ (r : List (List X)). length r) e in
+        let added : length rest ≡ length empty + 1 = more_length rest b f in
+        record {
+          filled = subst AreFilled (sym e) row.filled;
+          cleared = more_clear rest b none f;
+          overs = row.overs ∙ sym (ap (sum_by over_of) e);
+          owed = omega (arith, row.owed);
+          all = row.all ∙ sym (ap (λ (r : List (List X)). length (flat r)) e);
+          few = omega (arith, few);
+          usable = omega (arith, wide);
+          returnable = omega (arith, room);
+        }
 
     pub cut_row : (k : ℕ) (new rest : List (List X)) (ur' er' : ℕ) → k < length used → length (get_or used k []) ≡ 128 → 1 ≤ room_of (length used) (length empty) over → new ≡ cut_at k used → rest ≡ take (length empty - 1) empty → ur ≤ ur' → er' ≡ er → IsRow new rest (over - 63) len ur' er'
     cut_row k new rest ur' er' lt full room e f wide same =

@@ -45,6 +45,10 @@ module _ {X : Type 0} where
   abbrev pub ends_by : (X → Bool) → List X → Bool
   ends_by test block = passes test (slice_get block (length block - 1))
 
+  -- this is the first number of the last item, if there is one
+  abbrev pub EndsAt : (X → ℕ) → ℕ → List X → Type 0
+  EndsAt major last items = (x : X) → slice_get items (length items - 1) ≡ Some x → last ≡ major x
+
   -- by how many items a block has more than it has after a cut and one insertion
   abbrev pub over_of : List X → ℕ
   over_of block = length block - 65

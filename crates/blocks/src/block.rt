@@ -1,6 +1,7 @@
 ghost use Rattle.std.specs.Prelude.{◌≡◌, ◌≤◌, ◌<◌, ◌+◌, ◌++◌, ◌^◌, [], All, IfOk, length, sum_by, take, drop, slice_index_or};
 ghost use Rattle.std.specs.List.{insert, remove};
 ghost use Rattle.blocks.specs.Light.{IsFirstLight};
+ghost use Rattle.blocks.specs.Rows.{EndsAt, ends_by, stands};
 
 use crate::ranked::Ranked;
 use std::alloc::Allocator;
@@ -17,21 +18,23 @@ pub(crate) const BLOCK_HALF: usize = 64;
 #[derive(Drop)]
 pub(crate) struct Block<T: Ranked, A: Allocator + Copy> {
     items: Vec<T, A>,
-    weight: u128,
     // None of the items weighs less than this; all may weigh more. An insertion lowers it at once, a
     // removal leaves it, and only a search that found nothing raises it.
     least: u64,
+    weight: u128,
+    // The first number of the last item, so that a search over blocks reads hardly any items.
+    last: u128,
 }
 
 impl<T: Ranked, A: Allocator + Copy> Model for Block<T, A> {
     ghost use Rattle.std.specs.Prelude.{List, vec_capacity};
-    ghost use Rattle.blocks.specs.Rows.{IsBlock};
+    ghost use Rattle.blocks.specs.Rows.{EndsAt, IsBlock};
 
     ghost Value = { List T };
 
     ghost view = { λ b. b.items.items };
 
-    ghost invariant = { λ b. IsBlock T.weight b.weight b.least (vec_capacity b.items) b.items.items };
+    ghost invariant = { λ b. IsBlock T.weight b.weight b.least (vec_capacity b.items) b.items.items × EndsAt T.major b.last b.items.items };
 }
 
 // What these items weigh together.
@@ -53,6 +56,17 @@ fn least_of<T: Ranked>(items: &[T]) -> u64
     least
 }
 
+// The first number of the last of these items.
+#[inline]
+fn last_of<T: Ranked>(items: &[T]) -> u128
+    ensures { EndsAt T.major result items.now }
+{
+    match items.last() {
+        Some(item) => item.major(),
+        None => 0,
+    }
+}
+
 // The first place from one on whose item weighs at most so much.
 fn light_of<T: Ranked>(items: &[T], from: usize, limit: u64) -> Option<usize>
     ensures { IsFirstLight T.weight limit items.now from (length items.now) result }
@@ -72,8 +86,9 @@ impl<T: Ranked, A: Allocator + Copy> Block<T, A> {
     {
         Ok(Block {
             items: Vec::with_capacity(alloc, BLOCK_LIMIT)?,
-            weight: 0,
             least: u64::MAX,
+            weight: 0,
+            last: 0,
         })
     }
 
@@ -93,6 +108,24 @@ impl<T: Ranked, A: Allocator + Copy> Block<T, A> {
         self.weight
     }
 
+    // What none of the items weighs less than, as far as it is known.
+    pub(crate) fn least(&self) -> u64
+        ensures { All (λ x. result ≤ T.weight x) self.now }
+    {
+        self.least
+    }
+
+    // Whether the last item stands before one with these two numbers.
+    #[inline]
+    pub(crate) fn ends_before(&self, major: u128, minor: u64) -> bool
+        ensures { result ≡ ends_by (stands T.major T.minor major minor) self.now }
+    {
+        match self.items.last() {
+            Some(item) => self.last < major || (self.last == major && item.minor() < minor),
+            None => false,
+        }
+    }
+
     // Puts one item more at a place, where there is room.
     pub(crate) fn insert(&mut self, at: usize, item: T)
         requires within { at ≤ length self.old }
@@ -105,6 +138,7 @@ impl<T: Ranked, A: Allocator + Copy> Block<T, A> {
         let Ok(()) = self.items.insert(at, item) else {
             unreachable!()
         };
+        self.last = last_of(self.items.as_slice());
     }
 
     // Takes the item at a place out.
@@ -115,6 +149,7 @@ impl<T: Ranked, A: Allocator + Copy> Block<T, A> {
     {
         let item = self.items.remove(at);
         self.weight -= u128::from(item.weight());
+        self.last = last_of(self.items.as_slice());
         item
     }
 
@@ -132,8 +167,10 @@ impl<T: Ranked, A: Allocator + Copy> Block<T, A> {
         };
         high.weight = weight;
         high.least = self.least;
+        high.last = last_of(high.items.as_slice());
         self.items.truncate(BLOCK_HALF);
         self.weight -= weight;
+        self.last = last_of(self.items.as_slice());
     }
 
     // Moves all items of another block behind its own.
@@ -147,6 +184,7 @@ impl<T: Ranked, A: Allocator + Copy> Block<T, A> {
         };
         self.weight += next.weight;
         self.least = self.least.min(next.least);
+        self.last = last_of(self.items.as_slice());
         next.clear();
     }
 

@@ -4,8 +4,8 @@ ghost use Rattle.blocks.specs.Light.{IsFirstLight};
 ghost use Rattle.blocks.specs.Rows.{AreFilled, block_of, cut_at, flat, joined_at, start};
 
 use crate::block::{BLOCK_HALF, BLOCK_LIMIT, Block};
-use crate::growth::another;
-use crate::light::first_light;
+use crate::growth::{another, over_of};
+use crate::light::{first_light, least_of};
 use crate::place::{Place, halved, items_of, mate, open_place};
 use crate::ranked::Ranked;
 use std::alloc::Allocator;
@@ -24,24 +24,19 @@ pub(crate) struct BlockRow<T: Ranked, A: Allocator + Copy> {
     // 63 of them, so that each insertion costs at most one of 64 for an empty block.
     over: usize,
     len: usize,
+    // None of the items weighs less than this; kept as each block keeps its own bound.
+    least: u64,
 }
 
 impl<T: Ranked, A: Allocator + Copy> Model for BlockRow<T, A> {
-    ghost use Rattle.std.specs.Prelude.{length, vec_capacity};
-    ghost use Rattle.blocks.specs.Rows.{BlocksView, IsRow, room_of};
+    ghost use Rattle.std.specs.Prelude.{◌≤◌, All, length, vec_capacity};
+    ghost use Rattle.blocks.specs.Rows.{BlocksView, IsRow, flat, room_of};
 
     ghost Value = { BlocksView T };
 
     ghost view = { λ r. record { blocks = r.used.items; spare = room_of (length r.used.items) (length r.empty.items) r.over } };
 
-    ghost invariant = { λ r. IsRow r.used.items r.empty.items r.over r.len (vec_capacity r.used) (vec_capacity r.empty) };
-}
-
-// By how many items a block of so many is over.
-fn over_of(len: usize) -> usize
-    ensures { result ≡ len - 65 }
-{
-    len.saturating_sub(BLOCK_HALF + 1)
+    ghost invariant = { λ r. IsRow r.used.items r.empty.items r.over r.len (vec_capacity r.used) (vec_capacity r.empty) × All (λ x. r.least ≤ T.weight x) (flat r.used.items) };
 }
 
 impl<T: Ranked, A: Allocator + Copy> BlockRow<T, A> {
@@ -54,6 +49,7 @@ impl<T: Ranked, A: Allocator + Copy> BlockRow<T, A> {
             empty: Vec::new(alloc),
             over: 0,
             len: 0,
+            least: u64::MAX,
         }
     }
 
@@ -120,6 +116,7 @@ impl<T: Ranked, A: Allocator + Copy> BlockRow<T, A> {
         let Some(mut block) = self.empty.pop() else {
             unreachable!()
         };
+        self.least = item.weight();
         block.insert(0, item);
         let Ok(()) = self.used.push(block) else {
             unreachable!()
@@ -156,6 +153,7 @@ impl<T: Ranked, A: Allocator + Copy> BlockRow<T, A> {
         ensures kept { length (block_of self.old.blocks place.block) ≤ 64 → self.new.spare ≡ self.old.spare }
     {
         let len = items_of(self.used.as_slice(), place.block).len();
+        self.least = self.least.min(item.weight());
         self.used[place.block].insert(place.at, item);
         self.over = self.over - over_of(len) + over_of(len + 1);
         self.len += 1;
@@ -267,12 +265,20 @@ impl<T: Ranked, A: Allocator + Copy> BlockRow<T, A> {
         item
     }
 
-    // The first place from one to another whose item weighs at most so much.
+    // The first place from one to another whose item weighs at most so much. A search up to the end that
+    // found nothing learns from the blocks what all items weigh at least.
     pub(crate) fn first_light(&mut self, from: usize, end: usize, limit: u64) -> Option<usize>
         ensures place { IsFirstLight T.weight limit (flat self.old.blocks) from end result }
         ensures same { self.new ≡ self.old }
     {
-        first_light(self.used.as_mut_slice(), from, end, limit)
+        if limit < self.least {
+            return None;
+        }
+        let found = first_light(self.used.as_mut_slice(), from, end, limit);
+        if found.is_none() && self.len <= end {
+            self.least = least_of(self.used.as_slice());
+        }
+        found
     }
 
     // Lets all items go; their blocks are empty then.

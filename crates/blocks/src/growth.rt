@@ -1,12 +1,19 @@
-ghost use Rattle.std.specs.Prelude.{◌≡◌, ◌≤◌, ◌<◌, ◌+◌, ◌^◌, [], IfOk, OnOk, length, vec_capacity};
+ghost use Rattle.std.specs.Prelude.{◌≡◌, ◌≤◌, ◌<◌, ◌+◌, ◌-◌, ◌^◌, [], IfOk, OnOk, length, vec_capacity};
 
-use crate::block::Block;
+use crate::block::{BLOCK_HALF, Block};
 use crate::ranked::Ranked;
 use std::alloc::Allocator;
 use swf_text::Memory;
 
 /// The most blocks of a row, in use and empty.
 const BLOCKS_LIMIT: usize = 1 << 40;
+
+// By how many items a block of so many is over.
+pub(crate) fn over_of(len: usize) -> usize
+    ensures { result ≡ len - 65 }
+{
+    len.saturating_sub(BLOCK_HALF + 1)
+}
 
 // A new block, and room for it among those in use and among the empty ones.
 pub(crate) fn another<T: Ranked, A: Allocator + Copy>(

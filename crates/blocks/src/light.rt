@@ -1,10 +1,21 @@
-ghost use Rattle.std.specs.Prelude.{◌≡◌, ◌<◌, ◌^◌, None, Some, if◌then◌else◌, length, nat_lt};
+ghost use Rattle.std.specs.Prelude.{◌≡◌, ◌≤◌, ◌<◌, ◌^◌, All, None, Some, if◌then◌else◌, length, nat_lt};
 ghost use Rattle.blocks.specs.Light.{IsFirstLight};
 ghost use Rattle.blocks.specs.Rows.{flat};
 
 use crate::block::Block;
 use crate::ranked::Ranked;
 use std::alloc::Allocator;
+
+// What none of the items of these blocks weighs less than, as far as the blocks know.
+pub(crate) fn least_of<T: Ranked, A: Allocator + Copy>(blocks: &[Block<T, A>]) -> u64
+    ensures { All (λ x. result ≤ T.weight x) (flat blocks.now) }
+{
+    let mut least = u64::MAX;
+    for block in blocks {
+        least = least.min(block.least());
+    }
+    least
+}
 
 // A place, where it is before the end.
 fn within(place: usize, end: usize) -> Option<usize>

@@ -17,17 +17,6 @@ fn is_before<T: Ranked>(item: &T, major: u128, minor: u64) -> bool
     own < major || (own == major && item.minor() < minor)
 }
 
-// Whether a block's last item stands before one with these two numbers.
-#[inline]
-fn ends_before<T: Ranked>(items: &[T], major: u128, minor: u64) -> bool
-    ensures { result ≡ ends_by (stands T.major T.minor major minor) items.now }
-{
-    match items.last() {
-        Some(last) => is_before(last, major, minor),
-        None => false,
-    }
-}
-
 // How many blocks end before an item with these two numbers.
 fn block_before<T: Ranked, A: Allocator + Copy>(
     blocks: &[Block<T, A>],
@@ -43,7 +32,7 @@ fn block_before<T: Ranked, A: Allocator + Copy>(
     let mut high = blocks.len();
     'halves: while low < high {
         let middle = low + (high - low) / 2;
-        if ends_before(blocks[middle].as_slice(), major, minor) {
+        if blocks[middle].ends_before(major, minor) {
             low = middle + 1;
         } else {
             high = middle;

@@ -183,7 +183,8 @@ impl<T: Ranked, A: Allocator + Copy> Blocks<T, A> {
 
     /// The first place from one to another whose item weighs at most so much; None where there is none.
     /// Blocks are passed over of which it is known that all their items weigh more; where a block was
-    /// looked through for nothing, that is known of it from then on.
+    /// looked through for nothing, that is known of it from then on. So it is of all blocks together,
+    /// once a search up to the end found nothing: a search that can find nothing then takes one step.
     pub fn first_light(&mut self, from: usize, end: usize, limit: u64) -> Option<usize>
         ensures place { IsFirstLight T.weight limit (flat self.old.blocks) from end result }
         ensures same { self.new ≡ self.old }

@@ -16,7 +16,7 @@ halves-preserved-then-ends_before g c =
     let test = stands g.T.Ranked.major g.T.Ranked.minor c.args.major c.args.minor in
     let middle = c.halves.low + (c.halves.high - c.halves.low) / 2 in
     record {
-      low = place-behind (ends_by test) c.args.blocks.now middle c.index-blocks-middle.result (parted-ends test c.args.blocks.now c.requires.filled c.requires.parted) (omega (arith, c.halves-test.true, c.halves.invariant.within)) (ap (ends_by test) (sym c.index-blocks-middle.is) ∙ ap (ends_by test) (sym c.as_slice.ensures.items) ∙ sym c.ends_before.ensures ∙ c.if-ends_before.true);
+      low = place-behind (ends_by test) c.args.blocks.now middle c.index-blocks-middle.result (parted-ends test c.args.blocks.now c.requires.filled c.requires.parted) (omega (arith, c.halves-test.true, c.halves.invariant.within)) (ap (ends_by test) (sym c.index-blocks-middle.is) ∙ sym c.ends_before.ensures ∙ c.if-ends_before.true);
       high = c.halves.invariant.high;
       within = c.halves.invariant.within;
     }
@@ -27,6 +27,6 @@ halves-preserved g c =
     let middle = c.halves.low + (c.halves.high - c.halves.low) / 2 in
     record {
       low = c.halves.invariant.low;
-      high = place-ahead (ends_by test) c.args.blocks.now middle c.index-blocks-middle.result (omega (arith, c.halves-test.true, c.halves.invariant.within)) (ap (ends_by test) (sym c.index-blocks-middle.is) ∙ ap (ends_by test) (sym c.as_slice.ensures.items) ∙ sym c.ends_before.ensures ∙ c.if-ends_before.false);
+      high = place-ahead (ends_by test) c.args.blocks.now middle c.index-blocks-middle.result (omega (arith, c.halves-test.true, c.halves.invariant.within)) (ap (ends_by test) (sym c.index-blocks-middle.is) ∙ sym c.ends_before.ensures ∙ c.if-ends_before.false);
       within = omega (arith, c.halves-test.true, c.halves.invariant.within);
     }

@@ -1,0 +1,53 @@
+-- What none of a row's items weighs less than, through each edit.
+use Rattle.std.proofs.Common.{◌≡◌, ℕ, suc, ◌+◌, ◌<◌, ◌≤◌, List, [], ◌∷◌, ◌++◌, length, take, drop, get_or, insert, remove, set, ap, sym, subst, ◌∙◌, arith}
+use Rattle.std.specs.List.{All}
+use Rattle.std.proofs.lemmas.List.{append-nil, take_more}
+use Rattle.std.proofs.lemmas.List.Concat.{flat_map-append}
+use Rattle.std.proofs.lemmas.List.Elements.{All-append, All-cons, All-drop, All-nil, All-take, All-weaker}
+use Rattle.blocks.specs.Rows.{cut_at, flat, joined_at}
+use Rattle.blocks.proofs.Edits.{cut_flat, join_flat, put_flat, read_is, retired_flat, taken_flat}
+
+module _ {X : Type 0} (f : X → ℕ) where
+  -- none of these weighs less
+  abbrev Low : ℕ → List X → Type 0
+  Low least xs = All (λ x. least ≤ f x) xs
+
+  pub low_by : (least : ℕ) (xs ys : List X) → Low least xs → ys ≡ xs → Low least ys
+  low_by least xs ys low e = subst (Low least) (sym e) low
+
+  pub lower : (least less : ℕ) (xs : List X) → less ≤ least → Low least xs → Low less xs
+  lower least less xs le low = All-weaker (λ x. least ≤ f x) (λ x. less ≤ f x) (λ x (k : least ≤ f x). omega (arith, k, le)) xs low
+
+  low_insert : (least at : ℕ) (xs : List X) (x : X) → Low least xs → least ≤ f x → Low least (insert xs at x)
+  low_insert least at xs x low le =
+      All-append (λ y. least ≤ f y) (take at xs) (x ∷ drop at xs) (All-take (λ y. least ≤ f y) at xs low) (All-cons (λ y. least ≤ f y) x (drop at xs) le (All-drop (λ y. least ≤ f y) at xs low))
+
+  low_remove : (least at : ℕ) (xs : List X) → Low least xs → Low least (remove xs at)
+  low_remove least at xs low = All-append (λ y. least ≤ f y) (take at xs) (drop (suc at) xs) (All-take (λ y. least ≤ f y) at xs low) (All-drop (λ y. least ≤ f y) (suc at) xs low)
+
+  pub low_one : (least : ℕ) (x : X) (new : List (List X)) → least ≤ f x → new ≡ (x ∷ []) ∷ [] → Low least (flat new)
+  low_one least x new le e = low_by least (x ∷ []) (flat new) (All-cons (λ y. least ≤ f y) x [] le (All-nil (λ y. least ≤ f y))) (ap flat e)
+
+  module _ (least : ℕ) (k : ℕ) (cs new : List (List X)) (low : Low least (flat cs)) where
+    pub low_put : (less at : ℕ) (x : X) → k < length cs → at ≤ length (get_or cs k []) → new ≡ set cs k (insert (get_or cs k []) at x) → less ≤ least → less ≤ f x → Low less (flat new)
+    low_put less at x lt le e first second =
+        low_by less (insert (flat cs) (length (flat (take k cs)) + at) x) (flat new) (low_insert less (length (flat (take k cs)) + at) (flat cs) x (lower least less (flat cs) first low) second) (put_flat k at cs new x lt le e)
+
+    pub low_taken : (at : ℕ) → k < length cs → at < length (get_or cs k []) → new ≡ set cs k (remove (get_or cs k []) at) → Low least (flat new)
+    low_taken at lt le e = low_by least (remove (flat cs) (length (flat (take k cs)) + at)) (flat new) (low_remove least (length (flat (take k cs)) + at) (flat cs) low) (taken_flat k at cs new lt le e)
+
+    pub low_retired : k < length cs → length (get_or cs k []) ≡ 1 → new ≡ remove cs k → Low least (flat new)
+    low_retired lt one e = low_by least (remove (flat cs) (length (flat (take k cs)) + 0)) (flat new) (low_remove least (length (flat (take k cs)) + 0) (flat cs) low) (retired_flat k cs new lt one e)
+
+    pub low_cut : k < length cs → new ≡ cut_at k cs → Low least (flat new)
+    low_cut lt e = low_by least (flat cs) (flat new) low (ap flat e ∙ cut_flat k cs lt)
+
+    pub low_joined : k + 1 < length cs → new ≡ joined_at k cs → Low least (flat new)
+    low_joined lt e = low_by least (flat cs) (flat new) low (join_flat k cs new lt e)
+
+  -- one block more of a walk over all
+  pub low_next : (least less i : ℕ) (cs : List (List X)) (b : List X) → i < length cs → b ≡ get_or cs i b → Low least (flat (take i cs)) → Low less b → (both : ℕ) → both ≤ least → both ≤ less → Low both (flat (take (i + 1) cs))
+  low_next least less i cs b lt read low here both first second =
+      let last : b ≡ get_or cs i [] = read_is i cs b lt read in
+      low_by both (flat (take i cs) ++ b) (flat (take (i + 1) cs)) (All-append (λ y. both ≤ f y) (flat (take i cs)) b (lower least both (flat (take i cs)) first low) (lower less both b second here))
+      (ap flat (take_more cs i [] lt) ∙ flat_map-append (λ (c : List X). c) (take i cs) (get_or cs i [] ∷ []) ∙ ap (λ (l : List X). flat (take i cs) ++ l) (append-nil (get_or cs i []) ∙ sym last))
