@@ -1,6 +1,7 @@
 mod Classes
 mod Falling
 mod Below
+mod Sizes
 mod Nodes
 mod Lowered
 mod Fits

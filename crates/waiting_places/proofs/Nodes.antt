@@ -19,6 +19,16 @@ written nodes k l lt = get_or-set_same nodes k l no_node lt
 pub left : (nodes : List LeastsView) (k j : ℕ) (l : LeastsView) → j ≢ k → node_at (set nodes k l) j ≡ node_at nodes j
 left nodes k j l ne = get_or-set_other nodes k j l no_node ne
 
+-- what a node knows is read, and what it knows from then on written
+pub known_at : (nodes : List LeastsView) (k : ℕ) (l : LeastsView) (size estimate : ℕ) → k < length nodes → l ≡ get_or nodes k l → IsBelow (node_at nodes k) size estimate → IsBelow l size estimate
+known_at nodes k l size estimate lt is below = subst (λ (m : LeastsView). IsBelow m size estimate) (read nodes k l lt is) below
+
+pub known_read : (nodes : List LeastsView) (k : ℕ) (l : LeastsView) (size estimate : ℕ) → k < length nodes → l ≡ get_or nodes k l → IsBelow (node_at nodes k) size estimate → IsBelow (get_or nodes k l) size estimate
+known_read nodes k l size estimate lt is below = subst (λ (m : LeastsView). IsBelow m size estimate) (get_or_default nodes k no_node l lt) below
+
+pub known_then : (nodes : List LeastsView) (k : ℕ) (l : LeastsView) (size estimate : ℕ) → k < length nodes → IsBelow l size estimate → IsBelow (node_at (set nodes k l) k) size estimate
+known_then nodes k l size estimate lt below = subst (λ (m : LeastsView). IsBelow m size estimate) (sym (written nodes k l lt)) below
+
 -- bounds that keep what a node knows are written
 pub kept_at : (nodes : List LeastsView) (from k : ℕ) (old new : LeastsView) → from < length nodes → k < length nodes → old ≡ get_or nodes from old → Keeps old new → Keeps (node_at nodes from) (node_at (set nodes k new) k)
 kept_at nodes from k old new lt l is keeps size estimate below =

@@ -79,6 +79,10 @@ refused offer nodes node l result there is fails = ap (may_fit offer) (get_or_de
 pub root : (count : ℕ) → IsWhole count → IsPart count 1 0 (count / 2)
 root count whole = let e = whole.power in record { height = whole.height; power = omega arith; start = omega arith; end = omega arith }
 
+-- what a node and another know is known of the node then
+abbrev pub KeepsBeside : List LeastsView → ℕ → ℕ → List LeastsView → Type 0
+KeepsBeside old node other new = (size estimate : ℕ) → IsBelow (node_at old node) size estimate → IsBelow (node_at old other) size estimate → IsBelow (node_at new node) size estimate
+
 module _ {X : Type 0} (size estimate : X → ℕ) (nodes : List LeastsView) (places : List (Option X)) (tree : IsTree size estimate nodes places) where
   -- what is known at a node holds of all who wait below it
   pub known : (node low span place : ℕ) (x : X) → IsPart (length nodes) node low span → slice_index_or places place None ≡ Some x → 64 * low ≤ place → place < 64 * (low + span) → IsBelow (node_at nodes node) (size x) (estimate x)
@@ -107,7 +111,7 @@ module _ {X : Type 0} (size estimate : X → ℕ) (nodes : List LeastsView) (pla
           (cases_Bool (fits size estimate offer x))
 
   -- a node is made anew from the two below it
-  pub raised : (node : ℕ) (new : List LeastsView) → 2 * node + 1 < length nodes → length new ≡ length nodes → Keeps (node_at nodes (2 * node)) (node_at new node) → Keeps (node_at nodes (2 * node + 1)) (node_at new node)
+  pub raised : (node : ℕ) (new : List LeastsView) → 2 * node + 1 < length nodes → length new ≡ length nodes → KeepsBeside nodes node (2 * node) new → KeepsBeside nodes node (2 * node + 1) new
       → ((k : ℕ) → k ≢ node → node_at new k ≡ node_at nodes k) → IsTree size estimate new places
   raised node new inner len first second others = record {
     whole = record { height = tree.whole.height; power = len ∙ tree.whole.power };
@@ -128,9 +132,10 @@ module _ {X : Type 0} (size estimate : X → ℕ) (nodes : List LeastsView) (pla
           here zero same some = absurd (omega (arith, inner, same))
           here (suc t) same some =
               let m = halved t (leaf_of (length nodes) place) in
+              let own = subst (λ (n : ℕ). IsBelow (node_at nodes n) (size x) (estimate x)) same (tree.below (suc t) place x is (subst (λ (n : ℕ). 1 ≤ n) (sym same) some)) in
               ⊎_elim
-              (λ (left : m ≡ 2 * node). first (size x) (estimate x) (subst (λ (n : ℕ). IsBelow (node_at nodes n) (size x) (estimate x)) left (tree.below t place x is (positive t same some))))
-              (λ (ne : m ≢ 2 * node). second (size x) (estimate x) (subst (λ (n : ℕ). IsBelow (node_at nodes n) (size x) (estimate x)) (right t same ne) (tree.below t place x is (positive t same some))))
+              (λ (left : m ≡ 2 * node). first (size x) (estimate x) own (subst (λ (n : ℕ). IsBelow (node_at nodes n) (size x) (estimate x)) left (tree.below t place x is (positive t same some))))
+              (λ (ne : m ≢ 2 * node). second (size x) (estimate x) own (subst (λ (n : ℕ). IsBelow (node_at nodes n) (size x) (estimate x)) (right t same ne) (tree.below t place x is (positive t same some))))
               (cases_eq m (2 * node))
             where
               positive : (u : ℕ) → halved (suc u) (leaf_of (length nodes) place) ≡ node → 1 ≤ node → 1 ≤ halved u (leaf_of (length nodes) place)
@@ -141,7 +146,7 @@ module _ {X : Type 0} (size estimate : X → ℕ) (nodes : List LeastsView) (pla
 
   -- a leaf is made anew from those who wait at its places
   pub raised_leaf : (leaf : ℕ) (new : List LeastsView) → 2 * (leaf + 1) ≤ length nodes → length new ≡ length nodes
-      → ((place : ℕ) (x : X) → slice_index_or places place None ≡ Some x → place / 64 ≡ leaf → IsBelow (node_at new (length nodes / 2 + leaf)) (size x) (estimate x))
+      → ((place : ℕ) (x : X) → slice_index_or places place None ≡ Some x → place / 64 ≡ leaf → IsBelow (node_at nodes (length nodes / 2 + leaf)) (size x) (estimate x) → IsBelow (node_at new (length nodes / 2 + leaf)) (size x) (estimate x))
       → ((k : ℕ) → k ≢ length nodes / 2 + leaf → node_at new k ≡ node_at nodes k) → IsTree size estimate new places
   raised_leaf leaf new inner len here others = record {
     whole = record { height = tree.whole.height; power = len ∙ tree.whole.power };
@@ -154,7 +159,7 @@ module _ {X : Type 0} (size estimate : X → ℕ) (nodes : List LeastsView) (pla
       at : (times place : ℕ) (x : X) → slice_index_or places place None ≡ Some x → 1 ≤ halved times (leaf_of (length nodes) place) → IsBelow (node_at new (halved times (leaf_of (length nodes) place))) (size x) (estimate x)
       at times place x is one =
           ⊎_elim
-          (λ (same : halved times (leaf_of (length nodes) place) ≡ length nodes / 2 + leaf). subst (λ (n : ℕ). IsBelow (node_at new n) (size x) (estimate x)) (sym same) (here place x is (own times same)))
+          (λ (same : halved times (leaf_of (length nodes) place) ≡ length nodes / 2 + leaf). subst (λ (n : ℕ). IsBelow (node_at new n) (size x) (estimate x)) (sym same) (here place x is (own times same) (subst (λ (n : ℕ). IsBelow (node_at nodes n) (size x) (estimate x)) same (tree.below times place x is one))))
           (λ (ne : halved times (leaf_of (length nodes) place) ≢ length nodes / 2 + leaf). subst (λ (l : LeastsView). IsBelow l (size x) (estimate x)) (sym (others (halved times (leaf_of (length nodes) place)) ne)) (tree.below times place x is one))
           (cases_eq (halved times (leaf_of (length nodes) place)) (length nodes / 2 + leaf))
         where

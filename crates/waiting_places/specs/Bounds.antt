@@ -1,5 +1,6 @@
 -- What is known of those below a node of the tree.
-use Rattle.std.specs.Prelude.{◌≡◌, Option, None, Some, ℕ, ◌≤◌, Bool, ◌&&◌, ◌||◌, nat_le, if◌then◌else◌, List, slice_index_or}
+use Rattle.std.specs.Prelude.{◌≡◌, Option, None, Some, ℕ, ◌≤◌, Bool, ◌&&◌, ◌||◌, nat_le, if◌then◌else◌, List, [], slice_index_or}
+use Rattle.waiting_places.specs.declared.leasts.Sizes.{Sizes}
 use Rattle.waiting_places.specs.declared.offer.Offer.{Offer}
 use Rattle.waiting_places.specs.Classes.{class_of}
 
@@ -10,6 +11,10 @@ pub record LeastsView : Type 0 where
   pub window : ℕ
   pub size_within : ℕ
   pub estimates : List ℕ
+
+-- what bounds on sizes alone tell
+abbrev pub sizes_known : Sizes → LeastsView
+sizes_known s = record { size = s.size; window = s.window; size_within = s.size_within; estimates = [] }
 
 -- no number is greater than one in front of it
 abbrev pub Falls : List ℕ → Type 0

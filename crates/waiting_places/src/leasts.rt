@@ -1,20 +1,26 @@
-ghost use Rattle.std.specs.Prelude.{◌≡◌, ℕ, ◌-◌, ◌^◌, ◌≤◌, ◌<◌, IfSome, true, min, length, slice_index_or};
+ghost use Rattle.std.specs.Prelude.{◌≡◌, ℕ, ◌-◌, ◌^◌, ◌≤◌, ◌<◌, IfSome, true, min, length, nat_le, slice_index_or};
 ghost use Rattle.waiting_places.specs.Classes.{class_of};
-ghost use Rattle.waiting_places.specs.Bounds.{AreBelow, Falls, IsBelow, Keeps, least_size, may_fit};
+ghost use Rattle.waiting_places.specs.Bounds.{AreBelow, Falls, IsBelow, Keeps, least_size, may_fit, sizes_known};
 
 use crate::class::{CLASSES, class_of};
 use crate::offer::Offer;
 use crate::waits::Waits;
 use std::marker::Model;
 
-/// What is known of those below a node, all of it lower bounds: none is smaller than `size`; none of a
-/// class up to `c` is shorter than `estimates[c]`; none that is at most `window` long is smaller than
-/// `size_within`.
+/// Lower bounds on the sizes of those below a node: none is smaller than `size`; none that is at most
+/// `window` long is smaller than `size_within`.
 #[derive(Clone, Copy)]
-pub(crate) struct Leasts {
+pub(crate) struct Sizes {
     size: u64,
     window: u64,
     size_within: u64,
+}
+
+/// What is known of those below a node, all of it lower bounds: those on their sizes; and none of a
+/// class up to `c` is shorter than `estimates[c]`.
+#[derive(Clone, Copy)]
+pub(crate) struct Leasts {
+    sizes: Sizes,
     estimates: [u32; CLASSES],
 }
 
@@ -23,9 +29,9 @@ impl Model for Leasts {
 
     ghost Value = { LeastsView };
 
-    ghost view = { λ l. record { size = l.size; window = l.window; size_within = l.size_within; estimates = l.estimates } };
+    ghost view = { λ l. record { size = l.sizes.size; window = l.sizes.window; size_within = l.sizes.size_within; estimates = l.estimates } };
 
-    ghost inverse = { λ v. record { size = v.size; window = v.window; size_within = v.size_within; estimates = v.estimates } };
+    ghost inverse = { λ v. record { sizes = record { size = v.size; window = v.window; size_within = v.size_within }; estimates = v.estimates } };
 
     ghost invariant = { λ l. Falls l.estimates };
 }
@@ -61,22 +67,19 @@ fn size_of_both(size: u64, other: u64, counts: bool) -> u64
     if counts { size.min(other) } else { size }
 }
 
-impl Leasts {
+impl Sizes {
     // Of nobody, once it was asked for those who are at most so long.
-    pub(crate) fn new(window: u64) -> Leasts
-        ensures { result.window ≡ window }
-    {
-        Leasts {
+    fn new(window: u64) -> Sizes {
+        Sizes {
             size: u64::MAX,
             window,
             size_within: u64::MAX,
-            estimates: [u32::MAX; CLASSES],
         }
     }
 
     // None that is at most so long is smaller.
     fn least_size(&self, window: u64) -> u64
-        ensures { result ≡ least_size self.now window }
+        ensures { result ≡ least_size (sizes_known self.now) window }
     {
         if window <= self.window {
             self.size_within
@@ -85,13 +88,80 @@ impl Leasts {
         }
     }
 
+    // Whether one may take no more than is extra.
+    fn is_small(&self, offer: &Offer) -> bool
+        ensures { result ≡ nat_le self.now.size offer.now.extra }
+    {
+        self.size <= offer.extra
+    }
+
+    // Of one more.
+    fn add<T: Waits>(&mut self, item: &T)
+        ensures kept { Keeps (sizes_known self.old) (sizes_known self.new) }
+        ensures met { IsBelow (sizes_known self.new) (T.size item.now) (T.estimate item.now) }
+    {
+        let size = item.size();
+        self.size = self.size.min(size);
+        self.size_within = size_of_both(self.size_within, size, item.estimate() <= self.window);
+    }
+
+    // Of who waits at one place more.
+    fn add_place<T: Waits>(&mut self, place: &Option<T>)
+        ensures kept { Keeps (sizes_known self.old) (sizes_known self.new) }
+        ensures met { IfSome place.now (λ item. IsBelow (sizes_known self.new) (T.size item) (T.estimate item)) }
+    {
+        if let Some(item) = place {
+            self.add(item);
+        }
+    }
+
+    // Of all who wait at these places, once they were asked for those who are at most so long.
+    pub(crate) fn of<T: Waits>(places: &[Option<T>], window: u64) -> Sizes
+        ensures { AreBelow T.size T.estimate (sizes_known result) places.now }
+    {
+        let mut sizes = Sizes::new(window);
+        for place in places {
+            sizes.add_place(place);
+        }
+        sizes
+    }
+
+    // Of those of two nodes, once they were asked for those who are at most so long.
+    fn both(a: &Sizes, b: &Sizes, window: u64) -> Sizes
+        ensures first { Keeps (sizes_known a.now) (sizes_known result) }
+        ensures second { Keeps (sizes_known b.now) (sizes_known result) }
+    {
+        Sizes {
+            size: a.size.min(b.size),
+            window,
+            size_within: a.least_size(window).min(b.least_size(window)),
+        }
+    }
+}
+
+impl Leasts {
+    // Of nobody, once it was asked for those who are at most so long.
+    pub(crate) fn new(window: u64) -> Leasts {
+        Leasts {
+            sizes: Sizes::new(window),
+            estimates: [u32::MAX; CLASSES],
+        }
+    }
+
+    // Whether one of whom this is known may take no more than is extra.
+    pub(crate) fn is_small(&self, offer: &Offer) -> bool
+        ensures { result ≡ nat_le self.now.size offer.now.extra }
+    {
+        self.sizes.is_small(offer)
+    }
+
     // Whether one of whom this is known may fit the offer; the class is that of what is free.
     pub(crate) fn may_fit(&self, offer: &Offer, class: usize) -> bool
         requires { class ≡ class_of offer.now.free }
         ensures { result ≡ may_fit offer.now self.now }
     {
-        self.size <= offer.extra
-            || (self.least_size(offer.window) <= offer.free
+        self.is_small(offer)
+            || (self.sizes.least_size(offer.window) <= offer.free
                 && u64::from(self.estimates[class]) <= offer.window)
     }
 
@@ -101,10 +171,8 @@ impl Leasts {
         ensures kept { Keeps self.old self.new }
         ensures met { IsBelow self.new (T.size item.now) (T.estimate item.now) }
     {
-        let size = item.size();
         let estimate = item.estimate();
-        self.size = self.size.min(size);
-        self.size_within = size_of_both(self.size_within, size, estimate <= self.window);
+        self.sizes.add(item);
         lower(&mut self.estimates, class, short(estimate));
     }
 
@@ -129,6 +197,15 @@ impl Leasts {
         leasts
     }
 
+    // The bounds on the sizes of those of two nodes, once they were asked for those who are at most so
+    // long.
+    pub(crate) fn sizes_of_both(a: &Leasts, b: &Leasts, window: u64) -> Sizes
+        ensures first { Keeps a.now (sizes_known result) }
+        ensures second { Keeps b.now (sizes_known result) }
+    {
+        Sizes::both(&a.sizes, &b.sizes, window)
+    }
+
     // Of those of two nodes, once they were asked for those who are at most so long.
     pub(crate) fn both(a: &Leasts, b: &Leasts, window: u64) -> Leasts
         ensures first { Keeps a.now result }
@@ -139,10 +216,15 @@ impl Leasts {
             estimates[class] = estimates[class].min(b.estimates[class]);
         }
         Leasts {
-            size: a.size.min(b.size),
-            window,
-            size_within: a.least_size(window).min(b.least_size(window)),
+            sizes: Leasts::sizes_of_both(a, b, window),
             estimates,
         }
+    }
+
+    // Bounds on the sizes take the place of those that there are.
+    pub(crate) fn set_sizes(&mut self, sizes: Sizes)
+        ensures { (size estimate : ℕ) → IsBelow self.old size estimate → IsBelow (sizes_known sizes) size estimate → IsBelow self.new size estimate }
+    {
+        self.sizes = sizes;
     }
 }

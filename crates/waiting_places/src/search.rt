@@ -73,7 +73,7 @@ fn first_in_leaf<T: Waits>(
     if let Some(place) = first_in(places, from, SPAN * (leaf + 1), &search.offer) {
         return Some(place);
     }
-    raise_leaf(nodes, places, leaf, search.offer.window);
+    raise_leaf(nodes, places, leaf, &search.offer);
     None
 }
 
@@ -118,7 +118,7 @@ pub(crate) fn first_below<T: Waits>(
     if let Some(place) = first_below(nodes, places, second, search) {
         return Some(place);
     }
-    raise(nodes, part.node, search.offer.window);
+    raise(nodes, part.node, &search.offer);
     None
 }
 
@@ -138,10 +138,21 @@ pub(crate) fn first_in_tree<T: Waits>(
     if from >= places.len() {
         return None;
     }
-    let edge = SPAN * (from / SPAN + 1);
-    if let Some(place) = first_in(places, from, edge, offer) {
+    let leaf = from / SPAN;
+    let here = Part {
+        node: nodes.len() / 2 + leaf,
+        low: leaf,
+        span: 1,
+    };
+    let rest = Search {
+        from,
+        offer: *offer,
+        class: class_of(offer.free),
+    };
+    if let Some(place) = first_below(nodes, places, here, &rest) {
         return Some(place);
     }
+    let edge = SPAN * (leaf + 1);
     let root = Part {
         node: 1,
         low: 0,
@@ -150,7 +161,7 @@ pub(crate) fn first_in_tree<T: Waits>(
     let search = Search {
         from: edge,
         offer: *offer,
-        class: class_of(offer.free),
+        class: rest.class,
     };
     first_below(nodes, places, root, &search)
 }

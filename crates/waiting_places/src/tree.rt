@@ -3,7 +3,8 @@ ghost use Rattle.waiting_places.specs.Bounds.{IsBelow, Keeps};
 ghost use Rattle.waiting_places.specs.Tree.{halved, node_at};
 
 use crate::class::class_of;
-use crate::leasts::Leasts;
+use crate::leasts::{Leasts, Sizes};
+use crate::offer::Offer;
 use crate::waits::Waits;
 
 /// How many places a leaf has.
@@ -24,32 +25,45 @@ pub(crate) fn lower<T: Waits>(nodes: &mut [Leasts], leaf: usize, item: &T)
     }
 }
 
-// Makes the bounds of a node anew, from those of the two below it.
-pub(crate) fn raise(nodes: &mut [Leasts], node: usize, window: u64)
+// Makes the bounds of a node anew, from those of the two below it. Those on the estimates it leaves as
+// they are where those on the sizes told that one may fit.
+pub(crate) fn raise(nodes: &mut [Leasts], node: usize, offer: &Offer)
     requires { 2 * node + 1 < length nodes.old }
     ensures len { length nodes.new ≡ length nodes.old }
-    ensures first { Keeps (node_at nodes.old (2 * node)) (node_at nodes.new node) }
-    ensures second { Keeps (node_at nodes.old (2 * node + 1)) (node_at nodes.new node) }
+    ensures first { (size estimate : ℕ) → IsBelow (node_at nodes.old node) size estimate → IsBelow (node_at nodes.old (2 * node)) size estimate → IsBelow (node_at nodes.new node) size estimate }
+    ensures second { (size estimate : ℕ) → IsBelow (node_at nodes.old node) size estimate → IsBelow (node_at nodes.old (2 * node + 1)) size estimate → IsBelow (node_at nodes.new node) size estimate }
     ensures others { (k : ℕ) → k ≢ node → node_at nodes.new k ≡ node_at nodes.old k }
 {
+    let window = offer.window;
+    if nodes[node].is_small(offer) {
+        let sizes = Leasts::sizes_of_both(&nodes[2 * node], &nodes[2 * node + 1], window);
+        nodes[node].set_sizes(sizes);
+        return;
+    }
     let leasts = Leasts::both(&nodes[2 * node], &nodes[2 * node + 1], window);
     nodes[node] = leasts;
 }
 
-// Makes the bounds of a leaf anew, from those who wait at its places.
+// Makes the bounds of a leaf anew, from those who wait at its places. Those on the estimates it leaves as
+// they are where those on the sizes told that one may fit.
 pub(crate) fn raise_leaf<T: Waits>(
     nodes: &mut [Leasts],
     places: &[Option<T>],
     leaf: usize,
-    window: u64,
+    offer: &Offer,
 )
     requires { length nodes.old / 2 + leaf < length nodes.old }
     ensures len { length nodes.new ≡ length nodes.old }
-    ensures here { (place : ℕ) (x : T) → slice_index_or places.now place None ≡ Some x → place / 64 ≡ leaf → IsBelow (node_at nodes.new (length nodes.old / 2 + leaf)) (T.size x) (T.estimate x) }
+    ensures here { (place : ℕ) (x : T) → slice_index_or places.now place None ≡ Some x → place / 64 ≡ leaf → IsBelow (node_at nodes.old (length nodes.old / 2 + leaf)) (T.size x) (T.estimate x) → IsBelow (node_at nodes.new (length nodes.old / 2 + leaf)) (T.size x) (T.estimate x) }
     ensures others { (k : ℕ) → k ≢ length nodes.old / 2 + leaf → node_at nodes.new k ≡ node_at nodes.old k }
 {
     let from = (leaf * SPAN).min(places.len());
     let to = (from + SPAN).min(places.len());
     let node = nodes.len() / 2 + leaf;
-    nodes[node] = Leasts::of(&places[from..to], window);
+    let here = &places[from..to];
+    if nodes[node].is_small(offer) {
+        nodes[node].set_sizes(Sizes::of(here, offer.window));
+        return;
+    }
+    nodes[node] = Leasts::of(here, offer.window);
 }
