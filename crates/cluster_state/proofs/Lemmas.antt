@@ -5,7 +5,5 @@ pub use Rattle.cluster_state.proofs.StateLemmas.{sum_by-placed, All-placed, sum_
 pub use Rattle.cluster_state.proofs.RowLemmas.{put-before, put-behind, RisesByEstimate, rises-by_estimate, All-by_estimate, by_estimate-All, in_order-All, without-by_estimate, find-put, find-in_order, sum_by-by_estimate}
 -- the numbers of a state give it back, and equal numbers with equal jobs are equal states
 pub use Rattle.cluster_state.proofs.SnapshotLemmas.{standing-numbers, numbers-give-the-state-back, equal-numbers-are-equal-states}
--- what holds of all numbers holds of one more
-pub use Rattle.cluster_state.proofs.LookupLemmas.{All-more}
 -- the running jobs in the order of their expected ends
 pub use Rattle.cluster_state.proofs.EndLemmas.{NotLater, sum_by-by_end, All-by_end, length-by_end, NoneEndsSooner, rises-by_end, sum_by-ones, adds-none, one-adds, adds-one}

@@ -1,17 +1,16 @@
 -- Numbers looked up in a table one after another.
-use Rattle.std.proofs.Common.{◌≡◌, ℕ, ◌+◌, ◌^◌, ◌≤◌, ◌<◌, cond, nat_eq, List, [], ◌∷◌, ◌++◌, length, take, drop, get_or, Option, Some, None, IsSome, All, count_by, refl, sym, ◌∙◌, ap, arith, subst}
+use Rattle.std.proofs.Common.{◌≡◌, ◌↔◌, ℕ, ◌+◌, ◌-◌, ◌^◌, ◌≤◌, ◌<◌, Bool, cond, nat_eq, List, [], ◌∷◌, ◌++◌, Option, Some, None, IsSome, All, count_by, refl, sym, ◌∙◌, ap, arith, subst}
 use Rattle.std.specs.List.{filter_map, cons_option}
-use Rattle.std.specs.Option.{option_map, option_to_list}
-use Rattle.std.proofs.lemmas.List.{take_more, take-append-drop}
-use Rattle.std.proofs.lemmas.List.Sums.{sum_by-cons, sum_by-append, sum_by_push, sum_by-take-le}
-use Rattle.std.proofs.lemmas.List.Elements.{All-nil, All-cons, All-push, All-head, All-tail, filter_map-append}
+use Rattle.std.specs.Option.{option_map}
+use Rattle.std.proofs.lemmas.List.Sums.{sum_by-cons, sum_by-append}
+use Rattle.std.proofs.lemmas.List.Elements.{All-nil, All-cons, All-head, All-tail}
 use Rattle.std.proofs.lemmas.Bool.{eq-eqb, eqb-true}
 use Rattle.scenarios.specs.Job.{EffectiveJob, IsWithinLimits}
 use Rattle.scenarios.specs.Plan.{Plan, job_numbered}
 use Rattle.scenarios.specs.declared.placed.Placed.{Placed}
 use Rattle.cluster_state.specs.declared.snapshot.RunningNumber.{RunningNumber}
 use Rattle.cluster_state.specs.State.{State, IsSound, busy, holders}
-use Rattle.cluster_state.specs.Snapshot.{Numbers, IsSnapshot, running_numbered, restored, Fits}
+use Rattle.cluster_state.specs.Snapshot.{Numbers, IsSnapshot, running_numbered, Fits}
 use Rattle.cluster_state.proofs.StateLemmas.{test-find}
 
 -- the job that runs since a second
@@ -21,31 +20,42 @@ since start o = option_map (λ job. record { job = job; start = start }) o
 abbrev run_of : List EffectiveJob → List RunningNumber → List Placed
 run_of jobs rs = filter_map (running_numbered jobs) rs
 
--- one more number
-pub run-more : (jobs : List EffectiveJob) (rs : List RunningNumber) (i : ℕ) (d : RunningNumber) (o : Option EffectiveJob) → i < length rs → o ≡ job_numbered jobs (get_or rs i d).number
-    → run_of jobs (take (i + 1) rs) ≡ run_of jobs (take i rs) ++ option_to_list (since (get_or rs i d).start o)
-run-more jobs rs i d o l e =
-    ap (run_of jobs) (take_more rs i d l) ∙ filter_map-append (running_numbered jobs) (take i rs) (get_or rs i d ∷ [])
-    ∙ ap (λ xs. run_of jobs (take i rs) ++ xs) (ap (λ p. cons_option (since (get_or rs i d).start p) []) (sym e) ∙ one (since (get_or rs i d).start o))
-  where
-    one : (p : Option Placed) → cons_option p [] ≡ option_to_list p
-    one None = refl
-    one (Some r) = refl
+-- the first number's job, if there is one
+pub run-first : (jobs : List EffectiveJob) (r : RunningNumber) (rs : List RunningNumber) (o : Option EffectiveJob) → o ≡ job_numbered jobs r.number
+    → run_of jobs (r ∷ rs) ≡ cons_option (since r.start o) (run_of jobs rs)
+run-first jobs r rs o e = ap (λ p. cons_option (since r.start p) (run_of jobs rs)) (sym e)
 
-pub busy-more : (jobs : List EffectiveJob) (rs : List RunningNumber) (i : ℕ) (d : RunningNumber) (job : EffectiveJob) → i < length rs → Some job ≡ job_numbered jobs (get_or rs i d).number
-    → busy (run_of jobs (take (i + 1) rs)) ≡ busy (run_of jobs (take i rs)) + job.size
-busy-more jobs rs i d job l e =
-    ap busy (run-more jobs rs i d (Some job) l e) ∙ sum_by_push (λ (r : Placed). r.job.size) (run_of jobs (take i rs)) (record { job = job; start = (get_or rs i d).start })
+busy-first : (jobs : List EffectiveJob) (r : RunningNumber) (rs : List RunningNumber) (job : EffectiveJob) → Some job ≡ job_numbered jobs r.number
+    → busy (run_of jobs (r ∷ rs)) ≡ job.size + busy (run_of jobs rs)
+busy-first jobs r rs job e =
+    ap busy (run-first jobs r rs (Some job) e) ∙ sum_by-cons (λ (x : Placed). x.job.size) (record { job = job; start = r.start }) (run_of jobs rs)
 
--- a part holds no more
-pub busy-part : (jobs : List EffectiveJob) (rs : List RunningNumber) (k : ℕ) → busy (run_of jobs (take k rs)) ≤ busy (run_of jobs rs)
-busy-part jobs rs k =
-    let whole = ap (run_of jobs) (sym (take-append-drop k rs)) ∙ filter_map-append (running_numbered jobs) (take k rs) (drop k rs) in
-    let e = ap busy whole in
-    omega (arith, e, sum_by-append (λ (r : Placed). r.job.size) (run_of jobs (take k rs)) (run_of jobs (drop k rs)))
+-- each of these numbers has a job
+abbrev pub HaveJobs : List EffectiveJob → List ℕ → Type 0
+HaveJobs jobs ns = All (λ n. IsSome (job_numbered jobs n)) ns
 
-pub All-more : {X : Type 0} (P : X → Type 0) (xs : List X) (i : ℕ) (d : X) → i < length xs → All P (take i xs) → P (get_or xs i d) → All P (take (i + 1) xs)
-All-more P xs i d l a p = subst (λ ys. All P ys) (sym (take_more xs i d l)) (All-push P (take i xs) (get_or xs i d) a p)
+-- each of these running numbers has a job, and together they need no more than so many processors
+abbrev pub CanRun : List EffectiveJob → List RunningNumber → ℕ → Type 0
+CanRun jobs rs left = All (λ r. IsSome (job_numbered jobs r.number)) rs × (busy (run_of jobs rs) ≤ left)
+
+-- the first number has a job: that leaves those behind it
+pub have-behind : (jobs : List EffectiveJob) (all left behind : List ℕ) (n : ℕ) (o : Option EffectiveJob) → left ≡ n ∷ behind → o ≡ job_numbered jobs n → IsSome o
+    → HaveJobs jobs left ↔ HaveJobs jobs all → HaveJobs jobs behind ↔ HaveJobs jobs all
+have-behind jobs all left behind n o is e some h =
+    let P : ℕ → Type 0 = λ m. IsSome (job_numbered jobs m) in (
+      λ a. h.0 (subst (λ l. HaveJobs jobs l) (sym is) (All-cons P n behind (subst (λ q. IsSome q) e some) a)),
+      λ a. All-tail P n behind (subst (λ l. HaveJobs jobs l) is (h.1 a)),
+    )
+
+-- the first number's job finds room: that leaves those behind it, with the rest of the room
+pub can-run-behind : (jobs : List EffectiveJob) (all left behind : List RunningNumber) (room procs size : ℕ) (r : RunningNumber) (job : EffectiveJob) → left ≡ r ∷ behind → Some job ≡ job_numbered jobs r.number
+    → size ≡ job.size → size ≤ room → CanRun jobs left room ↔ CanRun jobs all procs → CanRun jobs behind (room - size) ↔ CanRun jobs all procs
+can-run-behind jobs all left behind room procs size r job is e same fits h =
+    let P : RunningNumber → Type 0 = λ x. IsSome (job_numbered jobs x.number) in
+    let sum = busy-first jobs r behind job e in (
+      λ a. (let few = a.1 in h.0 (subst (λ l. CanRun jobs l room) (sym is) (All-cons P r behind (subst (λ q. IsSome q) e refl) a.0, omega (arith, sum, few, fits, same)))),
+      λ a. (let first = subst (λ l. CanRun jobs l room) is (h.1 a) in let few = first.1 in (All-tail P r behind first.0, omega (arith, sum, few, fits, same))),
+    )
 
 -- what is looked up by a number has it
 pub job-number : (jobs : List EffectiveJob) (n : ℕ) (job : EffectiveJob) → job_numbered jobs n ≡ Some job → job.number ≡ n
@@ -94,34 +104,28 @@ sound-running p plan rs h fits small is limits = record {
         go None i = i
         go (Some job) i = All-cons (λ (r : Placed). r.start < 2 ^ 49) (record { job = job; start = x.start }) (run_of plan.jobs xs) (All-head (λ (r : RunningNumber). r.start < 2 ^ 49) x xs a) i
 
--- the numbers up to a place of the queue
-abbrev pub up_to : ℕ → Numbers → Numbers
-up_to i p = record { waiting = take i p.waiting; running = p.running }
+-- the jobs of some last numbers are still to come into a state
+pub record IsRestoring (p : Numbers) (plan : Plan) (left : List ℕ) (s : State) : Type 0 where
+  pub rest : s.waiting ++ filter_map (job_numbered plan.jobs) left ≡ filter_map (job_numbered plan.jobs) p.waiting
+  pub others : s ≡ record { machine = plan.machine; order = plan.order; waiting = s.waiting; running = run_of plan.jobs p.running }
 
 -- the job of the next number is not there yet
-pub absent-next : (p : Numbers) (plan : Plan) (i d : ℕ) (job : EffectiveJob) → IsSnapshot p → i < length p.waiting → Some job ≡ job_numbered plan.jobs (get_or p.waiting i d)
-    → holders (restored (up_to i p) plan) job.number ≡ 0
-absent-next p plan i d job h l e =
-    let n = get_or p.waiting i d in
+pub absent-next : (p : Numbers) (plan : Plan) (n : ℕ) (left : List ℕ) (s : State) (job : EffectiveJob) → IsSnapshot p → IsRestoring p plan (n ∷ left) s → Some job ≡ job_numbered plan.jobs n
+    → holders s job.number ≡ 0
+absent-next p plan n left s job h so e =
     let m = job.number in
-    let same : n ≡ m = sym (job-number plan.jobs n job (sym e)) in
-    let one = ap (λ b. cond {A = ℕ} b 1 0) (eq-eqb n m same) in
-    let more = ap (λ xs. count_by (λ k. nat_eq k m) xs) (take_more p.waiting i d l) in
-    let push = sum_by_push (λ (k : ℕ). cond {A = ℕ} (nat_eq k m) 1 0) (take i p.waiting) n in
-    omega (arith, one, more, push, sum_by-take-le (λ (k : ℕ). cond {A = ℕ} (nat_eq k m) 1 0) p.waiting (i + 1), waiting-counts plan.jobs m (take i p.waiting), running-counts plan.jobs m p.running, h.once m)
+    let is : EffectiveJob → Bool = λ j. nat_eq j.number m in
+    let one = ap (λ b. cond {A = ℕ} b 1 0) (eq-eqb m m refl) in
+    let first = ap (λ o. s.waiting ++ cons_option o (filter_map (job_numbered plan.jobs) left)) e ∙ so.rest in
+    let all = ap (count_by is) first in
+    let parts = sum_by-append (λ (j : EffectiveJob). cond {A = ℕ} (is j) 1 0) s.waiting (job ∷ filter_map (job_numbered plan.jobs) left) in
+    let next = sum_by-cons (λ (j : EffectiveJob). cond {A = ℕ} (is j) 1 0) job (filter_map (job_numbered plan.jobs) left) in
+    let runs = ap (λ (z : State). count_by (λ (r : Placed). nat_eq r.job.number m) z.running) so.others in
+    omega (arith, one, all, parts, next, runs, waiting-counts plan.jobs m p.waiting, running-counts plan.jobs m p.running, h.once m)
 
-pub restored-more : (p : Numbers) (plan : Plan) (i d : ℕ) (o : Option EffectiveJob) → i < length p.waiting → o ≡ job_numbered plan.jobs (get_or p.waiting i d)
-    → restored (up_to (i + 1) p) plan ≡ (let s : State = record { machine = plan.machine; order = plan.order; waiting = filter_map (job_numbered plan.jobs) (take i p.waiting) ++ option_to_list o; running = run_of plan.jobs p.running } in s)
-restored-more p plan i d o l e =
-    ap (λ js. let s : State = record { machine = plan.machine; order = plan.order; waiting = js; running = run_of plan.jobs p.running } in s)
-    (ap (filter_map (job_numbered plan.jobs)) (take_more p.waiting i d l) ∙ filter_map-append (job_numbered plan.jobs) (take i p.waiting) (get_or p.waiting i d ∷ [])
-    ∙ ap (λ xs. filter_map (job_numbered plan.jobs) (take i p.waiting) ++ xs) (ap (λ q. cons_option q []) (sym e) ∙ one o))
-  where
-    one : (q : Option EffectiveJob) → cons_option q [] ≡ option_to_list q
-    one None = refl
-    one (Some r) = refl
-
--- one more number has a job
-pub have-more : (jobs : List EffectiveJob) (rs : List RunningNumber) (i : ℕ) (d : RunningNumber) (job : EffectiveJob) → i < length rs → All (λ (r : RunningNumber). IsSome (job_numbered jobs r.number)) (take i rs)
-    → Some job ≡ job_numbered jobs (get_or rs i d).number → All (λ (r : RunningNumber). IsSome (job_numbered jobs r.number)) (take (i + 1) rs)
-have-more jobs rs i d job l a e = All-more (λ (r : RunningNumber). IsSome (job_numbered jobs r.number)) rs i d l a (subst (λ o. IsSome o) e refl)
+-- there is no such job
+pub restoring-none : (p : Numbers) (plan : Plan) (n : ℕ) (left : List ℕ) (s : State) → IsRestoring p plan (n ∷ left) s → None ≡ job_numbered plan.jobs n → IsRestoring p plan left s
+restoring-none p plan n left s so e = record {
+  rest = ap (λ o. s.waiting ++ cons_option o (filter_map (job_numbered plan.jobs) left)) e ∙ so.rest;
+  others = so.others;
+}

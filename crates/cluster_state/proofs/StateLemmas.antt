@@ -1,14 +1,30 @@
 -- What the steps of a state keep.
-use Rattle.std.proofs.Common.{◌≡◌, ℕ, ◌+◌, ◌^◌, ◌≤◌, ◌<◌, Bool, true, false, cond, nat_eq, nat_lt, List, [], ◌∷◌, Some, None, All, IsSomeAnd, find, sum_by, filter, remove, insert, not, position, unwrap_or, length, get_or, one-add, refl, sym, ◌∙◌, ap, arith, subst, ⊎_elim}
+use Rattle.std.proofs.Common.{◌≡◌, ℕ, ◌+◌, ◌^◌, ◌≤◌, ◌<◌, Bool, true, false, cond, nat_eq, nat_lt, List, [], ◌∷◌, Some, None, All, IsSomeAnd, count_by, find, sum_by, filter, remove, insert, not, position, unwrap_or, length, get_or, one-add, refl, sym, ◌∙◌, ap, arith, subst, ⊎_elim}
 use Rattle.std.specs.List.{position_or_len}
 use Rattle.std.specs.List.Sorted.{IsPartitionPoint}
 use Rattle.std.proofs.lemmas.List.Sums.{sum_by-cons, sum_by_push, prefix_len-le-length, position_or_len_is}
-use Rattle.std.proofs.lemmas.List.Elements.{All-cons, All-head, All-tail, All-push, All-filter}
+use Rattle.std.proofs.lemmas.List.Elements.{All-cons, All-head, All-nil, All-tail, All-push, All-filter}
 use Rattle.std.proofs.lemmas.Bool.{cond_both, ltb-false, eqb-true, cases_Bool, cases_eq, eq-eqb, ne_eqb}
 use Rattle.scenarios.specs.Job.{EffectiveJob, IsWithinLimits}
+use Rattle.scenarios.specs.Limits.{procs_limit, seconds_end}
 use Rattle.scenarios.specs.declared.placed.Placed.{Placed}
 use Rattle.scenarios.specs.Placed.{real_end}
-use Rattle.cluster_state.specs.State.{State, IsSound, arrived, started, ended_until, without, placed, waiting_job, holders, free}
+use Rattle.cluster_state.specs.State.{State, IsSound, arrived, busy, started, ended_until, without, placed, waiting_job, holders, free}
+
+-- where nobody waits or runs
+pub sound-empty : (s : State) → s.machine ≤ procs_limit → s.waiting ≡ [] → s.running ≡ [] → (busy s.running ≡ 0) × IsSound s
+sound-empty s le none idle = (
+  ap busy idle,
+  record {
+    limited = le;
+    fits = omega (arith, ap busy idle);
+    once = λ n. omega (arith, ap (count_by (λ (j : EffectiveJob). nat_eq j.number n)) none, ap (count_by (λ (r : Placed). nat_eq r.job.number n)) idle);
+    waiting_fit = subst (All (λ (j : EffectiveJob). j.size ≤ s.machine)) (sym none) (All-nil (λ (j : EffectiveJob). j.size ≤ s.machine));
+    waiting_limits = subst (All IsWithinLimits) (sym none) (All-nil IsWithinLimits);
+    running_limits = subst (All (λ (r : Placed). IsWithinLimits r.job)) (sym idle) (All-nil (λ (r : Placed). IsWithinLimits r.job));
+    started = subst (All (λ (r : Placed). r.start < seconds_end)) (sym idle) (All-nil (λ (r : Placed). r.start < seconds_end));
+  },
+)
 
 -- a sum with one more running job
 pub sum_by-placed : (f : Placed → ℕ) (r : Placed) (xs : List Placed) → sum_by f (placed r xs) ≡ f r + sum_by f xs

@@ -2,6 +2,8 @@
 use Rattle.std.specs.Prelude.{◌≡◌, ℕ, ◌+◌, ◌≤◌, ◌<◌, nat_eq, List, [], ◌∷◌, Option, IsSome, Some, map, count_by, All}
 use Rattle.std.specs.List.{filter_map}
 use Rattle.std.specs.Option.{option_map}
+use Rattle.frames.specs.Frames.{standing_at}
+use Rattle.frames.specs.declared.stretch.Stretch.{Stretch}
 use Rattle.scenarios.specs.Limits.{seconds_end}
 use Rattle.scenarios.specs.Job.{EffectiveJob}
 use Rattle.scenarios.specs.Plan.{Plan, job_numbered}
@@ -25,6 +27,10 @@ numbers_of s = record { waiting = map (λ (j : EffectiveJob). j.number) s.waitin
 -- how often a number waits or runs there
 abbrev pub standing : Numbers → ℕ → ℕ
 standing p n = count_by (λ m. nat_eq m n) p.waiting + count_by (λ r. nat_eq r.number n) p.running
+
+-- the numbers that stand at a place of two frames
+abbrev pub standing_there : ℕ → List (Stretch ℕ) → List (Stretch RunningNumber) → Numbers
+standing_there place waiting running = record { waiting = standing_at place waiting; running = standing_at place running }
 
 -- these numbers do not fall
 abbrev pub NumbersRise : List RunningNumber → Type 0

@@ -7,13 +7,17 @@ ghost use Rattle.cluster_state.specs.State.{busy};
 ghost use Rattle.cluster_state.specs.Snapshot.{running_numbered};
 
 use crate::snapshot::RunningNumber;
+use frames::Standing;
 use scenarios::{Placed, PlanRef};
 use std::alloc::Allocator;
 use swf_text::Memory;
 
 // Whether each number has a job.
-pub(crate) fn have_jobs<A: Allocator + Copy>(numbers: &[u64], plan: &PlanRef<'_, A>) -> bool
-    ensures { IsTrue result ↔ All (λ n. IsSome (job_numbered (plan_in plan.now).jobs n)) numbers.now }
+pub(crate) fn have_jobs<A: Allocator + Copy>(
+    numbers: Standing<'_, u64>,
+    plan: &PlanRef<'_, A>,
+) -> bool
+    ensures { IsTrue result ↔ All (λ n. IsSome (job_numbered (plan_in plan.now).jobs n)) numbers.entry }
 {
     for number in numbers {
         if plan.job(*number).is_none() {
@@ -24,10 +28,13 @@ pub(crate) fn have_jobs<A: Allocator + Copy>(numbers: &[u64], plan: &PlanRef<'_,
 }
 
 // Whether each running number has a job, and these together are within the machine.
-pub(crate) fn can_run<A: Allocator + Copy>(running: &[RunningNumber], plan: &PlanRef<'_, A>) -> bool
+pub(crate) fn can_run<A: Allocator + Copy>(
+    running: Standing<'_, RunningNumber>,
+    plan: &PlanRef<'_, A>,
+) -> bool
     ensures { IsTrue result
-        ↔ (All (λ r. IsSome (job_numbered (plan_in plan.now).jobs r.number)) running.now
-        × (busy (filter_map (running_numbered (plan_in plan.now).jobs) running.now) ≤ plan.now.setting.procs)) }
+        ↔ (All (λ r. IsSome (job_numbered (plan_in plan.now).jobs r.number)) running.entry
+        × (busy (filter_map (running_numbered (plan_in plan.now).jobs) running.entry) ≤ plan.now.setting.procs)) }
 {
     let mut left = plan.scenario().procs();
     for r in running {
@@ -45,13 +52,13 @@ pub(crate) fn can_run<A: Allocator + Copy>(running: &[RunningNumber], plan: &Pla
 // The running jobs of these numbers.
 pub(crate) fn running_in<A: Allocator + Copy>(
     alloc: A,
-    running: &[RunningNumber],
+    running: Standing<'_, RunningNumber>,
     plan: &PlanRef<'_, A>,
 ) -> Result<Vec<Placed, A>, Memory>
-    ensures jobs { IfOk result (λ rs. rs.items ≡ filter_map (running_numbered (plan_in plan.now).jobs) running.now) }
+    ensures jobs { IfOk result (λ rs. rs.items ≡ filter_map (running_numbered (plan_in plan.now).jobs) running.entry) }
     ensures limits { IfOk result (λ rs. All (λ r. IsWithinLimits r.job) rs.items) }
 {
-    let mut jobs = Vec::with_capacity(alloc, running.len())?;
+    let mut jobs = Vec::new(alloc);
     for r in running {
         if let Some(job) = plan.job(r.number) {
             jobs.push(Placed {

@@ -1,4 +1,6 @@
-ghost use Rattle.std.specs.Prelude.{◌≡◌, ◌≤◌, ◌+◌, ◌↔◌, ℕ, IfOk, IsTrue, map, count_by, nat_eq};
+ghost use Rattle.std.specs.Prelude.{◌≡◌, ◌≤◌, ◌↔◌, ℕ, IfOk, IsTrue, map, count_by, nat_eq};
+ghost use Rattle.std.specs.Arc.{arc_value};
+ghost use Rattle.frames.specs.Frames.{standing_at};
 ghost use Rattle.scenarios.specs.Job.{EffectiveJob};
 ghost use Rattle.cluster_state.specs.Snapshot.{number_of, NumbersRise};
 ghost use Rattle.cluster_state.specs.Ends.{by_end, by_number};
@@ -6,10 +8,12 @@ ghost use Rattle.cluster_state.specs.Ends.{by_end, by_number};
 use crate::lookup::{can_run, have_jobs};
 use crate::queue::Queue;
 use crate::running_set::RunningSet;
+use frames::{Frame, Keyed, Same, Standing};
 use job_table::JobTable;
 use scenarios::{PlanRef, Scenario};
 use std::alloc::Allocator;
 use std::marker::Model;
+use std::sync::Arc;
 use swf_text::Memory;
 
 /// The number of a running job.
@@ -21,28 +25,66 @@ pub struct RunningNumber {
     pub start: u64,
 }
 
-/// Who waits and who runs, by number: a state as a log can tell it again.
+/// Found, and put in order, by its number.
+impl Keyed for RunningNumber {
+    ghost key = { λ r. r.number };
+
+    fn key(&self) -> u64 {
+        self.number
+    }
+}
+
+impl Same for RunningNumber {
+    fn is(&self, other: &RunningNumber) -> bool {
+        *self == *other
+    }
+}
+
+/// Who waits and who runs, by number: a state as a log can tell it again. The numbers stand at a place
+/// of two frames, which other snapshots may share.
 ///
 /// No number stands twice.
 #[derive(Drop)]
 pub struct Snapshot<A: Allocator + Copy> {
-    waiting: Vec<u64, A>,
-    running: Vec<RunningNumber, A>,
+    waiting: Arc<Frame<u64, A>, A>,
+    running: Arc<Frame<RunningNumber, A>, A>,
+    place: u32,
 }
 
 impl<A: Allocator + Copy> Model for Snapshot<A> {
-    ghost use Rattle.cluster_state.specs.Snapshot.{Numbers, IsSnapshot};
+    ghost use Rattle.std.specs.Arc.{arc_value};
+    ghost use Rattle.cluster_state.specs.Snapshot.{Numbers, IsSnapshot, standing_there};
 
     ghost Value = { Numbers };
 
-    ghost view = { λ s. record { waiting = s.waiting.items; running = s.running.items } };
+    ghost view = { λ s. standing_there s.place (arc_value s.waiting) (arc_value s.running) };
 
-    ghost invariant = { λ s. IsSnapshot (record { waiting = s.waiting.items; running = s.running.items }) };
+    ghost invariant = { λ s. IsSnapshot (standing_there s.place (arc_value s.waiting) (arc_value s.running)) };
 }
 
 impl<A: Allocator + Copy> Snapshot<A> {
+    ghost use Rattle.std.specs.Arc.{arc_value};
     ghost use Rattle.scenarios.specs.Plan.{plan_of};
-    ghost use Rattle.cluster_state.specs.Snapshot.{Fits, IsSnapshot, standing};
+    ghost use Rattle.cluster_state.specs.Snapshot.{Fits, IsSnapshot, standing, standing_there};
+
+    /// The numbers that stand at a place of two frames, those of the waiting jobs and those of the running
+    /// ones. It shares the frames; Memory where 2^63 share one already.
+    pub fn at(
+        waiting: &Arc<Frame<u64, A>, A>,
+        running: &Arc<Frame<RunningNumber, A>, A>,
+        place: u32,
+    ) -> Result<Snapshot<A>, Memory>
+        requires { IsSnapshot (standing_there place (arc_value waiting.now) (arc_value running.now)) }
+        ensures { IfOk result (λ s. s ≡ standing_there place (arc_value waiting.now) (arc_value running.now)) }
+    {
+        let waiting = Arc::try_clone(waiting)?;
+        let running = Arc::try_clone(running)?;
+        Ok(Snapshot {
+            waiting,
+            running,
+            place,
+        })
+    }
 
     // The numbers of these waiting jobs, and these of running ones.
     pub(crate) fn of(
@@ -54,23 +96,29 @@ impl<A: Allocator + Copy> Snapshot<A> {
         ensures { IfOk result (λ s. s ≡ record { waiting = map (λ (j : EffectiveJob). j.number) queue.now.jobs; running = running.items }) }
     {
         let waiting = numbers_of(alloc, queue)?;
-        Ok(Snapshot { waiting, running })
+        let waiting = shared(alloc, waiting.as_slice())?;
+        let running = shared(alloc, running.as_slice())?;
+        Ok(Snapshot {
+            waiting,
+            running,
+            place: 0,
+        })
     }
 
     /// The numbers of the waiting jobs, in order of arrival.
-    pub fn waiting(&self) -> &[u64]
-        ensures numbers { result.now ≡ self.now.waiting }
+    pub fn waiting(&self) -> Standing<'_, u64>
+        ensures numbers { result ≡ self.now.waiting }
         ensures sound { IsSnapshot self.now }
     {
-        self.waiting.as_slice()
+        self.waiting.at(self.place)
     }
 
     /// The numbers of the running jobs with their starts, rising by number.
-    pub fn running(&self) -> &[RunningNumber]
-        ensures numbers { result.now ≡ self.now.running }
+    pub fn running(&self) -> Standing<'_, RunningNumber>
+        ensures numbers { result ≡ self.now.running }
         ensures sound { IsSnapshot self.now }
     {
-        self.running.as_slice()
+        self.running.at(self.place)
     }
 
     /// Whether the same numbers wait, in the same order, and the same ones run since the same
@@ -78,14 +126,14 @@ impl<A: Allocator + Copy> Snapshot<A> {
     pub fn same(&self, other: &Snapshot<A>) -> bool
         ensures { IsTrue result ↔ (self.now ≡ other.now) }
     {
-        same_waiting(&self.waiting, &other.waiting) && same_running(&self.running, &other.running)
+        are_same(self.waiting(), other.waiting()) && are_same(self.running(), other.running())
     }
 
     /// Whether this number waits or runs there.
     pub fn holds(&self, number: u64) -> bool
         ensures { IsTrue result ↔ (1 ≤ standing self.now number) }
     {
-        is_among(&self.waiting, &self.running, number)
+        self.waiting.holds(self.place, number) || self.running.holds(self.place, number)
     }
 
     /// Whether each number has a job in this table under the scenario, and the running ones together
@@ -94,44 +142,42 @@ impl<A: Allocator + Copy> Snapshot<A> {
         ensures { IsTrue result ↔ Fits self.now (plan_of table.now scenario.now) }
     {
         let plan = PlanRef::of(table, *scenario);
-        have_jobs(&self.waiting, &plan) && can_run(&self.running, &plan)
+        have_jobs(self.waiting(), &plan) && can_run(self.running(), &plan)
     }
 
-    /// The same numbers once more, on the allocator that these are kept on; Memory where a growth
-    /// was refused.
+    /// The same numbers once more, in the same frames; Memory where 2^63 share one already.
     pub fn copy(&self) -> Result<Snapshot<A>, Memory>
         ensures { IfOk result (λ s. s ≡ self.now) }
     {
-        let alloc = *self.waiting.allocator();
-        let waiting = Vec::from_slice(alloc, self.waiting.as_slice())?;
-        let running = Vec::from_slice(alloc, self.running.as_slice())?;
-        Ok(Snapshot { waiting, running })
+        Snapshot::at(&self.waiting, &self.running, self.place)
     }
 }
 
-// Whether these are the same numbers in the same order.
-fn same_waiting(a: &[u64], b: &[u64]) -> bool
-    ensures { IsTrue result ↔ (a.now ≡ b.now) }
+// A frame of one list, at place 0, which snapshots may share.
+fn shared<T: Copy, A: Allocator + Copy>(
+    alloc: A,
+    items: &[T],
+) -> Result<Arc<Frame<T, A>, A>, Memory>
+    ensures { IfOk result (λ frame. standing_at 0 (arc_value frame) ≡ items.now) }
 {
-    a == b
+    let frame = Frame::single(alloc, items)?;
+    Ok(Arc::new(alloc, frame)?)
 }
 
-// Whether these are the same running numbers, with the same starts.
-fn same_running(a: &[RunningNumber], b: &[RunningNumber]) -> bool
-    ensures { IsTrue result ↔ (a.now ≡ b.now) }
+// Whether these are the same items in the same order.
+fn are_same<T: Same>(one: Standing<'_, T>, other: Standing<'_, T>) -> bool
+    ensures { IsTrue result ↔ (one.entry ≡ other.entry) }
 {
-    a == b
-}
-
-// Whether this number stands among these.
-fn is_among(waiting: &[u64], running: &[RunningNumber], number: u64) -> bool
-    ensures { IsTrue result
-        ↔ (1 ≤ count_by (λ m. nat_eq m number) waiting.now
-        + count_by (λ r. nat_eq r.number number) running.now) }
-{
-    let waits = waiting.iter().filter(|m| **m == number).count();
-    let runs = running.iter().filter(|r| r.number == number).count();
-    waits > 0 || runs > 0
+    let mut behind = other;
+    for item in one {
+        let Some(next) = behind.next() else {
+            return false;
+        };
+        if !item.is(next) {
+            return false;
+        }
+    }
+    behind.next().is_none()
 }
 
 // The numbers of the waiting jobs.

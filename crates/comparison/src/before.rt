@@ -14,20 +14,12 @@ fn runs(row: &Row, second: u64) -> bool {
 }
 
 // Whether just the jobs of a schedule that wait before a second wait there, in the same order.
-fn waits_so(rows: &[Row], waiting: &[u64], second: u64) -> bool {
-    let mut left = waiting;
-    for row in rows {
-        if waits(row, second) {
-            let Some((number, rest)) = left.split_first() else {
-                return false;
-            };
-            if *number != row.number {
-                return false;
-            }
-            left = rest;
-        }
-    }
-    left.is_empty()
+fn waits_so(rows: &[Row], there: &Snapshot<Global>, second: u64) -> bool {
+    let numbers = rows
+        .iter()
+        .filter(|row| waits(row, second))
+        .map(|row| row.number);
+    there.waiting().copied().eq(numbers)
 }
 
 // Whether a job of a schedule runs before a second, since this start.
@@ -53,17 +45,19 @@ fn count_running(rows: &[Row], second: u64) -> usize {
 
 // Whether just the jobs of a schedule that run before a second run there, since the same starts.
 fn runs_so(rows: &[Row], there: &Snapshot<Global>, second: u64) -> bool {
+    let mut count = 0usize;
     for running in there.running() {
         if !runs_since(rows, running.number, running.start, second) {
             return false;
         }
+        count = count.saturating_add(1);
     }
-    count_running(rows, second) == there.running().len()
+    count_running(rows, second) == count
 }
 
 // Whether a snapshot is what a schedule has before a second.
 pub(crate) fn is_before(rows: &[Row], there: &Snapshot<Global>, second: u64) -> bool {
-    waits_so(rows, there.waiting(), second) && runs_so(rows, there, second)
+    waits_so(rows, there, second) && runs_so(rows, there, second)
 }
 
 // Whether a number waits or runs there.
@@ -73,5 +67,10 @@ pub(crate) fn stands(there: &Snapshot<Global>, number: u64) -> bool {
             return true;
         }
     }
-    there.waiting().contains(&number)
+    for waiting in there.waiting() {
+        if *waiting == number {
+            return true;
+        }
+    }
+    false
 }

@@ -3,7 +3,7 @@ ghost use Rattle.std.specs.Prelude.{◌<◌, ◌^◌};
 
 use crate::engines::are;
 use crate::logs::{NOTED, four_jobs};
-use cluster_state::{Cluster, RunningByEnd, Snapshot, Waiting};
+use cluster_state::{Cluster, RunningByEnd, RunningNumber, Snapshot, Waiting};
 use easy_rule::decide;
 use job_table::JobTable;
 use refusing::Outcome;
@@ -141,11 +141,12 @@ fn begins<A: Allocator + Copy>(cluster: &mut Cluster<A>, number: u64, second: u6
 
 // Whether a snapshot has job 1 running since second 0, and the other three waiting.
 fn is_of_one<A: Allocator + Copy>(snapshot: &Snapshot<A>) -> bool {
-    let [running] = snapshot.running() else {
-        return false;
+    let one = RunningNumber {
+        number: 1,
+        start: 0,
     };
-    snapshot.waiting() == [2, 3, 4].as_slice()
-        && (running.number, running.start) == (1, 0)
+    snapshot.waiting().eq(&[2, 3, 4])
+        && snapshot.running().eq(&[one])
         && snapshot.holds(1)
         && snapshot.holds(4)
         && !snapshot.holds(5)

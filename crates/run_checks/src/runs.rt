@@ -144,10 +144,11 @@ pub(crate) fn begin_at<A: Allocator + Copy>(run: &Run<A>, firsts: &[u64]) -> boo
 
 // Whether the last segment has one job that runs before it.
 fn ends_at_work(run: &Run<Global>) -> bool {
-    match run.segments().last() {
-        Some(last) => last.before().running().len() == 1,
-        None => false,
-    }
+    let Some(last) = run.segments().last() else {
+        return false;
+    };
+    let mut running = last.before().running();
+    running.next().is_some() && running.next().is_none()
 }
 
 // Whether the run of a log on ten processors is cut so.

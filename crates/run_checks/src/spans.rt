@@ -1,7 +1,7 @@
 // The event loop, by the calls that work many event seconds at once.
 use crate::engines::{STEPS, are, has_failed, stands};
 use crate::logs::{NOTED, shared_table};
-use cluster_state::Snapshot;
+use cluster_state::{RunningNumber, Snapshot};
 use event_loop::{Engine, EngineFault};
 use job_table::JobTable;
 use refusing::Outcome;
@@ -101,12 +101,15 @@ fn works_beside<A: Allocator + Copy>(
 
 // Whether job 2 waits, and jobs 1 and 3 run since seconds 0 and 2.
 fn is_at_three<A: Allocator + Copy>(snapshot: &Snapshot<A>) -> bool {
-    let [one, other] = snapshot.running() else {
-        return false;
+    let one = RunningNumber {
+        number: 1,
+        start: 0,
     };
-    snapshot.waiting() == [2].as_slice()
-        && (one.number, one.start) == (1, 0)
-        && (other.number, other.start) == (3, 2)
+    let other = RunningNumber {
+        number: 3,
+        start: 2,
+    };
+    snapshot.waiting().eq(&[2]) && snapshot.running().eq(&[one, other])
 }
 
 // The engine that stands at second 3 tells so.

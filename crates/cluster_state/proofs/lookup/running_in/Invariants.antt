@@ -1,4 +1,4 @@
-use Rattle.std.proofs.Common.{◌≡◌, All, take}
+use Rattle.std.proofs.Common.{◌≡◌, ◌++◌, All}
 use Rattle.std.specs.List.{filter_map}
 use Rattle.scenarios.specs.Job.{IsWithinLimits}
 use Rattle.scenarios.specs.PlanView.{plan_in}
@@ -7,6 +7,6 @@ use Rattle.cluster_state.proofs.lookup.running_in.Given as goal
 
 abbrev pub invariant-loop-r : goal.invariant-loop-r
 invariant-loop-r g l = record {
-  jobs : l.jobs.items ≡ filter_map (running_numbered ((plan_in l.plan).jobs)) (take l.r-index l.running);
+  jobs : l.jobs.items ++ filter_map (running_numbered ((plan_in l.plan).jobs)) l.r-iterator ≡ filter_map (running_numbered ((plan_in l.plan).jobs)) l.fn.running;
   limits : All (λ r. IsWithinLimits r.job) l.jobs.items;
 }
