@@ -79,17 +79,17 @@ in-rows plan (suc t) p =
 
 -- ---- who waits
 -- a number's job waits where it stands so
-abbrev waits : ℕ → Option EffectiveJob → Option ℕ → Option EffectiveJob
+abbrev pub waits : ℕ → Option EffectiveJob → Option ℕ → Option EffectiveJob
 waits t None start = None
 waits t (Some j) None = cond (nat_lt j.submit t) (Some j) None
 waits t (Some j) (Some start) = None
 
-waits-here : (t : ℕ) (o : Option EffectiveJob) (start : Option ℕ) (w : Option EffectiveJob) (r : Option Placed) → Stands t o start w r → w ≡ waits t o start
+pub waits-here : (t : ℕ) (o : Option EffectiveJob) (start : Option ℕ) (w : Option EffectiveJob) (r : Option Placed) → Stands t o start w r → w ≡ waits t o start
 waits-here t None start w r h = h.1
 waits-here t (Some j) None w r h = h.0
 waits-here t (Some j) (Some start) w r h = h.2
 
-waits-by : (t : ℕ) (j : EffectiveJob) (start : Option ℕ) → cond (is_none start && nat_lt j.submit t) (Some j) None ≡ waits t (Some j) start
+pub waits-by : (t : ℕ) (j : EffectiveJob) (start : Option ℕ) → cond (is_none start && nat_lt j.submit t) (Some j) None ≡ waits t (Some j) start
 waits-by t j None = refl
 waits-by t j (Some start) = refl
 
@@ -110,11 +110,11 @@ waiting-is plan t p =
     ∙ sym (look-filter job_of n test plan.jobs (p.once n) ∙ waits-is plan n t (job_numbered plan.jobs n) refl))
 
 -- ---- who runs
-abbrev runs : ℕ → Option EffectiveJob → Option ℕ → Option Placed
+abbrev pub runs : ℕ → Option EffectiveJob → Option ℕ → Option Placed
 runs t None start = None
 runs t (Some j) start = lasting t j start
 
-runs-here : (t : ℕ) (o : Option EffectiveJob) (start : Option ℕ) (w : Option EffectiveJob) (r : Option Placed) → Stands t o start w r → r ≡ runs t o start
+pub runs-here : (t : ℕ) (o : Option EffectiveJob) (start : Option ℕ) (w : Option EffectiveJob) (r : Option Placed) → Stands t o start w r → r ≡ runs t o start
 runs-here t None start w r h = h.2
 runs-here t (Some j) None w r h = h.1
 runs-here t (Some j) (Some start) w r h = h.3

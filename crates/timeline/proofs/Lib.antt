@@ -18,4 +18,5 @@ mod Ledger
 mod Meeting
 mod Places
 mod Stretched
+mod Between
 pub mod Lemmas

@@ -28,7 +28,7 @@ use Rattle.timeline.proofs.Places.{IsAt, within-first, behind-first, not-yet, fi
 pub is-at : (seconds : List ℕ) (place t : ℕ) → IsNonDecreasing seconds → slice_get seconds place ≡ Some t → IsAt seconds place t
 is-at seconds place t rising e = record { rising = rising; within = slice_get_within seconds place t e; second = get_or_from_slice_get seconds place t 0 e }
 
-waits-by-start : (seconds : List ℕ) (place t : ℕ) (job : EffectiveJob) (start : Option ℕ) → IsAt seconds place t
+pub waits-by-start : (seconds : List ℕ) (place t : ℕ) (job : EffectiveJob) (start : Option ℕ) → IsAt seconds place t
     → stands place (waiting_stretch seconds job start) ≡ (is_none (start_by t start) && nat_lt job.submit t)
 waits-by-start seconds place t job None at =
     first-of (nat_le (place_after seconds job.submit) place) (nat_lt place (length seconds)) (nat_lt job.submit t) (behind-first seconds place t job.submit at) (lt-ltb place (length seconds) at.within)
@@ -62,7 +62,7 @@ pub runs-there : (plan : Plan) (seconds : List ℕ) (place t : ℕ) (job : Effec
 runs-there plan seconds place t job start at tells = runs-by seconds place t job start at ∙ ap (λ o. option_map number_of (lasting t job o)) (sym tells)
 
 -- ---- running numbers in order
-abbrev number_in : RunningNumber → ℕ
+abbrev pub number_in : RunningNumber → ℕ
 number_in r = r.number
 
 numbers-placed : (r : Placed) (xs : List Placed) → many job_in r.job.number xs ≡ 0 → map number_of (placed r xs) ≡ with_key number_in (number_of r) (map number_of xs)
@@ -100,6 +100,10 @@ made-of : (ws vs : List ℕ) (rs qs : List RunningNumber) → ws ≡ vs → rs �
     → (let a : Numbers = record { waiting = ws; running = rs } in a) ≡ (let b : Numbers = record { waiting = vs; running = qs } in b)
 made-of ws vs rs qs a b = λ i. record { waiting = a i; running = b i }
 
+pub of-number : (seconds : List ℕ) (j : EffectiveJob) (start : Option ℕ) → (waiting_stretch seconds j start).item ≡ j.number
+of-number seconds j None = refl
+of-number seconds j (Some start) = refl
+
 pub states-stand-in-stretches : StatesStandInStretches
 states-stand-in-stretches plan seconds start place t p rising e tells =
     let at = is-at seconds place t rising e in
@@ -119,10 +123,6 @@ states-stand-in-stretches plan seconds start place t p rising e tells =
     ap numbers_of is
     ∙ made-of (map (λ (j : EffectiveJob). j.number) (filter (waits_before plan t) plan.jobs)) (standing_at place (waiting_stretches seconds plan.jobs start))
     (map number_of (by_number rs)) (by_key number_in (standing_at place (running_stretches seconds plan.jobs start))) waiting running
-  where
-    of-number : (seconds : List ℕ) (j : EffectiveJob) (start : Option ℕ) → (waiting_stretch seconds j start).item ≡ j.number
-    of-number seconds j None = refl
-    of-number seconds j (Some start) = refl
 
 -- ---- starts
 -- a start is known before t just where it comes before it

@@ -1,13 +1,16 @@
 -- Among rising seconds, the places before whose seconds a job waits, and those before whose seconds it runs.
-use Rattle.std.specs.Prelude.{◌≡◌, ℕ, ◌+◌, ◌≤◌, nat_le, nat_lt, if◌then◌else◌, List, length, map, filter_map, count_by, slice_get, Option, Some, None}
+use Rattle.std.specs.Prelude.{◌≡◌, ℕ, ◌+◌, ◌≤◌, ◌&&◌, nat_le, nat_lt, if◌then◌else◌, List, ◌++◌, length, map, filter, filter_map, count_by, slice_get, Option, Some, None}
 use Rattle.std.specs.List.Sorted.{IsNonDecreasing}
+use Rattle.std.specs.Option.{option_map}
 use Rattle.frames.specs.Frames.{by_key, standing_at, stands}
 use Rattle.frames.specs.declared.stretch.Stretch.{Stretch}
 use Rattle.scenarios.specs.Job.{EffectiveJob}
-use Rattle.scenarios.specs.Plan.{Plan}
+use Rattle.scenarios.specs.Plan.{Plan, job_numbered}
 use Rattle.scenarios.specs.SoundPlan.{IsPlan}
+use Rattle.scenarios.specs.declared.placed.Placed.{Placed}
 use Rattle.cluster_state.specs.declared.snapshot.RunningNumber.{RunningNumber}
-use Rattle.cluster_state.specs.Snapshot.{Numbers, numbers_of}
+use Rattle.cluster_state.specs.Snapshot.{Numbers, number_of, numbers_of}
+use Rattle.easy_rule.specs.declared.start.Start.{Start}
 use Rattle.easy_rule.specs.Simulation.{before, sim, start_of, starts_before}
 use Rattle.timeline.specs.Closed.{known_start}
 
@@ -25,6 +28,10 @@ abbrev pub running_stretch : List ℕ → EffectiveJob → Option ℕ → Option
 running_stretch seconds job None = None
 running_stretch seconds job (Some start) =
     Some (record { item = record { number = job.number; start = start }; from = place_after seconds start; to = place_after seconds (start + job.length) })
+
+-- the places at which a job of this start runs
+abbrev pub placed_stretch : List ℕ → Placed → Stretch RunningNumber
+placed_stretch seconds p = record { item = number_of p; from = place_after seconds p.start; to = place_after seconds (p.start + p.job.length) }
 
 -- what stands there of a stretch, if there is one
 abbrev pub standing_in : {X : Type 0} → ℕ → Option (Stretch X) → Option X
@@ -71,3 +78,26 @@ abbrev pub StatesStandInStretches : Type 0
 StatesStandInStretches =
     (plan : Plan) (seconds : List ℕ) (start : ℕ → Option ℕ) (place t : ℕ) → IsPlan plan → IsNonDecreasing seconds → slice_get seconds place ≡ Some t → TellStarts plan t start
     → numbers_of (before plan t) ≡ numbers_at place (waiting_stretches seconds plan.jobs start) (running_stretches seconds plan.jobs start)
+
+-- the jobs that are submitted from second a on and before second u, in the order of the log
+abbrev pub coming_between : List EffectiveJob → ℕ → ℕ → List EffectiveJob
+coming_between jobs a u = filter (λ j. nat_le a j.submit && nat_lt j.submit u) jobs
+
+-- the jobs of these starts, with their seconds
+abbrev pub started_of : List EffectiveJob → List Start → List Placed
+started_of jobs starts = filter_map (λ x. option_map (λ job. record { job = job; start = x.at }) (job_numbered jobs x.number)) starts
+
+-- from second a up to second u, of the jobs that wait before a and those that come there, with the starts that are made there,
+-- the waiting numbers of the state before each second are those that stand at its place
+abbrev pub WaitingStandInAStretch : Type 0
+WaitingStandInAStretch =
+    (plan : Plan) (seconds : List ℕ) (starts : List Start) (place t a u : ℕ) → IsPlan plan → IsNonDecreasing seconds → slice_get seconds place ≡ Some t → a ≤ t → t ≤ u
+    → starts_before plan u ≡ starts_before plan a ++ starts
+    → (numbers_of (before plan t)).waiting ≡ standing_at place (waiting_stretches seconds ((before plan a).waiting ++ coming_between plan.jobs a u) (start_of starts))
+
+-- and of the jobs that run before a and those that are started there, so do the running ones, by number
+abbrev pub RunningStandInAStretch : Type 0
+RunningStandInAStretch =
+    (plan : Plan) (seconds : List ℕ) (starts : List Start) (place t a u : ℕ) → IsPlan plan → IsNonDecreasing seconds → slice_get seconds place ≡ Some t → a ≤ t → t ≤ u
+    → starts_before plan u ≡ starts_before plan a ++ starts
+    → (numbers_of (before plan t)).running ≡ by_key (λ (r : RunningNumber). r.number) (standing_at place (map (placed_stretch seconds) ((before plan a).running ++ started_of plan.jobs starts)))

@@ -4,7 +4,7 @@ ghost use Rattle.timeline.specs.Laws.{HeadsStartByTheirShadowTimes, ShadowTimesN
 ghost use Rattle.timeline.specs.Closed.{NumbersStandUntilTheyEnd, StartsAreFinal, StatesFollowFromStarts};
 ghost use Rattle.timeline.specs.Ledger.{LedgersSwap, NotesKeepTheLedger};
 ghost use Rattle.timeline.specs.Meeting.{EachHasMet, SnapshotsMeet, StatesMeet};
-ghost use Rattle.timeline.specs.Stretches.{AllStartsTell, LaterStartsTell, StatesStandInStretches};
+ghost use Rattle.timeline.specs.Stretches.{AllStartsTell, LaterStartsTell, RunningStandInAStretch, StatesStandInStretches, WaitingStandInAStretch};
 
 /// Each job of a plan starts exactly once, at its submit second or later, and nobody else starts.
 pub fn each_job_starts_once()
@@ -87,4 +87,15 @@ pub fn states_stand_in_stretches()
     ensures states { StatesStandInStretches }
     ensures all { AllStartsTell }
     ensures later { LaterStartsTell }
+{}
+
+/// From one second up to another, the numbers of the states before rising seconds follow from what
+/// happens there alone: from the jobs that wait and run before the first of the two, those that are
+/// submitted from it on and before the second one, and the starts that are made in between. The waiting
+/// numbers are what stands at each place of the waiting jobs' stretches and then the coming ones'; the
+/// running numbers what stands there of the stretches of the running jobs and of the started ones, put in
+/// order.
+pub fn states_stand_in_a_stretch()
+    ensures waiting { WaitingStandInAStretch }
+    ensures running { RunningStandInAStretch }
 {}
