@@ -3,4 +3,5 @@ mod Rows
 mod EventLemmas
 mod Kept
 mod RunOn
+mod Few
 pub mod Lemmas

@@ -1,9 +1,9 @@
-ghost use Rattle.std.specs.Prelude.{◌≡◌, None, IfOk, IfErr, true, false};
+ghost use Rattle.std.specs.Prelude.{◌≡◌, ◌+◌, ◌<◌, ◌^◌, None, IfOk, IfErr, length, true, false};
 ghost use Rattle.event_loop.specs.Events.{earlier};
 
 use crate::coming::Coming;
 use crate::fault::EngineFault;
-use cluster_state::{Cluster, Snapshot};
+use cluster_state::{Cluster, RunningByEnd, Snapshot};
 use easy_rule::Shadow;
 use job_table::JobTable;
 use scenarios::{Plan, Scenario};
@@ -118,6 +118,19 @@ impl<A: Allocator + Copy> Engine<A> {
         earlier(self.coming.next(), self.cluster.next_end())
     }
 
+    /// How many jobs wait and run before the position; 0 in an engine that has failed. It goes over the
+    /// running ones.
+    pub fn standing(&self) -> usize
+        ensures going { self.now.failed ≡ false → result ≡ length (before self.now.plan self.now.position).waiting + length (before self.now.plan self.now.position).running }
+        ensures failed { self.now.failed ≡ true → result ≡ 0 }
+    {
+        if self.failed {
+            return 0;
+        }
+        let running = count_of(self.cluster.running_by_end());
+        self.cluster.waiting_count() + running
+    }
+
     /// The numbers of the jobs that wait and run before the position.
     ///
     /// Failed in an engine that has failed; Memory where a growth was refused.
@@ -132,6 +145,18 @@ impl<A: Allocator + Copy> Engine<A> {
         let snapshot = self.cluster.snapshot()?;
         Ok(snapshot)
     }
+}
+
+// How many jobs these are.
+fn count_of<A: Allocator + Copy>(running: RunningByEnd<'_, A>) -> usize
+    requires { length running < 2 ^ 64 }
+    ensures { result ≡ length running.entry }
+{
+    let mut count = 0;
+    for _job in running {
+        count += 1;
+    }
+    count
 }
 
 // The earlier of two seconds that may be missing.

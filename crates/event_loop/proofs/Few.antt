@@ -1,0 +1,30 @@
+-- How many jobs wait and run before a second: no more than a machine and a log allow.
+use Rattle.std.proofs.Common.{◌≡◌, ℕ, ◌+◌, ◌≤◌, ◌<◌, ◌^◌, List, [], ◌∷◌, length, filter, count_by, All, ap, sym, arith}
+use Rattle.std.specs.Prelude.{sum_by}
+use Rattle.std.proofs.lemmas.List.Sums.{length-filter, count_by-le-length, sum_by-cons}
+use Rattle.std.proofs.lemmas.List.Elements.{All-head, All-tail}
+use Rattle.scenarios.specs.Job.{EffectiveJob, IsWithinLimits}
+use Rattle.scenarios.specs.Plan.{Plan}
+use Rattle.scenarios.specs.SoundPlan.{IsPlan}
+use Rattle.scenarios.specs.declared.placed.Placed.{Placed}
+use Rattle.cluster_state.specs.State.{State, IsSound, busy}
+use Rattle.easy_rule.specs.Simulation.{before}
+use Rattle.timeline.specs.Closed.{waits_before}
+use Rattle.timeline.proofs.Lemmas.{states-follow-from-starts}
+
+-- each running job holds a processor at least
+one-each : (rs : List Placed) → All (λ r. IsWithinLimits r.job) rs → length rs ≤ busy rs
+one-each [] h = omega arith
+one-each (r ∷ rs) h =
+    let here = All-head (λ r. IsWithinLimits r.job) r rs h in
+    let size = here.takes_some in
+    let rest = one-each rs (All-tail (λ r. IsWithinLimits r.job) r rs h) in
+    omega (arith, size, rest, sum_by-cons (λ (r : Placed). r.job.size) r rs)
+
+pub few-running : (s : State) → IsSound s → length s.running ≤ s.machine
+few-running s h = let a = one-each s.running h.running_limits in let b = h.fits in omega (arith, a, b)
+
+pub few-waiting : (plan : Plan) (t : ℕ) → IsPlan plan → length (before plan t).waiting ≤ length plan.jobs
+few-waiting plan t p =
+    let e = ap (λ (s : State). length s.waiting) (states-follow-from-starts plan t p) in
+    omega (arith, e, length-filter (waits_before plan t) plan.jobs, count_by-le-length (waits_before plan t) plan.jobs)
