@@ -13,6 +13,9 @@ mod Told
 mod Placing
 mod EachRow
 mod Worked
+mod Gaps
+mod Stood
+mod Walks
 mod Coming
 mod Alike
 pub mod Lemmas

@@ -1,5 +1,5 @@
 -- An engine that works some event seconds.
-use Rattle.std.proofs.Common.{◌≡◌, ℕ, ◌+◌, ◌-◌, ◌≤◌, ◌<◌, ◌⊎◌, inl, inr, false, List, [], ◌∷◌, ◌++◌, map, All, Some, None, refl, sym, ◌∙◌, ap, arith, subst}
+use Rattle.std.proofs.Common.{◌≡◌, ℕ, ◌+◌, ◌-◌, ◌≤◌, ◌<◌, ◌⊎◌, inl, inr, false, List, [], ◌∷◌, ◌++◌, map, All, Option, Some, None, IfSome, refl, sym, ◌∙◌, ap, arith, subst}
 use Rattle.std.proofs.lemmas.List.{map-append}
 use Rattle.std.proofs.lemmas.List.Elements.{filter_map-append}
 use Rattle.scenarios.specs.Job.{EffectiveJob}
@@ -18,9 +18,10 @@ use Rattle.event_loop.proofs.Lemmas.{run-on-step}
 use Rattle.metrics.specs.Part.{PartSums, IsPartOf}
 use Rattle.metrics.specs.Placed.{CanSum}
 use Rattle.checkpoints.specs.Segment.{SegmentView}
-use Rattle.checkpoints.specs.Cut.{placed_at, placed_of, EndsWithEvent, Spans, Over, IsFull, ShortChain, IsShortCut}
+use Rattle.checkpoints.specs.Pieces.{PieceView, segment_of, IsNotedIn}
+use Rattle.checkpoints.specs.Cut.{placed_at, placed_of, EndsWithEvent, Spans, Chain, Over, IsFull, ShortChain, IsShortCut}
 use Rattle.checkpoints.specs.Coming.{NoneComes}
-use Rattle.checkpoints.proofs.Chains.{chain-push, span-bounded}
+use Rattle.checkpoints.proofs.Chains.{chain-push, short-chain, span-bounded}
 use Rattle.checkpoints.proofs.Late.{can-sum}
 use Rattle.checkpoints.proofs.Placing.{placed_from, placed-own}
 
@@ -104,6 +105,12 @@ cutting-more plan n now new ss s h same going spans short full = record {
       (subst (λ (p : Plan). IsFull p n now.position new.position) h.same (filled now.plan n now.position new.position new same refl short full));
 }
 
+-- the segments so far and the piece that was worked are one after another
+pub cutting-chain : (plan : Plan) (n : ℕ) (now new : Progress) (ss : List SegmentView) (p : PieceView) → Cutting plan n now ss → Spans now.plan (segment_of now.plan p) now.position new.position
+    → (m : ℕ) × (b : ℕ) × Chain plan 0 ss m × Spans plan (segment_of plan p) m b
+cutting-chain plan n now new ss p h spans =
+    (now.position, new.position, short-chain plan n 0 now.position ss h.chain, subst (λ (q : Plan). Spans q (segment_of q p) now.position new.position) h.same spans)
+
 pub cutting-down : (plan : Plan) (now new : Progress) (s : SegmentView) → IsPlan plan → now.plan ≡ plan → Spans now.plan s now.position new.position → bound plan + 1 - new.position < bound plan + 1 - now.position
 cutting-down plan now new s p same spans =
     let spans' : Spans plan s now.position new.position = subst (λ (q : Plan). Spans q s now.position new.position) same spans in
@@ -111,6 +118,13 @@ cutting-down plan now new s p same spans =
     let a = spans'.ends.1 in
     let b = spans'.ends.2 in
     omega (arith, l, a, b)
+
+-- one piece more
+pub cutting-piece : (plan : Plan) (n : ℕ) (now new : Progress) (ss ts : List SegmentView) (p : PieceView) → Cutting plan n now ss → new.plan ≡ now.plan → new.failed ≡ false → Spans now.plan (segment_of now.plan p) now.position new.position
+    → events_before now.plan new.position ≤ events_before now.plan now.position + n → (events_before now.plan new.position ≡ events_before now.plan now.position + n) ⊎ NoneComes new None → ts ≡ ss ++ segment_of plan p ∷ [] → Cutting plan n new ts
+cutting-piece plan n now new ss ts p h same going spans short full put =
+    subst (Cutting plan n new) (sym put)
+    (cutting-more plan n now new ss (segment_of plan p) h same going (subst (λ (q : Plan). Spans now.plan (segment_of q p) now.position new.position) h.same spans) short full)
 
 pub cut-done : (plan : Plan) (n : ℕ) (now : Progress) (ss : List SegmentView) → Cutting plan n now ss → IsNextEvent now.plan now.position None → IsShortCut plan n ss
 cut-done plan n now ss h none = (now.position, h.chain, subst (λ (p : Plan). IsNextEvent p now.position None) h.same none)
@@ -129,13 +143,20 @@ working-can old now starts placed count h ne =
     let ends = h.some (omega (arith, ne)) in
     subst CanSum (sym h.jobs) (can-sum old.plan old.position now.position starts p (ends-bounded old.plan old.position now.position p ends) h.run.told)
 
--- the segment of a stretch
-pub segment-spans : (old new : Progress) (s : SegmentView) (first : ℕ) (snap : Numbers) (starts : List Start) (ps qs : List Placed) (part : PartSums) → s ≡ record { first = first; before = snap; starts = starts; part = part }
-    → IsRunOn old new starts → EndsWithEvent old.plan old.position new.position → first ≡ old.position → snap ≡ numbers_of (before old.plan old.position) → qs ≡ ps → ps ≡ placed_of old.plan.jobs starts → IsPartOf qs part → Spans old.plan s old.position new.position
-segment-spans old new s first snap starts ps qs part is run ends at numbers e jobs sums =
-    let v : SegmentView = record { first = first; before = snap; starts = starts; part = part } in
-    let spans : Spans old.plan v old.position new.position = working-spans old new v run ends at numbers (subst (λ (xs : List Placed). IsPartOf xs part) (e ∙ jobs) sums) in
-    subst (λ (x : SegmentView). Spans old.plan x old.position new.position) (sym is) spans
+-- the piece of a stretch
+pub piece-spans : (old new : Progress) (p : PieceView) (first : ℕ) (snap : Option Numbers) (starts : List Start) (ps qs : List Placed) (part : PartSums) → p ≡ record { first = first; before = snap; starts = starts; part = part }
+    → IsRunOn old new starts → EndsWithEvent old.plan old.position new.position → first ≡ old.position → qs ≡ ps → ps ≡ placed_of old.plan.jobs starts → IsPartOf qs part → Spans old.plan (segment_of old.plan p) old.position new.position
+piece-spans old new p first snap starts ps qs part is run ends at e jobs sums =
+    let v : PieceView = record { first = first; before = snap; starts = starts; part = part } in
+    let spans : Spans old.plan (segment_of old.plan v) old.position new.position =
+    working-spans old new (segment_of old.plan v) run ends at (ap (λ t. numbers_of (before old.plan t)) at) (subst (λ (xs : List Placed). IsPartOf xs part) (e ∙ jobs) sums) in
+    subst (λ (x : PieceView). Spans old.plan (segment_of old.plan x) old.position new.position) (sym is) spans
+
+-- and its snapshot is that of the plan's state, where it was noted
+pub piece-noted : (plan : Plan) (position : ℕ) (p : PieceView) (first : ℕ) (snap : Option Numbers) (starts : List Start) (part : PartSums) → p ≡ record { first = first; before = snap; starts = starts; part = part }
+    → first ≡ position → IfSome snap (λ there. there ≡ numbers_of (before plan position)) → IsNotedIn plan p
+piece-noted plan position p first snap starts part is at noted =
+    subst (IsNotedIn plan) (sym is) (subst (λ t. IfSome snap (λ there. there ≡ numbers_of (before plan t))) (sym at) noted)
 
 -- one segment more, as callers see them
 pub push-seen : {X : Type 0} (f : X → SegmentView) (xs ys : List X) (x : X) (s : SegmentView) → ys ≡ xs ++ x ∷ [] → f x ≡ s → map f ys ≡ map f xs ++ s ∷ []

@@ -1,4 +1,6 @@
 pub mod Segment
+pub mod Pieces
+pub mod Closing
 pub mod Cut
 pub mod Coming
 pub mod Sums

@@ -1,13 +1,17 @@
 ghost use Rattle.std.specs.Prelude.{◌≡◌, ◌+◌, ◌≤◌, ◌⊎◌, ◌↔◌, false, IsTrue, IfOk, IfErr, IfSome, OnOk};
+ghost use Rattle.cluster_state.specs.Snapshot.{numbers_of};
+ghost use Rattle.easy_rule.specs.Simulation.{before as before_second};
 ghost use Rattle.event_loop.specs.Events.{events_before};
 ghost use Rattle.event_loop.specs.Going.{IsRunOn};
 ghost use Rattle.metrics.specs.Placed.{CanSum};
 ghost use Rattle.checkpoints.specs.Coming.{ComesBefore, NoneComes};
 ghost use Rattle.checkpoints.specs.Cut.{EndsWithEvent, Spans, placed_of};
+ghost use Rattle.checkpoints.specs.Pieces.{IsNotedIn, segment_of};
 
 use crate::fault::RunFault;
 use crate::parts::add_placed;
-use crate::segment::Segment;
+use crate::piece::Piece;
+use cluster_state::Snapshot;
 use easy_rule::{Start, add_starts};
 use event_loop::Engine;
 use metrics::{Part, Placed};
@@ -69,20 +73,51 @@ fn work<A: Allocator + Copy>(
     Ok(Worked { starts, placed })
 }
 
-/// The next segment of an engine's simulation: `spacing` event seconds, or those that come before the
+/// So few who wait and run are noted at each piece.
+const FEW: usize = 256;
+
+/// How many starts come between snapshots that are noted, for each of those who wait and run.
+const STARTS: u64 = 4;
+
+// The numbers before the position of an engine, where these are few, or few beside the starts since the
+// last that were noted: then noting them all costs little beside what changed.
+fn noted<A: Allocator + Copy>(
+    engine: &Engine<A>,
+    started: &mut u64,
+) -> Result<Option<Snapshot<A>>, RunFault>
+    requires { engine.now.failed ≡ false }
+    ensures noted { IfOk result (λ before. IfSome before (λ there. there ≡ numbers_of (before_second engine.now.plan engine.now.position))) }
+    ensures fault { IfErr result (λ f. f ≡ RunFault.Memory) }
+{
+    let standing = engine.standing();
+    if standing > FEW && (standing as u64).saturating_mul(STARTS) > *started {
+        return Ok(None);
+    }
+    *started = 0;
+    let before = engine.snapshot()?;
+    Ok(Some(before))
+}
+
+/// The next piece of an engine's simulation: `spacing` event seconds, or those that come before the
 /// end, of which there is one. Memory where a growth was refused.
-pub fn next_segment<A: Allocator + Copy>(
+///
+/// `started` is how many jobs have started since the last snapshot that was noted: 0 at first. It decides
+/// only whether the piece's snapshot is noted at once: it is where those who wait and run are few, or a
+/// quarter of these.
+pub fn next_piece<A: Allocator + Copy>(
     alloc: A,
     engine: &mut Engine<A>,
     spacing: u32,
     end: Option<u64>,
-) -> Result<Segment<A>, RunFault>
+    started: &mut u64,
+) -> Result<Piece<A>, RunFault>
     requires spacing { 1 ≤ spacing }
     requires going { engine.old.failed ≡ false }
     requires coming { ComesBefore engine.old end }
     ensures plan { OnOk result (engine.new.plan ≡ engine.old.plan) }
     ensures going { OnOk result (engine.new.failed ≡ false) }
-    ensures spans { IfOk result (λ s. Spans engine.old.plan s engine.old.position engine.new.position) }
+    ensures spans { IfOk result (λ p. Spans engine.old.plan (segment_of engine.old.plan p) engine.old.position engine.new.position) }
+    ensures noted { IfOk result (IsNotedIn engine.old.plan) }
     ensures within { OnOk result (IfSome end (λ e. engine.new.position ≤ e)) }
     ensures short { OnOk result (events_before engine.old.plan engine.new.position ≤ events_before engine.old.plan engine.old.position + spacing) }
     ensures full { OnOk result ((events_before engine.old.plan engine.new.position ≡ events_before engine.old.plan engine.old.position + spacing) ⊎ NoneComes engine.new end) }
@@ -90,8 +125,9 @@ pub fn next_segment<A: Allocator + Copy>(
     ensures fault { IfErr result (λ f. f ≡ RunFault.Memory) }
 {
     let first = engine.position();
-    let before = engine.snapshot()?;
+    let before = noted(engine, started)?;
     let Worked { starts, placed } = work(alloc, engine, spacing, end)?;
+    *started = started.saturating_add(starts.len() as u64);
     let part = Part::of(alloc, placed.as_slice())?;
-    Ok(Segment::new(first, before, starts, part))
+    Ok(Piece::new(first, before, starts, part))
 }

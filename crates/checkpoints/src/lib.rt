@@ -2,27 +2,36 @@
 //! tables.
 #![tactic(auto)]
 
+mod closing;
 mod cutting;
 mod fault;
+mod gap;
 mod groups;
 pub mod laws;
 mod levels;
 mod merged;
 mod parts;
+mod piece;
 mod regrouping;
 mod row;
 mod rows;
 mod run;
+mod running_frame;
 mod schedule;
 mod segment;
+mod segments;
+mod shared;
 mod simulation;
 mod starts;
 mod sums;
+mod waiting_frame;
 
-pub use cutting::{comes_before, next_segment};
+pub use cutting::{comes_before, next_piece};
 pub use fault::RunFault;
+pub use piece::Piece;
 pub use row::Row;
 pub use rows::Rows;
 pub use run::Run;
 pub use segment::Segment;
+pub use segments::Segments;
 pub use simulation::{MAX_SPACING, simulate};

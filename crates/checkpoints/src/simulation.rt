@@ -3,13 +3,15 @@ ghost use Rattle.std.specs.Arc.{arc_value};
 ghost use Rattle.scenarios.specs.Plan.{plan_of};
 ghost use Rattle.scenarios.specs.PlanView.{plan_in};
 ghost use Rattle.checkpoints.specs.Cut.{IsShortCut};
+ghost use Rattle.checkpoints.specs.Pieces.{all_in};
 ghost use Rattle.checkpoints.specs.RunView.{IsRun};
 ghost use Rattle.checkpoints.specs.Spacing.{IsSpacing, IsRefusal};
 
-use crate::cutting::{comes_before, next_segment};
+use crate::cutting::{comes_before, next_piece};
 use crate::fault::RunFault;
 use crate::run::Run;
 use crate::segment::Segment;
+use crate::segments::Segments;
 use event_loop::Engine;
 use job_table::JobTable;
 use scenarios::{Plan, Scenario};
@@ -18,6 +20,28 @@ use std::sync::Arc;
 
 /// The most event seconds that a segment may be asked to hold.
 pub const MAX_SPACING: u32 = 65_536;
+
+// The segments of a plan's simulation, of `spacing` event seconds each, but the last, of which some are
+// pending.
+fn worked<A: Allocator + Copy>(
+    alloc: A,
+    plan: &Plan<A>,
+    spacing: u32,
+) -> Result<Segments<A>, RunFault>
+    requires { 1 ≤ spacing }
+    ensures cut { IfOk result (λ segments. IsShortCut (plan_in plan.now) spacing (all_in (plan_in plan.now) segments)) }
+    ensures fault { IfErr result (λ f. f ≡ RunFault.Memory) }
+{
+    let mut engine = Engine::new(alloc, plan.table().clone()?, plan.scenario());
+    let view = plan.view();
+    let mut started = 0;
+    let mut segments = Segments::new(alloc);
+    'segments: while comes_before(&engine, None) {
+        let piece = next_piece(alloc, &mut engine, spacing, None, &mut started)?;
+        segments.add(&view, piece)?;
+    }
+    Ok(segments)
+}
 
 // The segments of a plan's simulation, of `spacing` event seconds each, but the last.
 fn segments_of<A: Allocator + Copy>(
@@ -29,13 +53,10 @@ fn segments_of<A: Allocator + Copy>(
     ensures cut { IfOk result (λ segments. IsShortCut (plan_in plan.now) spacing (map arc_value segments.items)) }
     ensures fault { IfErr result (λ f. f ≡ RunFault.Memory) }
 {
-    let mut engine = Engine::new(alloc, plan.table().clone()?, plan.scenario());
-    let mut segments = Vec::new(alloc);
-    'segments: while comes_before(&engine, None) {
-        let segment = next_segment(alloc, &mut engine, spacing, None)?;
-        segments.push(Arc::new(alloc, segment)?)?;
-    }
-    Ok(segments)
+    let segments = worked(alloc, plan, spacing)?;
+    let view = plan.view();
+    let done = segments.finish(&view)?;
+    Ok(done)
 }
 
 /// Simulates a table under a scenario, and cuts the simulation into segments, each of which holds

@@ -159,7 +159,9 @@ fn note_all<A: Allocator + Copy>(
 }
 
 // Puts starts in order of their numbers; those of one number stay as they stand.
-fn sort_by_number<A: Allocator + Copy>(starts: &mut Vec<Start, A>) -> Result<(), AllocError>
+pub(crate) fn sort_by_number<A: Allocator + Copy>(
+    starts: &mut Vec<Start, A>,
+) -> Result<(), AllocError>
     ensures order { OnOk result (IsNonDecreasingBy (λ x. x.number) starts.new.items) }
     ensures starts { OnOk result ((n : ℕ) → start_of starts.new.items n ≡ start_of starts.old.items n) }
 {
@@ -168,7 +170,7 @@ fn sort_by_number<A: Allocator + Copy>(starts: &mut Vec<Start, A>) -> Result<(),
 }
 
 // The second at which a number starts among these, which rise by number.
-fn start_among(starts: &[Start], number: u64) -> Option<u64>
+pub(crate) fn start_among(starts: &[Start], number: u64) -> Option<u64>
     requires { IsNonDecreasingBy (λ x. x.number) starts.now }
     ensures { result ≡ start_of starts.now number }
 {

@@ -1,11 +1,12 @@
 -- The touched numbers among those of edits, and their submit seconds.
-use Rattle.std.proofs.Common.{◌≡◌, ◌≢◌, ℕ, ◌≤◌, ◌<◌, ◌+◌, ◌⊎◌, List, [], ◌∷◌, ◌++◌, map, take, length, get_or, All, Option, None, Some, zero, suc, sym, ◌∙◌, ap, subst, arith, inl, inr}
+use Rattle.std.proofs.Common.{◌≡◌, ◌≢◌, ℕ, ◌≤◌, ◌<◌, ◌+◌, ◌⊎◌, List, [], ◌∷◌, ◌++◌, map, take, length, get_or, All, Option, None, Some, zero, suc, cond, nat_lt, refl, sym, ◌∙◌, ap, subst, arith, inl, inr}
 use Rattle.std.specs.Prelude.{IsSomeAnd}
 use Rattle.std.specs.List.{Contains, flat_map}
 use Rattle.std.proofs.Math.Decide.{ℕ_discrete}
 use Rattle.std.proofs.Math.Logic.{by_cases}
 use Rattle.std.proofs.lemmas.List.{take_more, take_all, map-append}
 use Rattle.std.proofs.lemmas.List.Concat.{flat_map-cons}
+use Rattle.std.proofs.lemmas.List.Sums.{sum_by-append, sum_by-cons}
 use Rattle.std.proofs.lemmas.List.Elements.{All-push, All-cons, All-nil, All-head, All-tail, All-weaker, All-contains_itself, Contains-append_left, Contains-append_right, Contains-append_cases}
 use Rattle.swf_text.specs.Entry.{LogEntry}
 use Rattle.job_table.specs.Accepted.{AreAccepted}
@@ -15,6 +16,7 @@ use Rattle.scenarios.specs.Job.{EffectiveJob}
 use Rattle.scenarios.specs.Scenario.{Setting}
 use Rattle.scenarios.specs.Plan.{Plan, plan_of, job_numbered}
 use Rattle.rejoin.specs.Named.{named, submit_in, submits_of}
+use Rattle.rejoin.specs.Started.{count_before, submitted_of}
 use Rattle.rejoin.specs.Tested.{AreThose}
 use Rattle.rejoin.specs.Touched.{IsTouched, IsSubmit, IsTouchedSubmit}
 use Rattle.rejoin.proofs.Named.{others-are-untouched}
@@ -125,6 +127,21 @@ submits-all p q ns ts those is = record {
   where
     All-all : (ts : List ℕ) → ((t : ℕ) → Contains ts t → IsTouchedSubmit p q t) → All (IsTouchedSubmit p q) ts
     All-all ts h = All-weaker (Contains ts) (IsTouchedSubmit p q) h ts (All-contains_itself ts)
+
+-- so many of them come before a second
+count-append : (t : ℕ) (xs ys : List ℕ) → count_before t (xs ++ ys) ≡ count_before t xs + count_before t ys
+count-append t xs ys = sum_by-append (λ (s : ℕ). cond {A = ℕ} (nat_lt s t) 1 0) xs ys
+
+pub submits-count : (p q : Plan) (ns : List ℕ) (t : ℕ) → count_before t (flat_map (submits_of p q) ns) ≡ submitted_of ns p t + submitted_of ns q t
+submits-count p q [] t = refl
+submits-count p q (n ∷ ns) t =
+    let whole = ap (count_before t) (flat_map-cons (submits_of p q) n ns) in
+    let both = count-append t (submits_of p q n) (flat_map (submits_of p q) ns) in
+    let one = count-append t (submit_in (job_numbered p.jobs n)) (submit_in (job_numbered q.jobs n)) in
+    let was = sum_by-cons (λ m. count_before t (submit_in (job_numbered p.jobs m))) n ns in
+    let is = sum_by-cons (λ m. count_before t (submit_in (job_numbered q.jobs m))) n ns in
+    let rest = submits-count p q ns t in
+    omega (arith, whole, both, one, was, is, rest)
 
 -- a loop over the edits
 module _ {X : Type 0} (f : X → LogEdit) where

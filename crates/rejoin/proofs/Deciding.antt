@@ -1,6 +1,6 @@
 -- One old segment, at its place among the others.
-use Rattle.std.proofs.Common.{◌≡◌, ℕ, ◌+◌, ◌<◌, Bool, IsTrue, ◌↔◌, List, ◌∷◌, ◌++◌, map, take, drop, length, get_or, Option, sym, ◌∙◌, ap, subst, arith}
-use Rattle.std.proofs.lemmas.List.{drop_more, drop-map, length-map, take-append-drop}
+use Rattle.std.proofs.Common.{◌≡◌, ℕ, ◌+◌, ◌<◌, Bool, IsTrue, ◌↔◌, List, ◌∷◌, map, drop, length, get_or, Option, sym, ◌∙◌, ap, subst, arith}
+use Rattle.std.proofs.lemmas.List.{drop_more, drop-map, length-map}
 use Rattle.scenarios.specs.Plan.{Plan}
 use Rattle.cluster_state.specs.Snapshot.{Numbers, numbers_of}
 use Rattle.easy_rule.specs.Simulation.{before}
@@ -9,7 +9,6 @@ use Rattle.rejoin.specs.Kept.{next_first, InStretch}
 use Rattle.rejoin.specs.Tested.{NoneWithin}
 use Rattle.rejoin.specs.Touched.{IsTouchedSubmit}
 use Rattle.rejoin.specs.Rejoining.{ChangeView, IsChange, IsClear}
-use Rattle.rejoin.proofs.Rejoining.{spans-here}
 use Rattle.rejoin.proofs.Tests.{of-none, none-of}
 
 pub heads : (x y : SegmentView) (xs ys : List SegmentView) → x ∷ xs ≡ y ∷ ys → x ≡ y
@@ -29,12 +28,6 @@ pub segments-at : {X : Type 0} (f : X → SegmentView) (xs : List X) (old : List
 segments-at f xs old i d e l =
     let few : i < length xs = omega (arith, l, ap length e, length-map xs f) in
     ap (drop i) (sym e) ∙ drop-map f i xs ∙ ap (map f) (drop_more xs i d few) ∙ ap (λ (t : List SegmentView). f (get_or xs i d) ∷ t) (sym (drop-map f (i + 1) xs) ∙ ap (drop (i + 1)) e)
-
--- the snapshot of one
-pub snapshot-at : (c : ChangeView) → IsChange c → (i : ℕ) (s : SegmentView) (rest : List SegmentView) → drop i c.old ≡ s ∷ rest → s.before ≡ numbers_of (before c.was s.first)
-snapshot-at c ok i s rest e =
-    let whole : c.old ≡ take i c.old ++ s ∷ rest = sym (take-append-drop i c.old) ∙ ap (λ (t : List SegmentView). take i c.old ++ t) e in
-    (spans-here c.was c.old ok.cut s rest (take i c.old, whole)).1.snapshot
 
 -- the touched submits decide
 pub clear-decides : (c : ChangeView) → IsChange c → (a : ℕ) (next : Option ℕ) (r : Bool) → IsTrue r ↔ NoneWithin c.submits a next → IsTrue r ↔ IsClear c.was c.is a next

@@ -1,21 +1,21 @@
 -- Where a ledger says that two simulations have met.
-use Rattle.std.proofs.Common.{◌≡◌, ℕ, zero, suc, ◌+◌, ◌-◌, ◌≤◌, ◌<◌, ◌^◌, ◌↔◌, ◌||◌, Bool, true, false, cond, nat_eq, count_by, List, [], ◌∷◌, ◌++◌, length, get_or, take, drop, All, IsTrue, Option, Some, None, refl, sym, ◌∙◌, ap, subst, arith, ⊎_elim, inr}
+use Rattle.std.proofs.Common.{◌≡◌, ℕ, zero, suc, ◌+◌, ◌≤◌, ◌<◌, ◌^◌, ◌↔◌, ◌||◌, Bool, true, false, cond, nat_eq, count_by, List, [], ◌∷◌, ◌++◌, length, get_or, take, drop, All, IsTrue, Option, Some, None, refl, sym, ◌∙◌, ap, subst, arith, ⊎_elim, inr}
 use Rattle.std.specs.Prelude.{IfSome, IsSome}
 use Rattle.std.specs.List.{Contains}
 use Rattle.std.specs.BTreeMap.{BTreeMap}
 use Rattle.std.proofs.lemmas.Bool.{cond-true, cond-false, cases_Bool, eq-eqb, eqb-true, false≢true}
-use Rattle.std.proofs.lemmas.List.{get_or_default, take-append-drop}
+use Rattle.std.proofs.lemmas.List.{take-append-drop}
 use Rattle.std.proofs.lemmas.List.Elements.{All-contains, All-weaker}
-use Rattle.std.proofs.lemmas.List.Sums.{sum_by-cons, sum_by-append}
+use Rattle.std.proofs.lemmas.List.Sums.{sum_by-cons}
 use Rattle.scenarios.specs.Job.{EffectiveJob}
 use Rattle.scenarios.specs.Plan.{Plan, job_numbered}
 use Rattle.scenarios.specs.SoundPlan.{IsPlan}
-use Rattle.cluster_state.specs.Snapshot.{Numbers, numbers_of, standing}
+use Rattle.cluster_state.specs.Snapshot.{numbers_of}
 use Rattle.easy_rule.specs.declared.start.Start.{Start}
 use Rattle.easy_rule.specs.Simulation.{before, bound, starts_before, start_of}
 use Rattle.timeline.specs.Ledger.{ledger_of}
 use Rattle.timeline.specs.Meeting.{AgreeBut, HaveMet, NoneOf}
-use Rattle.timeline.proofs.Lemmas.{each-job-starts-once, later, short-plan, starts-below, snapshots-meet}
+use Rattle.timeline.proofs.Lemmas.{short-plan, starts-below, snapshots-meet}
 use Rattle.event_loop.proofs.Lemmas.{before-of-plan}
 use Rattle.checkpoints.specs.Segment.{SegmentView}
 use Rattle.event_loop.specs.Events.{Progress, begun}
@@ -23,11 +23,14 @@ use Rattle.checkpoints.specs.Cut.{Spans, Chain}
 use Rattle.checkpoints.proofs.Lemmas.{span-bounded}
 use Rattle.rejoin.specs.Touched.{IsTouched}
 use Rattle.rejoin.specs.Kept.{next_first, MayBegin, IsEnd, IsKept}
-use Rattle.rejoin.specs.Tested.{NoneStands}
 use Rattle.rejoin.specs.Rejoining.{ChangeView, IsChange, IsClear, Stands}
-use Rattle.rejoin.specs.Noted.{among, AreStarts, HasNone, Keeps, IsNoted, IsNotedBehind, ledger_at}
+use Rattle.rejoin.specs.Noted.{AreNotes, AreStarts, Follows, HasNone, Keeps, IsNoted, IsNotedBehind, ledger_at}
+use Rattle.rejoin.specs.declared.ledger.Ledger.{Ledger as Notes}
+use Rattle.rejoin.specs.Started.{among, count_before}
 use Rattle.rejoin.proofs.Alike.{stable-found, untouched-equal-numbers-are-equal-states}
 use Rattle.rejoin.proofs.Noting.{no-start}
+use Rattle.rejoin.proofs.Following.{IsMore, All-back, ended-later, follows-new, follows-old}
+use Rattle.rejoin.proofs.Started.{few-starts, starts-tell-who-stands}
 use Rattle.rejoin.proofs.Rejoining.{spans-here}
 use Rattle.rejoin.proofs.Walk.{start-same}
 use Rattle.rejoin.proofs.Turns.{bounded}
@@ -61,12 +64,6 @@ told-among ns n false h = go (among ns n) refl
     go : (b : Bool) → among ns n ≡ b → false ≡ b
     go true e = h.1 (true-among ns n e)
     go false e = refl
-
-pub none-stands : (ns : List ℕ) (there : Numbers) → NoneStands ns there ↔ NoneOf (among ns) there
-none-stands ns there = (
-  (λ none n e l. All-contains (λ m. 1 ≤ standing there m → ⊥) ns n none (true-among ns n e) l),
-  (λ none k d l s. none (get_or ns k d) (among-true ns (get_or ns k d) (k, l, sym (get_or_default ns k d (get_or ns k d) l))) s),
-)
 
 -- ---- two plans of a change
 pub agree-but : (c : ChangeView) → IsChange c → AgreeBut (among c.touched) c.was c.is
@@ -147,16 +144,6 @@ job-there (j ∷ js) n l =
     subst IsSome (sym (cond-false (nat_eq j.number n) (Some j) (job_numbered js n) other)) (job-there js n (omega (arith, l, more, none))))
     (cases_Bool (nat_eq j.number n))
 
-few-starts : (plan : Plan) (t n : ℕ) → IsPlan plan → t ≤ bound plan + 1 → count_by (λ (x : Start). nat_eq x.number n) (starts_before plan t) ≤ count_by (λ (j : EffectiveJob). nat_eq j.number n) plan.jobs
-few-starts plan t n p l =
-    let rest = later plan t (bound plan + 1 - t) in
-    let whole : t + (bound plan + 1 - t) ≡ bound plan + 1 = omega (arith, l) in
-    let split : starts_before plan (bound plan + 1) ≡ starts_before plan t ++ rest.0 = ap (starts_before plan) (sym whole) ∙ rest.1 in
-    let all = each-job-starts-once plan n p in
-    let same = ap (λ (xs : List Start). count_by (λ (x : Start). nat_eq x.number n) xs) split in
-    let both = sum_by-append (λ (x : Start). cond {A = ℕ} (nat_eq x.number n) 1 0) (starts_before plan t) rest.0 in
-    omega (arith, all, same, both)
-
 pub early-starts : (plan : Plan) (t : ℕ) → IsPlan plan → t ≤ bound plan + 1 → All (λ (x : Start). x.at < 2 ^ 49) (starts_before plan t)
 early-starts plan t p l = let short = short-plan plan p in All-weaker (λ (x : Start). x.at < t) (λ (x : Start). x.at < 2 ^ 49) (λ x m. omega (arith, m, l, short)) (starts_before plan t) (starts-below plan t)
 
@@ -199,14 +186,15 @@ module _ (c : ChangeView) (ok : IsChange c) where
       (sp.0, sp.1, sp.2, span-bounded c.was s s.first sp.0 ok.alike.left sp.1, omega (arith, x, y))
 
   -- ---- from second to second
-  module _ (at : ℕ) (old new : BTreeMap ℕ ℕ) (until : ℕ) (old' new' : BTreeMap ℕ ℕ) (until' : ℕ) where
+  module _ {A : Type 0} (at : ℕ) (notes notes' : Notes A) where
     -- the new simulation goes on
-    pub noted-worked : (s : SegmentView) (a b : ℕ) → Spans c.is s a b → IsNoted c at a old new until
+    pub noted-worked : (s : SegmentView) (a b : ℕ) → Spans c.is s a b → IsNoted c at a notes
         → ((from : ℕ) (xs others : List Start) → AreStarts (among c.touched) c.is.jobs (xs ++ s.starts) → All (λ (x : Start). x.at < 2 ^ 49) others
-        → Keeps from (ledger_of (among c.touched) c.is.jobs others xs) old new until → Keeps from (ledger_of (among c.touched) c.is.jobs others (xs ++ s.starts)) old' new' until') → IsNoted c at b old' new' until'
-    noted-worked s a b sp noted step = go (drop at c.old) refl noted
+        → Keeps from (ledger_of (among c.touched) c.is.jobs others xs) notes.was notes.is notes.until → Keeps from (ledger_of (among c.touched) c.is.jobs others (xs ++ s.starts)) notes'.was notes'.is notes'.until)
+        → IsMore c.touched c.is.jobs s.starts notes.started notes'.started notes.ended notes'.ended → IsNoted c at b notes'
+    noted-worked s a b sp noted step more = go (drop at c.old) refl noted
       where
-        go : (left : List SegmentView) → drop at c.old ≡ left → IfSome (next_first left) (λ f. Keeps a (ledger_at c f a) old new until) → IfSome (next_first left) (λ f. Keeps b (ledger_at c f b) old' new' until')
+        go : (left : List SegmentView) → drop at c.old ≡ left → IfSome (next_first left) (λ f. AreNotes c f a notes) → IfSome (next_first left) (λ f. AreNotes c f b notes')
         go [] e k = tt
         go (z ∷ rest) e k =
             let x = sp.ends.1 in
@@ -214,104 +202,190 @@ module _ (c : ChangeView) (ok : IsChange c) where
             let e' = old-end at z rest e in
             let few = e'.3 in
             let up = e'.4 in
-            let starts = new-starts b (span-bounded c.is s a b ok.alike.right sp) in
-            subst (λ (xs : List Start). Keeps b (ledger_of (among c.touched) c.is.jobs (starts_before c.was z.first) xs) old' new' until') (sym sp.starts)
-            (step b (starts_before c.is a) (starts_before c.was z.first) (subst (AreStarts (among c.touched) c.is.jobs) sp.starts starts) (early-starts c.was z.first ok.alike.left (omega (arith, few, up)))
-            (later-keeps c a b z.first a old new until (omega (arith, x, y)) k))
+            let later' : a ≤ b = omega (arith, x, y) in
+            let starts = subst (AreStarts (among c.touched) c.is.jobs) sp.starts (new-starts b (span-bounded c.is s a b ok.alike.right sp)) in
+            record {
+              others = subst (λ (xs : List Start). Keeps b (ledger_of (among c.touched) c.is.jobs (starts_before c.was z.first) xs) notes'.was notes'.is notes'.until) (sym sp.starts)
+                  (step b (starts_before c.is a) (starts_before c.was z.first) starts (early-starts c.was z.first ok.alike.left (omega (arith, few, up)))
+                  (later-keeps c a b z.first a notes.was notes.is notes.until later' k.others));
+              touched = follows-new a b c z.first a b notes.started notes'.started notes.ended notes'.ended s.starts later' sp.starts starts.once (All-back (λ (q : Start). q.at < 2 ^ 49) (starts_before c.is a) s.starts starts.early) more k.touched;
+            }
 
     -- the old one goes on
-    pub noted-passed : (s : SegmentView) → drop at c.old ≡ s ∷ drop (at + 1) c.old → (position : ℕ) → MayBegin c.is position → IsNoted c at position old new until
+    pub noted-passed : (s : SegmentView) → drop at c.old ≡ s ∷ drop (at + 1) c.old → (position : ℕ) → MayBegin c.is position → IsNoted c at position notes
         → ((from : ℕ) (xs others : List Start) → AreStarts (among c.touched) c.is.jobs (xs ++ s.starts) → All (λ (x : Start). x.at < 2 ^ 49) others
-        → Keeps from (ledger_of (among c.touched) c.is.jobs xs others) old new until → Keeps from (ledger_of (among c.touched) c.is.jobs (xs ++ s.starts) others) old' new' until') → IsNoted c (at + 1) position old' new' until'
-    noted-passed s here position begins noted step = go (next_first (drop (at + 1) c.old)) refl
+        → Keeps from (ledger_of (among c.touched) c.is.jobs xs others) notes.was notes.is notes.until → Keeps from (ledger_of (among c.touched) c.is.jobs (xs ++ s.starts) others) notes'.was notes'.is notes'.until)
+        → IsMore c.touched c.was.jobs s.starts notes.started notes'.started notes.ended notes'.ended → IsNoted c (at + 1) position notes'
+    noted-passed s here position begins noted step more = go (next_first (drop (at + 1) c.old)) refl
       where
-        go : (next : Option ℕ) → next_first (drop (at + 1) c.old) ≡ next → IfSome next (λ f. Keeps position (ledger_at c f position) old' new' until')
+        go : (next : Option ℕ) → next_first (drop (at + 1) c.old) ≡ next → IfSome next (λ f. AreNotes c f position notes')
         go None e = tt
         go (Some f) e =
-            let k : Keeps position (ledger_at c s.first position) old new until = subst (λ (left : List SegmentView). IfSome (next_first left) (λ a. Keeps position (ledger_at c a position) old new until)) here noted in
+            let k : AreNotes c s.first position notes = subst (λ (left : List SegmentView). IfSome (next_first left) (λ a. AreNotes c a position notes)) here noted in
             let e' = old-end at s (drop (at + 1) c.old) here in
             let ends : f ≡ e'.0 = subst (λ (o : Option ℕ). IsEnd c.was o e'.0) e e'.2 in
             let l = bounded c.is position ok.alike.right begins in
-            let starts = old-starts e'.0 e'.3 in
-            subst (λ m. Keeps position (ledger_at c m position) old' new' until') (sym ends)
-            (subst (λ (xs : List Start). Keeps position (ledger_of (among c.touched) c.is.jobs xs (starts_before c.is position)) old' new' until') (sym e'.1.starts)
-            (step position (starts_before c.was s.first) (starts_before c.is position) (subst (AreStarts (among c.touched) c.is.jobs) e'.1.starts starts) (early-starts c.is position ok.alike.right l) k))
+            let starts = subst (AreStarts (among c.touched) c.is.jobs) e'.1.starts (old-starts e'.0 e'.3) in
+            subst (λ m. AreNotes c m position notes') (sym ends)
+            (record {
+              others = subst (λ (xs : List Start). Keeps position (ledger_of (among c.touched) c.is.jobs xs (starts_before c.is position)) notes'.was notes'.is notes'.until) (sym e'.1.starts)
+                  (step position (starts_before c.was s.first) (starts_before c.is position) starts (early-starts c.is position ok.alike.right l) k.others);
+              touched = follows-old position c s.first e'.0 position notes.started notes'.started notes.ended notes'.ended s.starts e'.1.starts starts.once (All-back (λ (q : Start). q.at < 2 ^ 49) (starts_before c.was s.first) s.starts starts.early) more k.touched;
+            })
 
 -- ---- as the tests ask
-pub behind-false : (c : ChangeView) (at : ℕ) (kept : Bool) (position : ℕ) (old new : BTreeMap ℕ ℕ) (until : ℕ) → kept ≡ false → IsNoted c at position old new until → IsNotedBehind c at kept position old new until
-behind-false c at kept position old new until e k = subst (λ b. IsNotedBehind c at b position old new until) (sym e) k
+pub behind-false : {A : Type 0} (c : ChangeView) (at : ℕ) (kept : Bool) (position : ℕ) (notes : Notes A) → kept ≡ false → IsNoted c at position notes → IsNotedBehind c at kept position notes
+behind-false c at kept position notes e k = subst (λ b. IsNotedBehind c at b position notes) (sym e) k
 
-pub behind-true : (c : ChangeView) (at : ℕ) (kept : Bool) (position : ℕ) (old new : BTreeMap ℕ ℕ) (until : ℕ) → kept ≡ true → IsNotedBehind c at kept position old new until
-behind-true c at kept position old new until e = subst (λ b. IsNotedBehind c at b position old new until) (sym e) tt
+pub behind-true : {A : Type 0} (c : ChangeView) (at : ℕ) (kept : Bool) (position : ℕ) (notes : Notes A) → kept ≡ true → IsNotedBehind c at kept position notes
+behind-true c at kept position notes e = subst (λ b. IsNotedBehind c at b position notes) (sym e) tt
 
-pub noted-last : (c : ChangeView) (at position : ℕ) (old new : BTreeMap ℕ ℕ) (until : ℕ) → next_first (drop at c.old) ≡ None → IsNoted c at position old new until
-noted-last c at position old new until e = subst (λ (next : Option ℕ). IfSome next (λ a. Keeps position (ledger_at c a position) old new until)) (sym e) tt
+pub noted-last : {A : Type 0} (c : ChangeView) (at position : ℕ) (notes : Notes A) → next_first (drop at c.old) ≡ None → IsNoted c at position notes
+noted-last c at position notes e = subst (λ (next : Option ℕ). IfSome next (λ a. AreNotes c a position notes)) (sym e) tt
 
 pub stands-spans : (c : ChangeView) (n at : ℕ) (now : Progress) (ss : List SegmentView) (handled reused : ℕ) → Stands c n at false now ss handled reused → (s : SegmentView) (a b : ℕ) → Spans now.plan s a b → Spans c.is s a b
 stands-spans c n at now ss handled reused (us, count, going, plan, on) s a b sp = subst (λ (q : Plan). Spans q s a b) plan sp
 
+-- ---- whether touched numbers wait or run
+-- none of them does where the states are equal
+none-of-same : (c : ChangeView) → IsChange c → (a : ℕ) → before c.was a ≡ before c.is a → NoneOf (among c.touched) (numbers_of (before c.was a)) × NoneOf (among c.touched) (numbers_of (before c.is a))
+none-of-same c ok a e =
+    let h = ok.alike in
+    let back = (untouched-equal-numbers-are-equal-states (before c.was a) (before c.is a) c.was c.is (before-of-plan c.was a h.left) (before-of-plan c.is a h.right) h.machine h.order).1 e in
+    let here : NoneOf (among c.touched) (numbers_of (before c.is a)) = λ n t l. back.1 n (touched-is c ok n t) l in
+    (subst (λ s. NoneOf (among c.touched) (numbers_of s)) (sym e) here, here)
+
+-- what is noted of their starts tells it
+told-none : (c : ChangeView) → IsChange c → (a started ended submitted : ℕ) → a ≤ bound c.was + 1 → a ≤ bound c.is + 1 → Follows a c a a started ended → submitted ≡ count_before a c.submits → submitted < 2 ^ 64
+    → ((submitted ≤ started) × (ended ≤ a)) ↔ (NoneOf (among c.touched) (numbers_of (before c.was a)) × NoneOf (among c.touched) (numbers_of (before c.is a)))
+told-none c ok a started ended submitted within-was within-is follows is small =
+    let was = starts-tell-who-stands c.was c.touched a ok.alike.left within-was ok.single in
+    let new = starts-tell-who-stands c.is c.touched a ok.alike.right within-is ok.single in
+    let counts = ok.counts a in
+    let count = follows.count in
+    let few-was = was.0 in
+    let few-new = new.0 in (
+      (λ (l, m).
+          let h = (follows.tells a (omega arith)).0 m in (
+            was.1.0 (omega (arith, l, is, counts, count, few-was, few-new), h.0),
+            new.1.0 (omega (arith, l, is, counts, count, few-was, few-new), h.1),
+          )),
+      (λ (x, y).
+          let u = was.1.1 x in
+          let v = new.1.1 y in
+          let same-was = u.0 in
+          let same-new = v.0 in (
+            omega (arith, is, counts, count, same-was, same-new, small),
+            (follows.tells a (omega arith)).1 (u.1, v.1),
+          )),
+    )
+
+-- where the states are equal, all that are submitted have started and ended
+fresh-follows : (c : ChangeView) → IsChange c → (a started ended : ℕ) → a ≤ bound c.was + 1 → a ≤ bound c.is + 1 → before c.was a ≡ before c.is a → started ≡ count_before a c.submits → started < 2 ^ 64 → ended ≡ 0 → Follows a c a a started ended
+fresh-follows c ok a started ended within-was within-is e is small zero' =
+    let none = none-of-same c ok a e in
+    let was = (starts-tell-who-stands c.was c.touched a ok.alike.left within-was ok.single).1.1 none.0 in
+    let new = (starts-tell-who-stands c.is c.touched a ok.alike.right within-is ok.single).1.1 none.1 in
+    let counts = ok.counts a in
+    let same-was = was.0 in
+    let same-new = new.0 in
+    record {
+      count = omega (arith, is, counts, same-was, same-new, small);
+      tells = λ t l. (
+        (λ _. (ended-later c.touched c.was.jobs (starts_before c.was a) a t l was.1, ended-later c.touched c.is.jobs (starts_before c.is a) a t l new.1)),
+        (λ _. omega (arith, zero')),
+      );
+    }
+
+-- equal states, at a second that is not late
+pub record IsFresh (c : ChangeView) (a : ℕ) : Type 0 where
+  pub same : before c.was a ≡ before c.is a
+  pub within_was : a ≤ bound c.was + 1
+  pub within_is : a ≤ bound c.is + 1
+
+-- of no start yet
+pub record AreNew {A : Type 0} (c : ChangeView) (a : ℕ) (notes : Notes A) : Type 0 where
+  pub none_was : HasNone notes.was
+  pub none_is : HasNone notes.is
+  pub until : notes.until ≡ 0
+  pub started : notes.started ≡ count_before a c.submits
+  pub small : notes.started < 2 ^ 64
+  pub ended : notes.ended ≡ 0
+
+pub new-notes : {A : Type 0} (c : ChangeView) (a b n : ℕ) (notes : Notes A) → b ≡ a → n ≡ count_before b c.submits → n < 2 ^ 64 → HasNone notes.was → HasNone notes.is → notes.until ≡ 0 → notes.started ≡ n → notes.ended ≡ 0 → AreNew c a notes
+new-notes c a b n notes same count small was is until started ended = record {
+  none_was = was;
+  none_is = is;
+  until = until;
+  started = started ∙ count ∙ ap (λ t. count_before t c.submits) same;
+  small = subst (λ k. k < 2 ^ 64) (sym started) small;
+  ended = ended;
+}
+
 -- a fresh ledger, where the states before the next old segment are equal
-pub fresh-noted : (c : ChangeView) → IsChange c → (at position : ℕ) (old new : BTreeMap ℕ ℕ) (until : ℕ) → IfSome (next_first (drop at c.old)) (λ a. (position ≡ a) × (before c.was a ≡ before c.is a)) → HasNone old → HasNone new → until ≡ 0 → IsNoted c at position old new until
-fresh-noted c ok at position old new until same none-old none-new zero' = go (next_first (drop at c.old)) same
+fresh-noted : {A : Type 0} (c : ChangeView) → IsChange c → (at position : ℕ) (notes : Notes A) → IfSome (next_first (drop at c.old)) (λ a. (position ≡ a) × IsFresh c a) → AreNew c position notes → IsNoted c at position notes
+fresh-noted c ok at position notes same new = go (next_first (drop at c.old)) same
   where
-    go : (next : Option ℕ) → IfSome next (λ a. (position ≡ a) × (before c.was a ≡ before c.is a)) → IfSome next (λ a. Keeps position (ledger_at c a position) old new until)
+    go : (next : Option ℕ) → IfSome next (λ a. (position ≡ a) × IsFresh c a) → IfSome next (λ a. AreNotes c a position notes)
     go None s = tt
-    go (Some a) s = subst (λ b. Keeps b (ledger_at c a b) old new until) (sym s.0) (fresh-keeps c ok a old new until s.1 none-old none-new zero')
+    go (Some a) s =
+        let n = subst (λ p. AreNew c p notes) s.0 new in
+        subst (λ b. AreNotes c a b notes) (sym s.0)
+        (record {
+          others = fresh-keeps c ok a notes.was notes.is notes.until s.1.same n.none_was n.none_is n.until;
+          touched = fresh-follows c ok a notes.started notes.ended s.1.within_was s.1.within_is s.1.same n.started n.small n.ended;
+        })
 
-module _ (c : ChangeView) (ok : IsChange c) (at position : ℕ) (s : SegmentView) (rest : List SegmentView) (here : drop at c.old ≡ s ∷ rest) (stands : position ≡ s.first) where
-  noted-met : (old new : BTreeMap ℕ ℕ) (until : ℕ) → IsNoted c at position old new until → (HasNone old × HasNone new × (until ≤ position)) ↔ HaveMet (among c.touched) c.was c.is s.first
-  noted-met old new until noted =
-      let k : Keeps position (ledger_at c s.first position) old new until = subst (λ (left : List SegmentView). IfSome (next_first left) (λ a. Keeps position (ledger_at c a position) old new until)) here noted in
-      subst (λ p. (HasNone old × HasNone new × (until ≤ p)) ↔ HaveMet (among c.touched) c.was c.is s.first) (sym stands)
-      (told-met c s.first old new until (subst (λ p. Keeps p (ledger_at c s.first p) old new until) stands k))
+module _ {A : Type 0} (c : ChangeView) (ok : IsChange c) (at position : ℕ) (s : SegmentView) (rest : List SegmentView) (here : drop at c.old ≡ s ∷ rest) (stands : position ≡ s.first) (notes : Notes A) (noted : IsNoted c at position notes) where
+  notes-here : AreNotes c s.first s.first notes
+  notes-here = subst (λ p. AreNotes c s.first p notes) stands (subst (λ (left : List SegmentView). IfSome (next_first left) (λ a. AreNotes c a position notes)) here noted)
 
-  pub parted : (old new : BTreeMap ℕ ℕ) (until : ℕ) → IsNoted c at position old new until → (r : Bool) → r ≡ false → IsTrue r ↔ (HasNone old × HasNone new × (until ≤ position)) → IsTrue false ↔ IsKept c.was c.is s.first (next_first rest)
-  parted old new until noted r e h =
-      let met = noted-met old new until noted in
-      ((λ t. absurd (false≢true t)), (λ k. absurd (false≢true (sym e ∙ h.1 (met.1 (met-of-kept c ok s.first (next_first rest) k).0)))))
+  noted-met : (HasNone notes.was × HasNone notes.is × (notes.until ≤ position)) ↔ HaveMet (among c.touched) c.was c.is s.first
+  noted-met = subst (λ p. (HasNone notes.was × HasNone notes.is × (notes.until ≤ p)) ↔ HaveMet (among c.touched) c.was c.is s.first) (sym stands) (told-met c s.first notes.was notes.is notes.until notes-here.others)
 
-  pub submitted-there : (r : Bool) → r ≡ false → IsTrue r ↔ IsClear c.was c.is s.first (next_first rest) → IsTrue false ↔ IsKept c.was c.is s.first (next_first rest)
-  submitted-there r e h = ((λ t. absurd (false≢true t)), (λ k. absurd (false≢true (sym e ∙ h.1 k.submits))))
+  noted-none : MayBegin c.is position → (submitted : ℕ) → submitted ≡ count_before position c.submits → submitted < 2 ^ 64
+      → ((submitted ≤ notes.started) × (notes.ended ≤ position)) ↔ (NoneOf (among c.touched) (numbers_of (before c.was s.first)) × NoneOf (among c.touched) (numbers_of (before c.is s.first)))
+  noted-none begins submitted is small =
+      let e = old-end c ok at s rest here in
+      let few = e.3 in
+      let up = e.4 in
+      let l = bounded c.is position ok.alike.right begins in
+      subst (λ p. ((submitted ≤ notes.started) × (notes.ended ≤ p)) ↔ (NoneOf (among c.touched) (numbers_of (before c.was s.first)) × NoneOf (among c.touched) (numbers_of (before c.is s.first)))) (sym stands)
+      (told-none c ok s.first notes.started notes.ended submitted (omega (arith, few, up)) (omega (arith, l, stands)) notes-here.touched (subst (λ p. submitted ≡ count_before p c.submits) stands is) small)
 
-  pub decided : (old new : BTreeMap ℕ ℕ) (until : ℕ) → IsNoted c at position old new until → MayBegin c.is position → (m r none : Bool) → IsTrue m → IsTrue r → IsTrue m ↔ (HasNone old × HasNone new × (until ≤ position)) → IsTrue r ↔ IsClear c.was c.is s.first (next_first rest)
-      → IsTrue none ↔ (NoneOf (among c.touched) (numbers_of (before c.was position)) × NoneOf (among c.touched) (numbers_of (before c.is position))) → IsTrue none ↔ IsKept c.was c.is s.first (next_first rest)
-  decided old new until noted begins m r none met-is clear-is met clear stands-none =
-      let both = noted-met old new until noted in
-      let none' : IsTrue none ↔ (NoneOf (among c.touched) (numbers_of (before c.was s.first)) × NoneOf (among c.touched) (numbers_of (before c.is s.first))) =
-      subst (λ p. IsTrue none ↔ (NoneOf (among c.touched) (numbers_of (before c.was p)) × NoneOf (among c.touched) (numbers_of (before c.is p)))) stands stands-none in (
-        (λ t. kept-of-met c ok s.first (next_first rest) (subst (MayBegin c.is) stands begins) (both.0 (met.0 met-is)) (none'.0 t) (clear.0 clear-is)),
-        (λ k. let all = met-of-kept c ok s.first (next_first rest) k in none'.1 (all.1, all.2)),
+  -- the tests decide
+  pub decided : MayBegin c.is position → (submitted : ℕ) → submitted ≡ count_before position c.submits → submitted < 2 ^ 64 → (met ended clear : Bool) → IsTrue met ↔ (HasNone notes.was × HasNone notes.is × (notes.until ≤ position))
+      → IsTrue ended ↔ ((submitted ≤ notes.started) × (notes.ended ≤ position)) → IsTrue clear ↔ IsClear c.was c.is s.first (next_first rest) → (IsTrue met × IsTrue ended × IsTrue clear) ↔ IsKept c.was c.is s.first (next_first rest)
+  decided begins submitted is small met ended clear met-is ended-is clear-is =
+      let none = noted-none begins submitted is small in (
+        (λ (m, e, f). kept-of-met c ok s.first (next_first rest) (subst (MayBegin c.is) stands begins) (noted-met.0 (met-is.0 m)) (none.0 (ended-is.0 e)) (clear-is.0 f)),
+        (λ k. let all = met-of-kept c ok s.first (next_first rest) k in (met-is.1 (noted-met.1 all.0), ended-is.1 (none.1 (all.1, all.2)), clear-is.1 k.submits)),
       )
-
--- of two lists of numbers that wait and run
-pub none-here : (ns : List ℕ) (there was is : Numbers) (r : Bool) → r ≡ false → IsTrue r ↔ NoneStands ns there → there ≡ was → IsTrue false ↔ (NoneOf (among ns) was × NoneOf (among ns) is)
-none-here ns there was is r e h same = ((λ t. absurd (false≢true t)), (λ k. absurd (false≢true (sym e ∙ h.1 ((none-stands ns there).1 (subst (NoneOf (among ns)) (sym same) k.0))))))
-
-pub none-both : (ns : List ℕ) (there here was is : Numbers) (r b : Bool) → IsTrue r → IsTrue r ↔ NoneStands ns there → there ≡ was → IsTrue b ↔ NoneStands ns here → here ≡ is → IsTrue b ↔ (NoneOf (among ns) was × NoneOf (among ns) is)
-none-both ns there here was is r b e h same f put = (
-  (λ t. (subst (NoneOf (among ns)) same ((none-stands ns there).0 (h.0 e)), subst (NoneOf (among ns)) put ((none-stands ns here).0 (f.0 t)))),
-  (λ k. f.1 ((none-stands ns here).1 (subst (NoneOf (among ns)) (sym put) k.1))),
-)
 
 -- ---- before the first old segment, and behind a kept one
 first-begins : (p : Plan) (ss : List SegmentView) (e : ℕ) → Chain p 0 ss e → IfSome (next_first ss) (λ a. 0 ≡ a)
 first-begins p [] e chain = tt
 first-begins p (s ∷ ss) e (m, sp, rest) = sym sp.first
 
-pub begun-noted : (c : ChangeView) → IsChange c → (engine : Progress) → engine ≡ begun c.is 0 → (old new : BTreeMap ℕ ℕ) (until : ℕ) → HasNone old → HasNone new → until ≡ 0 → IsNoted c 0 engine.position old new until
-begun-noted c ok engine e old new until none-old none-new zero' =
-    fresh-noted c ok 0 engine.position old new until (go (next_first c.old) (first-begins c.was c.old ok.cut.0 ok.cut.1)) none-old none-new zero'
+pub begun-noted : {A : Type 0} (c : ChangeView) → IsChange c → (engine : Progress) → engine ≡ begun c.is 0 → (notes : Notes A) → AreNew c 0 notes → IsNoted c 0 engine.position notes
+begun-noted c ok engine e notes new =
+    let position : engine.position ≡ 0 = ap (λ (x : Progress). x.position) e in
+    subst (λ p. IsNoted c 0 p notes) (sym position) (fresh-noted c ok 0 0 notes (go (next_first c.old) (first-begins c.was c.old ok.cut.0 ok.cut.1)) new)
   where
-    go : (next : Option ℕ) → IfSome next (λ a. 0 ≡ a) → IfSome next (λ a. (engine.position ≡ a) × (before c.was a ≡ before c.is a))
+    go : (next : Option ℕ) → IfSome next (λ a. 0 ≡ a) → IfSome next (λ a. (0 ≡ a) × IsFresh c a)
     go None s = tt
-    go (Some a) s = (ap (λ (x : Progress). x.position) e ∙ s, subst (λ t. before c.was t ≡ before c.is t) s (start-same c.was c.is ok.alike))
+    go (Some a) s = (s, subst (IsFresh c) s (record { same = start-same c.was c.is ok.alike; within_was = omega arith; within_is = omega arith }))
 
-pub resumed-noted : (c : ChangeView) → IsChange c → (n at : ℕ) (s : SegmentView) → drop at c.old ≡ s ∷ drop (at + 1) c.old → (now engine : Progress) (ss : List SegmentView) (handled reused : ℕ) → Stands c n at true now ss handled reused → engine ≡ begun c.is s.first
-    → (old new : BTreeMap ℕ ℕ) (until : ℕ) → HasNone old → HasNone new → until ≡ 0 → (old' new' : BTreeMap ℕ ℕ) (until' : ℕ) → ((position : ℕ) → MayBegin c.is position → IsNoted c at position old new until → IsNoted c (at + 1) position old' new' until') → IsNoted c (at + 1) engine.position old' new' until'
-resumed-noted c ok n at s here now engine ss handled reused (us, count, (b, af)) e old new until none-old none-new zero' old' new' until' passed =
+pub resumed-noted : {A : Type 0} (c : ChangeView) → IsChange c → (n at : ℕ) (s : SegmentView) → drop at c.old ≡ s ∷ drop (at + 1) c.old → (now engine : Progress) (ss : List SegmentView) (handled reused : ℕ) → Stands c n at true now ss handled reused → engine ≡ begun c.is s.first
+    → (notes notes' : Notes A) → AreNew c s.first notes → ((position : ℕ) → MayBegin c.is position → IsNoted c at position notes → IsNoted c (at + 1) position notes') → IsNoted c (at + 1) engine.position notes'
+resumed-noted c ok n at s here now engine ss handled reused (us, count, (b, af)) e notes notes' new passed =
     let ends : s.first ≡ b = subst (λ (left : List SegmentView). IsEnd c.is (next_first left) b) here af.ends in
     let same : before c.was s.first ≡ before c.is s.first = subst (λ t. before c.was t ≡ before c.is t) (sym ends) af.same in
     let position : engine.position ≡ s.first = ap (λ (x : Progress). x.position) e in
-    let begins : MayBegin c.is engine.position = subst (MayBegin c.is) (sym (position ∙ ends)) (inr af.event) in
-    passed engine.position begins
-    (fresh-noted c ok at engine.position old new until (subst (λ (left : List SegmentView). IfSome (next_first left) (λ a. (engine.position ≡ a) × (before c.was a ≡ before c.is a))) (sym here) (position, same)) none-old none-new zero')
+    let begins : MayBegin c.is s.first = subst (MayBegin c.is) (sym ends) (inr af.event) in
+    let e' = old-end c ok at s (drop (at + 1) c.old) here in
+    let few = e'.3 in
+    let up = e'.4 in
+    let fresh : IsFresh c s.first = record { same = same; within_was = omega (arith, few, up); within_is = bounded c.is s.first ok.alike.right begins } in
+    subst (λ p. IsNoted c (at + 1) p notes') (sym position)
+    (passed s.first begins (fresh-noted c ok at s.first notes (subst (λ (left : List SegmentView). IfSome (next_first left) (λ a. (s.first ≡ a) × IsFresh c a)) (sym here) (refl, fresh)) new))

@@ -29,7 +29,7 @@ not-first : (b : Bool) (a : ℕ) (o : Option ℕ) → cond b (Some a) o ≡ None
 not-first true a o e = absurd (let k : Some a ≡ None = e in cc)
 not-first false a o e = (refl, e)
 
-without-first : (y : Start) (ys : List Start) (n : ℕ) → start_of (y ∷ ys) n ≡ None → (nat_eq y.number n ≡ false) × (start_of ys n ≡ None)
+pub without-first : (y : Start) (ys : List Start) (n : ℕ) → start_of (y ∷ ys) n ≡ None → (nat_eq y.number n ≡ false) × (start_of ys n ≡ None)
 without-first y ys n e = not-first (nat_eq y.number n) y.at (start_of ys n) (sym (start-cons y ys n) ∙ e)
 
 -- one start more, of a number that has none

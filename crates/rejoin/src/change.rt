@@ -4,19 +4,20 @@ ghost use Rattle.job_table.specs.Accepted.{AreAccepted};
 ghost use Rattle.job_table.specs.Edit.{edit_of, log_after};
 ghost use Rattle.scenarios.specs.Job.{EffectiveJob};
 ghost use Rattle.scenarios.specs.Plan.{plan_of, job_numbered};
+ghost use Rattle.scenarios.specs.PlanView.{plan_in};
 ghost use Rattle.cluster_state.specs.Snapshot.{numbers_of};
 ghost use Rattle.easy_rule.specs.Simulation.{before};
 ghost use Rattle.event_loop.specs.Events.{begun};
 ghost use Rattle.timeline.specs.Ledger.{apart_until};
-ghost use Rattle.timeline.specs.Meeting.{NoneOf};
 ghost use Rattle.checkpoints.specs.Segment.{SegmentView};
 ghost use Rattle.rejoin.specs.Kept.{next_first, IsKept, MayBegin};
-ghost use Rattle.rejoin.specs.Noted.{among, IsNoted};
+ghost use Rattle.rejoin.specs.Noted.{IsNoted};
+ghost use Rattle.rejoin.specs.Started.{among, count_before};
 ghost use Rattle.rejoin.specs.Rejoining.{IsChange, IsClear};
 
-use crate::kept::{none_stands, none_within};
+use crate::kept::none_within;
 use crate::ledger::Ledger;
-use crate::search::is_among;
+use crate::search::{count_below, is_among};
 use crate::touched::{touched_numbers, touched_submits};
 use checkpoints::{Run, RunFault, Segment};
 use event_loop::Engine;
@@ -50,6 +51,13 @@ impl<'a, A: Allocator + Copy> Model for Change<'a, A> {
     ghost invariant = { λ c. IsChange (record { was = plan_of c.run.now.log c.run.now.setting; is = plan_of (arc_value c.table.now) c.run.now.setting; old = map arc_value c.segments.now; touched = c.touched.items; submits = c.submits.items }) };
 }
 
+// Whether all three hold.
+fn are_all(first: bool, second: bool, third: bool) -> bool
+    ensures { IsTrue result ↔ (IsTrue first × IsTrue second × IsTrue third) }
+{
+    first && second && third
+}
+
 impl<'a, A: Allocator + Copy> Change<'a, A> {
     // The change that these edits make.
     pub(crate) fn new(
@@ -76,6 +84,20 @@ impl<'a, A: Allocator + Copy> Change<'a, A> {
             touched,
             submits,
         })
+    }
+
+    // The old plan.
+    pub(crate) fn old_plan(&self) -> PlanRef<'_, A>
+        ensures plan { plan_in result ≡ self.now.was }
+    {
+        self.run.plan().view()
+    }
+
+    // The new plan.
+    pub(crate) fn plan(&self) -> PlanRef<'_, A>
+        ensures plan { plan_in result ≡ self.now.is }
+    {
+        PlanRef::of(self.table, self.run.scenario())
     }
 
     // How many old segments there are.
@@ -132,60 +154,41 @@ impl<'a, A: Allocator + Copy> Change<'a, A> {
         if at == other {
             return 0;
         }
-        match PlanRef::of(self.table, self.run.scenario()).job(number) {
+        match self.plan().job(number) {
             None => 0,
             Some(job) => at.max(other).saturating_add(job.length()).saturating_add(1),
         }
     }
 
-    // Whether the old segment at this place is kept, by an engine that stands before its first
-    // second and a ledger of the starts before it.
-    pub(crate) fn keeps(
-        &self,
-        at: usize,
-        engine: &Engine<A>,
-        ledger: &Ledger<A>,
-    ) -> Result<bool, RunFault>
-        requires within { at < length self.now.old }
-        requires going { engine.now.failed ≡ false }
-        requires plan { engine.now.plan ≡ self.now.is }
-        requires begins { MayBegin self.now.is engine.now.position }
-        requires here { (s : SegmentView) (rest : List SegmentView) → drop at self.now.old ≡ s ∷ rest → engine.now.position ≡ s.first }
-        requires noted { IsNoted self.now at engine.now.position ledger.now.was ledger.now.is ledger.now.until }
-        ensures kept { IfOk result (λ kept. (s : SegmentView) (rest : List SegmentView) → drop at self.now.old ≡ s ∷ rest → IsTrue kept ↔ IsKept self.now.was self.now.is s.first (next_first rest)) }
-        ensures fault { IfErr result (λ f. f ≡ RunFault.Memory) }
+    // How many touched numbers are submitted before the second, in the one plan and in the other.
+    pub(crate) fn submitted_before(&self, second: u64) -> usize
+        ensures count { result ≡ count_before second self.now.submits }
+        ensures small { result < 2 ^ 64 }
+        ensures sound { IsChange self.now }
     {
-        let old = self.segment(at);
-        if !ledger.has_met(old.first()) {
-            return Ok(false);
-        }
-        if !self.is_clear(at) {
-            return Ok(false);
-        }
-        let none = self.is_without(at, engine)?;
-        Ok(none)
+        count_below(self.submits.as_slice(), second)
     }
 
-    // Whether no touched number waits or runs before the first second of the old segment at this place,
-    // at which the engine stands.
-    fn is_without(&self, at: usize, engine: &Engine<A>) -> Result<bool, RunFault>
+    // Whether the old segment at this place is kept, where the new simulation stands before its first
+    // second, by a ledger of the starts before it. No touched number waits or runs there where each that
+    // is submitted before it has started and ended.
+    pub(crate) fn keeps(&self, at: usize, position: u64, ledger: &Ledger<A>) -> bool
         requires within { at < length self.now.old }
-        requires going { engine.now.failed ≡ false }
-        requires plan { engine.now.plan ≡ self.now.is }
-        requires here { (s : SegmentView) (rest : List SegmentView) → drop at self.now.old ≡ s ∷ rest → engine.now.position ≡ s.first }
-        ensures none { IfOk result (λ none. IsTrue none ↔ (NoneOf (among self.now.touched) (numbers_of (before self.now.was engine.now.position)) × NoneOf (among self.now.touched) (numbers_of (before self.now.is engine.now.position)))) }
-        ensures fault { IfErr result (λ f. f ≡ RunFault.Memory) }
+        requires begins { MayBegin self.now.is position }
+        requires here { (s : SegmentView) (rest : List SegmentView) → drop at self.now.old ≡ s ∷ rest → position ≡ s.first }
+        requires noted { IsNoted self.now at position ledger.now }
+        ensures kept { (s : SegmentView) (rest : List SegmentView) → drop at self.now.old ≡ s ∷ rest → IsTrue result ↔ IsKept self.now.was self.now.is s.first (next_first rest) }
     {
-        let touched = self.touched.as_slice();
-        if !none_stands(touched, self.segment(at).before()) {
-            return Ok(false);
-        }
-        let now = engine.snapshot()?;
-        Ok(none_stands(touched, &now))
+        let submitted = self.submitted_before(position);
+        let met = ledger.has_met(position);
+        let ended = ledger.has_ended(submitted, position);
+        let clear = self.is_clear(at);
+        are_all(met, ended, clear)
     }
 
     // An engine of the new plan before second 0.
     pub(crate) fn begin(&self, alloc: A) -> Result<Engine<A>, RunFault>
+        ensures sound { IsChange self.now }
         ensures ok { IfOk result (λ e. e ≡ begun self.now.is 0) }
         ensures fault { IfErr result (λ f. f ≡ RunFault.Memory) }
     {

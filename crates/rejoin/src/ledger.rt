@@ -1,5 +1,5 @@
 // In what the starts of two simulations differ, kept start by start.
-ghost use Rattle.std.specs.Prelude.{◌≡◌, ◌≤◌, ◌<◌, ◌^◌, ◌++◌, ◌∷◌, [], ℕ, List, All, None, Some, nat_eq, is_none, ◌&&◌, ◌↔◌, max, if◌then◌else◌, IfOk, OnOk, IsTrue};
+ghost use Rattle.std.specs.Prelude.{◌≡◌, ◌≤◌, ◌<◌, ◌+◌, ◌-◌, ◌^◌, ◌++◌, ◌∷◌, [], ℕ, List, All, None, Some, nat_eq, is_none, ◌&&◌, ◌↔◌, max, min, if◌then◌else◌, IfOk, OnOk, IsTrue};
 ghost use Rattle.std.specs.Ordering.{nat_cmp};
 ghost use Rattle.std.specs.BTreeMap.{get};
 ghost use Rattle.scenarios.specs.Job.{EffectiveJob};
@@ -7,9 +7,11 @@ ghost use Rattle.scenarios.specs.Plan.{job_numbered};
 ghost use Rattle.easy_rule.specs.declared.start.Start.{Start as StartView};
 ghost use Rattle.easy_rule.specs.Simulation.{start_of};
 ghost use Rattle.timeline.specs.Ledger.{Ledger as LedgerView, ledger_of};
-ghost use Rattle.rejoin.specs.Noted.{among, AreStarts, Keeps, HasNone};
+ghost use Rattle.rejoin.specs.Noted.{AreStarts, Keeps, HasNone};
+ghost use Rattle.rejoin.specs.Started.{among, starts_of, EachHasEnded};
 
 use crate::change::Change;
+use crate::own_starts::note_touched;
 use easy_rule::Start;
 use std::alloc::Allocator;
 use std::collections::BTreeMap;
@@ -20,12 +22,15 @@ pub(crate) type Seconds<A> = BTreeMap<u64, u64, A>;
 
 // The starts of the old simulation whose numbers have none in the new one yet, and those of the new
 // one that have none in the old one yet; and the second from which on nobody runs any more who
-// started in both at different seconds.
+// started in both at different seconds. Of touched numbers, how many starts there are in both, and the
+// second from which on none of their jobs runs any more.
 #[derive(Drop)]
 pub(crate) struct Ledger<A: Allocator + Copy> {
-    pub(crate) was: Seconds<A>,
-    pub(crate) is: Seconds<A>,
-    pub(crate) until: u64,
+    was: Seconds<A>,
+    is: Seconds<A>,
+    until: u64,
+    started: usize,
+    ended: u64,
 }
 
 // Takes out the start that a number has there; where it has none, its start here is put in.
@@ -97,16 +102,21 @@ fn note_all<A: Allocator + Copy>(
 }
 
 impl<A: Allocator + Copy> Ledger<A> {
-    // The ledger of two simulations that have met.
-    pub(crate) fn new(alloc: A) -> Ledger<A>
+    // The ledger of two simulations whose states before a second are equal, without touched numbers: so
+    // many of these are submitted before it, and all of them have started and ended.
+    pub(crate) fn new(alloc: A, submitted: usize) -> Ledger<A>
         ensures was { HasNone result.was }
         ensures is { HasNone result.is }
         ensures until { result.until ≡ 0 }
+        ensures started { result.started ≡ submitted }
+        ensures ended { result.ended ≡ 0 }
     {
         Ledger {
             was: BTreeMap::new(alloc),
             is: BTreeMap::new(alloc),
             until: 0,
+            started: submitted,
+            ended: 0,
         }
     }
 
@@ -116,11 +126,15 @@ impl<A: Allocator + Copy> Ledger<A> {
         change: &Change<'_, A>,
         starts: &[Start],
     ) -> Result<(), Memory>
-        ensures { OnOk result ((from : ℕ) (old others : List StartView) → AreStarts (among change.now.touched) change.now.is.jobs (old ++ starts.now) → All (λ x. x.at < 2 ^ 49) others
+        ensures others { OnOk result ((from : ℕ) (old others : List StartView) → AreStarts (among change.now.touched) change.now.is.jobs (old ++ starts.now) → All (λ x. x.at < 2 ^ 49) others
             → Keeps from (ledger_of (among change.now.touched) change.now.is.jobs old others) self.old.was self.old.is self.old.until
             → Keeps from (ledger_of (among change.now.touched) change.now.is.jobs (old ++ starts.now) others) self.new.was self.new.is self.new.until) }
+        ensures started { OnOk result (self.new.started ≡ min (self.old.started + starts_of change.now.touched starts.now) (2 ^ 64 - 1)) }
+        ensures ended { OnOk result (All (λ x. x.at < 2 ^ 49) starts.now → (t : ℕ) → (self.new.ended ≤ t) ↔ ((self.old.ended ≤ t) × EachHasEnded change.now.touched change.now.was.jobs starts.now t)) }
     {
         note_all(change, starts, &mut self.was, &mut self.is, &mut self.until)?;
+        let plan = change.old_plan();
+        note_touched(change, &plan, starts, &mut self.started, &mut self.ended);
         Ok(())
     }
 
@@ -130,11 +144,15 @@ impl<A: Allocator + Copy> Ledger<A> {
         change: &Change<'_, A>,
         starts: &[Start],
     ) -> Result<(), Memory>
-        ensures { OnOk result ((from : ℕ) (new others : List StartView) → AreStarts (among change.now.touched) change.now.is.jobs (new ++ starts.now) → All (λ x. x.at < 2 ^ 49) others
+        ensures others { OnOk result ((from : ℕ) (new others : List StartView) → AreStarts (among change.now.touched) change.now.is.jobs (new ++ starts.now) → All (λ x. x.at < 2 ^ 49) others
             → Keeps from (ledger_of (among change.now.touched) change.now.is.jobs others new) self.old.was self.old.is self.old.until
             → Keeps from (ledger_of (among change.now.touched) change.now.is.jobs others (new ++ starts.now)) self.new.was self.new.is self.new.until) }
+        ensures started { OnOk result (self.new.started ≡ min (self.old.started + starts_of change.now.touched starts.now) (2 ^ 64 - 1)) }
+        ensures ended { OnOk result (All (λ x. x.at < 2 ^ 49) starts.now → (t : ℕ) → (self.new.ended ≤ t) ↔ ((self.old.ended ≤ t) × EachHasEnded change.now.touched change.now.is.jobs starts.now t)) }
     {
         note_all(change, starts, &mut self.is, &mut self.was, &mut self.until)?;
+        let plan = change.plan();
+        note_touched(change, &plan, starts, &mut self.started, &mut self.ended);
         Ok(())
     }
 
@@ -144,5 +162,12 @@ impl<A: Allocator + Copy> Ledger<A> {
         ensures { IsTrue result ↔ (HasNone self.now.was × HasNone self.now.is × (self.now.until ≤ second)) }
     {
         has_none(&self.was) && has_none(&self.is) && self.until <= second
+    }
+    // Whether as many touched numbers have started as are submitted before the second, which are so
+    // many, and all that have started have ended before it.
+    pub(crate) fn has_ended(&self, submitted: usize, second: u64) -> bool
+        ensures { IsTrue result ↔ ((submitted ≤ self.now.started) × (self.now.ended ≤ second)) }
+    {
+        submitted <= self.started && self.ended <= second
     }
 }

@@ -1,8 +1,9 @@
 // Searches in rising numbers.
-ghost use Rattle.std.specs.Prelude.{◌≡◌, ◌↔◌, IsTrue};
+ghost use Rattle.std.specs.Prelude.{◌≡◌, ◌↔◌, ℕ, IsTrue};
 ghost use Rattle.std.specs.List.{Contains};
-ghost use Rattle.std.specs.List.Sorted.{IsNonDecreasing, IsPermutation};
+ghost use Rattle.std.specs.List.Sorted.{IsNonDecreasing, IsPermutation, IsStrictlyIncreasing};
 ghost use Rattle.rejoin.specs.Search.{IsLeastFrom};
+ghost use Rattle.rejoin.specs.Started.{count_before};
 
 use std::alloc::Allocator;
 
@@ -16,6 +17,17 @@ pub(crate) fn rising<A: Allocator + Copy>(numbers: Vec<u64, A>) -> Vec<u64, A>
     sorted
 }
 
+// The same numbers, rising, each once.
+pub(crate) fn distinct<A: Allocator + Copy>(numbers: Vec<u64, A>) -> Vec<u64, A>
+    ensures same { (n : ℕ) → Contains numbers.items n ↔ Contains result.items n }
+    ensures rising { IsStrictlyIncreasing result.items }
+{
+    let mut sorted = numbers;
+    sorted.sort_unstable();
+    sorted.dedup();
+    sorted
+}
+
 // The least of these rising numbers that is not below the bound, where there is one.
 pub(crate) fn least_from(numbers: &[u64], bound: u64) -> Option<u64>
     requires { IsNonDecreasing numbers.now }
@@ -26,6 +38,14 @@ pub(crate) fn least_from(numbers: &[u64], bound: u64) -> Option<u64>
         return Some(numbers[place]);
     }
     None
+}
+
+// How many of these rising numbers are below the bound.
+pub(crate) fn count_below(numbers: &[u64], bound: u64) -> usize
+    requires { IsNonDecreasing numbers.now }
+    ensures { result ≡ count_before bound numbers.now }
+{
+    numbers.partition_point(|number| *number < bound)
 }
 
 // Whether a number is one of these rising ones.

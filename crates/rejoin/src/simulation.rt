@@ -9,7 +9,7 @@ ghost use Rattle.rejoin.specs.Patch.{IsRejoined, IsTakenOver};
 ghost use Rattle.rejoin.specs.Touched.{NothingTouched};
 
 use crate::change::Change;
-use crate::patch::rejoined;
+use crate::joining::rejoined;
 use crate::skips::skips_after;
 use checkpoints::{MAX_SPACING, Run, RunFault};
 use job_table::{Edit, JobTable};

@@ -1,14 +1,15 @@
-ghost use Rattle.std.specs.Prelude.{◌≡◌, ◌↔◌, ◌++◌, IsTrue, IfOk, OnOk, map};
+ghost use Rattle.std.specs.Prelude.{◌≡◌, ◌↔◌, ◌+◌, ◌++◌, ℕ, IsTrue, IfOk, OnOk, map};
 ghost use Rattle.std.specs.List.Sorted.{IsNonDecreasing};
 ghost use Rattle.job_table.specs.Accepted.{AreAccepted};
 ghost use Rattle.job_table.specs.Edit.{edit_of, log_after};
 ghost use Rattle.job_table.specs.Table.{IsTable};
 ghost use Rattle.scenarios.specs.PlanView.{plan_in};
 ghost use Rattle.rejoin.specs.Named.{named, submit_in};
+ghost use Rattle.rejoin.specs.Started.{AreSingle, count_before, submitted_of};
 ghost use Rattle.rejoin.specs.Tested.{AreThose};
 ghost use Rattle.rejoin.specs.Touched.{IsTouched, IsTouchedSubmit};
 
-use crate::search::rising;
+use crate::search::{distinct, rising};
 use job_table::Edit;
 use scenarios::{Job, PlanRef};
 use std::alloc::Allocator;
@@ -36,7 +37,7 @@ fn is_touched<A: Allocator + Copy>(
     old_plan.job(number) != new_plan.job(number)
 }
 
-// The touched numbers among those of the edits, rising, by one look-up in each plan for each edit.
+// The touched numbers among those of the edits, rising, each once, by one look-up in each plan for each edit.
 pub(crate) fn touched_numbers<A: Allocator + Copy>(
     alloc: A,
     old_plan: &PlanRef<'_, A>,
@@ -48,6 +49,7 @@ pub(crate) fn touched_numbers<A: Allocator + Copy>(
     requires edited { new_plan.now ≡ record old_plan.now { log = log_after old_plan.now.log (map edit_of edits.now) } }
     ensures those { IfOk result (λ numbers. AreThose (IsTouched (plan_in old_plan.now) (plan_in new_plan.now)) numbers.items) }
     ensures rising { IfOk result (λ numbers. IsNonDecreasing numbers.items) }
+    ensures single { IfOk result (λ numbers. AreSingle numbers.items) }
 {
     let mut numbers = Vec::new(alloc);
     for edit in edits {
@@ -56,7 +58,7 @@ pub(crate) fn touched_numbers<A: Allocator + Copy>(
             numbers.push(number)?;
         }
     }
-    Ok(rising(numbers))
+    Ok(distinct(numbers))
 }
 
 // Adds the submit second of a job, where there is one.
@@ -82,6 +84,7 @@ pub(crate) fn touched_submits<A: Allocator + Copy>(
     requires { AreThose (IsTouched (plan_in old_plan.now) (plan_in new_plan.now)) numbers.now }
     ensures those { IfOk result (λ submits. AreThose (IsTouchedSubmit (plan_in old_plan.now) (plan_in new_plan.now)) submits.items) }
     ensures rising { IfOk result (λ submits. IsNonDecreasing submits.items) }
+    ensures counts { IfOk result (λ submits. (t : ℕ) → count_before t submits.items ≡ submitted_of numbers.now (plan_in old_plan.now) t + submitted_of numbers.now (plan_in new_plan.now) t) }
 {
     let mut submits = Vec::new(alloc);
     for number in numbers {

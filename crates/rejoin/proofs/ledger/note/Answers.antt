@@ -1,6 +1,6 @@
 use Rattle.std.proofs.Common.{sym, ◌∙◌}
 use Rattle.timeline.proofs.Lemmas.{notes-keep-the-ledger}
-use Rattle.rejoin.specs.Noted.{among}
+use Rattle.rejoin.specs.Started.{among}
 use Rattle.rejoin.proofs.Keeping.{keeps-touched, keeps-alone, keeps-apart}
 use Rattle.rejoin.proofs.ledger.note.Goals as goal
 

@@ -2,7 +2,8 @@ use Rattle.std.proofs.Common.{rules, ◌≡◌, ◌++◌, List, max, take, subst
 use Rattle.std.proofs.lemmas.List.{take_all}
 use Rattle.easy_rule.specs.declared.start.Start.{Start}
 use Rattle.timeline.specs.Ledger.{ledger_of}
-use Rattle.rejoin.specs.Noted.{among, Keeps}
+use Rattle.rejoin.specs.Noted.{Keeps}
+use Rattle.rejoin.specs.Started.{among}
 use Rattle.rejoin.proofs.Keeping.{note-more}
 use Rattle.rejoin.proofs.ledger.note_all.Goals as goal
 

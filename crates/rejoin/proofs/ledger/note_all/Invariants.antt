@@ -1,7 +1,8 @@
 use Rattle.std.proofs.Common.{ℕ, ◌<◌, ◌^◌, ◌++◌, List, All, take}
 use Rattle.easy_rule.specs.declared.start.Start.{Start as StartView}
 use Rattle.timeline.specs.Ledger.{ledger_of}
-use Rattle.rejoin.specs.Noted.{among, AreStarts, Keeps}
+use Rattle.rejoin.specs.Noted.{AreStarts, Keeps}
+use Rattle.rejoin.specs.Started.{among}
 use Rattle.rejoin.proofs.ledger.note_all.Given as goal
 
 abbrev pub invariant-loop-start : goal.invariant-loop-start

@@ -1,5 +1,5 @@
-use Rattle.std.proofs.Common.{◌≡◌, ◌+◌, ◌-◌, false, map}
-use Rattle.std.specs.Arc.{arc_value}
+use Rattle.std.proofs.Common.{◌≡◌, ◌+◌, ◌-◌, false}
+use Rattle.checkpoints.specs.Pieces.{all_in}
 use Rattle.easy_rule.specs.Simulation.{bound}
 use Rattle.checkpoints.specs.Groups.{AreFrom}
 use Rattle.rejoin.specs.Noted.{IsNoted}
@@ -8,9 +8,9 @@ use Rattle.rejoin.proofs.patch.work_to.Given as goal
 
 abbrev pub invariant-segments : goal.invariant-segments
 invariant-segments g l = record {
-  stands : Stands l.change l.spacing l.at false l.patch.engine (map arc_value l.patch.segments.items) l.patch.handled l.patch.reused;
-  places : AreFrom l.change.old (map arc_value l.patch.segments.items) l.patch.places.items;
-  noted : IsNoted l.change l.at l.patch.engine.position l.patch.ledger.was l.patch.ledger.is l.patch.ledger.until;
+  stands : Stands l.change l.spacing l.at false l.patch.engine (all_in l.change.is l.patch.segments) l.patch.handled l.patch.reused;
+  places : AreFrom l.change.old (all_in l.change.is l.patch.segments) l.patch.places.items;
+  noted : IsNoted l.change l.at l.patch.engine.position l.patch.ledger;
   kept : l.patch.kept ≡ l.fn.patch.kept;
   reused : l.patch.reused ≡ l.fn.patch.reused;
 }

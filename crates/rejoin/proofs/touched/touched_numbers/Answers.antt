@@ -6,7 +6,7 @@ use Rattle.scenarios.specs.PlanView.{PlanView, plan_in}
 use Rattle.rejoin.specs.Named.{named}
 use Rattle.rejoin.specs.Tested.{AreThose}
 use Rattle.rejoin.specs.Touched.{IsTouched}
-use Rattle.rejoin.proofs.Finding.{those-permuted}
+use Rattle.rejoin.proofs.Finding.{increasing-rises, increasing-single, those-distinct}
 use Rattle.rejoin.proofs.Collecting.{Collected, touched-more, untouched-more, touched-all}
 use Rattle.rejoin.proofs.touched.touched_numbers.Goals as goal
 use Rattle.rejoin.proofs.touched.touched_numbers.Goals.{then-is_touched+in_ok-push, else-is_touched}
@@ -25,7 +25,13 @@ pub returns-clause-those : goal.returns-clause-those
 returns-clause-those g c =
     let old : PlanView = c.args.old_plan.now in
     let numbers = c.loop-edit.numbers.items in
-    those-permuted (IsTouched (plan_in old) (plan_in c.args.new_plan.now)) numbers _ c.rising.ensures.same
+    those-distinct (IsTouched (plan_in old) (plan_in c.args.new_plan.now)) numbers _ c.distinct.ensures.same
     (subst (λ (v : PlanView). AreThose (IsTouched (plan_in old) (plan_in v)) numbers) (sym c.requires.edited)
     (touched-all edit_of old.log (log_after old.log (map edit_of c.args.edits.now)) old.setting c.args.edits.now c.loop-edit.edit-index numbers c.loop-edit-test.false c.requires.table c.requires.accepted refl
     (subst (λ (v : PlanView). Collected (plan_in old) (plan_in v) (map edit_of (take c.loop-edit.edit-index c.args.edits.now)) numbers) c.requires.edited c.loop-edit.invariant)))
+
+pub returns-clause-rising : goal.returns-clause-rising
+returns-clause-rising g c = increasing-rises _ c.distinct.ensures.rising
+
+pub returns-clause-single : goal.returns-clause-single
+returns-clause-single g c = increasing-single _ c.distinct.ensures.rising

@@ -1,0 +1,43 @@
+// What the ledger notes while a re-simulation goes on.
+ghost use Rattle.std.specs.Prelude.{◌≡◌, ℕ, ◌<◌, ◌+◌, length, IfErr, OnOk};
+ghost use Rattle.checkpoints.specs.Cut.{Spans};
+ghost use Rattle.checkpoints.specs.Pieces.{segment_of};
+ghost use Rattle.rejoin.specs.Kept.{MayBegin};
+ghost use Rattle.rejoin.specs.Noted.{IsNoted};
+
+use crate::change::Change;
+use crate::ledger::Ledger;
+use checkpoints::{Piece, RunFault};
+use std::alloc::Allocator;
+
+// Notes the starts of a worked piece, where an old segment comes behind it, which is at this place.
+pub(crate) fn note_worked<A: Allocator + Copy>(
+    change: &Change<'_, A>,
+    at: usize,
+    piece: &Piece<A>,
+    ledger: &mut Ledger<A>,
+) -> Result<(), RunFault>
+    ensures noted { OnOk result ((a b : ℕ) → Spans change.now.is (segment_of change.now.is piece.now) a b → IsNoted change.now at a ledger.old → IsNoted change.now at b ledger.new) }
+    ensures fault { IfErr result (λ f. f ≡ RunFault.Memory) }
+{
+    if change.first(at).is_none() {
+        return Ok(());
+    }
+    ledger.note_new(change, piece.starts())?;
+    Ok(())
+}
+
+// Passes over the old segment at this place: notes its starts.
+pub(crate) fn pass<A: Allocator + Copy>(
+    change: &Change<'_, A>,
+    at: usize,
+    ledger: &mut Ledger<A>,
+) -> Result<(), RunFault>
+    requires within { at < length change.now.old }
+    ensures noted { OnOk result ((position : ℕ) → MayBegin change.now.is position → IsNoted change.now at position ledger.old
+        → IsNoted change.now (at + 1) position ledger.new) }
+    ensures fault { IfErr result (λ f. f ≡ RunFault.Memory) }
+{
+    ledger.note_old(change, change.segment(at).starts())?;
+    Ok(())
+}
