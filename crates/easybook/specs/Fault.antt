@@ -6,8 +6,8 @@ use Rattle.commands.specs.declared.opening_fault.OpenTextFault.{OpenTextFault}
 use Rattle.commands.specs.declared.opening_fault.OpenTextFault.TheVariants as openings
 use Rattle.scripts.specs.declared.live.LiveFault.{LiveFault}
 use Rattle.scripts.specs.declared.live.LiveFault.TheVariants as live
-use Rattle.shared_scripts.specs.declared.fault.SharedFault.{SharedFault}
-use Rattle.shared_scripts.specs.declared.fault.SharedFault.TheVariants as shared
+use Rattle.easybook.specs.declared.shared_fault.SharedFault.{SharedFault}
+use Rattle.easybook.specs.declared.shared_fault.SharedFault.TheVariants as shared
 use Rattle.easybook.specs.declared.fault.ProgramFault.{ProgramFault}
 use Rattle.easybook.specs.declared.fault.ProgramFault.TheVariants as faults
 

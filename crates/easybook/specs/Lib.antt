@@ -1,5 +1,6 @@
 pub mod Alone
 pub mod Book
+pub mod DeskRules
 pub mod Fault
 pub mod Forms
 pub mod Input

@@ -1,6 +1,6 @@
 ghost use Rattle.easybook.specs.Alone.{RunsAlone};
 
-use crate::book::{OpenedBook, opened_book};
+use crate::book::{OpenedBook, book_of, opened_book};
 use crate::fault::ProgramFault;
 use crate::input::read_input;
 use crate::options::Options;
@@ -35,6 +35,23 @@ pub fn run_alone<R: Read + Drop, W: Write, T: Threads + Sync, A: Allocator + Cop
     ensures { RunsAlone A log.now options.procs (R.remaining script) (W.contents writer.old) (W.contents writer.new) result }
 {
     let OpenedBook { book, comments } = opened_book(rt, alloc, log, options)?;
+    let script = read_input(alloc, script, SCRIPT_LIMIT)?;
+    run_lines(alloc, book, comments.as_slice(), script.as_slice(), writer)?;
+    Ok(())
+}
+
+// As `run_alone`, where the log's bytes are let go once it is opened.
+pub(crate) fn run_on_log<R: Read + Drop, W: Write, T: Threads + Sync, A: Allocator + Copy>(
+    rt: &T,
+    alloc: A,
+    script: R,
+    writer: &mut W,
+    log: Vec<u8, A>,
+    options: Options,
+) -> Result<(), ProgramFault>
+    ensures { RunsAlone A log.items options.procs (R.remaining script) (W.contents writer.old) (W.contents writer.new) result }
+{
+    let OpenedBook { book, comments } = book_of(rt, alloc, log, options)?;
     let script = read_input(alloc, script, SCRIPT_LIMIT)?;
     run_lines(alloc, book, comments.as_slice(), script.as_slice(), writer)?;
     Ok(())

@@ -96,3 +96,16 @@ pub(crate) fn opened_book<T: Threads + Sync, A: Allocator + Copy>(
     add_all(&mut book, &scenarios)?;
     Ok(OpenedBook { book, comments })
 }
+
+// The book of a log, whose bytes are let go.
+pub(crate) fn book_of<T: Threads + Sync, A: Allocator + Copy>(
+    rt: &T,
+    alloc: A,
+    log: Vec<u8, A>,
+    options: Options,
+) -> Result<OpenedBook<A>, ProgramFault>
+    ensures book { IfOk result (λ o. IsBookOf log.items options.procs options.spacing (map (λ c. c.items) o.comments.items) o.book) }
+    ensures fault { IfErr result (IsFaultOf log.items options.procs) }
+{
+    opened_book(rt, alloc, log.as_slice(), options)
+}

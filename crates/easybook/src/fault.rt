@@ -1,9 +1,9 @@
 ghost use Rattle.std.specs.Prelude.{◌≡◌};
 ghost use Rattle.easybook.specs.declared.fault.ProgramFault.TheVariants.{Memory as OutOfMemory, Write as WriteFailed};
 
+use crate::shared_fault::SharedFault;
 use commands::OpenTextFault;
 use scripts::LiveFault;
-use shared_scripts::SharedFault;
 use std::alloc::{AllocError, AllocFailed};
 use std::fmt;
 use swf_text::{FaultKind, Memory, SwfFault, WriteFault};

@@ -1,9 +1,12 @@
-//! The program's calls: its words, its input, the plain run from a log to its schedule, and the
-//! session that works a script on a log.
+//! The program's calls: its words, its input, the plain run from a log to its schedule, the session
+//! that works a script on a log, and scripts side by side: several analysts on one log, each with a
+//! session at one desk and on a thread of its own, while workers simulate.
 #![tactic(auto)]
 
 mod alone;
 mod book;
+mod crew;
+mod desk_session;
 mod fault;
 mod input;
 mod laws;
@@ -13,6 +16,7 @@ mod options;
 mod plain;
 mod program;
 mod shared;
+mod shared_fault;
 mod sources;
 mod split;
 mod stop;

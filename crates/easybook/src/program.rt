@@ -4,7 +4,7 @@ ghost use Rattle.easybook.specs.Input.{IsNotHad, IsReadFault};
 ghost use Rattle.easybook.specs.Plain.{Answers};
 ghost use Rattle.easybook.specs.Program.{AreFronts, Ends, EndsFrom, EndsOnFile, EndsOnInput, EndsOnScripts, IsFront, log_known};
 
-use crate::alone::{SCRIPT_LIMIT, run_alone};
+use crate::alone::{SCRIPT_LIMIT, run_alone, run_on_log};
 use crate::fault::ProgramFault;
 use crate::input::{read_front, read_input};
 use crate::live::talk_on_file;
@@ -27,7 +27,8 @@ use std::thread::Threads;
 const INPUT_LIMIT: u64 = 1_200_000_000;
 
 // Reads a log, at most one byte past its limit, then a script likewise, and works the script on the
-// log. Read where either cannot be read, whatever the other holds.
+// log, whose bytes are let go once it is opened. Read where either cannot be read, whatever the other
+// holds.
 fn run_file<L: Read + Drop, R: Read + Drop, W: Write, T: Threads + Sync, A: Allocator + Copy>(
     rt: &T,
     alloc: A,
@@ -40,14 +41,7 @@ fn run_file<L: Read + Drop, R: Read + Drop, W: Write, T: Threads + Sync, A: Allo
 {
     let log = read_front(alloc, log, LOG_LIMIT as u64)?;
     let script = read_front(alloc, script, SCRIPT_LIMIT)?;
-    run_alone(
-        rt,
-        alloc,
-        script.as_slice(),
-        writer,
-        log.as_slice(),
-        options,
-    )
+    run_on_log(rt, alloc, script.as_slice(), writer, log, options)
 }
 
 // Runs a log alone, whose bytes are let go once it is opened.

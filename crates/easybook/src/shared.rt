@@ -6,11 +6,11 @@ ghost use Rattle.easybook.specs.Shared.{RunsShared, head_line, headed};
 
 use crate::alone::SCRIPT_LIMIT;
 use crate::book::{OpenedBook, opened_book};
+use crate::crew::run_scripts;
 use crate::fault::ProgramFault;
 use crate::opened::LOG_LIMIT;
 use crate::options::Options;
 use itoa::Buffer;
-use shared_scripts::run_scripts;
 use std::alloc::Allocator;
 use std::io::Write;
 use std::sync::Wait;

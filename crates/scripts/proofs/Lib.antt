@@ -1,10 +1,13 @@
 mod Writings
 mod Settlings
 mod Transcripts
-mod Calls
+mod CallAnswers
 mod Named
 mod Looking
 mod Sides
+mod Besides
+mod Scripts
+mod BookAnswers
 mod Hearings
 mod Conversations
 mod OneAnswer

@@ -1,6 +1,6 @@
 -- Views of a session.
-use Rattle.std.proofs.Common.{◌≡◌, ℕ, List, ◌++◌, map, max, refl, sym, ◌∙◌, ap, subst, Bool, true, false, cond, inl, inr, ◌⊎◌}
-use Rattle.std.specs.Prelude.{codes, find, nat_lt, Option, None, Some, Err}
+use Rattle.std.proofs.Common.{◌≡◌, ℕ, List, ◌++◌, map, refl, sym, ◌∙◌, ap, subst, Bool, true, false, cond, inl, inr, ◌⊎◌}
+use Rattle.std.specs.Prelude.{codes, find, nat_lt, Option, None, Some, Result, Ok, Err, IfOk}
 use Rattle.std.specs.Option.{option_map}
 use Rattle.swf_text.specs.Entry.{LogEntry}
 use Rattle.scenarios.specs.Scenario.{Setting}
@@ -8,13 +8,12 @@ use Rattle.scenarios.specs.Plan.{plan_of}
 use Rattle.scenarios.specs.ScenarioList.{Listed, named}
 use Rattle.checkpoints.specs.Sums.{IsTablesOf}
 use Rattle.report.specs.Pieces.{left}
-use Rattle.report.specs.Entries.{log_text}
 use Rattle.report.specs.Schedule.{schedule_text}
 use Rattle.report.specs.Side.{shown_line}
 use Rattle.book_machine.specs.declared.caller.Caller.{Caller}
 use Rattle.book_machine.specs.declared.reply.Reply.TheVariants as reply
 use Rattle.book_machine.specs.Call.{View}
-use Rattle.book_machine.specs.Machine.{Machine, Progress, current, progress_of, version, view_reply, view_reply_at}
+use Rattle.book_machine.specs.Machine.{Machine, Progress, progress_of, view_reply, view_reply_at}
 use Rattle.version_book.specs.declared.faults.ViewFault.{ViewFault}
 use Rattle.version_book.specs.declared.faults.ViewFault.TheVariants as view
 use Rattle.version_book.specs.declared.refusal.Refusal.{Refusal}
@@ -23,23 +22,24 @@ use Rattle.version_book.specs.Answers.{view_answer}
 use Rattle.version_book.specs.Book.{BookView, PublishedView, ShownView, progress_of_shown, machine_of}
 use Rattle.version_book.specs.Lookups.{has_id}
 use Rattle.version_book.specs.Sound.{IsBook}
-use Rattle.version_book.specs.Steps.{told, Answers as Answered}
+use Rattle.version_book.specs.Steps.{Answers as Answered}
 use Rattle.version_book.specs.Tasks.{IsShownFor}
 use Rattle.version_book.proofs.Lemmas.{progress-shown}
 use Rattle.scripts.specs.declared.view_report.Report.{Report}
 use Rattle.scripts.specs.declared.view_report.Report.TheVariants as report
 use Rattle.scripts.specs.Lines.{refused}
+use Rattle.scripts.specs.BookRules.{IsTrueOf}
 use Rattle.scripts.specs.Looks.{IsListedAs, IsLooked, IsOf, NotLooked, unseen_line}
 use Rattle.scripts.specs.Session.{Session, IsStep}
-use Rattle.scripts.specs.Steps.{IsMade, IsNamed, IsView, IsSeen, log_of_version}
+use Rattle.scripts.specs.Steps.{IsView, IsSeen, log_of_version}
 use Rattle.scripts.specs.Reports.{IsReport, report_text}
-use Rattle.scripts.proofs.Calls.{with}
-use Rattle.scripts.proofs.Named.{shown-at, place-of, id-some, name-found, setting-some}
+use Rattle.scripts.proofs.CallAnswers.{with}
+use Rattle.scripts.proofs.Named.{shown-at, place-of, name-found}
 
 -- ---- a look
 
 -- the run that is shown is of its version's log, under the listed scenario
-pub looked : (b : BookView) (id seen : ℕ) (p : PublishedView) → IsBook b → IsShownFor b.state id seen p → IsLooked (machine_of b) id p
+looked : (b : BookView) (id seen : ℕ) (p : PublishedView) → IsBook b → IsShownFor b.state id seen p → IsLooked (machine_of b) id p
 looked b id seen p book h s listed =
     let shown = shown-at b listed.place s book listed.listed in
     let found : find (has_id s.id) b.state.shown ≡ Some h.scenario = subst (λ (n : ℕ). find (has_id n) b.state.shown ≡ Some h.scenario) (sym listed.id) h.found in
@@ -49,10 +49,6 @@ looked b id seen p book h s listed =
       setting = h.version.setting ∙ (ap (λ (x : ShownView). x.setting) same ∙ shown.2);
       run = h.version.run;
     }
-
--- the same, of a session that was seen so
-pub looked-as : {u : Session} (b : BookView) (id seen : ℕ) (p : PublishedView) → with b seen ≡ u → IsBook b → IsShownFor b.state id seen p → IsLooked u.machine id p
-looked-as {u} b id seen p is book h = subst (λ (w : Session). IsLooked w.machine id p) is (looked b id seen p book h)
 
 -- a scenario that is listed is no missing one
 not-missing-at : (seen : ℕ) (o : Option ℕ) → reply.NoSuchScenario ≡ view_reply_at seen o → ⊥
@@ -70,23 +66,18 @@ not-missing b id seen s book listed is =
     let found : progress_of id (map progress_of_shown b.state.shown) ≡ Some (progress_of_shown shown.0) = progress-shown id b.state.shown ∙ ap (option_map progress_of_shown) at in
     not-missing-at seen (progress_of_shown shown.0).published (is ∙ ap (λ (o : Option Progress). elim o [ None ↦ reply.NoSuchScenario | Some p ↦ view_reply_at seen p.published ]) found)
 
-step-of : (old new : BookView) (who : Caller) (id seen v : ℕ) → Answered old new who (View id seen) (told (reply.Shown v)) → IsStep (with old seen) (View id seen) (reply.Shown v) (with new (max seen v))
-step-of old new who id seen v h = record { room = h.0; replied = h.1; machine = h.2; seen = refl }
+-- what a view tells is true of the book
+view-true : (b new : BookView) (who : Caller) (id seen : ℕ) (result : Result PublishedView (Refusal ViewFault)) → IsBook b → IfOk result (IsShownFor b.state id seen) → Answered b new who (View id seen) (view_answer result) → IsTrueOf (machine_of b) id result
+view-true b new who id seen (Ok p) book shown h = looked b id seen p book shown
+view-true b new who id seen (Err why.JournalFull) book shown h = tt
+view-true b new who id seen (Err (why.Fault view.NoSuchScenario)) book shown h = λ s listed. not-missing b id seen s book listed h.1
+view-true b new who id seen (Err (why.Fault view.NotYet)) book shown h = tt
+view-true b new who id seen (Err (why.Fault (view.Behind x y))) book shown h = tt
+view-true b new who id seen (Err why.Memory) book shown h = tt
 
-pub look-shown : {u : Session} (old new : BookView) (who : Caller) (id seen s v : ℕ) → with old seen ≡ u → Answered old new who (View id seen) (told (reply.Shown v)) → s ≡ max seen v → IsStep u (View id u.seen) (reply.Shown v) (with new s)
-look-shown {u} old new who id seen s v is h s_is =
-    let base = step-of old new who id seen v h in
-    subst (λ (w : Session). IsStep w (View id w.seen) (reply.Shown v) (with new s)) is (subst (λ (n : ℕ). IsStep (with old seen) (View id seen) (reply.Shown v) (with new n)) (sym s_is) base)
-
-not-looked : (old new : BookView) (who : Caller) (id seen : ℕ) (refusal : Refusal ViewFault) → IsBook old → Answered old new who (View id seen) (view_answer (Err refusal)) → NotLooked refusal (with old seen) id (with new seen)
-not-looked old new who id seen why.JournalFull book h = (h.0, ap (λ (b : BookView). with b seen) h.1)
-not-looked old new who id seen (why.Fault view.NoSuchScenario) book h = (record { room = h.0; replied = h.1; machine = h.2; seen = refl }, λ s listed. not-missing old id seen s book listed h.1)
-not-looked old new who id seen (why.Fault view.NotYet) book h = record { room = h.0; replied = h.1; machine = h.2; seen = refl }
-not-looked old new who id seen (why.Fault (view.Behind x y)) book h = record { room = h.0; replied = h.1; machine = h.2; seen = refl }
-not-looked old new who id seen why.Memory book h = ap (λ (b : BookView). with b seen) h.1
-
-pub look-refused : {u : Session} (old new : BookView) (who : Caller) (id seen : ℕ) (refusal : Refusal ViewFault) → with old seen ≡ u → IsBook old → Answered old new who (View id seen) (view_answer (Err refusal)) → NotLooked refusal u id (with new seen)
-look-refused {u} old new who id seen refusal is book h = subst (λ (w : Session). NotLooked refusal w id (with new seen)) is (not-looked old new who id seen refusal book h)
+-- the same, of a session that was seen so
+pub view-true-as : {u : Session} (b new : BookView) (who : Caller) (id seen : ℕ) (result : Result PublishedView (Refusal ViewFault)) → with b seen ≡ u → IsBook b → IfOk result (IsShownFor b.state id seen) → Answered b new who (View id seen) (view_answer result) → IsTrueOf u.machine id result
+view-true-as {u} b new who id seen result is book shown h = subst (λ (w : Session). IsTrueOf w.machine id result) is (view-true b new who id seen result book shown h)
 
 -- ---- a report
 
@@ -141,34 +132,14 @@ side-behind old new s x y step = (reply.Behind x y, step, refl)
 -- ---- by name
 
 -- a view of the scenario that a name finds
-named-viewed : (old new : Session) (name : List ℕ) (id : ℕ) (kind : Report) (p : PublishedView) (text : List ℕ) (s : Listed) → named name old.machine.listing.scenarios ≡ Some s → id ≡ s.id → IsStep old (View id old.seen) (reply.Shown p.version) new → IsLooked old.machine id p → (text ≡ report_text kind name p.version p.run) ⊎ (text ≡ refused (codes "Memory")) → IsView old (IsReport kind) text new s
+pub named-viewed : (old new : Session) (name : List ℕ) (id : ℕ) (kind : Report) (p : PublishedView) (text : List ℕ) (s : Listed) → named name old.machine.listing.scenarios ≡ Some s → id ≡ s.id → IsStep old (View id old.seen) (reply.Shown p.version) new → IsLooked old.machine id p → (text ≡ report_text kind name p.version p.run) ⊎ (text ≡ refused (codes "Memory")) → IsView old (IsReport kind) text new s
 named-viewed old new name id kind p text s is id_is step look (inl says) =
     let called : s.name ≡ name = name-found name s old.machine.listing.scenarios is in
     viewed old new id s kind p text step look (listed-as old.machine name id s is id_is) (says ∙ ap (λ (n : List ℕ). report_text kind n p.version p.run) (sym called))
 named-viewed old new name id kind p text s is id_is step look (inr short) = viewed-short old new id s kind p text step (listed-as old.machine name id s is id_is) short
-
-pub view-told : (old new : Session) (name : List ℕ) (id : ℕ) (kind : Report) (p : PublishedView) (text : List ℕ) → Some id ≡ option_map (λ (s : Listed). s.id) (named name old.machine.listing.scenarios) → IsStep old (View id old.seen) (reply.Shown p.version) new → IsLooked old.machine id p → (text ≡ report_text kind name p.version p.run) ⊎ (text ≡ refused (codes "Memory")) → IsNamed old name (IsView old (IsReport kind) text new) text new
-view-told old new name id kind p text found step look says =
-    let it = id-some (named name old.machine.listing.scenarios) id found in
-    inr (it.0, it.1, named-viewed old new name id kind p text it.0 it.1 it.2 step look says)
-
-pub view-refused : (old new : Session) (name : List ℕ) (id : ℕ) (kind : Report) (refusal : Refusal ViewFault) (text : List ℕ) → Some id ≡ option_map (λ (s : Listed). s.id) (named name old.machine.listing.scenarios) → NotLooked refusal old id new → text ≡ unseen_line refusal → IsNamed old name (IsView old (IsReport kind) text new) text new
-view-refused old new name id kind refusal text found h is =
-    let it = id-some (named name old.machine.listing.scenarios) id found in
-    inr (it.0, it.1, not-viewed old new id it.0 kind refusal text h (listed-as old.machine name id it.0 it.1 it.2) is)
-
-log-as : (v : ℕ) (log : List LogEntry) {a b : List ℕ} {under under' : Setting} → a ≡ b → under ≡ under' → log_text a v log under ≡ log_text b v log under'
-log-as v log is is' = cc
 
 -- ---- beside others
 
 pub beside-shown : (old new : Session) (id : ℕ) (p : PublishedView) → IsStep old (View id old.seen) (reply.Shown p.version) new → IsLooked old.machine id p → (s : Listed) → IsListedAs old.machine id s → IsSeen old s (shown_line s.name p.version p.run.tables.overall) new
 beside-shown old new id p step look s listed =
     side-shown old new s p (subst (λ (n : ℕ). IsStep old (View n old.seen) (reply.Shown p.version) new) (sym listed.id) step) (look s listed)
-
--- the log under the scenario that a name finds
-pub log-told : (old : Session) (name : List ℕ) (under : Setting) (text : List ℕ) → Some under ≡ option_map (λ (s : Listed). s.setting) (named name old.machine.listing.scenarios) → text ≡ log_text name (version old.machine) (current old.machine) under → IsNamed old name (λ (s : Listed). IsMade old (log_text s.name (version old.machine) (current old.machine) s.setting) text old) text old
-log-told old name under text found is =
-    let it = setting-some (named name old.machine.listing.scenarios) under found in
-    let called : it.0.name ≡ name = name-found name it.0 old.machine.listing.scenarios it.1 in
-    inr (it.0, it.1, inl (is ∙ log-as (version old.machine) (current old.machine) (sym called) it.2, refl))

@@ -29,7 +29,7 @@ take-next [] k x is = cc
 take-next (y ∷ xs) zero x is = cc
 take-next (y ∷ xs) (suc k) x is = ap (λ ys. y ∷ ys) (take-next xs k x is)
 
-take-more : {X : Type 0} (xs : List X) (k : ℕ) (x : X) → slice_get xs k ≡ Some x → take (k + 1) xs ≡ take k xs ++ x ∷ []
+pub take-more : {X : Type 0} (xs : List X) (k : ℕ) (x : X) → slice_get xs k ≡ Some x → take (k + 1) xs ≡ take k xs ++ x ∷ []
 take-more xs k x is =
     let e : k + 1 ≡ suc k = omega arith in
     ap (λ (n : ℕ). take n xs) e ∙ take-next xs k x is

@@ -1,10 +1,5 @@
 -- Transcripts, line after line.
-use Rattle.std.proofs.Common.{◌≡◌, ℕ, ◌+◌, ◌<◌, true, false, List, [], ◌∷◌, ◌++◌, length, take, Option, Some, None, Result, Ok, Err, inl, inr, refl, sym, subst, append_assoc, append-nil, arith, if◌then◌else◌}
-use Rattle.std.specs.List.{before_first, after_first}
-use Rattle.std.specs.Io.KnownBytes.{Appends}
-use Rattle.std.proofs.KnownBytes.{Appends-trans}
-use Rattle.swf_text.specs.Text.{lines, is_feed}
-use Rattle.swf_text.proofs.Lemmas.{lines-next}
+use Rattle.std.proofs.Common.{◌≡◌, ℕ, ◌+◌, true, List, [], ◌∷◌, ◌++◌, Option, Some, None, Result, Ok, Err, inl, inr, refl, sym}
 use Rattle.scenarios.specs.ScenarioList.{Listed, named}
 use Rattle.commands.specs.declared.command.Command.{Command}
 use Rattle.commands.specs.declared.command.Command.TheVariants as asks
@@ -12,9 +7,8 @@ use Rattle.commands.specs.declared.fault.CommandFault.{CommandFault}
 use Rattle.commands.specs.Commands.{command_of_line}
 use Rattle.scripts.specs.Session.{Session}
 use Rattle.scripts.specs.Steps.{Answers, IsNamed}
-use Rattle.scripts.specs.Transcript.{IsLine, IsTranscript, IsTranscriptOf, is_quit, looked_at}
+use Rattle.scripts.specs.Transcript.{IsLine, IsTranscript}
 use Rattle.scripts.proofs.Settlings.{stops}
-use Rattle.scripts.proofs.Writings.{front_more, front_after}
 
 -- ---- each command has an answer
 
@@ -51,54 +45,9 @@ some_line comments old number (Ok None) = (_, (_, (refl, refl)))
 some_line comments old number (Ok (Some command)) = some_answer comments old command
 some_line comments old number (Err fault) = (_, (_, (refl, refl)))
 
-some_transcript : (A : Type 0) (comments : List (List ℕ)) (old : Session) (ls : List (List ℕ)) (number : ℕ) → (out : List ℕ) × IsTranscript A comments old ls number out
+pub some_transcript : (A : Type 0) (comments : List (List ℕ)) (old : Session) (ls : List (List ℕ)) (number : ℕ) → (out : List ℕ) × IsTranscript A comments old ls number out
 some_transcript A comments old [] number = ([], refl)
 some_transcript A comments old (line ∷ ls) number =
     let answer = some_line comments old number (command_of_line {A = A} line) in
     let later = some_transcript A comments answer.1.0 ls (number + 1) in
     (answer.0 ++ later.0, (answer.0, answer.1.0, later.0, answer.1.1, later.1, refl))
-
--- ---- line after line
-
--- what is written of the rest, behind what is done, is a transcript of the whole
-abbrev pub Leads : (A : Type 0) → List (List ℕ) → Session → List ℕ → Session → List ℕ → ℕ → List ℕ → Type 0
-Leads A comments first script now rest number done =
-    (later : List ℕ) → IsTranscript A comments now (looked_at A (lines rest)) number later → IsTranscriptOf A comments first script (done ++ later)
-
-module _ (A : Type 0) (comments : List (List ℕ)) (first : Session) (script : List ℕ) (now : Session) (rest : List ℕ) (number : ℕ) (done text : List ℕ) (next : Session) (some : 0 < length rest) (leads : Leads A comments first script now rest number done) (answers : IsLine comments now number (command_of_line {A = A} (before_first is_feed rest)) text next) where
-  -- the lines that are looked at after this one
-  after : List (List ℕ)
-  after = if is_quit (command_of_line {A = A} (before_first is_feed rest)) then [] else looked_at A (lines (after_first is_feed rest))
-
-  leads_line : (later : List ℕ) → IsTranscript A comments next after (number + 1) later → IsTranscriptOf A comments first script (done ++ (text ++ later))
-  unfolding after
-  leads_line later h =
-      leads (text ++ later)
-      (subst (λ (ls : List (List ℕ)). IsTranscript A comments now (looked_at A ls) number (text ++ later)) (sym (lines-next rest some)) (text, next, later, answers, h, refl))
-
-  pub leads_more : is_quit (command_of_line {A = A} (before_first is_feed rest)) ≡ false → Leads A comments first script next (after_first is_feed rest) (number + 1) (done ++ text)
-  unfolding after
-  leads_more goes later h =
-      rw append_assoc (leads_line later (rw goes h))
-
-  -- the writer failed in a line
-  pub told_part : (old mid new : Option (List ℕ)) → Appends old mid done → (n : ℕ) × Appends mid new (take n text)
-      → (out : List ℕ) × IsTranscriptOf A comments first script out × ((n : ℕ) × Appends old new (take n out))
-  told_part old mid new before part =
-      let later = some_transcript A comments next after (number + 1) in
-      (done ++ (text ++ later.0), leads_line later.0 later.1, front_after old mid new done (text ++ later.0) before (front_more mid new text later.0 part))
-
-  -- the last line that is looked at
-  pub told_quit : (old mid new : Option (List ℕ)) → is_quit (command_of_line {A = A} (before_first is_feed rest)) ≡ true → Appends old mid done → Appends mid new text
-      → (out : List ℕ) × IsTranscriptOf A comments first script out × Appends old new out
-  unfolding after
-  told_quit old mid new quits before last =
-      (done ++ (text ++ []), leads_line [] (rw quits refl), Appends-trans old mid new done (text ++ []) before (subst (Appends mid new) (sym (append-nil text)) last))
-
--- no line is left
-pub told_end : (A : Type 0) (comments : List (List ℕ)) (first : Session) (script : List ℕ) (now : Session) (rest : List ℕ) (number : ℕ) (done : List ℕ) (old new : Option (List ℕ))
-    → length rest ≡ 0 → Leads A comments first script now rest number done → Appends old new done
-    → (out : List ℕ) × IsTranscriptOf A comments first script out × Appends old new out
-told_end A comments first script now [] number done old new none leads before =
-    (done ++ [], leads [] refl, subst (Appends old new) (sym (append-nil done)) before)
-told_end A comments first script now (b ∷ bs) number done old new none leads before = absurd (omega arith)

@@ -4,6 +4,7 @@ use Rattle.job_table.specs.Names.{edit_fault_name}
 use Rattle.scenarios.specs.Names.{add_fault_name, no_such_scenario_name}
 use Rattle.book_machine.specs.declared.reply.Reply.{Reply}
 use Rattle.book_machine.specs.declared.reply.Reply.TheVariants as reply
+use Rattle.version_book.specs.Steps.{Answer, full, memory, told}
 use Rattle.scripts.specs.Lines.{version_line, scenario_line, refused, behind_line}
 
 -- an edit: the version that it made, or its fault
@@ -27,3 +28,9 @@ view_says reply.NoSuchScenario = refused no_such_scenario_name
 view_says reply.NotYet = refused (codes "NotYet")
 view_says (reply.Behind seen found) = behind_line seen found
 view_says other = []
+
+-- what an answer says, where a reply says this
+abbrev pub says_of : (Reply → List ℕ) → Answer → List ℕ
+says_of says full = refused (codes "JournalFull")
+says_of says memory = refused (codes "Memory")
+says_of says (told r) = says r

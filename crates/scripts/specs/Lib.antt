@@ -12,3 +12,7 @@ pub mod FirstSchedule
 pub mod Laws
 pub mod Hearing
 pub mod Live
+pub mod Rules
+pub mod Analysts
+pub mod Scripts
+pub mod BookRules

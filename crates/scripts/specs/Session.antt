@@ -4,6 +4,7 @@ use Rattle.book_machine.specs.declared.reply.Reply.{Reply}
 use Rattle.book_machine.specs.declared.reply.Reply.TheVariants as reply
 use Rattle.book_machine.specs.Call.{BookCall}
 use Rattle.book_machine.specs.Machine.{Machine, reply_to, after, note_limit}
+use Rattle.version_book.specs.Steps.{Answer, full, memory, told}
 use Rattle.scripts.specs.Lines.{refused}
 
 -- the book's state, and the greatest version that an edit or a view told the session
@@ -16,6 +17,12 @@ abbrev pub seen_by : ℕ → Reply → ℕ
 seen_by seen (reply.Edited version) = max seen version
 seen_by seen (reply.Shown version) = max seen version
 seen_by seen other = seen
+
+-- and after an answer
+abbrev pub seen_of : ℕ → Answer → ℕ
+seen_of seen full = seen
+seen_of seen memory = seen
+seen_of seen (told r) = seen_by seen r
 
 -- the book noted the call, and replied
 pub record IsStep (old : Session) (call : BookCall) (told : Reply) (new : Session) : Type 0 where

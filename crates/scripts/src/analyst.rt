@@ -1,98 +1,74 @@
 ghost use Rattle.std.specs.Prelude.{◌≡◌};
 ghost use Rattle.job_table.specs.Edit.{edit_of};
-ghost use Rattle.book_machine.specs.Call.{AddScenario, DropScenario, Edit as Edits, Retry};
-ghost use Rattle.book_machine.specs.Machine.{version};
-ghost use Rattle.version_book.specs.Book.{machine_of};
-ghost use Rattle.scripts.specs.Answers.{edit_says, scenario_says};
-ghost use Rattle.scripts.specs.Session.{IsCall};
-ghost use Rattle.scripts.specs.Steps.{IsNamed};
-ghost use Rattle.scripts.specs.Told.{answer_line};
+ghost use Rattle.book_machine.specs.Call.{AddScenario, DropScenario, Edit as Edits, Retry, View};
+ghost use Rattle.version_book.specs.Answers.{add_answer, drop_answer, edit_answer, retry_answer, view_answer};
+ghost use Rattle.scripts.specs.Rules.{Rules, read_of};
 
-use crate::answer::{Answer, Became};
-use commands::Name;
-use job_table::Edit;
-use scenarios::{NoSuchScenario, Scenario};
+use book_machine::SettleState;
+use job_table::{Edit, JobTable};
+use scenarios::{Scenario, ScenarioId, ScenarioList};
 use std::alloc::Allocator;
-use std::marker::Model;
-use version_book::Book;
+use std::sync::Arc;
+use swf_text::Memory;
+use version_book::{AddRefusal, DropRefusal, EditRefusal, Published, RetryRefusal, ViewRefusal};
 
-/// The number of the session whose calls an analyst makes.
-pub(crate) const SESSION: u64 = 0;
-
-/// One analyst's session with a book.
+/// What is read of a log and its scenarios at one moment.
 #[derive(Drop)]
-pub(crate) struct Analyst<A: Allocator + Copy> {
-    pub(crate) alloc: A,
-    pub(crate) book: Book<A>,
-    // the greatest version that an edit or a view told
-    pub(crate) seen: u64,
+pub struct Reading<A: Allocator + Copy> {
+    /// The version.
+    pub version: u64,
+    /// The log of this version.
+    pub table: Arc<JobTable<A>, A>,
+    /// The scenarios, in the order in which they were added.
+    pub scenarios: ScenarioList<A>,
 }
 
-impl<A: Allocator + Copy> Model for Analyst<A> {
-    ghost use Rattle.version_book.specs.Book.{machine_of};
-    ghost use Rattle.scripts.specs.Session.{Session};
+/// One who edits a log and views its simulations, as a session of a book or of a desk does. What the
+/// commands of a script are answered is built of these calls alone.
+pub trait Analyst<A: Allocator + Copy> {
+    /// What such a one may be told, and how it stands then.
+    ghost rules: { Rules Self };
 
-    ghost Value = { Session };
+    /// Edits the log, and answers the new version. The refusals are those of `Book::edit`.
+    fn edit(&mut self, edit: &Edit<A>) -> Result<u64, EditRefusal>
+        ensures { rules.does self.old (Edits (edit_of edit.now)) (edit_answer result) self.new };
 
-    ghost view = { λ a. record { machine = machine_of a.book; seen = a.seen } };
-}
+    /// Adds a scenario, and answers its id. The refusals are those of `Book::add_scenario`.
+    fn add_scenario(&mut self, name: &str, scenario: Scenario) -> Result<ScenarioId, AddRefusal>
+        ensures { rules.does self.old (AddScenario name.now scenario) (add_answer result) self.new };
 
-impl<A: Allocator + Copy> Analyst<A> {
-    // A session that has seen nothing.
-    pub(crate) fn new(alloc: A, book: Book<A>) -> Analyst<A>
-        ensures { result ≡ record { machine = machine_of book; seen = 0 } }
-    {
-        Analyst {
-            alloc,
-            book,
-            seen: 0,
-        }
-    }
+    /// Drops the scenario with this name, and answers its id. The refusals are those of
+    /// `Book::drop_scenario`.
+    fn drop_scenario(&mut self, name: &str) -> Result<ScenarioId, DropRefusal>
+        ensures { rules.does self.old (DropScenario name.now) (drop_answer result) self.new };
 
-    // The log's version.
-    pub(crate) fn version(&self) -> u64
-        ensures { result ≡ version self.now.machine }
-    {
-        self.book.version()
-    }
+    /// Has a scenario that was given up worked again. The refusals are those of `Book::retry`.
+    fn retry(&mut self, id: ScenarioId) -> Result<(), RetryRefusal>
+        ensures { rules.does self.old (Retry id) (retry_answer result) self.new };
 
-    // Edits the log.
-    pub(crate) fn edit(&mut self, edit: &Edit<A>) -> Answer
-        ensures { IsCall self.old (Edits (edit_of edit.now)) edit_says (answer_line result) self.new }
-    {
-        match self.book.edit(SESSION, edit) {
-            Ok(version) => {
-                self.seen = self.seen.max(version);
-                Answer::Version(version)
-            }
-            Err(refusal) => Answer::refused(&refusal),
-        }
-    }
+    /// What is published for the scenario with this id, not older than what an edit or a view told by
+    /// now. The refusals are those of `Book::view`.
+    fn view(&mut self, id: ScenarioId) -> Result<Published<A>, ViewRefusal>
+        ensures answer { rules.does self.old (View id (rules.seen self.old)) (view_answer result) self.new }
+        ensures told { rules.sees self.old id result };
 
-    // Adds a scenario.
-    pub(crate) fn add(&mut self, name: Name, scenario: Scenario) -> Answer
-        ensures { IsCall self.old (AddScenario name scenario) (scenario_says name) (answer_line result) self.new }
-    {
-        let told = self.book.add_scenario(SESSION, name.as_str(), scenario);
-        Answer::of_scenario(name, Became::Added, told)
-    }
+    /// The id of the scenario with this name.
+    fn find(&mut self, name: &str) -> Option<ScenarioId>
+        ensures { rules.finds self.old name.now result self.new };
 
-    // Drops the scenario with this name.
-    pub(crate) fn drop_named(&mut self, name: Name) -> Answer
-        ensures { IsCall self.old (DropScenario name) (scenario_says name) (answer_line result) self.new }
-    {
-        let told = self.book.drop_scenario(SESSION, name.as_str());
-        Answer::of_scenario(name, Became::Dropped, told)
-    }
+    /// The log's version.
+    fn version(&mut self) -> u64
+        ensures { rules.counts self.old result self.new };
 
-    // Has the scenario with this name worked again.
-    pub(crate) fn retry(&mut self, name: Name) -> Answer
-        ensures { IsNamed self.old name (λ s. IsCall self.old (Retry s.id) (scenario_says name) (answer_line result) self.new) (answer_line result) self.new }
-    {
-        let Some(id) = self.book.id_of(name.as_str()) else {
-            return Answer::refused(&NoSuchScenario);
-        };
-        let told = self.book.retry(SESSION, id);
-        Answer::of_scenario(name, Became::Retried, told)
-    }
+    /// The log and the scenarios of one moment. Memory where a growth is refused.
+    fn current(&mut self) -> Result<Reading<A>, Memory>
+        ensures { rules.reads self.old (read_of result) self.new };
+
+    /// How far the scenarios are, once no work is waited for.
+    fn settle(&mut self) -> SettleState
+        ensures { rules.settles self.old result self.new };
+
+    /// The greatest version that an edit or a view told; 0 at first.
+    fn seen(&self) -> u64
+        ensures { result ≡ rules.seen self.now };
 }

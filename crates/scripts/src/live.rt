@@ -9,7 +9,7 @@ ghost use Rattle.scripts.specs.Replies.{reply_text};
 ghost use Rattle.scripts.specs.Session.{Session};
 ghost use Rattle.scripts.specs.Transcript.{IsLine, is_quit};
 
-use crate::analyst::Analyst;
+use crate::book_session::BookSession;
 use crate::hearing::{Line, LineEnd, ReadFault, next_line, pass_line};
 use crate::reply::Reply;
 use crate::run::is_quit;
@@ -88,7 +88,7 @@ fn say<W: Write, A: Allocator + Copy>(reply: &Reply<A>, writer: &mut W) -> Resul
 
 // Works a line, and writes what it is answered; whether it is `quit`.
 fn answer<W: Write, A: Allocator + Copy>(
-    analyst: &mut Analyst<A>,
+    analyst: &mut BookSession<A>,
     comments: &[Vec<u8, A>],
     number: u64,
     line: &[u8],
@@ -120,7 +120,7 @@ fn may_follow<R: BufRead, A: Allocator>(
 
 // Works one turn: reads a line, and answers it before another is read; whether one may follow.
 fn turn<R: BufRead, W: Write, A: Allocator + Copy>(
-    analyst: &mut Analyst<A>,
+    analyst: &mut BookSession<A>,
     comments: &[Vec<u8, A>],
     number: u64,
     line: &mut Line<A>,
@@ -164,7 +164,7 @@ pub fn run_live<R: BufRead, W: Write, A: Allocator + Copy>(
     ensures { Talks A (map (λ c. c.items) comments.now) (record { machine = machine_of book; seen = 0 }) (R.remaining reader.old) (R.remaining reader.new) (W.contents writer.old) (W.contents writer.new) result }
 {
     let mut line = Line::new(alloc)?;
-    let mut analyst = Analyst::new(alloc, book);
+    let mut analyst = BookSession::new(alloc, book);
     for number in 1..u64::MAX {
         let follows = turn(&mut analyst, comments, number, &mut line, reader, writer)?;
         if !follows {

@@ -1,15 +1,15 @@
-// The log of an analyst's book, as a report and as it is saved.
+// The log, as a report and as it is saved.
 ghost use Rattle.std.specs.Prelude.{◌≡◌, map, Some, IfOk};
+ghost use Rattle.std.specs.Arc.{arc_value};
 ghost use Rattle.std.specs.Option.{option_map};
 ghost use Rattle.swf_text.specs.Writing.{text_bytes};
 ghost use Rattle.scenarios.specs.ScenarioList.{named};
 ghost use Rattle.commands.specs.Opening.{saved};
-ghost use Rattle.report.specs.Entries.{log_text};
-ghost use Rattle.book_machine.specs.Machine.{current, version};
+ghost use Rattle.scripts.specs.Analysts.{IsLogOf, LogBy, NamedBy, SavedBy};
 ghost use Rattle.scripts.specs.Replies.{reply_text};
-ghost use Rattle.scripts.specs.Steps.{IsMade, IsNamed, saved_text};
+ghost use Rattle.scripts.specs.Rules.{moment_of};
 
-use crate::analyst::Analyst;
+use crate::analyst::{Analyst, Reading};
 use crate::reply::Reply;
 use commands::{Name, save_text};
 use report::log_text;
@@ -43,47 +43,67 @@ pub fn bytes_of<A: Allocator + Copy>(alloc: A, text: &SwfText<A>) -> Result<Vec<
     }
 }
 
-impl<A: Allocator + Copy> Analyst<A> {
-    // The report on the current log under the scenario with this name.
-    pub(crate) fn log(&self, name: &Name) -> Reply<A>
-        ensures { IsNamed self.now name.now (λ s. IsMade self.now (log_text s.name (version self.now.machine) (current self.now.machine) s.setting) (reply_text result) self.now) (reply_text result) self.now }
-    {
-        let Some(scenario) = scenario_of(self.book.scenarios(), name.as_str()) else {
-            return Reply::refused(&NoSuchScenario);
-        };
-        let table = self.book.current();
-        match log_text(
-            self.alloc,
-            name.as_str(),
-            self.book.version(),
-            table,
-            scenario,
-        ) {
-            Ok(text) => Reply::Report(text),
-            Err(_) => Reply::refused(&Memory),
-        }
+// The report on a log under the scenario with this name.
+fn log_of<A: Allocator + Copy>(alloc: A, reading: &Reading<A>, name: &Name) -> Reply<A>
+    ensures { IsLogOf name.now (Some (moment_of reading.now)) (reply_text result) }
+{
+    let Some(scenario) = scenario_of(&reading.scenarios, name.as_str()) else {
+        return Reply::refused(&NoSuchScenario);
+    };
+    match log_text(
+        alloc,
+        name.as_str(),
+        reading.version,
+        &reading.table,
+        scenario,
+    ) {
+        Ok(text) => Reply::Report(text),
+        Err(_) => Reply::refused(&Memory),
     }
+}
 
-    // The current log with its scenarios and these comments, as text.
-    fn saved(&self, comments: &[Vec<u8, A>]) -> Result<Vec<u8, A>, Memory>
-        ensures { IfOk result (λ bytes. bytes.items ≡ text_bytes (saved (map (λ c. c.items) comments.now) (current self.now.machine) self.now.machine.listing)) }
-    {
-        let text = save_text(
-            self.alloc,
-            comments,
-            self.book.current(),
-            self.book.scenarios(),
-        )?;
-        bytes_of(self.alloc, &text)
+// The report on the current log under the scenario with this name.
+pub(crate) fn log<S: Analyst<A>, A: Allocator + Copy>(
+    analyst: &mut S,
+    alloc: A,
+    name: &Name,
+) -> Reply<A>
+    ensures { NamedBy S.rules analyst.old name.now (λ id mid. LogBy S.rules mid name.now (reply_text result) analyst.new) (reply_text result) analyst.new }
+{
+    if analyst.find(name.as_str()).is_none() {
+        return Reply::refused(&NoSuchScenario);
     }
+    match analyst.current() {
+        Ok(reading) => log_of(alloc, &reading, name),
+        Err(_) => Reply::refused(&Memory),
+    }
+}
 
-    // The current log with its scenarios and these comments.
-    pub(crate) fn save(&self, comments: &[Vec<u8, A>]) -> Reply<A>
-        ensures { IsMade self.now (saved_text (saved (map (λ c. c.items) comments.now) (current self.now.machine) self.now.machine.listing)) (reply_text result) self.now }
-    {
-        match self.saved(comments) {
-            Ok(text) => Reply::Saved(text),
-            Err(_) => Reply::refused(&Memory),
-        }
+// A log with its scenarios and these comments, as text.
+fn saved<A: Allocator + Copy>(
+    alloc: A,
+    comments: &[Vec<u8, A>],
+    reading: &Reading<A>,
+) -> Result<Vec<u8, A>, Memory>
+    ensures { IfOk result (λ bytes. bytes.items ≡ text_bytes (saved (map (λ c. c.items) comments.now) (arc_value reading.now.table) reading.now.scenarios)) }
+{
+    let text = save_text(alloc, comments, &reading.table, &reading.scenarios)?;
+    bytes_of(alloc, &text)
+}
+
+// The current log with its scenarios and these comments.
+pub(crate) fn save<S: Analyst<A>, A: Allocator + Copy>(
+    analyst: &mut S,
+    alloc: A,
+    comments: &[Vec<u8, A>],
+) -> Reply<A>
+    ensures { SavedBy S.rules analyst.old (map (λ c. c.items) comments.now) (reply_text result) analyst.new }
+{
+    let Ok(reading) = analyst.current() else {
+        return Reply::refused(&Memory);
+    };
+    match saved(alloc, comments, &reading) {
+        Ok(text) => Reply::Saved(text),
+        Err(_) => Reply::refused(&Memory),
     }
 }

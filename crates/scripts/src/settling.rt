@@ -1,14 +1,12 @@
 // How an analyst alone works what is due.
-ghost use Rattle.std.specs.Prelude.{IfOk};
+ghost use Rattle.std.specs.Prelude.{◌≡◌, IfOk};
 ghost use Rattle.std.specs.Arc.{arc_value};
+ghost use Rattle.book_machine.specs.Machine.{settled};
 ghost use Rattle.version_book.specs.Book.{machine_of};
 ghost use Rattle.version_book.specs.Tasks.{Fits, IsOut};
 ghost use Rattle.scripts.specs.Settling.{IsTurn, IsTurnOf, Settles, TicketEnds};
-ghost use Rattle.scripts.specs.Steps.{IsSettled};
-ghost use Rattle.scripts.specs.Told.{answer_line};
 
-use crate::analyst::Analyst;
-use crate::answer::Answer;
+use crate::book_session::BookSession;
 use checkpoints::Run;
 use std::alloc::Allocator;
 use std::sync::Arc;
@@ -105,17 +103,14 @@ fn work_all<A: Allocator + Copy>(book: &mut Book<A>) -> bool
     }
 }
 
-impl<A: Allocator + Copy> Analyst<A> {
+impl<A: Allocator + Copy> BookSession<A> {
     // Works all that is due, and tells how far the scenarios are, and whether memory was refused.
-    pub(crate) fn settle(&mut self) -> (Answer, bool)
-        ensures { IsSettled result.1 self.old (answer_line result.0) self.new }
+    pub(crate) fn settle_all(&mut self) -> (SettleState, bool)
+        ensures settles { Settles result.1 self.old.machine self.new.machine }
+        ensures seen { self.new.seen ≡ self.old.seen }
+        ensures state { result.0 ≡ settled self.old.seen self.new.machine }
     {
         let short = work_all(&mut self.book);
-        let answer = match self.book.settled(self.seen) {
-            SettleState::Done => Answer::Settled { seen: self.seen },
-            SettleState::Failed(count) => Answer::Failed { count },
-            SettleState::Waiting => Answer::Stopped,
-        };
-        (answer, short)
+        (self.book.settled(self.seen), short)
     }
 }

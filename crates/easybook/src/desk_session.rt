@@ -1,0 +1,83 @@
+// An analyst at a desk.
+use book_machine::SettleState;
+use job_table::Edit;
+use scenarios::{Scenario, ScenarioId};
+use scripts::{Analyst, Reading};
+use std::alloc::Allocator;
+use std::marker::Model;
+use std::sync::Wait;
+use swf_text::Memory;
+use version_book::{AddRefusal, DropRefusal, EditRefusal, Published, RetryRefusal, ViewRefusal};
+use workers::{Desk, Session, Settled};
+
+/// A session, the desk that opened it, and how a thread waits for the desk.
+#[derive(Drop)]
+pub(crate) struct DeskSession<'d, A: Allocator + Copy, R: Wait> {
+    pub(crate) rt: &'d R,
+    pub(crate) desk: &'d Desk<A>,
+    pub(crate) session: Session<A>,
+}
+
+impl<'d, A: Allocator + Copy, R: Wait> Model for DeskSession<'d, A, R> {
+    ghost use Rattle.workers.specs.Callers.{SessionView};
+
+    ghost Value = { SessionView };
+
+    ghost view = { λ s. s.session };
+}
+
+impl<'d, A: Allocator + Copy, R: Wait> Analyst<A> for DeskSession<'d, A, R> {
+    ghost use Rattle.easybook.specs.DeskRules.{desk_rules};
+
+    ghost rules = { desk_rules };
+
+    fn edit(&mut self, edit: &Edit<A>) -> Result<u64, EditRefusal> {
+        self.session.edit(self.rt, self.desk, edit)
+    }
+
+    fn add_scenario(&mut self, name: &str, scenario: Scenario) -> Result<ScenarioId, AddRefusal> {
+        self.session
+            .add_scenario(self.rt, self.desk, name, scenario)
+    }
+
+    fn drop_scenario(&mut self, name: &str) -> Result<ScenarioId, DropRefusal> {
+        self.session.drop_scenario(self.rt, self.desk, name)
+    }
+
+    fn retry(&mut self, id: ScenarioId) -> Result<(), RetryRefusal> {
+        self.session.retry(self.rt, self.desk, id)
+    }
+
+    fn view(&mut self, id: ScenarioId) -> Result<Published<A>, ViewRefusal> {
+        self.session.view(self.rt, self.desk, id)
+    }
+
+    fn find(&mut self, name: &str) -> Option<ScenarioId> {
+        self.session.find(self.rt, self.desk, name)
+    }
+
+    fn version(&mut self) -> u64 {
+        self.session.version(self.rt, self.desk)
+    }
+
+    fn current(&mut self) -> Result<Reading<A>, Memory> {
+        let current = self.session.current(self.rt, self.desk)?;
+        Ok(Reading {
+            version: current.version,
+            table: current.table,
+            scenarios: current.scenarios,
+        })
+    }
+
+    fn settle(&mut self) -> SettleState {
+        match self.session.settle(self.rt, self.desk) {
+            Settled::Done => SettleState::Done,
+            Settled::Failed(count) => SettleState::Failed(count),
+            Settled::Stopped => SettleState::Waiting,
+        }
+    }
+
+    fn seen(&self) -> u64 {
+        self.session.seen()
+    }
+}

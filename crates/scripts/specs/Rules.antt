@@ -1,0 +1,43 @@
+-- What one who edits and views a log may be told, whoever that is.
+use Rattle.std.specs.Prelude.{ℕ, List, Option, None, Some, Result, Ok, Err}
+use Rattle.std.specs.Arc.{arc_value}
+use Rattle.swf_text.specs.Entry.{LogEntry}
+use Rattle.scenarios.specs.ScenarioList.{Listing}
+use Rattle.book_machine.specs.declared.settle_state.SettleState.{SettleState}
+use Rattle.book_machine.specs.Call.{BookCall}
+use Rattle.version_book.specs.declared.faults.ViewFault.{ViewFault}
+use Rattle.version_book.specs.declared.refusal.Refusal.{Refusal}
+use Rattle.version_book.specs.Book.{PublishedView}
+use Rattle.version_book.specs.Steps.{Answer}
+use Rattle.scripts.specs.declared.analyst.Reading.{Reading}
+
+-- the version, its log and the scenarios, all of one moment
+pub record Moment : Type 0 where
+  pub version : ℕ
+  pub log : List LogEntry
+  pub listing : Listing
+
+abbrev pub moment_of : {A : Type 0} → Reading A → Moment
+moment_of reading = record { version = reading.version; log = arc_value reading.table; listing = reading.scenarios }
+
+-- what was read; none where memory was refused
+abbrev pub read_of : {A E : Type 0} → Result (Reading A) E → Option Moment
+read_of (Ok reading) = Some (moment_of reading)
+read_of (Err fault) = None
+
+-- Each rule relates how one stands, what is told, and how one stands then.
+pub record Rules (S : Type 0) : Type 1 where
+  -- a call is answered so
+  pub does : S → BookCall → Answer → S → Type 0
+  -- a view of the scenario with this id tells this; how one stands then, `does` says
+  pub sees : S → ℕ → Result PublishedView (Refusal ViewFault) → Type 0
+  -- the scenario with this name has this id
+  pub finds : S → List ℕ → Option ℕ → S → Type 0
+  -- the log has this version
+  pub counts : S → ℕ → S → Type 0
+  -- the log and the scenarios stand so; none where memory is refused
+  pub reads : S → Option Moment → S → Type 0
+  -- the scenarios are so far, once no work is waited for
+  pub settles : S → SettleState → S → Type 0
+  -- the greatest version that an edit or a view told
+  pub seen : S → ℕ
