@@ -1,5 +1,5 @@
 -- One walk over a good line.
-use Rattle.std.proofs.Common.{◌≡◌, ℕ, suc, ◌+◌, ◌*◌, ◌<◌, ◌≤◌, Bool, true, false, eqb, ltb, ◌||◌, List, [], ◌∷◌, ◌++◌, length, take, drop, set, Option, Some, None, Ok, ℤ, refl, sym, ap, subst, ◌∙◌, append_assoc, arith, inl, inr, add-one, length-set}
+use Rattle.std.proofs.Common.{◌≡◌, ℕ, zero, suc, ◌+◌, ◌*◌, ◌<◌, ◌≤◌, Bool, true, false, eqb, ltb, ◌||◌, List, [], ◌∷◌, ◌++◌, length, take, drop, set, Option, Some, None, Ok, ℤ, refl, sym, ap, subst, ◌∙◌, append_assoc, arith, inl, inr, add-one, length-set}
 use Rattle.std.specs.Prelude.{IsTrue}
 use Rattle.std.specs.List.{list_all, list_any, prefix_len}
 use Rattle.std.specs.Char.{is_ascii_digit}
@@ -11,9 +11,9 @@ use Rattle.std.proofs.lemmas.List.Folds.{list_any-append}
 use Rattle.swf_text.specs.Number.{digits_value, are_digits, begins_negative, unsigned_text, sign_text, signed, greatest, millionths_of}
 use Rattle.swf_text.specs.Line.{is_blank, is_high, fields, from_first, values_from, value_then, job_line, job_of_values}
 use Rattle.swf_text.specs.Scan.{Word, ends}
-use Rattle.swf_text.proofs.Numbers.{sign_again, number_of-Spells}
+use Rattle.swf_text.proofs.Numbers.{and_first, sign_again, number_of-Spells}
 use Rattle.swf_text.proofs.Words.{onto, onto-value_then, fields-from_first, values_end, fields-end}
-use Rattle.swf_text.proofs.Plains.{is_plain, word_fields, spelling_plain, all_low}
+use Rattle.swf_text.proofs.Plains.{is_plain, plain_no_blank, word_fields, spelling_plain, all_low}
 
 -- ---- a word
 
@@ -63,6 +63,50 @@ module _ (bytes unsigned : List ℕ) (n : Bool) (count whole : ℕ) (sign : n �
         };
         end = end;
       }
+
+digit_sign : (b : ℕ) → is_ascii_digit b ≡ true → eqb b 45 ≡ false
+digit_sign b h = grind (arith, common_steps)
+
+digit_first : (bytes : List ℕ) (count : ℕ) → list_all is_ascii_digit (take count bytes) ≡ true → 0 < count → count ≤ length bytes → begins_negative bytes ≡ false
+digit_first bytes zero all some within = absurd (omega arith)
+digit_first [] (suc n) all some within = absurd (omega arith)
+digit_first (b ∷ bs) (suc n) all some within = digit_sign b (and_first _ _ all)
+
+-- a word of digits
+pub word_digits : (bytes rest : List ℕ) (count whole : ℕ) (v : ℤ) → count ≤ length bytes → list_all is_ascii_digit (take count bytes) ≡ true → whole ≡ digits_value (take count bytes) → 0 < count → whole ≤ 1000000000000 → rest ≡ drop count bytes → ends rest ≡ true → v ≡ signed false (1000000 * whole) → Word bytes v rest
+word_digits bytes rest count whole v within digits value some small is end v_is =
+    let first = digit_first bytes count digits some within in
+    let body : bytes ≡ unsigned_text bytes = rw first refl in
+    word_whole bytes bytes false count whole (sym first) body within digits value some small rest v is end v_is
+
+-- the word `-1`
+pub word_unknown : (bytes digits rest : List ℕ) → bytes ≡ 45 ∷ digits → digits ≡ 49 ∷ rest → ends rest ≡ true → Word bytes (signed true 1000000) rest
+word_unknown bytes digits rest sign digit end =
+    let is : 45 ∷ 49 ∷ rest ≡ bytes = sym (sign ∙ ap (λ (l : List ℕ). 45 ∷ l) digit) in
+    subst (λ (l : List ℕ). Word l (signed true 1000000) rest) is (word_whole (45 ∷ 49 ∷ rest) (49 ∷ rest) true 1 1 refl refl (omega arith) refl refl (omega arith) (omega arith) rest (signed true 1000000) refl end refl)
+
+-- a space changes nothing of what follows the blanks
+pub front_space : (bytes rest : List ℕ) → bytes ≡ 32 ∷ rest → from_first rest ≡ from_first bytes
+front_space bytes rest is =
+    let count : prefix_len is_blank (32 ∷ rest) ≡ suc (prefix_len is_blank rest) = omega arith in
+    sym (ap from_first is ∙ ap (λ (k : ℕ). drop k (32 ∷ rest)) count)
+
+pub word_same : (front bytes rest : List ℕ) (v : ℤ) → front ≡ bytes → Word front v rest → Word bytes v rest
+word_same front bytes rest v is h = subst (λ (l : List ℕ). Word l v rest) is h
+
+plain_front : (w rest : List ℕ) → list_all is_plain w ≡ true → 0 < length w → from_first (w ++ rest) ≡ w ++ rest
+plain_front [] rest all some = absurd (omega arith)
+plain_front (b ∷ w) rest all some =
+    let other = plain_no_blank b (and_first _ _ all) in
+    let count : prefix_len is_blank (b ∷ (w ++ rest)) ≡ 0 = rw other refl in
+    ap (λ (k : ℕ). drop k (b ∷ (w ++ rest))) count
+
+-- a word behind blanks
+pub word_behind : (bytes front rest : List ℕ) (v : ℤ) → from_first front ≡ from_first bytes → Word front v rest → Word (from_first bytes) v rest
+word_behind bytes front rest v is h =
+    let plain = spelling_plain h.word v h.spells in
+    let kept : from_first front ≡ front = ap from_first h.is ∙ plain_front h.word rest plain.0 plain.1 ∙ sym h.is in
+    subst (λ (l : List ℕ). Word l v rest) (sym kept ∙ is) h
 
 -- ---- a line
 

@@ -1,10 +1,10 @@
 ghost use Rattle.std.specs.Prelude.{◌≡◌, ◌∷◌, ◌++◌, ◌+◌, ◌*◌, ◌≤◌, ◌<◌, take, drop, length, IfSome, IsTrue, List, ℕ, true};
 ghost use Rattle.std.specs.List.{list_all};
 ghost use Rattle.std.specs.Char.{is_ascii_digit};
-ghost use Rattle.swf_text.specs.Number.{digits_value, greatest, millionths_of};
+ghost use Rattle.swf_text.specs.Number.{digits_value, greatest, millionths_of, signed};
 ghost use Rattle.swf_text.specs.Scan.{Word, ends};
 ghost use Rattle.swf_text.specs.Header.{digit_len};
-ghost use Rattle.swf_text.specs.Line.{job_line, job_of_values};
+ghost use Rattle.swf_text.specs.Line.{from_first, job_line, job_of_values};
 ghost use Rattle.std.specs.Prelude.{Ok};
 
 use crate::number::{LIMIT, millionths, split_sign};
@@ -56,11 +56,11 @@ pub(crate) fn is_ended(bytes: &[u8]) -> bool
     }
 }
 
-// What follows a point, where the bytes begin with one.
-fn after_point(bytes: &[u8]) -> Option<&[u8]>
-    ensures { IfSome result (λ rest. bytes.now ≡ 46 ∷ rest.now) }
+// What follows a byte, where the bytes begin with it.
+fn after_byte(byte: u8, bytes: &[u8]) -> Option<&[u8]>
+    ensures { IfSome result (λ rest. bytes.now ≡ byte ∷ rest.now) }
 {
-    if bytes.is_empty() || bytes[0] != b'.' {
+    if bytes.is_empty() || bytes[0] != byte {
         return None;
     }
     Some(&bytes[1..])
@@ -79,7 +79,7 @@ fn word_at(bytes: &[u8]) -> Option<(Value, &[u8])>
     if is_ended(rest) {
         return Some((signed_value(is_negative, 1_000_000 * whole), rest));
     }
-    let Some(rest) = after_point(rest) else {
+    let Some(rest) = after_byte(b'.', rest) else {
         return None;
     };
     let count = digit_count(rest);
@@ -94,6 +94,65 @@ fn word_at(bytes: &[u8]) -> Option<(Value, &[u8])>
     Some((signed_value(is_negative, magnitude), rest))
 }
 
+// What follows a space, where the bytes begin with one, and else all of them.
+#[tactic(auto, using(crate::proofs::Walks::front_space))]
+fn after_space(bytes: &[u8]) -> &[u8]
+    ensures { from_first result.now ≡ from_first bytes.now }
+{
+    match after_byte(b' ', bytes) {
+        Some(rest) => rest,
+        None => bytes,
+    }
+}
+
+// What follows the word `-1`, where the bytes begin with it.
+#[tactic(auto, using(crate::proofs::Walks::word_unknown))]
+fn after_unknown(bytes: &[u8]) -> Option<&[u8]>
+    ensures { IfSome result (λ rest. Word bytes.now (signed true 1000000) rest.now) }
+{
+    let Some(digits) = after_byte(b'-', bytes) else {
+        return None;
+    };
+    let Some(rest) = after_byte(b'1', digits) else {
+        return None;
+    };
+    if is_ended(rest) { Some(rest) } else { None }
+}
+
+// The value of the word of digits that the bytes begin with, and what follows it; None says nothing.
+fn digits_at(bytes: &[u8]) -> Option<(Value, &[u8])>
+    ensures { IfSome result (λ r. Word bytes.now r.0 r.1.now) }
+{
+    let (whole, count) = leading_digits(bytes);
+    if count == 0 {
+        return None;
+    }
+    let rest = &bytes[count..];
+    if is_ended(rest) {
+        Some((signed_value(false, 1_000_000 * whole), rest))
+    } else {
+        None
+    }
+}
+
+// The value of the next word, and what follows it.
+#[tactic(auto, using(crate::proofs::Walks::word_behind, crate::proofs::Walks::word_same))]
+fn next_at(bytes: &[u8]) -> Option<(Value, &[u8])>
+    ensures { IfSome result (λ r. Word (from_first bytes.now) r.0 r.1.now) }
+{
+    let bytes = after_space(bytes);
+    if let Some(rest) = after_unknown(bytes) {
+        return Some((signed_value(true, 1_000_000), rest));
+    }
+    if let Some(word) = digits_at(bytes) {
+        return Some(word);
+    }
+    match word_at(from_first(bytes)) {
+        Some(word) => Some(word),
+        None => None,
+    }
+}
+
 // The values of a job line without faults, by one walk; None says nothing.
 pub(crate) fn values_at(line: &[u8]) -> Option<[Value; 18]>
     ensures { IfSome result (λ values. job_line line.now ≡ job_of_values (Ok values)) }
@@ -101,7 +160,7 @@ pub(crate) fn values_at(line: &[u8]) -> Option<[Value; 18]>
     let mut values = [Value::ZERO; 18];
     let mut rest = line;
     for place in 0..18usize {
-        let Some(word) = word_at(from_first(rest)) else {
+        let Some(word) = next_at(rest) else {
             return None;
         };
         values[place] = word.0;
