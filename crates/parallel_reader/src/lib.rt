@@ -3,6 +3,10 @@
 #![tactic(auto)]
 
 mod batch;
+mod portion;
+mod portions;
 mod reader;
+mod regular;
+mod rising;
 
 pub use reader::read_parallel;

@@ -6,6 +6,7 @@ ghost use Rattle.swf_text.specs.Text.{LogText, lines};
 ghost use Rattle.swf_text.specs.Reading.{text_of, Gives};
 
 use crate::batch::Batch;
+use crate::regular::read_regular;
 use rayon::current_num_threads;
 use std::alloc::Allocator;
 use std::marker::Sync;
@@ -72,5 +73,8 @@ pub fn read_parallel<R: Threads + Sync, A: Allocator + Copy>(
     if bytes.len() < LEAST_BYTES || current_num_threads(rt) < 2 {
         return read_swf(alloc, bytes);
     }
-    read_batches(rt, alloc, bytes)
+    match read_regular(rt, alloc, bytes) {
+        Some(text) => Ok(text),
+        None => read_batches(rt, alloc, bytes),
+    }
 }

@@ -1,0 +1,304 @@
+-- Job lines that are read apart from those before them.
+use Rattle.std.proofs.Common.{◌≡◌, ℕ, zero, suc, ◌+◌, ◌-◌, ◌*◌, ◌<◌, ◌≤◌, Bool, true, false, ◌||◌, List, [], ◌∷◌, ◌++◌, length, get_or, take, drop, Option, Some, None, Result, Ok, Err, ℤ, refl, sym, ap, subst, ◌∙◌, append_assoc, arith, inl, inr}
+use Rattle.std.specs.Prelude.{unwrap_or, if◌then◌else◌, IfSome}
+use Rattle.std.specs.List.{list_any, before_first, after_first, position_or_len, slice_split, onto_first}
+use Rattle.std.proofs.lemmas.Bool.{cases_Bool, cases_lt, eqb-true, false_from_ne_true}
+use Rattle.std.proofs.Math.ListN.{drop_of_length-le}
+use Rattle.std.proofs.lemmas.List.{append-nil, take_more, take_all, take_at, drop_at, get_or-map, length-append, take-append-drop, map-append}
+use Rattle.std.proofs.lemmas.List.Sums.{split_at_first, passes_at_first}
+use Rattle.std.proofs.lemmas.List.Splits.{slice_split-cons_yes, slice_split-cons_no, length-slice_split}
+use Rattle.std.proofs.lemmas.List.Folds.{list_any-append}
+use Rattle.std.proofs.lemmas.Grind.{flat_map-append}
+use denote.Ref.{Bor}
+use Rattle.swf_text.specs.declared.fault.FaultKind.{FaultKind}
+use Rattle.swf_text.specs.declared.fault.EntryFault.TheVariants as faults
+use Rattle.swf_text.specs.declared.line.Fields.{Fields}
+use Rattle.swf_text.specs.declared.line.LineRead.{LineRead}
+use Rattle.swf_text.specs.declared.line.LineRead.TheVariants as read
+use Rattle.swf_text.specs.Entry.{LogEntry, field, whole_number, is_partial, is_some_number, has_number, number_of_entry, entry_made, entry_numbered}
+use Rattle.swf_text.specs.Number.{is_below_zero}
+use Rattle.swf_text.specs.Line.{line_of}
+use Rattle.swf_text.specs.Grammar.{IsText}
+use Rattle.swf_text.specs.Log.{IsLog}
+use Rattle.swf_text.specs.Text.{LogText, empty, lines, is_feed, without_empty_end}
+use Rattle.swf_text.specs.Reading.{with_job, with_line, with_lines, with_read, at_line, text_of}
+use Rattle.swf_text.proofs.Lemmas.{job_more, lines-next, gives_text, text_sound, text_read}
+use Rattle.parallel_reader.specs.Adding.{texts}
+use Rattle.parallel_reader.specs.Jobs.{BeginsJobs, AreJobs, IsReadOf, after_job, with_jobs, AddsJobs, AddsAll, Below, portion_lines}
+use Rattle.parallel_reader.proofs.Adding.{lines_after}
+
+-- ---- what is read of lines by themselves
+
+jobs_append : (xs ys : List (List ℕ)) (js ks : List Fields) → AreJobs xs js → AreJobs ys ks → AreJobs (xs ++ ys) (js ++ ks)
+jobs_append [] ys js ks h k = subst (λ (l : List Fields). AreJobs ys (l ++ ks)) (sym h) k
+jobs_append (x ∷ xs) ys js ks h k = go (λ l b. jobs_append xs ys l ks b k) (line_of x) h
+  where
+    go : ((l : List Fields) → AreJobs xs l → AreJobs (xs ++ ys) (l ++ ks)) → (r : LineRead) → BeginsJobs r (AreJobs xs) js → BeginsJobs r (AreJobs (xs ++ ys)) (js ++ ks)
+    go later read.Blank b = later js b
+    go later read.Comment b = absurd b
+    go later (read.Job job) b = (b.0 ++ ks, ap (λ (l : List Fields). l ++ ks) b.1, later b.0 b.2)
+    go later (read.Fault fault) b = absurd b
+
+pub blank_more : (ls : List (List ℕ)) (line : List ℕ) (jobs : List Fields) → AreJobs ls jobs → line_of line ≡ read.Blank → AreJobs (ls ++ line ∷ []) jobs
+blank_more ls line jobs h is =
+    let one : AreJobs (line ∷ []) [] = subst (λ (r : LineRead). BeginsJobs r (AreJobs []) []) (sym is) refl in
+    subst (AreJobs (ls ++ line ∷ [])) (append-nil jobs) (jobs_append ls (line ∷ []) jobs [] h one)
+
+pub job_line_more : (ls : List (List ℕ)) (line : List ℕ) (jobs : List Fields) (job : Fields) → AreJobs ls jobs → line_of line ≡ read.Job job → AreJobs (ls ++ line ∷ []) (jobs ++ job ∷ [])
+job_line_more ls line jobs job h is =
+    let one : AreJobs (line ∷ []) (job ∷ []) = subst (λ (r : LineRead). BeginsJobs r (AreJobs []) (job ∷ [])) (sym is) ([], refl, refl) in
+    jobs_append ls (line ∷ []) jobs (job ∷ []) h one
+
+-- ---- what job lines add
+
+job_step : (number : ℕ) (u : LogText) (ls : List (List ℕ)) (rest : List Fields) → ((v : LogText) → with_jobs v rest ≡ Ok u → with_lines (number + 1) v ls ≡ Ok u) → (r : Result LogText FaultKind) → after_job r (λ next. with_jobs next rest) ≡ Ok u → at_line number r (λ next. with_lines (number + 1) next ls) ≡ Ok u
+job_step number u ls rest later (Err kind) e = absurd cc
+job_step number u ls rest later (Ok v) e = later v e
+
+no_jobs : (t u : LogText) → with_jobs t [] ≡ Ok u → t ≡ u
+no_jobs t u h = cc
+
+jobs_lines : (number : ℕ) (t u : LogText) (ls : List (List ℕ)) (jobs : List Fields) → AreJobs ls jobs → with_jobs t jobs ≡ Ok u → with_lines number t ls ≡ Ok u
+unfolding with_lines with_line
+jobs_lines number t u [] jobs h done = ap Ok (no_jobs t u (sym (ap (with_jobs t) h) ∙ done))
+jobs_lines number t u (line ∷ ls) jobs h done = go (λ rest are v e. jobs_lines (number + 1) v u ls rest are e) (line_of line) h
+  where
+    go : ((rest : List Fields) → AreJobs ls rest → (v : LogText) → with_jobs v rest ≡ Ok u → with_lines (number + 1) v ls ≡ Ok u) → (r : LineRead) → BeginsJobs r (AreJobs ls) jobs → at_line number (with_read t line r) (λ next. with_lines (number + 1) next ls) ≡ Ok u
+    go later read.Blank b = later jobs b t done
+    go later read.Comment b = absurd b
+    go later (read.Job job) b = job_step number u ls b.0 (later b.0 b.2) (with_job t job.0) (sym (ap (with_jobs t) b.1) ∙ done)
+    go later (read.Fault fault) b = absurd b
+
+pub portion_added : (old new : List LogEntry) (ls : List (List ℕ)) (jobs : List Fields) → AreJobs ls jobs → AddsJobs old jobs new → AddsAll old ls new
+portion_added old new ls jobs are adds = λ number comments. jobs_lines number _ _ ls jobs are (adds comments)
+
+jobs_after : (t u : LogText) (xs ys : List Fields) → with_jobs t xs ≡ Ok u → with_jobs t (xs ++ ys) ≡ with_jobs u ys
+jobs_after t u [] ys h = let same : t ≡ u = cc in ap (λ (v : LogText). with_jobs v ys) same
+jobs_after t u (x ∷ xs) ys h = step (λ v e. jobs_after v u xs ys e) (with_job t x.0) h
+  where
+    step : ((v : LogText) → with_jobs v xs ≡ Ok u → with_jobs v (xs ++ ys) ≡ with_jobs u ys) → (r : Result LogText FaultKind) → after_job r (λ next. with_jobs next xs) ≡ Ok u → after_job r (λ next. with_jobs next (xs ++ ys)) ≡ with_jobs u ys
+    step later (Err kind) e = absurd cc
+    step later (Ok v) e = later v e
+
+pub jobs_none : (old : List LogEntry) → AddsJobs old [] old
+jobs_none old = λ comments. refl
+
+pub jobs_then : (a b c : List LogEntry) (xs ys : List Fields) → AddsJobs a xs b → AddsJobs b ys c → AddsJobs a (xs ++ ys) c
+jobs_then a b c xs ys h k = λ comments. jobs_after _ _ xs ys (h comments) ∙ k comments
+
+-- the job line behind those that were added
+pub jobs_next : (old t new : List LogEntry) (jobs : List Fields) (k : ℕ) (d : Fields) → k < length jobs → AddsJobs old (take k jobs) t → AddsJobs t (get_or jobs k d ∷ []) new → AddsJobs old (take (k + 1) jobs) new
+jobs_next old t new jobs k d lt h step = subst (λ (js : List Fields). AddsJobs old js new) (sym (take_more jobs k d lt)) (jobs_then old t new (take k jobs) (get_or jobs k d ∷ []) h step)
+
+pub all_none : (old : List LogEntry) → AddsAll old [] old
+unfolding with_lines
+all_none old = λ number comments. refl
+
+pub all_then : (a b c : List LogEntry) (xs ys : List (List ℕ)) → AddsAll a xs b → AddsAll b ys c → AddsAll a (xs ++ ys) c
+all_then a b c xs ys h k = λ number comments. lines_after number _ _ xs ys (h number comments) ∙ k (number + length xs) comments
+
+-- the portion behind those that were added
+pub portions_next : (old t new : List LogEntry) (ps : List (List ℕ)) (k : ℕ) → k < length ps → AddsAll old (portion_lines (take k ps)) t → AddsAll t (lines (get_or ps k [])) new → AddsAll old (portion_lines (take (k + 1) ps)) new
+portions_next old t new ps k lt h step =
+    let one : portion_lines (get_or ps k [] ∷ []) ≡ lines (get_or ps k []) = append-nil (lines (get_or ps k [])) in
+    let more : portion_lines (take (k + 1) ps) ≡ portion_lines (take k ps) ++ lines (get_or ps k []) = ap portion_lines (take_more ps k [] lt) ∙ flat_map-append lines (take k ps) (get_or ps k [] ∷ []) ∙ ap (λ (l : List (List ℕ)). portion_lines (take k ps) ++ l) one in
+    subst (λ (ls : List (List ℕ)). AddsAll old ls new) (sym more) (all_then old t new (portion_lines (take k ps)) (lines (get_or ps k [])) h step)
+
+-- ---- an entry
+
+is_number : (n : ℕ) (o : Option ℕ) → is_some_number n o ≡ true → n ≡ unwrap_or o 0
+is_number n None h = absurd cc
+is_number n (Some m) h = eqb-true n m h
+
+pub below_more : (next later : ℕ) (entries : List LogEntry) (entry : LogEntry) → Below next entries → next ≤ later → number_of_entry entry < later → Below later (entries ++ entry ∷ [])
+below_more next later entries entry below le lt n there = go (list_any (has_number n) entries) refl (has_number n entry) refl (sym (list_any-append (has_number n) entries (entry ∷ [])) ∙ there)
+  where
+    go : (a : Bool) → list_any (has_number n) entries ≡ a → (b : Bool) → has_number n entry ≡ b → (a || (b || false)) ≡ true → n < later
+    go true p b q t = omega (arith, below n p)
+    go false p true q t = omega (arith, is_number n (whole_number (field entry.main 1)) q)
+    go false p false q t = absurd cc
+
+-- the numbers of entries that are looked at one after another
+pub below_next : (next later : ℕ) (entries : List LogEntry) (k : ℕ) (d : LogEntry) → k < length entries → Below next (take k entries) → next ≤ later → number_of_entry (get_or entries k d) < later → Below later (take (k + 1) entries)
+below_next next later entries k d lt below le less = subst (Below later) (sym (take_more entries k d lt)) (below_more next later (take k entries) (get_or entries k d) below le less)
+
+pub below_none : Below 0 []
+below_none n there = absurd cc
+
+record Made (main : List ℤ) (entry : LogEntry) : Type 0 where
+  pub number : ℕ
+  pub numbered : whole_number (field main 1) ≡ Some number
+  pub submit : is_below_zero (field main 2) ≡ false
+  pub summary : is_partial (field main 11) ≡ false
+  pub is : entry ≡ record { main = main; parts = [] }
+
+made : (main : List ℤ) (entry : LogEntry) → entry_made main [] ≡ Ok entry → Made main entry
+made main entry h = go (whole_number (field main 1)) refl h
+  where
+    pick : (n : ℕ) → whole_number (field main 1) ≡ Some n → (a : Bool) → is_below_zero (field main 2) ≡ a → (b : Bool) → is_partial (field main 11) ≡ b → (if a then Err faults.BadSubmit else (if b then Err faults.BadStatus else Ok (record { main = main; parts = [] }))) ≡ Ok entry → Made main entry
+    pick n e true p b q t = absurd cc
+    pick n e false p true q t = absurd cc
+    pick n e false p false q t = record { number = n; numbered = e; submit = p; summary = q; is = cc }
+
+    go : (o : Option ℕ) → whole_number (field main 1) ≡ o → entry_numbered main [] o ≡ Ok entry → Made main entry
+    go None e t = absurd cc
+    go (Some n) e t = pick n e (is_below_zero (field main 2)) refl (is_partial (field main 11)) refl t
+
+pub entry_added : (old : List LogEntry) (job : Fields) (entry : LogEntry) (next : ℕ) → Below next old → entry_made job.0 [] ≡ Ok entry → next ≤ number_of_entry entry → length old < 4194304 → AddsJobs old (job ∷ []) (old ++ entry ∷ [])
+entry_added old job entry next below is le fits =
+    let m = made job.0 entry is in
+    let number : number_of_entry entry ≡ m.number = ap number_of_entry m.is ∙ ap (λ (o : Option ℕ). unwrap_or o 0) m.numbered in
+    let new : list_any (has_number m.number) old ≡ false = false_from_ne_true (list_any (has_number m.number) old) (λ there. omega (arith, below m.number there, number)) in
+    λ comments.
+    let t : LogText = record { comments = comments; entries = old } in
+    ap (λ (r : Result LogText FaultKind). after_job r (λ next. with_jobs next [])) (job_more t job.0 m.number m.numbered m.summary m.submit new fits)
+    ∙ ap (λ (e : LogEntry). Ok (record { comments = comments; entries = old ++ e ∷ [] })) (sym m.is)
+
+-- ---- whole lines
+
+-- the lines of bytes that a line feed follows, before an empty one
+abbrev closed : List ℕ → List (List ℕ)
+closed [] = [] ∷ []
+closed (b ∷ xs) = if is_feed b then [] ∷ closed xs else onto_first b (closed xs)
+
+closed_feed : (b : ℕ) (xs : List ℕ) → is_feed b ≡ true → closed (b ∷ xs) ≡ [] ∷ closed xs
+closed_feed b xs e = rw e refl
+
+closed_other : (b : ℕ) (xs : List ℕ) → is_feed b ≡ false → closed (b ∷ xs) ≡ onto_first b (closed xs)
+closed_other b xs e = rw e refl
+
+onto_more : (b : ℕ) (front behind : List (List ℕ)) → 0 < length front → onto_first b (front ++ behind) ≡ onto_first b front ++ behind
+onto_more b [] behind some = absurd (omega arith)
+onto_more b (l ∷ ls) behind some = refl
+
+onto_some : (b : ℕ) (ls : List (List ℕ)) → 0 < length ls → 0 < length (onto_first b ls)
+onto_some b [] some = absurd (omega arith)
+onto_some b (l ∷ ls) some = omega arith
+
+closed_some : (xs : List ℕ) → 0 < length (closed xs)
+closed_some [] = omega arith
+closed_some (b ∷ xs) = elim (cases_Bool (is_feed b)) [
+  | inl feed ↦ omega (arith, ap length (closed_feed b xs feed))
+  | inr other ↦ omega (arith, ap length (closed_other b xs other), onto_some b (closed xs) (closed_some xs))
+]
+
+split_closed : (xs r : List ℕ) → slice_split is_feed (xs ++ 10 ∷ r) ≡ closed xs ++ slice_split is_feed r
+split_closed [] r = slice_split-cons_yes is_feed 10 r refl
+split_closed (b ∷ xs) r = elim (cases_Bool (is_feed b)) [
+  | inl feed ↦ slice_split-cons_yes is_feed b (xs ++ 10 ∷ r) feed ∙ ap (λ (ls : List (List ℕ)). [] ∷ ls) (split_closed xs r) ∙ ap (λ (ls : List (List ℕ)). ls ++ slice_split is_feed r) (sym (closed_feed b xs feed))
+  | inr other ↦
+      slice_split-cons_no is_feed b (xs ++ 10 ∷ r) other ∙ ap (onto_first b) (split_closed xs r) ∙ onto_more b (closed xs) (slice_split is_feed r) (closed_some xs)
+      ∙ ap (λ (ls : List (List ℕ)). ls ++ slice_split is_feed r) (sym (closed_other b xs other))
+]
+
+end_behind : (front behind : List (List ℕ)) → 0 < length behind → without_empty_end (front ++ behind) ≡ front ++ without_empty_end behind
+end_behind [] behind some = refl
+end_behind (l ∷ []) [] some = absurd (omega arith)
+end_behind (l ∷ []) (m ∷ ms) some = refl
+end_behind (l ∷ k ∷ ls) behind some = ap (λ (ms : List (List ℕ)). l ∷ ms) (end_behind (k ∷ ls) behind some)
+
+lines_closed : (p r : List ℕ) → lines (p ++ 10 ∷ r) ≡ closed p ++ lines r
+lines_closed p r = ap without_empty_end (split_closed p r) ∙ end_behind (closed p) (slice_split is_feed r) (omega (arith, length-slice_split is_feed r))
+
+cut_lines : (p r : List ℕ) → lines (p ++ 10 ∷ []) ++ lines r ≡ lines (p ++ 10 ∷ r)
+cut_lines p r =
+    let alone : lines (p ++ 10 ∷ []) ≡ closed p = lines_closed p [] ∙ append-nil (closed p) in
+    ap (λ (ls : List (List ℕ)). ls ++ lines r) alone ∙ sym (lines_closed p r)
+
+cut_at : (bytes p after : List ℕ) → bytes ≡ (p ++ 10 ∷ []) ++ after → lines (take (length bytes - length after) bytes) ++ lines (drop (length bytes - length after) bytes) ≡ lines bytes
+cut_at bytes p after split =
+    let n : ℕ = length bytes - length after in
+    let count : n ≡ length (p ++ 10 ∷ []) = omega (arith, ap length split, length-append (p ++ 10 ∷ []) after) in
+    let front : take n bytes ≡ p ++ 10 ∷ [] = ap (λ (m : ℕ). take m bytes) count ∙ ap (take (length (p ++ 10 ∷ []))) split ∙ take_at (p ++ 10 ∷ []) after (length (p ++ 10 ∷ [])) refl in
+    let back : drop n bytes ≡ after = ap (λ (m : ℕ). drop m bytes) count ∙ ap (drop (length (p ++ 10 ∷ []))) split ∙ drop_at (p ++ 10 ∷ []) after (length (p ++ 10 ∷ [])) refl in
+    ap (λ (l : List ℕ). lines l ++ lines (drop n bytes)) front ∙ ap (λ (l : List ℕ). lines (p ++ 10 ∷ []) ++ lines l) back ∙ cut_lines p after ∙ ap lines (sym (split ∙ append_assoc p (10 ∷ []) after))
+
+-- bytes that are cut behind a line feed, the first behind so many of them
+pub whole_lines : (bytes after : List ℕ) (k : ℕ) → after ≡ after_first is_feed (drop k bytes) → lines (take (length bytes - length after) bytes) ++ lines (drop (length bytes - length after) bytes) ≡ lines bytes
+whole_lines bytes after k is = elim (cases_lt (position_or_len is_feed (drop k bytes)) (length (drop k bytes))) [
+  | inl lt ↦
+      let s : List ℕ = drop k bytes in
+      let feed : get_or s (position_or_len is_feed s) 0 ≡ 10 = eqb-true _ 10 (passes_at_first is_feed s 0 lt) in
+      let p : List ℕ = take k bytes ++ before_first is_feed s in
+      let behind : s ≡ before_first is_feed s ++ 10 ∷ after = split_at_first is_feed s 0 lt ∙ ap (λ (b : ℕ). before_first is_feed s ++ b ∷ after_first is_feed s) feed ∙ ap (λ (l : List ℕ). before_first is_feed s ++ 10 ∷ l) (sym is) in
+      cut_at bytes p after (sym (take-append-drop k bytes) ∙ ap (λ (l : List ℕ). take k bytes ++ l) behind ∙ sym (append_assoc (take k bytes) (before_first is_feed s) (10 ∷ after)) ∙ sym (append_assoc p (10 ∷ []) after))
+  | inr le ↦
+      let none : after ≡ [] = is ∙ drop_of_length-le (drop k bytes) (omega arith) in
+      let count : length bytes - length after ≡ length bytes = omega (arith, ap length none) in
+      ap (λ (n : ℕ). lines (take n bytes) ++ lines (drop n bytes)) count
+      ∙ ap (λ (l : List ℕ). lines l ++ lines (drop (length bytes) bytes)) (take_all (length bytes) bytes (omega arith))
+      ∙ ap (λ (l : List ℕ). lines bytes ++ lines l) (drop_of_length-le bytes (omega arith))
+      ∙ append-nil (lines bytes)
+]
+
+-- ---- portions of a log
+
+-- a portion behind those that were taken
+pub portion_taken : (taken new : List (Bor (List ℕ))) (front : Bor (List ℕ)) (rest after bytes : List ℕ) → new ≡ taken ++ front ∷ [] → lines front.now ++ lines after ≡ lines rest → portion_lines (texts taken) ++ lines rest ≡ lines bytes → portion_lines (texts new) ++ lines after ≡ lines bytes
+portion_taken taken new front rest after bytes is cut whole =
+    let seen : texts new ≡ texts taken ++ front.now ∷ [] = ap texts is ∙ map-append (λ (l : Bor (List ℕ)). l.now) taken (front ∷ []) in
+    let more : portion_lines (texts new) ≡ portion_lines (texts taken) ++ lines front.now = ap portion_lines seen ∙ flat_map-append lines (texts taken) (front.now ∷ []) ∙ ap (λ (ls : List (List ℕ)). portion_lines (texts taken) ++ ls) (append-nil (lines front.now)) in
+    ap (λ (ls : List (List ℕ)). ls ++ lines after) more ∙ append_assoc (portion_lines (texts taken)) (lines front.now) (lines after) ∙ ap (λ (ls : List (List ℕ)). portion_lines (texts taken) ++ ls) cut ∙ whole
+
+-- ---- the lines of a portion, one after another
+
+pub line_taken : (all front : List (List ℕ)) (rest line after : List ℕ) → 0 < length rest → line ≡ before_first is_feed rest → after ≡ after_first is_feed rest → all ≡ front ++ lines rest → all ≡ (front ++ line ∷ []) ++ lines after
+line_taken all front rest line after some line_is after_is whole =
+    whole ∙ ap (λ (ls : List (List ℕ)). front ++ ls) (lines-next rest some)
+    ∙ ap (λ (l : List ℕ). front ++ l ∷ lines (after_first is_feed rest)) (sym line_is)
+    ∙ ap (λ (l : List ℕ). front ++ line ∷ lines l) (sym after_is)
+    ∙ sym (append_assoc front (line ∷ []) (lines after))
+
+pub lines_taken : (bytes rest : List ℕ) (front : List (List ℕ)) (jobs : List Fields) → lines bytes ≡ front ++ lines rest → length rest ≡ 0 → AreJobs front jobs → AreJobs (lines bytes) jobs
+lines_taken bytes [] front jobs whole none are = subst (λ (ls : List (List ℕ)). AreJobs ls jobs) (sym (whole ∙ append-nil front)) are
+lines_taken bytes (b ∷ bs) front jobs whole none are = absurd (omega arith)
+
+-- ---- the log
+
+pub rest_added : (bytes head rest : List ℕ) (text : LogText) (new : List LogEntry) → lines head ++ lines rest ≡ lines bytes → with_lines 1 empty (lines head) ≡ Ok text → AddsAll text.entries (lines rest) new → text_of bytes ≡ Ok (record { comments = text.comments; entries = new })
+rest_added bytes head rest text new whole read added = ap (with_lines 1 empty) (sym whole) ∙ lines_after 1 empty text (lines head) (lines rest) read ∙ added (1 + length (lines head)) text.comments
+
+pub log_added : (bytes : List ℕ) (text : LogText) → text_of bytes ≡ Ok text → IsLog text.entries
+log_added bytes text read = (text_sound bytes text (gives_text (Ok text) (lines bytes) read)).log
+
+-- what is added of the portions at hand
+pub portions_added : (old t new : List LogEntry) (all front batch rest : List (List ℕ)) → all ≡ front ++ (batch ++ rest) → AddsAll old front t → AddsAll t batch new → (all ≡ (front ++ batch) ++ rest) × AddsAll old (front ++ batch) new
+portions_added old t new all front batch rest whole done added = (whole ∙ sym (append_assoc front batch rest), all_then old t new front batch done added)
+
+pub all_added : (old t : List LogEntry) (all front : List (List ℕ)) (ready : List (Bor (List ℕ))) (rest : List ℕ) → all ≡ front ++ (portion_lines (texts ready) ++ lines rest) → length ready + length rest ≡ 0 → AddsAll old front t → AddsAll old all t
+all_added old t all front [] [] whole none done = subst (λ (ls : List (List ℕ)). AddsAll old ls t) (sym (whole ∙ append-nil front)) done
+all_added old t all front (p ∷ ps) rest whole none done = absurd (omega arith)
+all_added old t all front [] (b ∷ bs) whole none done = absurd (omega arith)
+
+pub fewer_left : (rest ready taken after : ℕ) → taken + after ≤ rest → (0 < rest → after < rest) → 0 < ready + rest → 2 * after + taken < 2 * rest + ready
+fewer_left zero ready taken after within less some = omega arith
+fewer_left (suc rest) ready taken after within less some = omega (arith, less (omega arith))
+
+pub read_counted : (ls : List (List ℕ)) (values : List Fields) (o : Option ℕ) (n : ℕ) → IsReadOf ls values o → o ≡ Some n → (n ≤ length values) × AreJobs ls (take n values)
+read_counted ls values o n h is = subst (IsReadOf ls values) is h
+
+-- one above the number of each entry that was looked at
+pub below_all : (next : ℕ) (entries : List LogEntry) (k : ℕ) → length entries ≤ k → Below next (take k entries) → Below next entries
+below_all next entries k le below = subst (Below next) (take_all k entries le) below
+
+pub portion_read : (old new : List LogEntry) (ls : List (List ℕ)) (values : List Fields) (o : Option ℕ) (n : ℕ) (result : Option ℕ) → IsReadOf ls values o → o ≡ Some n → (m : ℕ) → (n ≤ length values → m ≡ n) → IfSome result (λ later. AddsJobs old (take m values) new) → IfSome result (λ later. AddsAll old ls new)
+portion_read old new ls values o n None h is m same added = tt
+portion_read old new ls values o n (Some later) h is m same added =
+    let read = read_counted ls values o n h is in
+    portion_added old new ls (take n values) read.1 (subst (λ (k : ℕ). AddsJobs old (take k values) new) (same read.0) added)
+
+-- the lines of a portion, by its place
+pub lines_at : (ps : List (Bor (List ℕ))) (k : ℕ) (d : Bor (List ℕ)) (old new : List LogEntry) → k < length ps → AddsAll old (lines (get_or ps k d).now) new → AddsAll old (lines (get_or (texts ps) k [])) new
+lines_at ps k d old new lt added = subst (λ (l : List ℕ). AddsAll old (lines l) new) (sym (get_or-map (λ (p : Bor (List ℕ)). p.now) ps k d [] lt)) added
+
+pub log_made : (bytes head rest : List ℕ) (text : LogText) (inside new : List LogEntry) → lines head ++ lines rest ≡ lines bytes → IsText (lines head) text → inside ≡ text.entries → AddsAll inside (lines rest) new → text_of bytes ≡ Ok (record { comments = text.comments; entries = new })
+log_made bytes head rest text inside new whole is same added = rest_added bytes head rest text new whole (text_read 1 empty (lines head) text is) (subst (λ (es : List LogEntry). AddsAll es (lines rest) new) same added)
+
+pub same_text : (r : LogText) (comments : List (List ℕ)) (entries : List LogEntry) → r.comments ≡ comments → r.entries ≡ entries → record { comments = comments; entries = entries } ≡ r
+same_text r comments entries p q = ap (with_comments entries) (sym p) ∙ ap (with_entries r.comments) (sym q)
+  where
+    with_comments : List LogEntry → List (List ℕ) → LogText
+    with_comments es cs = record { comments = cs; entries = es }
+
+    with_entries : List (List ℕ) → List LogEntry → LogText
+    with_entries cs es = record { comments = cs; entries = es }

@@ -1,0 +1,65 @@
+-- Job lines that are read apart from those before them, and the entries that they add.
+use Rattle.std.specs.Prelude.{◌≡◌, ℕ, ◌<◌, ◌≤◌, List, [], ◌∷◌, length, take, true, Option, IfSome, Result, Ok, Err, slice_index_or}
+use Rattle.std.specs.List.{list_any, flat_map}
+use Rattle.swf_text.specs.declared.line.Fields.{Fields}
+use Rattle.swf_text.specs.declared.line.LineRead.{LineRead}
+use Rattle.swf_text.specs.declared.line.LineRead.TheVariants as read
+use Rattle.swf_text.specs.declared.fault.FaultKind.{FaultKind}
+use Rattle.parallel_reader.specs.declared.portion.JobLines.{JobLines}
+use Rattle.swf_text.specs.Entry.{LogEntry, has_number}
+use Rattle.swf_text.specs.Line.{line_of}
+use Rattle.swf_text.specs.Text.{LogText, lines}
+use Rattle.swf_text.specs.Reading.{with_job, with_lines}
+
+-- ---- what is read of lines by themselves
+
+-- blanks or a job line, behind which others hold the rest of the job lines
+abbrev pub BeginsJobs : LineRead → (List Fields → Type 0) → List Fields → Type 0
+BeginsJobs read.Blank Others jobs = Others jobs
+BeginsJobs read.Comment Others jobs = ⊥
+BeginsJobs (read.Job job) Others jobs = (rest : List Fields) × (jobs ≡ job ∷ rest) × Others rest
+BeginsJobs (read.Fault fault) Others jobs = ⊥
+
+-- the lines are blanks and these job lines
+abbrev pub AreJobs : List (List ℕ) → List Fields → Type 0
+AreJobs [] jobs = jobs ≡ []
+AreJobs (line ∷ ls) jobs = BeginsJobs (line_of line) (AreJobs ls) jobs
+
+-- the first of these values, as many as are counted, are the job lines of the lines
+abbrev pub IsReadOf : List (List ℕ) → List Fields → Option ℕ → Type 0
+IsReadOf ls values count = IfSome count (λ n. (n ≤ length values) × AreJobs ls (take n values))
+
+-- ---- what job lines add
+
+-- what follows a job line
+abbrev pub after_job : Result LogText FaultKind → (LogText → Result LogText FaultKind) → Result LogText FaultKind
+after_job (Err kind) others = Err kind
+after_job (Ok text) others = others text
+
+-- the text with these job lines more, or the first fault among them
+abbrev pub with_jobs : LogText → List Fields → Result LogText FaultKind
+with_jobs text [] = Ok text
+with_jobs text (job ∷ jobs) = after_job (with_job text job.0) (λ next. with_jobs next jobs)
+
+-- these job lines lead from entries to others, whatever the comments
+abbrev pub AddsJobs : List LogEntry → List Fields → List LogEntry → Type 0
+AddsJobs old jobs new = (comments : List (List ℕ)) → with_jobs (record { comments = comments; entries = old }) jobs ≡ Ok (record { comments = comments; entries = new })
+
+-- these lines lead from entries to others, whatever the comments, and wherever the lines stand
+abbrev pub AddsAll : List LogEntry → List (List ℕ) → List LogEntry → Type 0
+AddsAll old ls new = (number : ℕ) (comments : List (List ℕ)) → with_lines number (record { comments = comments; entries = old }) ls ≡ Ok (record { comments = comments; entries = new })
+
+-- all job numbers are below this one
+abbrev pub Below : ℕ → List LogEntry → Type 0
+Below next entries = (n : ℕ) → list_any (has_number n) entries ≡ true → n < next
+
+-- ---- portions of a log
+
+-- the lines of portions, one portion after another
+abbrev pub portion_lines : List (List ℕ) → List (List ℕ)
+portion_lines portions = flat_map lines portions
+
+-- the job lines of each of the portions stand at its place
+abbrev pub AreRead : List (List ℕ) → List JobLines → Type 0
+AreRead portions jobs =
+    (place : ℕ) (d : JobLines) → place < length portions → IsReadOf (lines (slice_index_or portions place [])) (slice_index_or jobs place d).values (slice_index_or jobs place d).count

@@ -1,0 +1,74 @@
+ghost use Rattle.std.specs.Prelude.{◌≡◌, ◌++◌, ◌<◌, ◌≤◌, length, take, IfSome};
+ghost use Rattle.swf_text.specs.Text.{lines};
+ghost use Rattle.parallel_reader.specs.Jobs.{AreJobs, IsReadOf};
+
+use swf_text::{Fields, LineRead, Value, read_line, split_line};
+
+/// The bytes behind which a portion of a log ends with its line.
+const LEAST_BYTES: usize = 16_384;
+
+/// The most job lines of a portion. A job line has 36 bytes at least, so that portions without very
+/// long lines have no more.
+const MOST_JOBS: usize = 512;
+
+/// The job lines of a portion of a log: their values, and how many they are; None where one of its
+/// lines is neither blank nor a job line without faults of its own, or where there are too many.
+#[derive(Clone, Copy)]
+pub(crate) struct JobLines {
+    pub(crate) values: [Fields; MOST_JOBS],
+    pub(crate) count: Option<usize>,
+}
+
+// Cuts bytes behind a line that ends past so many of them: whole lines, and what follows.
+pub(crate) fn split_portion(bytes: &[u8]) -> (&[u8], &[u8])
+    ensures lines { lines result.0.now ++ lines result.1.now ≡ lines bytes.now }
+    ensures less { 0 < length bytes.now → length result.1.now < length bytes.now }
+{
+    if bytes.len() <= LEAST_BYTES {
+        return (bytes, &[]);
+    }
+    let (_line, after) = split_line(&bytes[LEAST_BYTES..]);
+    bytes.split_at(bytes.len() - after.len())
+}
+
+// Reads the job lines of some bytes into these places: how many they are.
+fn read_jobs(bytes: &[u8], values: &mut [Fields]) -> Option<usize>
+    ensures same { length values.new ≡ length values.old }
+    ensures read { IfSome result (λ count. (count ≤ length values.new) × AreJobs (lines bytes.now) (take count values.new)) }
+{
+    let mut count = 0usize;
+    let mut rest = bytes;
+    'lines: while !rest.is_empty() {
+        let (line, after) = split_line(rest);
+        match read_line(line) {
+            LineRead::Blank => {}
+            LineRead::Job(job) => {
+                if count >= values.len() {
+                    return None;
+                }
+                values[count] = job;
+                count += 1;
+            }
+            LineRead::Comment | LineRead::Fault(_) => return None,
+        }
+        rest = after;
+    }
+    Some(count)
+}
+
+impl JobLines {
+    // None yet.
+    pub(crate) fn new() -> JobLines {
+        JobLines {
+            values: [Fields([Value::ZERO; 18]); MOST_JOBS],
+            count: None,
+        }
+    }
+
+    // Those of some bytes, in the place of those that were there.
+    pub(crate) fn read(&mut self, bytes: &[u8])
+        ensures { IsReadOf (lines bytes.now) self.new.values self.new.count }
+    {
+        self.count = read_jobs(bytes, self.values.as_mut_slice());
+    }
+}
