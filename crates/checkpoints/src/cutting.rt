@@ -73,16 +73,24 @@ fn work<A: Allocator + Copy>(
     Ok(Worked { starts, placed })
 }
 
-/// So few who wait and run are noted at each piece.
+/// So few who wait and run are noted at each piece, however few event seconds it has.
 const FEW: usize = 256;
 
-/// How many starts come between snapshots that are noted, for each of those who wait and run.
-const STARTS: u64 = 4;
+/// For each event second of a piece past so many, that many more are.
+const EACH: usize = 4;
 
-// The numbers before the position of an engine, where these are few, or few beside the starts since the
+// How many who wait and run are few beside the work of a piece of so many event seconds: then noting them
+// costs little. It decides only what is noted at once.
+fn few(spacing: u32) -> usize {
+    let beyond = (spacing as usize).saturating_sub(FEW);
+    beyond.saturating_mul(EACH).saturating_add(FEW)
+}
+
+// The numbers before the position of an engine, where these are few, or no more than the starts since the
 // last that were noted: then noting them all costs little beside what changed.
 fn noted<A: Allocator + Copy>(
     engine: &Engine<A>,
+    spacing: u32,
     started: &mut u64,
 ) -> Result<Option<Snapshot<A>>, RunFault>
     requires { engine.now.failed ≡ false }
@@ -90,7 +98,7 @@ fn noted<A: Allocator + Copy>(
     ensures fault { IfErr result (λ f. f ≡ RunFault.Memory) }
 {
     let standing = engine.standing();
-    if standing > FEW && (standing as u64).saturating_mul(STARTS) > *started {
+    if standing > few(spacing) && standing as u64 > *started {
         return Ok(None);
     }
     *started = 0;
@@ -102,8 +110,8 @@ fn noted<A: Allocator + Copy>(
 /// end, of which there is one. Memory where a growth was refused.
 ///
 /// `started` is how many jobs have started since the last snapshot that was noted: 0 at first. It decides
-/// only whether the piece's snapshot is noted at once: it is where those who wait and run are few, or a
-/// quarter of these.
+/// only whether the piece's snapshot is noted at once: it is where those who wait and run are few beside
+/// the spacing, or no more than these.
 pub fn next_piece<A: Allocator + Copy>(
     alloc: A,
     engine: &mut Engine<A>,
@@ -125,7 +133,7 @@ pub fn next_piece<A: Allocator + Copy>(
     ensures fault { IfErr result (λ f. f ≡ RunFault.Memory) }
 {
     let first = engine.position();
-    let before = noted(engine, started)?;
+    let before = noted(engine, spacing, started)?;
     let Worked { starts, placed } = work(alloc, engine, spacing, end)?;
     *started = started.saturating_add(starts.len() as u64);
     let part = Part::of(alloc, placed.as_slice())?;
