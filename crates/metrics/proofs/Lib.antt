@@ -3,6 +3,7 @@ mod Bounds
 mod Joins
 mod RisingLists
 mod UserLists
+mod Storing
 mod DayLists
 mod Tallies
 mod Forms

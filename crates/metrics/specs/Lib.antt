@@ -3,6 +3,7 @@ pub mod Placed
 pub mod Totals
 pub mod Entries
 pub mod Users
+pub mod Stored
 pub mod Days
 pub mod Part
 pub mod Sums

@@ -7,6 +7,7 @@ mod laws;
 mod measures;
 mod part;
 mod rows;
+mod stored;
 mod tables;
 mod totals;
 mod users;

@@ -11,8 +11,9 @@ ghost use Rattle.metrics.specs.Users.{sums_of, sums_entry};
 ghost use Rattle.metrics.specs.Days.{busy_on, busy_entry};
 
 use crate::days::{self, Days};
+use crate::stored::{self, Stored};
 use crate::totals::Totals;
-use crate::users::{self, UserSums, Users};
+use crate::users::{self, UserSums};
 use scenarios::Placed;
 use std::alloc::Allocator;
 use std::marker::Model;
@@ -24,7 +25,7 @@ use swf_text::Memory;
 #[derive(Drop)]
 pub struct Part<A: Allocator + Copy> {
     pub(crate) totals: Totals,
-    pub(crate) users: Users<A>,
+    pub(crate) users: Stored<A>,
     pub(crate) days: Days<A>,
     pub(crate) alloc: A,
 }
@@ -34,9 +35,9 @@ impl<A: Allocator + Copy> Model for Part<A> {
 
     ghost Value = { PartSums };
 
-    ghost view = { λ p. record { totals = p.totals; users = p.users.items; days = p.days.items } };
+    ghost view = { λ p. record { totals = p.totals; users = p.users; days = p.days.items } };
 
-    ghost invariant = { λ p. IsPart (record { totals = p.totals; users = p.users.items; days = p.days.items }) };
+    ghost invariant = { λ p. IsPart (record { totals = p.totals; users = p.users; days = p.days.items }) };
 }
 
 impl<A: Allocator + Copy> Part<A> {
@@ -46,7 +47,7 @@ impl<A: Allocator + Copy> Part<A> {
     {
         Part {
             totals: Totals::none(),
-            users: Vec::new(alloc),
+            users: Stored::empty(alloc),
             days: Vec::new(alloc),
             alloc,
         }
@@ -58,7 +59,8 @@ impl<A: Allocator + Copy> Part<A> {
         ensures { IfOk result (λ part. IsPartOf placed.now part) }
     {
         let totals = Totals::of_jobs(placed);
-        let users = users::of_jobs(alloc, placed)?;
+        let sums = users::of_jobs(alloc, placed)?;
+        let users = Stored::of(alloc, sums.as_slice())?;
         let days = days::of_jobs(alloc, placed)?;
         Ok(Part {
             totals,
@@ -74,7 +76,7 @@ impl<A: Allocator + Copy> Part<A> {
         ensures { IfOk result (λ part. (xs ys : List Placed) → IsPartOf xs self.now → IsPartOf ys other.now → IsPartOf (xs ++ ys) part) }
     {
         let totals = self.totals.plus(&other.totals);
-        let users = users::merge(self.alloc, self.users.as_slice(), other.users.as_slice())?;
+        let users = stored::merge(self.alloc, &self.users, &other.users)?;
         let days = days::merge(self.alloc, self.days.as_slice(), other.days.as_slice())?;
         Ok(Part {
             totals,
@@ -106,7 +108,7 @@ impl<A: Allocator + Copy> Part<A> {
         ensures value { result ≡ lookup (is_at (int_cmp user)) self.now.users }
         ensures sums { (ps : List Placed) → IsPartOf ps self.now → result ≡ sums_entry (sums_of user ps) }
     {
-        users::sums_at(self.users.as_slice(), user)
+        self.users.at(user)
     }
 
     /// The processor-seconds that the jobs take in a day; None where they take none. It takes no memory.

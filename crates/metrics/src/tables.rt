@@ -87,7 +87,8 @@ impl<A: Allocator + Copy> Part<A> {
     pub fn tables(&self, procs: u64, skips: Skips) -> Result<Tables<A>, Memory>
         ensures { IfOk result (λ tables. tables ≡ tables_of procs skips self.now) }
     {
-        let users = user_rows(self.alloc, self.users.as_slice())?;
+        let users = self.users.list(self.alloc)?;
+        let users = user_rows(self.alloc, users.as_slice())?;
         let days = day_rows(self.alloc, procs, self.days.as_slice())?;
         Ok(Tables {
             overall: over_all(procs, skips, &self.totals),

@@ -10,4 +10,4 @@ use Rattle.metrics.proofs.part.Part.user.Goals as goal
 pub returns-clause-value : goal.returns-clause-value
 returns-clause-value g c =
     let f : SFits w64 c.args.user = search rules in
-    c.sums_at.ensures ∙ rw (to_z-of_z w64 c.args.user f) (ap (λ es. lookup (is_at (int_cmp c.args.user)) es) (c.as_slice.ensures.value ∙ ap (λ (v : PartSums). v.users) c.self.view_is))
+    c.at.ensures ∙ rw (to_z-of_z w64 c.args.user f) (ap (λ es. lookup (is_at (int_cmp c.args.user)) es) (ap (λ (v : PartSums). v.users) c.self.view_is))

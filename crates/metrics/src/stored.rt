@@ -1,0 +1,161 @@
+//! Sums by user as a part stores them: in 64 bits each, as far as they fit.
+
+ghost use Rattle.std.specs.Prelude.{◌≡◌, ◌+◌, ◌<◌, ◌≤◌, ℤ, All, IfOk, IfSome, [], length, map, take};
+ghost use Rattle.std.specs.Ordering.{int_cmp};
+ghost use Rattle.std.specs.BTreeMap.{is_at};
+ghost use Rattle.std.specs.Map.{keys_of, lookup};
+ghost use Rattle.std.specs.List.Sorted.{IsStrictlySortedBy};
+ghost use Rattle.metrics.specs.Stored.{long, long_of};
+ghost use Rattle.metrics.specs.Users.{CanAdd, IsUserList, plus, user_total};
+
+use crate::entries::find;
+use crate::users::{self, UserEntry, UserSums, Users, sums_at};
+use std::alloc::{AllocError, Allocator};
+use std::marker::Model;
+
+// The sums over the jobs of a user, in 64 bits each.
+#[derive(Clone, Copy)]
+pub(crate) struct ShortSums {
+    count: u64,
+    wait: u64,
+    slowdown: u64,
+    busy: u64,
+}
+
+impl ShortSums {
+    // These sums, where each fits.
+    fn of(sums: &UserSums) -> Option<ShortSums>
+        ensures { IfSome result (λ short. long short ≡ sums.now) }
+    {
+        Some(ShortSums {
+            count: sums.count,
+            wait: u64::try_from(sums.wait).ok()?,
+            slowdown: u64::try_from(sums.slowdown).ok()?,
+            busy: u64::try_from(sums.busy).ok()?,
+        })
+    }
+
+    // The sums that it stands for.
+    fn long(&self) -> UserSums
+        ensures { result ≡ long self.now }
+    {
+        UserSums {
+            count: self.count,
+            wait: u128::from(self.wait),
+            slowdown: u128::from(self.slowdown),
+            busy: u128::from(self.busy),
+        }
+    }
+}
+
+// A user, and the sums over its jobs.
+type ShortEntry = (i64, ShortSums);
+
+// Sums by user, by rising user, seen as their entries: the first ones in 64 bits a sum, and the others.
+#[derive(Drop)]
+pub(crate) struct Stored<A: Allocator + Copy> {
+    short: Vec<ShortEntry, A>,
+    others: Vec<UserEntry, A>,
+}
+
+impl<A: Allocator + Copy> Model for Stored<A> {
+    ghost use Rattle.std.specs.Prelude.{◌++◌, ℤ, List, map};
+    ghost use Rattle.metrics.specs.declared.users.UserSums.{UserSums};
+    ghost use Rattle.metrics.specs.Stored.{long_of};
+
+    ghost Value = { List (ℤ × UserSums) };
+
+    ghost view = { λ s. map long_of s.short.items ++ s.others.items };
+}
+
+impl<A: Allocator + Copy> Stored<A> {
+    // No entries. It takes no memory.
+    pub(crate) fn empty(alloc: A) -> Stored<A>
+        ensures { result ≡ [] }
+    {
+        Stored {
+            short: Vec::new(alloc),
+            others: Vec::new(alloc),
+        }
+    }
+
+    // These entries.
+    pub(crate) fn of(alloc: A, entries: &[UserEntry]) -> Result<Stored<A>, AllocError>
+        ensures { IfOk result (λ stored. stored ≡ entries.now) }
+    {
+        let short = short_front(alloc, entries)?;
+        let others = Vec::from_slice(alloc, &entries[short.len()..])?;
+        Ok(Stored { short, others })
+    }
+
+    // The entries, as they were stored.
+    pub(crate) fn list(&self, alloc: A) -> Result<Users<A>, AllocError>
+        ensures { IfOk result (λ users. users.items ≡ self.now) }
+    {
+        let count = self.short.len().saturating_add(self.others.len());
+        let mut users = Vec::with_capacity(alloc, count)?;
+        'short: for (user, sums) in self.short.as_slice() {
+            users.push((*user, sums.long()))?;
+        }
+        users.extend_from_slice(self.others.as_slice())?;
+        Ok(users)
+    }
+
+    // The sums over the jobs of a user, where it has some.
+    pub(crate) fn at(&self, user: i64) -> Option<UserSums>
+        requires { IsStrictlySortedBy int_cmp (keys_of self.now) }
+        ensures { result ≡ lookup (is_at (int_cmp user)) self.now }
+    {
+        match short_at(self.short.as_slice(), user) {
+            Some(sums) => Some(sums.long()),
+            None => sums_at(self.others.as_slice(), user),
+        }
+    }
+}
+
+// The first of these entries, up to one whose sums don't fit.
+fn short_front<A: Allocator + Copy>(
+    alloc: A,
+    entries: &[UserEntry],
+) -> Result<Vec<ShortEntry, A>, AllocError>
+    ensures within { IfOk result (λ short. length short.items ≤ length entries.now) }
+    ensures front { IfOk result (λ short. map long_of short.items ≡ take (length short.items) entries.now) }
+{
+    let mut short = Vec::with_capacity(alloc, entries.len())?;
+    'entries: for (user, sums) in entries {
+        let Some(sums) = ShortSums::of(sums) else {
+            return Ok(short);
+        };
+        short.push((*user, sums))?;
+    }
+    Ok(short)
+}
+
+// The sums of a user among these, where it has some.
+fn short_at(users: &[ShortEntry], user: i64) -> Option<ShortSums>
+    requires { IsStrictlySortedBy int_cmp (keys_of users.now) }
+    ensures { result ≡ lookup (is_at (int_cmp user)) users.now }
+{
+    match find(users, user) {
+        Ok(place) => Some(users[place].1),
+        Err(_) => None,
+    }
+}
+
+// The sums of both lists.
+pub(crate) fn merge<A: Allocator + Copy>(
+    alloc: A,
+    left: &Stored<A>,
+    right: &Stored<A>,
+) -> Result<Stored<A>, AllocError>
+    requires fits { (q : ℤ) → CanAdd (user_total q left.now) (user_total q right.now) }
+    requires left { All (λ e. 0 < e.1.count) left.now }
+    requires right { All (λ e. 0 < e.1.count) right.now }
+    ensures list { IfOk result (λ users. IsUserList users) }
+    ensures sums { IfOk result (λ users. (q : ℤ) → user_total q users ≡ plus (user_total q left.now) (user_total q right.now)) }
+{
+    let left = left.list(alloc)?;
+    let right = right.list(alloc)?;
+    let users = users::merge(alloc, left.as_slice(), right.as_slice())?;
+    Stored::of(alloc, users.as_slice())
+}
