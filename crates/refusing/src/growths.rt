@@ -25,6 +25,15 @@ impl Outcome {
         }
     }
 
+    /// Right where a call that may be told want of memory alone went well.
+    pub fn right_or_memory(went_well: bool) -> Outcome {
+        if went_well {
+            Outcome::Right
+        } else {
+            Outcome::Memory
+        }
+    }
+
     /// Want of memory where this holds: all is as it was.
     pub fn memory_if(holds: bool) -> Outcome {
         if holds {
