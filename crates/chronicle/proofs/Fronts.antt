@@ -1,7 +1,6 @@
 -- Beginnings of one list.
-use Rattle.std.proofs.Common.{◌≡◌, ◌↔◌, ◌⊎◌, ℕ, ◌≤◌, ◌<◌, nat_le, true, false, IsTrue, List, [], ◌∷◌, ◌++◌, length, refl, ap, sym, ◌∙◌, arith, append_assoc, length-append, inl, inr, ⊎_elim}
+use Rattle.std.proofs.Common.{◌≡◌, ◌↔◌, ℕ, ◌≤◌, nat_le, IsTrue, List, [], ◌∷◌, ◌++◌, length, refl, ap, sym, ◌∙◌, arith, append_assoc, length-append}
 use Rattle.std.proofs.lemmas.Bool.{le-leb, leb-true}
-use Rattle.std.proofs.lemmas.Bool.Decides.{leb_tells}
 use mathlib.Core.List.{IsPrefix}
 
 -- each list begins with itself
@@ -33,14 +32,7 @@ prefix_whole (x ∷ xs) (y ∷ ys) p le =
 pub prefix_length : {A : Type 0} (xs ys : List A) → IsPrefix xs ys → length xs ≤ length ys
 prefix_length xs ys p = omega (arith, sym (ap length p.1) ∙ length-append xs p.0)
 
--- of two beginnings of one list, one begins the other
-pub one_begins : {A : Type 0} (xs ys zs : List A) → IsPrefix xs zs → IsPrefix ys zs → IsPrefix xs ys ⊎ IsPrefix ys xs
-one_begins xs ys zs p q =
-    ⊎_elim (λ (h : (nat_le (length xs) (length ys) ≡ true) × (length xs ≤ length ys)). inl (prefix_shorter xs ys zs p q h.1))
-    (λ (h : (nat_le (length xs) (length ys) ≡ false) × (length ys < length xs)). let less : length ys ≤ length xs = omega (arith, h.1) in inr (prefix_shorter ys xs zs q p less))
-    (leb_tells (length xs) (length ys))
-
--- and their lengths tell which
+-- of two beginnings of one list the lengths tell which begins the other
 pub begins_test : {A : Type 0} (xs ys zs : List A) (m n : ℕ) → m ≡ length xs → n ≡ length ys → IsPrefix xs zs → IsPrefix ys zs → IsTrue (nat_le m n) ↔ IsPrefix xs ys
 begins_test xs ys zs m n mx ny p q = (
   (λ t. prefix_shorter xs ys zs p q (omega (arith, leb-true m n t, mx, ny))),

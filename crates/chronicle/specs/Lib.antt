@@ -1,3 +1,4 @@
 pub mod Events
+pub mod Fronts
 pub mod Rules
 pub mod Laws

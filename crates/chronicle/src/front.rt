@@ -1,6 +1,7 @@
-ghost use Rattle.std.specs.Prelude.{◌≡◌, ◌⊎◌, ◌↔◌, ◌++◌, ◌∷◌, [], length, IsTrue, MatchBool};
+ghost use Rattle.std.specs.Prelude.{◌≡◌, true, ◌↔◌, ◌++◌, ◌∷◌, [], length, IsTrue, IfSome};
 ghost use mathlib.Core.List.{IsPrefix};
 ghost use Rattle.chronicle.specs.Events.{IsLegalFrom};
+ghost use Rattle.chronicle.specs.Fronts.{Adds, Begins, Follows};
 ghost use Rattle.chronicle.specs.Rules.{head_of};
 
 use crate::event::Event;
@@ -10,21 +11,25 @@ use crate::whole::Whole;
 use logbook::{Offer, Plain, Seen, Word};
 use std::marker::{Model, PhantomData};
 
-/// A beginning of the history that was seen. Contracts see it as its events.
+/// A beginning of the history that was seen. Contracts see it as its events, and whether it is kept:
+/// a front that was found to begin no history is not, and none that runs is found so, which no
+/// contract can say.
 #[derive(Drop)]
 pub struct Front<J: Naming> {
     pub(crate) events: u64,
+    pub(crate) is_kept: bool,
     pub(crate) seen: Seen<Event, u64, Law>,
     pub(crate) of: PhantomData<J>,
 }
 
 impl<J: Naming> Model for Front<J> {
-    ghost use Rattle.std.specs.Prelude.{◌≡◌, List, length};
-    ghost use Rattle.chronicle.specs.Events.{Happened, IsLegalFrom};
+    ghost use Rattle.std.specs.Prelude.{◌≡◌, length};
+    ghost use Rattle.chronicle.specs.Events.{IsLegalFrom};
+    ghost use Rattle.chronicle.specs.Fronts.{Seen};
 
-    ghost Value = { List Happened };
+    ghost Value = { Seen };
 
-    ghost view = { λ f. f.seen.log };
+    ghost view = { λ f. record { events = f.seen.log; kept = f.is_kept } };
 
     ghost invariant = { λ f. (f.events ≡ length f.seen.log) × (f.seen.book ≡ J.book) × IsLegalFrom J.opening f.seen.log };
 }
@@ -32,11 +37,18 @@ impl<J: Naming> Model for Front<J> {
 impl<J: Naming> Front<J> {
     /// How many events it has. Its calls are a legal history.
     pub fn count(&self) -> u64
-        ensures count { result ≡ length self.now }
-        ensures legal { IsLegalFrom J.opening self.now }
+        ensures count { result ≡ length self.now.events }
+        ensures legal { IsLegalFrom J.opening self.now.events }
     {
         let Front { events, .. } = self;
         *events
+    }
+
+    /// Whether it is kept.
+    pub fn is_kept(&self) -> bool
+        ensures { result ≡ self.now.kept }
+    {
+        self.is_kept
     }
 
     /// The same front once more.
@@ -45,69 +57,71 @@ impl<J: Naming> Front<J> {
     {
         Front {
             events: self.events,
+            is_kept: self.is_kept,
             seen: self.seen.again(),
             of: PhantomData,
         }
     }
 
-    /// Whether it is a beginning of the other.
-    pub fn begins(&self, other: &Front<J>) -> bool
-        ensures test { IsTrue result ↔ IsPrefix self.now other.now }
-        ensures other { IsPrefix self.now other.now ⊎ IsPrefix other.now self.now }
+    // Whether its events begin those of the other.
+    fn is_shorter(&self, other: &Front<J>) -> bool
+        ensures { IsTrue result ↔ IsPrefix self.now.events other.now.events }
     {
         let mut both = self.seen.again();
         both.learn(&other.seen);
         self.events <= other.events
     }
 
-    /// The longer of two fronts, which the other begins.
-    pub fn longer(&self, other: &Front<J>) -> Front<J>
-        ensures one { (result ≡ self.now) ⊎ (result ≡ other.now) }
-        ensures this { IsPrefix self.now result }
-        ensures that { IsPrefix other.now result }
+    /// Whether it is kept and begins the history, which is kept too.
+    pub fn begins(&self, whole: &Whole<J>) -> bool
+        ensures { IsTrue result ↔ Begins self.now whole.now }
     {
-        if self.begins(other) {
-            other.again()
+        self.is_kept && whole.front.is_kept && self.is_shorter(&whole.front)
+    }
+
+    /// Becomes all of the history, which it begins; where it doesn't, it is not kept.
+    pub fn follow(&mut self, whole: &Whole<J>)
+        ensures { Follows self.old whole.now self.new }
+    {
+        if self.begins(whole) {
+            *self = whole.front();
         } else {
-            self.again()
+            self.is_kept = false;
         }
     }
 
-    /// Becomes the longer of the two.
-    pub fn learn(&mut self, other: &Front<J>)
-        ensures one { (self.new ≡ self.old) ⊎ (self.new ≡ other.now) }
-        ensures this { IsPrefix self.old self.new }
-        ensures that { IsPrefix other.now self.new }
-    {
-        *self = self.longer(other);
-    }
-
-    /// Becomes all of the history, if it is a beginning of it, and says whether it is. It always is
-    /// when it runs, which no contract can say.
-    pub fn follow(&mut self, whole: &Whole<J>) -> bool
-        ensures test { IsTrue result ↔ IsPrefix self.old whole.now }
-        ensures end { MatchBool result (self.new ≡ whole.now) (self.new ≡ self.old) }
-    {
-        if !self.begins(&whole.front) {
-            return false;
-        }
-        *self = whole.front();
-        true
-    }
-
-    // Adds the event that this value tells to all that was seen, and says whether it did.
+    // Adds the event that this value tells to all that was seen; where that is not all, it is not kept.
     pub(crate) fn add<X, M: Plain<X, Event, u64>>(
         &mut self,
         head: &Word<Event, u64, Law>,
         about: &X,
-    ) -> bool
+    )
         requires head { head.now ≡ head_of J.book }
-        requires legal { IsLegalFrom J.opening self.old → IsLegalFrom J.opening (self.old ++ M.ask about.now ∷ []) }
-        ensures { MatchBool result (self.new ≡ self.old ++ M.ask about.now ∷ []) (self.new ≡ self.old) }
+        requires legal { self.old.kept ≡ true → IsLegalFrom J.opening (self.old.events ++ M.ask about.now ∷ []) }
+        ensures { Adds self.old (M.ask about.now) self.new }
+    {
+        if !self.is_kept {
+            return;
+        }
+        match self.added::<X, M>(head, about) {
+            Some(front) => *self = front,
+            None => self.is_kept = false,
+        }
+    }
+
+    // The front with one event more, if that was added to all that was seen.
+    fn added<X, M: Plain<X, Event, u64>>(
+        &self,
+        head: &Word<Event, u64, Law>,
+        about: &X,
+    ) -> Option<Front<J>>
+        requires head { head.now ≡ head_of J.book }
+        requires legal { IsLegalFrom J.opening (self.now.events ++ M.ask about.now ∷ []) }
+        ensures { IfSome result (λ f. f ≡ record { events = self.now.events ++ M.ask about.now ∷ []; kept = true }) }
     {
         let events = self.events;
         if events == u64::MAX {
-            return false;
+            return None;
         }
         let mut seen = self.seen.again();
         let mut offer: Offer<Event, u64, Law, Nothing> = seen.plain::<Nothing, X, M>(about);
@@ -120,10 +134,13 @@ impl<J: Naming> Front<J> {
             &mut pen,
         );
         if found != events {
-            return false;
+            return None;
         }
-        self.seen = seen;
-        self.events = events + 1;
-        true
+        Some(Front {
+            events: events + 1,
+            is_kept: true,
+            seen,
+            of: PhantomData,
+        })
     }
 }

@@ -32,32 +32,31 @@ fn added<J: Naming, R: Abort>(rt: &R, unnamed: Unnamed)
         call: Call::GiveUp { ticket: 1 },
         reply: Reply::UnknownTicket,
     };
-    assert!(rt; whole.call(&given_up));
-    assert!(rt; whole.open(Caller::Session(0)));
-    assert!(rt; whole.stop());
-    assert!(rt; front.begins(&whole.front()));
-    assert!(rt; !whole.front().begins(&front));
-    assert!(rt; front.longer(&whole.front()).count() == 3);
-    assert!(rt; front.follow(&whole) && front.count() == 3);
+    whole.call(&given_up);
+    whole.open(Caller::Session(0));
+    whole.stop();
+    assert!(rt; front.begins(&whole));
+    front.follow(&whole);
+    assert!(rt; front.is_kept() && front.count() == 3 && front.again().begins(&whole));
 }
 
 fn added_by_two<J: Naming + Send + Sync, R: Threads + Wait + Abort + Sync>(rt: &R, unnamed: Unnamed)
     requires { unnamed ≡ J.book }
 {
     let shared = Mutex::new(unnamed.named::<J>());
-    let (mut one, two) = join(
+    let (one, two) = join(
         rt,
         || -> Front<J> { opened_in(rt, &shared, Caller::Session(0)) },
         || -> Front<J> { opened_in(rt, &shared, Caller::Worker(0)) },
     );
-    assert!(rt; one.begins(&two) != two.begins(&one));
-    one.learn(&two);
-    assert!(rt; one.count() == 2);
+    let whole = shared.into_inner();
+    assert!(rt; one.begins(&whole) && two.begins(&whole));
+    assert!(rt; one.count() != two.count() && whole.is_kept() && whole.front().count() == 2);
 }
 
 // The history after this caller was opened in it.
 fn opened_in<J: Naming, R: Wait>(rt: &R, shared: &Mutex<Whole<J>>, who: Caller) -> Front<J> {
     let mut whole = shared.lock(rt);
-    let _added = whole.open(who);
+    whole.open(who);
     whole.front()
 }

@@ -1,4 +1,5 @@
-ghost use Rattle.std.specs.Prelude.{◌≡◌, []};
+ghost use Rattle.std.specs.Prelude.{◌≡◌};
+ghost use Rattle.chronicle.specs.Fronts.{nothing_yet};
 
 use crate::event::Event;
 use crate::front::Front;
@@ -41,13 +42,14 @@ impl Unnamed {
     /// The history under the name that was picked for it.
     pub fn named<J: Naming>(self) -> Whole<J>
         requires { self ≡ J.book }
-        ensures { result ≡ [] }
+        ensures { result ≡ nothing_yet }
     {
         let Unnamed { head, seen } = self;
         Whole {
             head,
             front: Front {
                 events: 0,
+                is_kept: true,
                 seen,
                 of: PhantomData,
             },

@@ -4,6 +4,7 @@ use crate::logs::{book_of, ten};
 use crate::scripts::{Script, book_after};
 use crate::wrong::{Wrong, right_if};
 use book_machine::Reply;
+use chronicle::Naming;
 use scenarios::ScenarioId;
 use std::alloc::Global;
 use std::sync::Wait;
@@ -33,10 +34,10 @@ impl Gate for AddedAgain {
 }
 
 // The version that a view tells, or why it tells none.
-fn viewed<R: Wait>(
+fn viewed<R: Wait, J: Naming>(
     rt: &R,
-    desk: &Desk<Global>,
-    session: &mut Session<Global>,
+    desk: &Desk<Global, J>,
+    session: &mut Session<Global, J>,
     id: ScenarioId,
 ) -> Result<u64, ViewRefusal> {
     match session.view(rt, desk, id) {
@@ -46,10 +47,10 @@ fn viewed<R: Wait>(
 }
 
 // Adds the scenario `big`, and tells its id.
-fn added<R: Wait>(
+fn added<R: Wait, J: Naming>(
     rt: &R,
-    desk: &Desk<Global>,
-    session: &mut Session<Global>,
+    desk: &Desk<Global, J>,
+    session: &mut Session<Global, J>,
 ) -> Option<ScenarioId> {
     match ten() {
         Ok(ten) => session.add_scenario(rt, desk, "big", ten).ok(),
@@ -58,10 +59,10 @@ fn added<R: Wait>(
 }
 
 // Whether the old id is gone, and of the new one nothing is shown yet.
-fn are_told<R: Wait>(
+fn are_told<R: Wait, J: Naming>(
     rt: &R,
-    desk: &Desk<Global>,
-    session: &mut Session<Global>,
+    desk: &Desk<Global, J>,
+    session: &mut Session<Global, J>,
     old: ScenarioId,
     new: ScenarioId,
 ) -> bool {
@@ -71,7 +72,11 @@ fn are_told<R: Wait>(
 }
 
 // Drops it and adds it again.
-fn adds_again<R: Wait>(rt: &R, desk: &Desk<Global>, session: &mut Session<Global>) -> bool {
+fn adds_again<R: Wait, J: Naming>(
+    rt: &R,
+    desk: &Desk<Global, J>,
+    session: &mut Session<Global, J>,
+) -> bool {
     let old = session.drop_scenario(rt, desk, "big").ok();
     match (old, added(rt, desk, session)) {
         (Some(old), Some(new)) => are_told(rt, desk, session, old, new),
@@ -80,11 +85,11 @@ fn adds_again<R: Wait>(rt: &R, desk: &Desk<Global>, session: &mut Session<Global
 }
 
 impl Script for AddedAgain {
-    fn play<R: Wait>(
+    fn play<R: Wait, J: Naming>(
         &self,
         rt: &R,
-        desk: &Desk<Global>,
-        session: &mut Session<Global>,
+        desk: &Desk<Global, J>,
+        session: &mut Session<Global, J>,
     ) -> Result<(), Wrong> {
         let is_added = added(rt, desk, session).is_some();
         self.flags.wait(CLAIMED);

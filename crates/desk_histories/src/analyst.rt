@@ -4,6 +4,7 @@ use crate::looks::{Looks, is_current, is_right, looks_of};
 use crate::said::{Said, Told, memory_if, told_if};
 use crate::seat::Seat;
 use crate::wrong::{Wrong, right_if};
+use chronicle::Naming;
 use job_table::{Edit, EditFault};
 use scenarios::{AddFault, NoSuchScenario, ScenarioId};
 use std::alloc::Allocator;
@@ -27,8 +28,8 @@ impl Counts {
 }
 
 // An edit was told this version, which is what was seen last.
-fn of_edit<A: Allocator + Copy>(
-    session: &Session<A>,
+fn of_edit<A: Allocator + Copy, J: Naming>(
+    session: &Session<A, J>,
     told: Result<u64, EditRefusal>,
     version: u64,
 ) -> Told {
@@ -107,24 +108,24 @@ fn of_gone(told: Result<(), RetryRefusal>) -> Told {
     }
 }
 
-impl<R: Wait, A: Allocator + Copy> Seat<'_, R, A> {
-    fn edit(&self, session: &mut Session<A>, edit: &Edit<A>, version: u64) -> Told {
+impl<R: Wait, A: Allocator + Copy, J: Naming> Seat<'_, R, A, J> {
+    fn edit(&self, session: &mut Session<A, J>, edit: &Edit<A>, version: u64) -> Told {
         let told = session.edit(self.rt, self.desk, edit);
         of_edit(session, told, version)
     }
 
-    fn add(&self, session: &mut Session<A>, name: &str) -> Result<ScenarioId, AddRefusal> {
+    fn add(&self, session: &mut Session<A, J>, name: &str) -> Result<ScenarioId, AddRefusal> {
         match ten() {
             Ok(ten) => session.add_scenario(self.rt, self.desk, name, ten),
             Err(_) => Err(AddRefusal::JournalFull),
         }
     }
 
-    fn drop_more(&self, session: &mut Session<A>) -> Result<ScenarioId, DropRefusal> {
+    fn drop_more(&self, session: &mut Session<A, J>) -> Result<ScenarioId, DropRefusal> {
         session.drop_scenario(self.rt, self.desk, "more")
     }
 
-    fn retry(&self, session: &mut Session<A>) -> Told {
+    fn retry(&self, session: &mut Session<A, J>) -> Told {
         match session.find(self.rt, self.desk, "base") {
             Some(base) => of_retry(session.retry(self.rt, self.desk, base)),
             None => Told::Wrong,
@@ -134,7 +135,7 @@ impl<R: Wait, A: Allocator + Copy> Seat<'_, R, A> {
     // A look at a scenario: the version that it shows, if it is right.
     fn view_of(
         &self,
-        session: &mut Session<A>,
+        session: &mut Session<A, J>,
         id: ScenarioId,
     ) -> Result<Option<u64>, ViewRefusal> {
         match session.view(self.rt, self.desk, id) {
@@ -144,7 +145,7 @@ impl<R: Wait, A: Allocator + Copy> Seat<'_, R, A> {
     }
 
     // A look at `base`.
-    fn view(&self, session: &mut Session<A>) -> Result<Option<u64>, ViewRefusal> {
+    fn view(&self, session: &mut Session<A, J>) -> Result<Option<u64>, ViewRefusal> {
         match session.find(self.rt, self.desk, "base") {
             Some(base) => self.view_of(session, base),
             None => Ok(None),
@@ -152,7 +153,7 @@ impl<R: Wait, A: Allocator + Copy> Seat<'_, R, A> {
     }
 
     // A look that shows this version.
-    fn view_at(&self, session: &mut Session<A>, version: u64) -> Told {
+    fn view_at(&self, session: &mut Session<A, J>, version: u64) -> Told {
         match self.view(session) {
             Ok(told) => told_if(told == Some(version)),
             Err(refusal) => memory_if(refusal == ViewRefusal::Memory),
@@ -160,7 +161,7 @@ impl<R: Wait, A: Allocator + Copy> Seat<'_, R, A> {
     }
 
     // A look that shows what there is.
-    fn view_left(&self, session: &mut Session<A>) -> Told {
+    fn view_left(&self, session: &mut Session<A, J>) -> Told {
         match self.view(session) {
             Ok(told) => told_if(told.is_some()),
             Err(ViewRefusal::Fault(ViewFault::NotYet))
@@ -169,7 +170,7 @@ impl<R: Wait, A: Allocator + Copy> Seat<'_, R, A> {
         }
     }
 
-    fn read(&self, session: &Session<A>) -> Told {
+    fn read(&self, session: &Session<A, J>) -> Told {
         match session.current(self.rt, self.desk) {
             Ok(current) => told_if(is_current(&current, looks_of(self.rt, self.desk, session))),
             Err(_) => Told::Memory,
@@ -177,7 +178,7 @@ impl<R: Wait, A: Allocator + Copy> Seat<'_, R, A> {
     }
 
     // Makes the call.
-    fn call(&self, session: &mut Session<A>, said: &Said) -> Told {
+    fn call(&self, session: &mut Session<A, J>, said: &Said) -> Told {
         match said {
             Said::Join => self.edit(session, self.joins, 1),
             Said::Leave => self.edit(session, &Edit::Remove(4), 2),
@@ -206,14 +207,14 @@ impl<R: Wait, A: Allocator + Copy> Seat<'_, R, A> {
     }
 
     // Whether all is as it looked before.
-    fn is_as_before(&self, session: &Session<A>, before: Looks) -> bool {
+    fn is_as_before(&self, session: &Session<A, J>, before: Looks) -> bool {
         looks_of(self.rt, self.desk, session) == before && self.read(session) == Told::Right
     }
 
     // Makes a call, and where memory is wanting once more, after nothing has changed by it.
     fn told(
         &self,
-        session: &mut Session<A>,
+        session: &mut Session<A, J>,
         counts: &mut Counts,
         said: &Said,
     ) -> Result<Told, Wrong> {
@@ -231,7 +232,7 @@ impl<R: Wait, A: Allocator + Copy> Seat<'_, R, A> {
     /// once more, after nothing has changed by it.
     pub(crate) fn makes(
         &self,
-        session: &mut Session<A>,
+        session: &mut Session<A, J>,
         counts: &mut Counts,
         said: Said,
     ) -> Result<(), Wrong> {

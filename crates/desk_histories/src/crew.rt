@@ -1,4 +1,8 @@
+ghost use Rattle.std.specs.Prelude.{◌≡◌};
+ghost use Rattle.version_book.specs.Book.{machine_of};
+
 use crate::wrong::Wrong;
+use chronicle::{Naming, Unnamed};
 use std::alloc::Allocator;
 use std::sync::Wait;
 use std::sync::atomic::{AtomicBool, Ordering};
@@ -7,19 +11,19 @@ use workers::{CloseFault, Desk, Gate, Session, Worker, WorkerEnd, close};
 
 /// A desk with its callers.
 #[derive(Drop)]
-pub(crate) struct Crew<A: Allocator + Copy> {
-    pub(crate) desk: Desk<A>,
-    pub(crate) sessions: Vec<Session<A>, A>,
+pub(crate) struct Crew<A: Allocator + Copy, J: Naming> {
+    pub(crate) desk: Desk<A, J>,
+    pub(crate) sessions: Vec<Session<A, J>, A>,
     pub(crate) workers: Vec<Worker<A>, A>,
 }
 
 // Opens so many sessions.
-fn sessions_of<R: Wait, A: Allocator + Copy>(
+fn sessions_of<R: Wait, A: Allocator + Copy, J: Naming>(
     rt: &R,
     alloc: A,
-    desk: &Desk<A>,
+    desk: &Desk<A, J>,
     count: usize,
-) -> Result<Vec<Session<A>, A>, Wrong> {
+) -> Result<Vec<Session<A, J>, A>, Wrong> {
     let mut sessions = Vec::with_capacity(alloc, count)?;
     for _ in 0..count {
         match desk.open_session(rt) {
@@ -31,10 +35,10 @@ fn sessions_of<R: Wait, A: Allocator + Copy>(
 }
 
 // Opens so many workers.
-fn workers_of<R: Wait, A: Allocator + Copy>(
+fn workers_of<R: Wait, A: Allocator + Copy, J: Naming>(
     rt: &R,
     alloc: A,
-    desk: &Desk<A>,
+    desk: &Desk<A, J>,
     count: usize,
 ) -> Result<Vec<Worker<A>, A>, Wrong> {
     let mut workers = Vec::with_capacity(alloc, count)?;
@@ -48,9 +52,9 @@ fn workers_of<R: Wait, A: Allocator + Copy>(
 }
 
 /// Has a worker work until the desk is stopped, and sets the flag where it ended before.
-pub(crate) fn works<R: Wait, A: Allocator + Copy, G: Gate>(
+pub(crate) fn works<R: Wait, A: Allocator + Copy, G: Gate, J: Naming>(
     rt: &R,
-    desk: &Desk<A>,
+    desk: &Desk<A, J>,
     worker: &mut Worker<A>,
     gate: &G,
     has_ended: &AtomicBool,
@@ -60,16 +64,20 @@ pub(crate) fn works<R: Wait, A: Allocator + Copy, G: Gate>(
     }
 }
 
-impl<A: Allocator + Copy> Crew<A> {
+impl<A: Allocator + Copy, J: Naming> Crew<A, J> {
     /// A desk over a book with so many callers; Memory where a growth is refused.
     pub(crate) fn new<R: Wait>(
         rt: &R,
         alloc: A,
         book: Book<A>,
+        unnamed: Unnamed,
         sessions: usize,
         workers: usize,
-    ) -> Result<Crew<A>, Wrong> {
-        let desk = Desk::new(alloc, book);
+    ) -> Result<Crew<A, J>, Wrong>
+        requires name { unnamed ≡ J.book }
+        requires opening { J.opening ≡ machine_of book }
+    {
+        let desk = Desk::new(alloc, book, unnamed);
         let sessions = sessions_of(rt, alloc, &desk, sessions)?;
         let workers = workers_of(rt, alloc, &desk, workers)?;
         Ok(Crew {
@@ -88,7 +96,7 @@ impl<A: Allocator + Copy> Crew<A> {
     }
 
     /// All that is handed back where the desk does not close, since a caller is still out.
-    pub(crate) fn still_out(self) -> Result<Crew<A>, Wrong> {
+    pub(crate) fn still_out(self) -> Result<Crew<A, J>, Wrong> {
         match close(self.desk, self.sessions, self.workers) {
             Err((CloseFault::StillOut, desk, sessions, workers)) => Ok(Crew {
                 desk,

@@ -1,12 +1,17 @@
 // A desk whose journal has room for one note more.
+ghost use Rattle.std.specs.Prelude.{◌≡◌};
+ghost use Rattle.version_book.specs.Book.{machine_of};
+
 use crate::crew::Crew;
 use crate::judge::is_legal;
 use crate::logs::{ten, with_base};
 use crate::looks::{Looks, looks_of};
 use crate::wrong::{Wrong, right_if};
+use chronicle::{Naming, Unnamed};
 use job_table::Edit;
 use scenarios::ScenarioId;
 use std::alloc::Global;
+use std::marker::Brand;
 use std::sync::Wait;
 use version_book::{AddRefusal, Book, DropRefusal, EditRefusal, RetryRefusal, ViewRefusal};
 use workers::{Desk, NoGate, Session, Settled, WorkerEnd};
@@ -31,17 +36,17 @@ fn nearly_full(alloc: Global) -> Result<Book<Global>, Wrong> {
 
 /// A desk with a full journal, as its session sees it.
 #[derive(Drop)]
-struct FullDesk<'a, R> {
+struct FullDesk<'a, R, J: Naming> {
     rt: &'a R,
-    desk: &'a Desk<Global>,
+    desk: &'a Desk<Global, J>,
 }
 
-impl<R: Wait> FullDesk<'_, R> {
-    fn is_edit_refused(&self, session: &mut Session<Global>) -> bool {
+impl<R: Wait, J: Naming> FullDesk<'_, R, J> {
+    fn is_edit_refused(&self, session: &mut Session<Global, J>) -> bool {
         session.edit(self.rt, self.desk, &Edit::Remove(1)) == Err(EditRefusal::JournalFull)
     }
 
-    fn is_add_refused(&self, session: &mut Session<Global>) -> bool {
+    fn is_add_refused(&self, session: &mut Session<Global, J>) -> bool {
         match ten() {
             Ok(ten) => {
                 session.add_scenario(self.rt, self.desk, "more", ten)
@@ -51,15 +56,15 @@ impl<R: Wait> FullDesk<'_, R> {
         }
     }
 
-    fn is_drop_refused(&self, session: &mut Session<Global>) -> bool {
+    fn is_drop_refused(&self, session: &mut Session<Global, J>) -> bool {
         session.drop_scenario(self.rt, self.desk, "base") == Err(DropRefusal::JournalFull)
     }
 
-    fn is_retry_refused(&self, session: &mut Session<Global>, base: ScenarioId) -> bool {
+    fn is_retry_refused(&self, session: &mut Session<Global, J>, base: ScenarioId) -> bool {
         session.retry(self.rt, self.desk, base) == Err(RetryRefusal::JournalFull)
     }
 
-    fn is_view_refused(&self, session: &mut Session<Global>, base: ScenarioId) -> bool {
+    fn is_view_refused(&self, session: &mut Session<Global, J>, base: ScenarioId) -> bool {
         matches!(
             session.view(self.rt, self.desk, base),
             Err(ViewRefusal::JournalFull)
@@ -67,7 +72,7 @@ impl<R: Wait> FullDesk<'_, R> {
     }
 
     // Whether each call is refused for the journal.
-    fn are_refused(&self, session: &mut Session<Global>, base: ScenarioId) -> bool {
+    fn are_refused(&self, session: &mut Session<Global, J>, base: ScenarioId) -> bool {
         self.is_edit_refused(session)
             && self.is_add_refused(session)
             && self.is_drop_refused(session)
@@ -76,7 +81,7 @@ impl<R: Wait> FullDesk<'_, R> {
     }
 
     // Whether nothing has changed by that.
-    fn is_unchanged(&self, session: &Session<Global>, base: ScenarioId) -> bool {
+    fn is_unchanged(&self, session: &Session<Global, J>, base: ScenarioId) -> bool {
         looks_of(self.rt, self.desk, session)
             == Looks {
                 version: 0,
@@ -88,7 +93,7 @@ impl<R: Wait> FullDesk<'_, R> {
     }
 
     // Waits for no run, and is refused each call, by which nothing changes.
-    fn is_refused(&self, session: &mut Session<Global>) -> Result<(), Wrong> {
+    fn is_refused(&self, session: &mut Session<Global, J>) -> Result<(), Wrong> {
         let Some(base) = session.find(self.rt, self.desk, "base") else {
             return Err(Wrong::Input);
         };
@@ -102,7 +107,7 @@ impl<R: Wait> FullDesk<'_, R> {
 }
 
 // The worker claims, which fills the journal, and ends as it hands its run in.
-fn ends_full<R: Wait>(rt: &R, crew: &mut Crew<Global>) -> Result<(), Wrong> {
+fn ends_full<R: Wait, J: Naming>(rt: &R, crew: &mut Crew<Global, J>) -> Result<(), Wrong> {
     match crew.workers.first_mut() {
         Some(worker) => right_if(
             worker.run(rt, &crew.desk, &NoGate) == WorkerEnd::Full,
@@ -113,7 +118,7 @@ fn ends_full<R: Wait>(rt: &R, crew: &mut Crew<Global>) -> Result<(), Wrong> {
 }
 
 // The session is refused each call then.
-fn is_refused<R: Wait>(rt: &R, crew: &mut Crew<Global>) -> Result<(), Wrong> {
+fn is_refused<R: Wait, J: Naming>(rt: &R, crew: &mut Crew<Global, J>) -> Result<(), Wrong> {
     match crew.sessions.first_mut() {
         Some(session) => FullDesk {
             rt,
@@ -124,12 +129,26 @@ fn is_refused<R: Wait>(rt: &R, crew: &mut Crew<Global>) -> Result<(), Wrong> {
     }
 }
 
-/// A worker ends at a full journal, a session is refused each call then, and the desk closes.
-pub(crate) fn is_right<R: Wait>(rt: &R, alloc: Global) -> Result<(), Wrong> {
-    let mut crew = Crew::new(rt, alloc, nearly_full(alloc)?, 1, 1)?;
+// Plays at a desk over this book, and closes it.
+fn plays_full<J: Naming, R: Wait>(
+    rt: &R,
+    alloc: Global,
+    book: Book<Global>,
+    unnamed: Unnamed,
+) -> Result<(), Wrong>
+    requires name { unnamed ≡ J.book }
+    requires opening { J.opening ≡ machine_of book }
+{
+    let mut crew = Crew::<Global, J>::new(rt, alloc, book, unnamed, 1, 1)?;
     ends_full(rt, &mut crew)?;
     is_refused(rt, &mut crew)?;
     let book = crew.close()?;
     right_if(book.journal().len() as u64 == NOTES, Wrong::Listed)?;
     is_legal(alloc, book.journal())
+}
+
+/// A worker ends at a full journal, a session is refused each call then, and the desk closes.
+pub(crate) fn is_right<R: Wait>(rt: &R, alloc: Global) -> Result<(), Wrong> {
+    let book = nearly_full(alloc)?;
+    plays_full::<Brand, R>(rt, alloc, book, Unnamed::new())
 }

@@ -1,4 +1,7 @@
 // Each growth at a desk refused in turn, from the first one until a history meets no refusal.
+ghost use Rattle.std.specs.Prelude.{◌≡◌};
+ghost use Rattle.version_book.specs.Book.{machine_of};
+
 use crate::analyst::Counts;
 use crate::crew::Crew;
 use crate::judge::is_legal;
@@ -8,11 +11,14 @@ use crate::said::Said;
 use crate::seat::Seat;
 use crate::wrong::{Wrong, right_if};
 use book_machine::{Call, Note};
+use chronicle::{Naming, Unnamed};
 use job_table::Edit;
 use refusing::Refusing;
 use std::alloc::{Allocator, Global};
+use std::marker::Brand;
 use std::sync::Wait;
 use std::thread::Threads;
+use version_book::Book;
 use workers::{Session, Worker};
 
 /// What meets the first growths at the desk.
@@ -58,11 +64,6 @@ fn wants_of(counts: Counts, has_ended: bool, was_first: bool) -> Wants {
     }
 }
 
-// A desk over the book with the scenario `base`, with a session and a worker.
-fn pair_of<R: Wait, A: Allocator + Copy>(rt: &R, alloc: A) -> Result<Crew<A>, Wrong> {
-    Crew::new(rt, alloc, with_base(alloc)?, 1, 1)
-}
-
 // The call that comes first, if a session makes it.
 fn first_call(first: First) -> Option<Said> {
     match first {
@@ -77,9 +78,9 @@ fn first_call(first: First) -> Option<Said> {
 }
 
 // Has a session make that call.
-fn begins<R: Wait, A: Allocator + Copy>(
-    seat: &Seat<'_, R, A>,
-    sessions: &mut Vec<Session<A>, A>,
+fn begins<R: Wait, A: Allocator + Copy, J: Naming>(
+    seat: &Seat<'_, R, A, J>,
+    sessions: &mut Vec<Session<A, J>, A>,
     said: Said,
 ) -> Result<Counts, Wrong> {
     let mut counts = Counts::NONE;
@@ -91,9 +92,9 @@ fn begins<R: Wait, A: Allocator + Copy>(
 }
 
 // Has a worker make one run, and a session look then.
-fn works<R: Wait, A: Allocator + Copy>(
-    seat: &Seat<'_, R, A>,
-    sessions: &mut Vec<Session<A>, A>,
+fn works<R: Wait, A: Allocator + Copy, J: Naming>(
+    seat: &Seat<'_, R, A, J>,
+    sessions: &mut Vec<Session<A, J>, A>,
     workers: &mut Vec<Worker<A>, A>,
 ) -> Result<(Counts, bool), Wrong> {
     match (sessions.first_mut(), workers.first_mut()) {
@@ -103,9 +104,9 @@ fn works<R: Wait, A: Allocator + Copy>(
 }
 
 // Plays a history, and tells how often want of memory was told but by a given-up ticket.
-fn played<R: Threads + Wait + Sync, A: Allocator + Copy + Send + Sync>(
-    seat: &Seat<'_, R, A>,
-    sessions: &mut Vec<Session<A>, A>,
+fn played<R: Threads + Wait + Sync, A: Allocator + Copy + Send + Sync, J: Naming + Send + Sync>(
+    seat: &Seat<'_, R, A, J>,
+    sessions: &mut Vec<Session<A, J>, A>,
     workers: &mut Vec<Worker<A>, A>,
     first: First,
 ) -> Result<Wants, Wrong> {
@@ -120,9 +121,9 @@ fn played<R: Threads + Wait + Sync, A: Allocator + Copy + Send + Sync>(
 }
 
 // Plays a history with the callers of a desk.
-fn played_by<R: Threads + Wait + Sync, A: Allocator + Copy + Send + Sync>(
+fn played_by<R: Threads + Wait + Sync, A: Allocator + Copy + Send + Sync, J: Naming + Send + Sync>(
     rt: &R,
-    crew: &mut Crew<A>,
+    crew: &mut Crew<A, J>,
     joins: &Edit<A>,
     first: First,
 ) -> Result<Wants, Wrong> {
@@ -144,9 +145,9 @@ fn given_up<A: Allocator + Copy>(notes: &[Note<A>]) -> u64 {
 }
 
 // Closes the desk, of which the journal is judged with memory enough, and tells all wants.
-fn closed<A: Allocator + Copy>(
+fn closed<A: Allocator + Copy, J: Naming>(
     enough: A,
-    crew: Crew<A>,
+    crew: Crew<A, J>,
     wants: Wants,
     first: First,
 ) -> Result<Wants, Wrong> {
@@ -159,7 +160,29 @@ fn closed<A: Allocator + Copy>(
     })
 }
 
-// Plays a history, closes its desk and judges its journal; none where a growth was refused before.
+// Plays a history at a desk over this book, closes it and judges its journal; none where a growth was
+// refused before.
+fn history_on<J: Naming + Send + Sync, R: Threads + Wait + Sync, A: Allocator + Copy + Send + Sync>(
+    rt: &R,
+    alloc: A,
+    enough: A,
+    book: Book<A>,
+    unnamed: Unnamed,
+    joins: &Edit<A>,
+    first: First,
+) -> Result<Option<Wants>, Wrong>
+    requires name { unnamed ≡ J.book }
+    requires opening { J.opening ≡ machine_of book }
+{
+    let Ok(mut crew) = Crew::<A, J>::new(rt, alloc, book, unnamed, 1, 1) else {
+        return Ok(None);
+    };
+    let wants = played_by(rt, &mut crew, joins, first)?;
+    let wants = closed(enough, crew, wants, first)?;
+    Ok(Some(wants))
+}
+
+// The same of the book with the scenario `base`.
 fn history_of<R: Threads + Wait + Sync, A: Allocator + Copy + Send + Sync>(
     rt: &R,
     alloc: A,
@@ -169,12 +192,10 @@ fn history_of<R: Threads + Wait + Sync, A: Allocator + Copy + Send + Sync>(
     let Ok(joins) = fifth(alloc) else {
         return Ok(None);
     };
-    let Ok(mut crew) = pair_of(rt, alloc) else {
+    let Ok(book) = with_base(alloc) else {
         return Ok(None);
     };
-    let wants = played_by(rt, &mut crew, &joins, first)?;
-    let wants = closed(enough, crew, wants, first)?;
-    Ok(Some(wants))
+    history_on::<Brand, R, A>(rt, alloc, enough, book, Unnamed::new(), &joins, first)
 }
 
 /// What came of a history while the growth of a number was refused.

@@ -4,6 +4,7 @@ use crate::logs::with_base;
 use crate::scripts::{Script, book_after};
 use crate::wrong::{Wrong, right_if};
 use book_machine::{Call, Reply};
+use chronicle::Naming;
 use job_table::Edit;
 use std::alloc::Global;
 use std::sync::Wait;
@@ -50,11 +51,11 @@ impl Gate for Held {
 }
 
 impl Script for Held {
-    fn play<R: Wait>(
+    fn play<R: Wait, J: Naming>(
         &self,
         rt: &R,
-        desk: &Desk<Global>,
-        session: &mut Session<Global>,
+        desk: &Desk<Global, J>,
+        session: &mut Session<Global, J>,
     ) -> Result<(), Wrong> {
         self.flags.wait(CLAIMED);
         let is_edited = session.edit(rt, desk, &Edit::Remove(4)) == Ok(1);

@@ -1,5 +1,6 @@
 // What a session sees of the book and of itself, beside what it should.
 use checkpoints::Run;
+use chronicle::Naming;
 use job_table::JobTable;
 use scenarios::ScenarioId;
 use std::alloc::Allocator;
@@ -18,10 +19,10 @@ pub(crate) struct Looks {
 }
 
 /// What a session sees at this desk.
-pub(crate) fn looks_of<R: Wait, A: Allocator + Copy>(
+pub(crate) fn looks_of<R: Wait, A: Allocator + Copy, J: Naming>(
     rt: &R,
-    desk: &Desk<A>,
-    session: &Session<A>,
+    desk: &Desk<A, J>,
+    session: &Session<A, J>,
 ) -> Looks {
     Looks {
         version: session.version(rt, desk),

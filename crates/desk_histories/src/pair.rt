@@ -5,6 +5,7 @@ use crate::said::Said;
 use crate::seat::Seat;
 use crate::wrong::{Wrong, right_if};
 use book_machine::Reply;
+use chronicle::Naming;
 use job_table::Edit;
 use std::alloc::Allocator;
 use std::sync::Wait;
@@ -15,12 +16,12 @@ use workers::{Desk, Gate, NoGate, Session, Settled, Worker, WorkerEnd};
 
 /// Stops the desk before a run is made.
 #[derive(Drop)]
-struct Stopping<'a, R, A: Allocator + Copy> {
+struct Stopping<'a, R, A: Allocator + Copy, J: Naming> {
     rt: &'a R,
-    desk: &'a Desk<A>,
+    desk: &'a Desk<A, J>,
 }
 
-impl<R: Wait, A: Allocator + Copy> Gate for Stopping<'_, R, A> {
+impl<R: Wait, A: Allocator + Copy, J: Naming> Gate for Stopping<'_, R, A, J> {
     fn before_work(&self, _ticket: u64) {
         self.desk.stop(self.rt);
     }
@@ -56,9 +57,9 @@ fn left_by<A: Allocator + Copy>(worker: &Worker<A>) -> Left {
     }
 }
 
-impl<R: Wait, A: Allocator + Copy> Seat<'_, R, A> {
+impl<R: Wait, A: Allocator + Copy, J: Naming> Seat<'_, R, A, J> {
     // Waits for the runs, and has what was given up tried again.
-    fn tries_again(&self, session: &mut Session<A>, counts: &mut Counts) -> Result<(), Wrong> {
+    fn tries_again(&self, session: &mut Session<A, J>, counts: &mut Counts) -> Result<(), Wrong> {
         match session.settle(self.rt, self.desk) {
             Settled::Failed(1) => self.makes(session, counts, Said::Retry),
             _ => Ok(()),
@@ -66,7 +67,7 @@ impl<R: Wait, A: Allocator + Copy> Seat<'_, R, A> {
     }
 
     // Waits for the runs; whether they are there, or the desk is stopped.
-    fn are_there(&self, session: &Session<A>) -> Result<bool, Wrong> {
+    fn are_there(&self, session: &Session<A, J>) -> Result<bool, Wrong> {
         match session.settle(self.rt, self.desk) {
             Settled::Done => Ok(true),
             Settled::Stopped => Ok(false),
@@ -76,7 +77,7 @@ impl<R: Wait, A: Allocator + Copy> Seat<'_, R, A> {
 
     // Waits for the runs, after what was given up is tried again; whether they are there, or the desk is
     // stopped.
-    fn settles(&self, session: &mut Session<A>, counts: &mut Counts) -> Result<bool, Wrong> {
+    fn settles(&self, session: &mut Session<A, J>, counts: &mut Counts) -> Result<bool, Wrong> {
         self.tries_again(session, counts)?;
         self.are_there(session)
     }
@@ -84,7 +85,7 @@ impl<R: Wait, A: Allocator + Copy> Seat<'_, R, A> {
     // Settles, and looks: this version is shown, unless the desk is stopped.
     fn sees(
         &self,
-        session: &mut Session<A>,
+        session: &mut Session<A, J>,
         counts: &mut Counts,
         version: u64,
     ) -> Result<bool, Wrong> {
@@ -97,7 +98,11 @@ impl<R: Wait, A: Allocator + Copy> Seat<'_, R, A> {
     }
 
     // The scenario `more` joins, and leaves after an edit; it is then no scenario.
-    fn adds_and_drops(&self, session: &mut Session<A>, counts: &mut Counts) -> Result<(), Wrong> {
+    fn adds_and_drops(
+        &self,
+        session: &mut Session<A, J>,
+        counts: &mut Counts,
+    ) -> Result<(), Wrong> {
         self.makes(session, counts, Said::Add)?;
         let Some(more) = session.find(self.rt, self.desk, "more") else {
             return Err(Wrong::Told);
@@ -109,7 +114,7 @@ impl<R: Wait, A: Allocator + Copy> Seat<'_, R, A> {
     }
 
     // Makes all calls beside a worker; whether all runs were there.
-    fn plays(&self, session: &mut Session<A>, counts: &mut Counts) -> Result<bool, Wrong> {
+    fn plays(&self, session: &mut Session<A, J>, counts: &mut Counts) -> Result<bool, Wrong> {
         self.makes(session, counts, Said::Join)?;
         let one = self.sees(session, counts, 1)?;
         self.adds_and_drops(session, counts)?;
@@ -119,14 +124,14 @@ impl<R: Wait, A: Allocator + Copy> Seat<'_, R, A> {
     }
 
     // Whether a session is told this where it settles.
-    fn is_settled(&self, session: &Session<A>, wanted: Settled) -> Result<(), Wrong> {
+    fn is_settled(&self, session: &Session<A, J>, wanted: Settled) -> Result<(), Wrong> {
         right_if(session.settle(self.rt, self.desk) == wanted, Wrong::Settled)
     }
 
     // Looks after a worker has made one run and the desk was stopped, and once more after an edit.
     fn looks_after(
         &self,
-        session: &mut Session<A>,
+        session: &mut Session<A, J>,
         counts: &mut Counts,
         left: Left,
     ) -> Result<(), Wrong> {
@@ -144,11 +149,11 @@ impl<R: Wait, A: Allocator + Copy> Seat<'_, R, A> {
 }
 
 // Has a session make all calls; whether all runs were there.
-fn plays<R: Wait, A: Allocator + Copy>(
+fn plays<R: Wait, A: Allocator + Copy, J: Naming>(
     rt: &R,
-    desk: &Desk<A>,
+    desk: &Desk<A, J>,
     joins: &Edit<A>,
-    session: &mut Session<A>,
+    session: &mut Session<A, J>,
     counts: Counts,
 ) -> Result<(Counts, bool), Wrong> {
     let mut counts = counts;
@@ -158,11 +163,11 @@ fn plays<R: Wait, A: Allocator + Copy>(
 
 // Has the session make all calls while the worker runs, each on a thread of its own; whether all runs
 // were there.
-fn plays_with<R: Threads + Wait + Sync, A: Allocator + Copy + Send + Sync>(
+fn plays_with<R: Threads + Wait + Sync, A: Allocator + Copy + Send + Sync, J: Naming + Send + Sync>(
     rt: &R,
-    desk: &Desk<A>,
+    desk: &Desk<A, J>,
     joins: &Edit<A>,
-    sessions: &mut Vec<Session<A>, A>,
+    sessions: &mut Vec<Session<A, J>, A>,
     workers: &mut Vec<Worker<A>, A>,
     counts: Counts,
     has_ended: &AtomicBool,
@@ -190,9 +195,13 @@ fn plays_with<R: Threads + Wait + Sync, A: Allocator + Copy + Send + Sync>(
 
 /// Has the session make all calls while the worker runs, each on a thread of its own; whether the worker
 /// ended before the desk was stopped, as for want of memory. Runs are missing only then.
-pub(crate) fn plays_beside<R: Threads + Wait + Sync, A: Allocator + Copy + Send + Sync>(
-    seat: &Seat<'_, R, A>,
-    sessions: &mut Vec<Session<A>, A>,
+pub(crate) fn plays_beside<
+    R: Threads + Wait + Sync,
+    A: Allocator + Copy + Send + Sync,
+    J: Naming + Send + Sync,
+>(
+    seat: &Seat<'_, R, A, J>,
+    sessions: &mut Vec<Session<A, J>, A>,
     workers: &mut Vec<Worker<A>, A>,
     counts: Counts,
 ) -> Result<(Counts, bool), Wrong> {
@@ -207,9 +216,9 @@ pub(crate) fn plays_beside<R: Threads + Wait + Sync, A: Allocator + Copy + Send 
 
 /// Has the worker make one run, for which it stops the desk, and a session look then; whether the
 /// worker ended for want of memory.
-pub(crate) fn works_once<R: Wait, A: Allocator + Copy>(
-    seat: &Seat<'_, R, A>,
-    session: &mut Session<A>,
+pub(crate) fn works_once<R: Wait, A: Allocator + Copy, J: Naming>(
+    seat: &Seat<'_, R, A, J>,
+    session: &mut Session<A, J>,
     worker: &mut Worker<A>,
     counts: Counts,
 ) -> Result<(Counts, bool), Wrong> {

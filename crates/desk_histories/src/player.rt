@@ -4,6 +4,7 @@ use crate::logs::ten;
 use crate::scripts::Script;
 use crate::words::{Words, words_of};
 use crate::wrong::{Wrong, right_if};
+use chronicle::Naming;
 use scenarios::{NoSuchScenario, Scenario, ScenarioId};
 use std::alloc::Global;
 use std::sync::Wait;
@@ -20,23 +21,27 @@ const ROUND: usize = 50;
 
 /// A session's place in a history.
 #[derive(Drop)]
-struct Player<'a, R> {
+struct Player<'a, R, J: Naming> {
     rt: &'a R,
     alloc: Global,
-    desk: &'a Desk<Global>,
+    desk: &'a Desk<Global, J>,
 }
 
 // What is shown is not older than what was seen before, and is what was seen last.
-fn is_seen(session: &Session<Global>, seen: u64, shown: &Published<Global>) -> Result<(), Wrong> {
+fn is_seen<J: Naming>(
+    session: &Session<Global, J>,
+    seen: u64,
+    shown: &Published<Global>,
+) -> Result<(), Wrong> {
     right_if(
         seen <= shown.version() && session.seen() == shown.version(),
         Wrong::Seen,
     )
 }
 
-impl<R: Wait> Player<'_, R> {
+impl<R: Wait, J: Naming> Player<'_, R, J> {
     // An edit, whose version is what was seen last.
-    fn edits(&self, session: &mut Session<Global>, words: &mut Words) -> Result<(), Wrong> {
+    fn edits(&self, session: &mut Session<Global, J>, words: &mut Words) -> Result<(), Wrong> {
         let edit = inputs::edit(self.alloc, words)?;
         match session.edit(self.rt, self.desk, &edit) {
             Ok(version) => right_if(session.seen() == version, Wrong::Seen),
@@ -48,7 +53,7 @@ impl<R: Wait> Player<'_, R> {
     // A scenario more.
     fn adds(
         &self,
-        session: &mut Session<Global>,
+        session: &mut Session<Global, J>,
         name: &str,
         scenario: Scenario,
     ) -> Result<(), Wrong> {
@@ -59,7 +64,7 @@ impl<R: Wait> Player<'_, R> {
     }
 
     // A scenario less.
-    fn drops(&self, session: &mut Session<Global>, name: &str) -> Result<(), Wrong> {
+    fn drops(&self, session: &mut Session<Global, J>, name: &str) -> Result<(), Wrong> {
         match session.drop_scenario(self.rt, self.desk, name) {
             Ok(_) | Err(DropRefusal::Fault(NoSuchScenario)) => Ok(()),
             Err(_) => Err(Wrong::Refused),
@@ -67,7 +72,7 @@ impl<R: Wait> Player<'_, R> {
     }
 
     // Another try.
-    fn retries(&self, session: &mut Session<Global>, id: ScenarioId) -> Result<(), Wrong> {
+    fn retries(&self, session: &mut Session<Global, J>, id: ScenarioId) -> Result<(), Wrong> {
         match session.retry(self.rt, self.desk, id) {
             Ok(()) | Err(RetryRefusal::Fault(NoSuchScenario)) => Ok(()),
             Err(_) => Err(Wrong::Refused),
@@ -75,7 +80,7 @@ impl<R: Wait> Player<'_, R> {
     }
 
     // A look.
-    fn views(&self, session: &mut Session<Global>, id: ScenarioId) -> Result<(), Wrong> {
+    fn views(&self, session: &mut Session<Global, J>, id: ScenarioId) -> Result<(), Wrong> {
         let seen = session.seen();
         match session.view(self.rt, self.desk, id) {
             Ok(shown) => is_seen(session, seen, &shown),
@@ -85,7 +90,7 @@ impl<R: Wait> Player<'_, R> {
     }
 
     // A call of a scenario that stands, or that another session just dropped; of none, one more.
-    fn looks(&self, session: &mut Session<Global>, words: &mut Words) -> Result<(), Wrong> {
+    fn looks(&self, session: &mut Session<Global, J>, words: &mut Words) -> Result<(), Wrong> {
         let name = inputs::name(words);
         match session.find(self.rt, self.desk, name) {
             Some(id) if words.below(4) == 0 => self.retries(session, id),
@@ -95,7 +100,7 @@ impl<R: Wait> Player<'_, R> {
     }
 
     // One call.
-    fn calls(&self, session: &mut Session<Global>, words: &mut Words) -> Result<(), Wrong> {
+    fn calls(&self, session: &mut Session<Global, J>, words: &mut Words) -> Result<(), Wrong> {
         match words.below(8) {
             0 | 1 | 2 => self.edits(session, words),
             3 => self.adds(session, inputs::name(words), inputs::scenario(words)?),
@@ -106,7 +111,7 @@ impl<R: Wait> Player<'_, R> {
 
     // A look at a scenario that stood before the session settled: it shows a run of what was seen,
     // unless another session dropped it.
-    fn sees(&self, session: &mut Session<Global>, id: ScenarioId) -> Result<(), Wrong> {
+    fn sees(&self, session: &mut Session<Global, J>, id: ScenarioId) -> Result<(), Wrong> {
         let seen = session.seen();
         match session.view(self.rt, self.desk, id) {
             Ok(shown) => is_seen(session, seen, &shown),
@@ -116,7 +121,7 @@ impl<R: Wait> Player<'_, R> {
     }
 
     // Settles, and looks at the scenario `base`; where there is none, adds it.
-    fn settles(&self, session: &mut Session<Global>) -> Result<(), Wrong> {
+    fn settles(&self, session: &mut Session<Global, J>) -> Result<(), Wrong> {
         let Some(id) = session.find(self.rt, self.desk, "base") else {
             return self.adds(session, "base", ten()?);
         };
@@ -129,7 +134,7 @@ impl<R: Wait> Player<'_, R> {
     // One turn, which is one call that is noted; what was seen does not fall by it.
     fn turns(
         &self,
-        session: &mut Session<Global>,
+        session: &mut Session<Global, J>,
         words: &mut Words,
         place: usize,
     ) -> Result<(), Wrong> {
@@ -151,11 +156,11 @@ pub(crate) struct Chance {
 
 impl Script for Chance {
     // Makes all calls of a session, each of which is listed.
-    fn play<R: Wait>(
+    fn play<R: Wait, J: Naming>(
         &self,
         rt: &R,
-        desk: &Desk<Global>,
-        session: &mut Session<Global>,
+        desk: &Desk<Global, J>,
+        session: &mut Session<Global, J>,
     ) -> Result<(), Wrong> {
         let player = Player {
             rt,

@@ -1,7 +1,12 @@
 // What callers play at a desk, each on a thread of its own.
+ghost use Rattle.std.specs.Prelude.{◌≡◌};
+ghost use Rattle.version_book.specs.Book.{machine_of};
+
 use crate::crew::{Crew, works};
 use crate::wrong::{Wrong, right_if};
+use chronicle::{Naming, Unnamed};
 use std::alloc::Global;
+use std::marker::Brand;
 use std::sync::Wait;
 use std::sync::atomic::{AtomicBool, Ordering};
 use std::thread;
@@ -12,21 +17,21 @@ use workers::{Desk, Gate, Session, Worker};
 /// What a session does on its thread.
 pub(crate) trait Script {
     /// Plays; the first thing that is wrong.
-    fn play<R: Wait>(
+    fn play<R: Wait, J: Naming>(
         &self,
         rt: &R,
-        desk: &Desk<Global>,
-        session: &mut Session<Global>,
+        desk: &Desk<Global, J>,
+        session: &mut Session<Global, J>,
     ) -> Result<(), Wrong>;
 }
 
 // Runs all on threads of their own, and stops the desk once the sessions have ended; the first thing
 // that is wrong. The flag is set where a worker ended before.
-fn run_all<R: Threads + Wait + Sync, G: Gate + Sync, S: Script + Sync>(
+fn run_all<R: Threads + Wait + Sync, G: Gate + Sync, S: Script + Sync, J: Naming + Send + Sync>(
     rt: &R,
     alloc: Global,
-    desk: &Desk<Global>,
-    sessions: &mut Vec<Session<Global>>,
+    desk: &Desk<Global, J>,
+    sessions: &mut Vec<Session<Global, J>>,
     workers: &mut Vec<Worker<Global>>,
     gate: &G,
     script: &S,
@@ -61,13 +66,12 @@ fn run_all<R: Threads + Wait + Sync, G: Gate + Sync, S: Script + Sync>(
 }
 
 /// Has all callers of a desk play; the first thing that is wrong.
-pub(crate) fn play_all<R: Threads + Wait + Sync, G: Gate + Sync, S: Script + Sync>(
-    rt: &R,
-    alloc: Global,
-    crew: &mut Crew<Global>,
-    gate: &G,
-    script: &S,
-) -> Result<(), Wrong> {
+pub(crate) fn play_all<
+    R: Threads + Wait + Sync,
+    G: Gate + Sync,
+    S: Script + Sync,
+    J: Naming + Send + Sync,
+>(rt: &R, alloc: Global, crew: &mut Crew<Global, J>, gate: &G, script: &S) -> Result<(), Wrong> {
     let has_ended = AtomicBool::new(false);
     run_all(
         rt,
@@ -82,6 +86,25 @@ pub(crate) fn play_all<R: Threads + Wait + Sync, G: Gate + Sync, S: Script + Syn
     right_if(!has_ended.load(Ordering::SeqCst), Wrong::Ended)
 }
 
+// The book after all callers of a desk over it have played, and the desk is closed.
+fn book_on<J: Naming + Send + Sync, R: Threads + Wait + Sync, G: Gate + Sync, S: Script + Sync>(
+    rt: &R,
+    alloc: Global,
+    book: Book<Global>,
+    unnamed: Unnamed,
+    sessions: usize,
+    workers: usize,
+    gate: &G,
+    script: &S,
+) -> Result<Book<Global>, Wrong>
+    requires name { unnamed ≡ J.book }
+    requires opening { J.opening ≡ machine_of book }
+{
+    let mut crew = Crew::<Global, J>::new(rt, alloc, book, unnamed, sessions, workers)?;
+    play_all(rt, alloc, &mut crew, gate, script)?;
+    crew.close()
+}
+
 /// The book, after so many sessions and workers have played at a desk over it, and the desk is closed.
 pub(crate) fn book_after<R: Threads + Wait + Sync, G: Gate + Sync, S: Script + Sync>(
     rt: &R,
@@ -92,7 +115,14 @@ pub(crate) fn book_after<R: Threads + Wait + Sync, G: Gate + Sync, S: Script + S
     gate: &G,
     script: &S,
 ) -> Result<Book<Global>, Wrong> {
-    let mut crew = Crew::new(rt, alloc, book, sessions, workers)?;
-    play_all(rt, alloc, &mut crew, gate, script)?;
-    crew.close()
+    book_on::<Brand, R, G, S>(
+        rt,
+        alloc,
+        book,
+        Unnamed::new(),
+        sessions,
+        workers,
+        gate,
+        script,
+    )
 }

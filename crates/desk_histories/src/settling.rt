@@ -1,9 +1,14 @@
 // A session that settles after what was given up is tried again, with a worker and at a stopped desk.
+ghost use Rattle.std.specs.Prelude.{◌≡◌};
+ghost use Rattle.version_book.specs.Book.{machine_of};
+
 use crate::crew::Crew;
 use crate::logs::with_base;
 use crate::scripts::{Script, book_after};
 use crate::wrong::{Wrong, right_if};
+use chronicle::{Naming, Unnamed};
 use std::alloc::Global;
+use std::marker::Brand;
 use std::sync::Wait;
 use std::thread::Threads;
 use version_book::Book;
@@ -28,7 +33,11 @@ fn given_up(alloc: Global) -> Result<Book<Global>, Wrong> {
 }
 
 // Has the scenario tried again.
-fn retries<R: Wait>(rt: &R, desk: &Desk<Global>, session: &mut Session<Global>) -> bool {
+fn retries<R: Wait, J: Naming>(
+    rt: &R,
+    desk: &Desk<Global, J>,
+    session: &mut Session<Global, J>,
+) -> bool {
     match session.find(rt, desk, "base") {
         Some(id) => session.retry(rt, desk, id).is_ok(),
         None => false,
@@ -39,11 +48,11 @@ fn retries<R: Wait>(rt: &R, desk: &Desk<Global>, session: &mut Session<Global>) 
 struct TriesAgain;
 
 impl Script for TriesAgain {
-    fn play<R: Wait>(
+    fn play<R: Wait, J: Naming>(
         &self,
         rt: &R,
-        desk: &Desk<Global>,
-        session: &mut Session<Global>,
+        desk: &Desk<Global, J>,
+        session: &mut Session<Global, J>,
     ) -> Result<(), Wrong> {
         right_if(
             session.settle(rt, desk) == Settled::Failed(1)
@@ -56,10 +65,10 @@ impl Script for TriesAgain {
 
 // Whether a session waits for nothing at a desk that is stopped while a scenario is due, and a worker ends
 // there and has called nothing.
-fn are_stopped<R: Wait>(
+fn are_stopped<R: Wait, J: Naming>(
     rt: &R,
-    desk: &Desk<Global>,
-    session: &mut Session<Global>,
+    desk: &Desk<Global, J>,
+    session: &mut Session<Global, J>,
     worker: &mut Worker<Global>,
 ) -> bool {
     let is_due = retries(rt, desk, session);
@@ -71,7 +80,7 @@ fn are_stopped<R: Wait>(
 }
 
 // The same of the callers of a desk.
-fn stop_both<R: Wait>(rt: &R, crew: &mut Crew<Global>) -> Result<(), Wrong> {
+fn stop_both<R: Wait, J: Naming>(rt: &R, crew: &mut Crew<Global, J>) -> Result<(), Wrong> {
     match (crew.sessions.first_mut(), crew.workers.first_mut()) {
         (Some(session), Some(worker)) => {
             right_if(are_stopped(rt, &crew.desk, session, worker), Wrong::Ended)
@@ -80,10 +89,24 @@ fn stop_both<R: Wait>(rt: &R, crew: &mut Crew<Global>) -> Result<(), Wrong> {
     }
 }
 
+// The same of a desk over this book.
+fn is_left_on<J: Naming, R: Wait>(
+    rt: &R,
+    alloc: Global,
+    book: Book<Global>,
+    unnamed: Unnamed,
+) -> Result<(), Wrong>
+    requires name { unnamed ≡ J.book }
+    requires opening { J.opening ≡ machine_of book }
+{
+    let mut crew = Crew::<Global, J>::new(rt, alloc, book, unnamed, 1, 1)?;
+    stop_both(rt, &mut crew)
+}
+
 // The same of a desk whose one scenario was given up.
 fn is_left<R: Wait>(rt: &R, alloc: Global) -> Result<(), Wrong> {
-    let mut crew = Crew::new(rt, alloc, given_up(alloc)?, 1, 1)?;
-    stop_both(rt, &mut crew)
+    let book = given_up(alloc)?;
+    is_left_on::<Brand, R>(rt, alloc, book, Unnamed::new())
 }
 
 // Whether what was given up settles once it is tried again while a worker runs.

@@ -1,11 +1,16 @@
 // Two sessions edit, a worker runs, and both see the same.
+ghost use Rattle.std.specs.Prelude.{◌≡◌};
+ghost use Rattle.version_book.specs.Book.{machine_of};
+
 use crate::crew::Crew;
 use crate::logs::{fifth, with_base};
 use crate::looks::{is_current, is_right as shows_right, looks_of};
 use crate::scripts::{Script, play_all};
 use crate::wrong::{Wrong, right_if};
+use chronicle::{Naming, Unnamed};
 use job_table::Edit;
 use std::alloc::Global;
+use std::marker::Brand;
 use std::sync::Wait;
 use std::thread::Threads;
 use version_book::{Book, FinishFault, FinishRefusal};
@@ -15,7 +20,11 @@ use workers::{Desk, NoGate, Session, Settled};
 struct Looking;
 
 // Whether the session is shown the second version.
-fn sees_second<R: Wait>(rt: &R, desk: &Desk<Global>, session: &mut Session<Global>) -> bool {
+fn sees_second<R: Wait, J: Naming>(
+    rt: &R,
+    desk: &Desk<Global, J>,
+    session: &mut Session<Global, J>,
+) -> bool {
     let Some(id) = session.find(rt, desk, "base") else {
         return false;
     };
@@ -26,7 +35,11 @@ fn sees_second<R: Wait>(rt: &R, desk: &Desk<Global>, session: &mut Session<Globa
 }
 
 // Whether the session reads that the book stands there.
-fn reads_second<R: Wait>(rt: &R, desk: &Desk<Global>, session: &Session<Global>) -> bool {
+fn reads_second<R: Wait, J: Naming>(
+    rt: &R,
+    desk: &Desk<Global, J>,
+    session: &Session<Global, J>,
+) -> bool {
     let looks = looks_of(rt, desk, session);
     match session.current(rt, desk) {
         Ok(current) => {
@@ -37,11 +50,11 @@ fn reads_second<R: Wait>(rt: &R, desk: &Desk<Global>, session: &Session<Global>)
 }
 
 impl Script for Looking {
-    fn play<R: Wait>(
+    fn play<R: Wait, J: Naming>(
         &self,
         rt: &R,
-        desk: &Desk<Global>,
-        session: &mut Session<Global>,
+        desk: &Desk<Global, J>,
+        session: &mut Session<Global, J>,
     ) -> Result<(), Wrong> {
         right_if(session.settle(rt, desk) == Settled::Done, Wrong::Settled)?;
         right_if(
@@ -53,10 +66,10 @@ impl Script for Looking {
 }
 
 // Whether a session's edit makes this version.
-fn is_edited<R: Wait>(
+fn is_edited<R: Wait, J: Naming>(
     rt: &R,
-    desk: &Desk<Global>,
-    session: Option<&mut Session<Global>>,
+    desk: &Desk<Global, J>,
+    session: Option<&mut Session<Global, J>>,
     edit: &Edit<Global>,
     version: u64,
 ) -> bool {
@@ -67,7 +80,11 @@ fn is_edited<R: Wait>(
 }
 
 // Whether a session reads the second version.
-fn is_second<R: Wait>(rt: &R, desk: &Desk<Global>, session: Option<&Session<Global>>) -> bool {
+fn is_second<R: Wait, J: Naming>(
+    rt: &R,
+    desk: &Desk<Global, J>,
+    session: Option<&Session<Global, J>>,
+) -> bool {
     match session {
         Some(session) => session.version(rt, desk) == 2,
         None => false,
@@ -76,7 +93,11 @@ fn is_second<R: Wait>(rt: &R, desk: &Desk<Global>, session: Option<&Session<Glob
 
 // Whether job 5 joins by one session, job 4 leaves by the other, and the first, which has seen its own edit
 // alone, then reads the second version.
-fn are_edited<R: Wait>(rt: &R, crew: &mut Crew<Global>, joins: &Edit<Global>) -> bool {
+fn are_edited<R: Wait, J: Naming>(
+    rt: &R,
+    crew: &mut Crew<Global, J>,
+    joins: &Edit<Global>,
+) -> bool {
     is_edited(rt, &crew.desk, crew.sessions.get_mut(0), joins, 1)
         && is_edited(
             rt,
@@ -89,24 +110,20 @@ fn are_edited<R: Wait>(rt: &R, crew: &mut Crew<Global>, joins: &Edit<Global>) ->
 }
 
 // Plays at a desk.
-fn plays<R: Threads + Wait + Sync>(
+fn plays<R: Threads + Wait + Sync, J: Naming + Send + Sync>(
     rt: &R,
     alloc: Global,
-    crew: &mut Crew<Global>,
+    crew: &mut Crew<Global, J>,
 ) -> Result<(), Wrong> {
     right_if(are_edited(rt, crew, &fifth(alloc)?), Wrong::Told)?;
     play_all(rt, alloc, crew, &NoGate, &Looking)
 }
 
-// The desk after all that.
-fn played<R: Threads + Wait + Sync>(rt: &R, alloc: Global) -> Result<Crew<Global>, Wrong> {
-    let mut crew = Crew::new(rt, alloc, with_base(alloc)?, 2, 1)?;
-    plays(rt, alloc, &mut crew)?;
-    Ok(crew)
-}
-
 // A desk with this session once more.
-fn rejoined(mut crew: Crew<Global>, last: Session<Global>) -> Result<Crew<Global>, Wrong> {
+fn rejoined<J: Naming>(
+    mut crew: Crew<Global, J>,
+    last: Session<Global, J>,
+) -> Result<Crew<Global, J>, Wrong> {
     match crew.sessions.push(last) {
         Ok(()) => Ok(crew),
         Err(_) => Err(Wrong::Memory),
@@ -114,7 +131,7 @@ fn rejoined(mut crew: Crew<Global>, last: Session<Global>) -> Result<Crew<Global
 }
 
 // The desk, after it did not close without the last session.
-fn refused(mut crew: Crew<Global>) -> Result<Crew<Global>, Wrong> {
+fn refused<J: Naming>(mut crew: Crew<Global, J>) -> Result<Crew<Global, J>, Wrong> {
     match crew.sessions.pop() {
         Some(last) => rejoined(crew.still_out()?, last),
         None => Err(Wrong::Input),
@@ -129,11 +146,27 @@ fn is_whole(mut book: Book<Global>) -> bool {
 }
 
 // Whether the desk doesn't close without a session, and closes with all callers, and the book is whole then.
-fn closes(crew: Crew<Global>) -> Result<(), Wrong> {
+fn closes<J: Naming>(crew: Crew<Global, J>) -> Result<(), Wrong> {
     right_if(is_whole(refused(crew)?.close()?), Wrong::Journal)
+}
+
+// Plays at a desk over this book, and closes it.
+fn plays_on<J: Naming + Send + Sync, R: Threads + Wait + Sync>(
+    rt: &R,
+    alloc: Global,
+    book: Book<Global>,
+    unnamed: Unnamed,
+) -> Result<(), Wrong>
+    requires name { unnamed ≡ J.book }
+    requires opening { J.opening ≡ machine_of book }
+{
+    let mut crew = Crew::<Global, J>::new(rt, alloc, book, unnamed, 2, 1)?;
+    plays(rt, alloc, &mut crew)?;
+    closes(crew)
 }
 
 /// Two sessions see one version, and the desk closes with both alone.
 pub(crate) fn is_right<R: Threads + Wait + Sync>(rt: &R, alloc: Global) -> Result<(), Wrong> {
-    closes(played(rt, alloc)?)
+    let book = with_base(alloc)?;
+    plays_on::<Brand, R>(rt, alloc, book, Unnamed::new())
 }

@@ -1,5 +1,5 @@
 -- What the program does with scripts that are named, by what is written of them side by side.
-use Rattle.std.proofs.Common.{◌≡◌, ℕ, ◌+◌, ◌++◌, ◌≤◌, ◌<◌, Bor, get_or, arith, Bool, true, ◌&&◌, nat_le, List, [], ◌∷◌, length, map, take, Option, Some, None, IfSome, Result, Ok, Err, ◌⊎◌, inl, inr, refl, sym, ap, subst, ◌∙◌}
+use Rattle.std.proofs.Common.{◌≡◌, ℕ, ◌+◌, ◌++◌, ◌≤◌, ◌<◌, Bor, Global, get_or, arith, Bool, true, ◌&&◌, nat_le, List, [], ◌∷◌, length, map, take, Option, Some, None, IfSome, Result, Ok, Err, ◌⊎◌, inl, inr, refl, sym, ap, subst, ◌∙◌}
 use Rattle.std.specs.List.{list_all}
 use Rattle.std.proofs.lemmas.Bool.{leb-true}
 use Rattle.std.proofs.lemmas.List.{get_or-map, length-map, take_more}
@@ -30,9 +30,9 @@ whole_log (Some all) front few is = elim is [
   | inr read ↦ all_of_front all front log_limit read few
 ]
 
-pub beside_ends : {X : Type 0} (sources : Sources) (names : List Text) (procs : Option ℕ) (known old new : Option (List ℕ)) (log : List ℕ) (fronts : List (List ℕ)) (result : Result X ProgramFault) → IfSome known (IsFront log) → AreFronts sources names fronts → RunsShared log procs fronts old new result → EndsOnScripts sources names procs known old new result
-beside_ends sources names procs known old new log fronts (Ok x) is are h = (log, whole_log known log h.1.3.within is, (fronts, whole_scripts sources names fronts h.0 are, h))
-beside_ends sources names procs known old new log fronts (Err faults.Write) is are h = (log, whole_log known log h.1.3.within is, (fronts, whole_scripts sources names fronts h.0 are, h))
+pub beside_ends : {X : Type 0} (sources : Sources) (names : List Text) (procs : Option ℕ) (known old new : Option (List ℕ)) (log : List ℕ) (fronts : List (List ℕ)) (result : Result X ProgramFault) → IfSome known (IsFront log) → AreFronts sources names fronts → RunsShared Global log procs fronts old new result → EndsOnScripts sources names procs known old new result
+beside_ends sources names procs known old new log fronts (Ok x) is are h = (log, whole_log known log h.1.1.is_opened.within is, (fronts, whole_scripts sources names fronts h.0 are, h))
+beside_ends sources names procs known old new log fronts (Err faults.Write) is are h = (log, whole_log known log h.1.1.is_opened.within is, (fronts, whole_scripts sources names fronts h.0 are, h))
 beside_ends sources names procs known old new log fronts (Err faults.Read) is are h = h.2
 beside_ends sources names procs known old new log fronts (Err faults.Memory) is are h = h
 beside_ends sources names procs known old new log fronts (Err faults.TooLong) is are h = h.1

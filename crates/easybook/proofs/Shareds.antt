@@ -2,37 +2,50 @@
 use Rattle.std.proofs.Common.{◌≡◌, ℕ, ◌+◌, ◌<◌, Bool, List, [], ◌∷◌, length, take, Option, Some, Result, Ok, Err, inl, inr, refl, sym, subst, arith}
 use Rattle.std.specs.Io.KnownBytes.{Appends}
 use Rattle.clap.specs.Walk.{Text}
-use Rattle.version_book.specs.Book.{BookView}
+use Rattle.book_machine.specs.Machine.{Machine}
+use Rattle.version_book.specs.Book.{BookView, machine_of}
+use Rattle.scripts.specs.Transcript.{begun}
+use Rattle.easybook.specs.Along.{AreAnsweredAlong}
 use Rattle.easybook.specs.Book.{IsBookOf}
 use Rattle.easybook.specs.Program.{Ends, EndsOnScripts, EndsWith, Sources, log_known}
-use Rattle.easybook.specs.Shared.{AreWithin, RunsShared, headed}
+use Rattle.easybook.specs.Shared.{AreAnswered, AreWithin, RunsShared, headed}
 use Rattle.easybook.specs.Words.{Choice, chosen}
 use Rattle.easybook.specs.declared.fault.ProgramFault.{ProgramFault}
 use Rattle.easybook.specs.declared.fault.ProgramFault.TheVariants as faults
 use Rattle.easybook.specs.declared.stop.Stop.{Stop}
 use Rattle.easybook.specs.declared.stop.Stop.TheVariants.{Fault}
 use Rattle.easybook.specs.Plain.{IsFaultOf, log_limit}
-use Rattle.easybook.proofs.Sessions.{keeps, opens}
+use Rattle.easybook.proofs.Sessions.{keeps}
 
-pub shared_written : {X : Type 0} (x : X) (log : List ℕ) (procs : Option ℕ) (spacing : ℕ) (comments : List (List ℕ)) (book : BookView) (scripts texts : List (List ℕ)) (old new : Option (List ℕ)) → IsBookOf log procs spacing comments book → AreWithin scripts → length texts ≡ length scripts → Appends old new (headed 1 texts) → RunsShared log procs scripts old new (Ok x)
-shared_written x log procs spacing comments book scripts texts old new b within count wrote = (within, opens log procs spacing comments book b, (headed 1 texts, (texts, count, refl), wrote))
+-- the texts answer the scripts from the book on
+answers_of : (A : Type 0) (log : List ℕ) (procs : Option ℕ) (spacing : ℕ) (held shown : List (List ℕ)) (book : BookView) (scripts texts : List (List ℕ)) → IsBookOf log procs spacing held book → shown ≡ held → AreAnsweredAlong A shown (machine_of book) scripts texts → AreAnswered A log procs scripts texts
+answers_of A log procs spacing held shown book scripts texts b same along = record {
+  comments = held;
+  table = b.table;
+  scenarios = b.scenarios;
+  is_opened = b.is_opened;
+  along = subst (λ (cs : List (List ℕ)). AreAnsweredAlong A cs (begun b.table b.scenarios.scenarios).machine scripts texts) same (subst (λ (m : Machine). AreAnsweredAlong A shown m scripts texts) b.begins along);
+}
 
-pub shared_stopped : {X : Type 0} (told : Result X ProgramFault) (log : List ℕ) (procs : Option ℕ) (spacing : ℕ) (comments : List (List ℕ)) (book : BookView) (scripts texts : List (List ℕ)) (old new : Option (List ℕ)) → told ≡ Err faults.Write → IsBookOf log procs spacing comments book → AreWithin scripts → length texts ≡ length scripts → (n : ℕ) × Appends old new (take n (headed 1 texts)) → RunsShared log procs scripts old new told
-shared_stopped {X} told log procs spacing comments book scripts texts old new is b within count wrote =
-    let stopped : RunsShared {X = X} log procs scripts old new (Err faults.Write) = (within, opens log procs spacing comments book b, (headed 1 texts, (texts, count, refl), wrote)) in
-    subst (λ (r : Result X ProgramFault). RunsShared log procs scripts old new r) (sym is) stopped
+pub shared_written : {X : Type 0} (x : X) (A : Type 0) (log : List ℕ) (procs : Option ℕ) (spacing : ℕ) (held shown : List (List ℕ)) (book : BookView) (scripts texts : List (List ℕ)) (old new : Option (List ℕ)) → IsBookOf log procs spacing held book → shown ≡ held → AreWithin scripts → AreAnsweredAlong A shown (machine_of book) scripts texts → Appends old new (headed 1 texts) → RunsShared A log procs scripts old new (Ok x)
+shared_written x A log procs spacing held shown book scripts texts old new b same within along wrote = (within, (texts, answers_of A log procs spacing held shown book scripts texts b same along, wrote))
+
+pub shared_stopped : {X : Type 0} (told : Result X ProgramFault) (A : Type 0) (log : List ℕ) (procs : Option ℕ) (spacing : ℕ) (held shown : List (List ℕ)) (book : BookView) (scripts texts : List (List ℕ)) (old new : Option (List ℕ)) → told ≡ Err faults.Write → IsBookOf log procs spacing held book → shown ≡ held → AreWithin scripts → AreAnsweredAlong A shown (machine_of book) scripts texts → (n : ℕ) × Appends old new (take n (headed 1 texts)) → RunsShared A log procs scripts old new told
+shared_stopped {X} told A log procs spacing held shown book scripts texts old new is b same within along wrote =
+    let stopped : RunsShared {X = X} A log procs scripts old new (Err faults.Write) = (within, (texts, answers_of A log procs spacing held shown book scripts texts b same along, wrote)) in
+    subst (λ (r : Result X ProgramFault). RunsShared A log procs scripts old new r) (sym is) stopped
 
 -- the log is too long, or one of the scripts is
-pub shared_long_log : (X : Type 0) (log : List ℕ) (procs : Option ℕ) (scripts : List (List ℕ)) (old : Option (List ℕ)) → log_limit < length log → RunsShared {X = X} log procs scripts old old (Err faults.TooLong)
-shared_long_log X log procs scripts old long = (inl long, keeps old)
+pub shared_long_log : (X A : Type 0) (log : List ℕ) (procs : Option ℕ) (scripts : List (List ℕ)) (old : Option (List ℕ)) → log_limit < length log → RunsShared {X = X} A log procs scripts old old (Err faults.TooLong)
+shared_long_log X A log procs scripts old long = (inl long, keeps old)
 
-pub shared_long_script : (X : Type 0) (log : List ℕ) (procs : Option ℕ) (scripts : List (List ℕ)) (old : Option (List ℕ)) → (AreWithin scripts → ⊥) → RunsShared {X = X} log procs scripts old old (Err faults.TooLong)
-shared_long_script X log procs scripts old long = (inr long, keeps old)
+pub shared_long_script : (X A : Type 0) (log : List ℕ) (procs : Option ℕ) (scripts : List (List ℕ)) (old : Option (List ℕ)) → (AreWithin scripts → ⊥) → RunsShared {X = X} A log procs scripts old old (Err faults.TooLong)
+shared_long_script X A log procs scripts old long = (inr long, keeps old)
 
 -- the log is not opened
-pub shared_unopened : {X : Type 0} (told : Result X ProgramFault) (log : List ℕ) (procs : Option ℕ) (scripts : List (List ℕ)) (old : Option (List ℕ)) (fault : ProgramFault) → told ≡ Err fault → AreWithin scripts → IsFaultOf log procs fault → RunsShared log procs scripts old old told
-shared_unopened {X} told log procs scripts old fault is within h = subst (λ (r : Result X ProgramFault). RunsShared log procs scripts old old r) (sym is) (go fault h) where
-  go : (f : ProgramFault) → IsFaultOf log procs f → RunsShared {X = X} log procs scripts old old (Err f)
+pub shared_unopened : {X : Type 0} (told : Result X ProgramFault) (A : Type 0) (log : List ℕ) (procs : Option ℕ) (scripts : List (List ℕ)) (old : Option (List ℕ)) (fault : ProgramFault) → told ≡ Err fault → AreWithin scripts → IsFaultOf log procs fault → RunsShared A log procs scripts old old told
+shared_unopened {X} told A log procs scripts old fault is within h = subst (λ (r : Result X ProgramFault). RunsShared A log procs scripts old old r) (sym is) (go fault h) where
+  go : (f : ProgramFault) → IsFaultOf log procs f → RunsShared {X = X} A log procs scripts old old (Err f)
   go faults.TooLong h = (inl h, keeps old)
   go (faults.Log f) h = (within, h, keeps old)
   go faults.NoMachine h = (within, h, keeps old)

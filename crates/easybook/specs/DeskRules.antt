@@ -1,46 +1,65 @@
--- What an analyst at a desk may be told: its list gains each call, and what it reads is what a book was at some moment.
-use Rattle.std.specs.Prelude.{◌≡◌, ℕ, List, ◌++◌, length, Option, None, Some, IfOk}
+-- What an analyst at a desk may be told: its list gains each call, and each call and reading has a place in the history of the
+-- desk, behind all that it was told before.
+use Rattle.std.specs.Prelude.{◌≡◌, ℕ, List, ◌++◌, length, Some, slice_get}
 use Rattle.swf_text.specs.Text.{lines}
+use Rattle.scenarios.specs.ScenarioList.{id_of}
+use Rattle.book_machine.specs.declared.caller.Caller.TheVariants as caller
 use Rattle.book_machine.specs.Call.{BookCall}
+use Rattle.book_machine.specs.Machine.{Machine, version}
+use Rattle.version_book.specs.Steps.{Answer}
+use Rattle.workers.specs.Callers.{IsNewSession, SessionView}
+use Rattle.workers.specs.History.{Calls, Reads, Settles, Views}
+use Rattle.workers.specs.Lists.{Gains}
 use Rattle.scripts.specs.Analysts.{LinesBy}
-use Rattle.scripts.specs.Rules.{Moment, Rules}
+use Rattle.scripts.specs.BookRules.{IsPresent}
+use Rattle.scripts.specs.Rules.{Rules}
 use Rattle.scripts.specs.Session.{seen_of}
 use Rattle.scripts.specs.Transcript.{looked_at}
-use Rattle.version_book.specs.Book.{BookView}
-use Rattle.version_book.specs.Sound.{IsBook}
-use Rattle.version_book.specs.Steps.{Answer}
-use Rattle.workers.specs.Callers.{SessionView}
-use Rattle.workers.specs.Lists.{Gains}
-use Rattle.workers.specs.Readings.{IsShownOnce}
+use Rattle.easybook.specs.Along.{ended_by}
 
--- a call: the list gains it with the reply of its answer, and the session has seen what an edit or a view gave it
-pub record IsListed (old : SessionView) (call : BookCall) (answer : Answer) (new : SessionView) : Type 0 where
+-- a call: the list gains it with the reply of its answer, the session has seen what an edit or a view gave it, and the call
+-- has its place in the history
+pub record IsListed (opening : Machine) (old : SessionView) (call : BookCall) (answer : Answer) (new : SessionView) : Type 0 where
   pub list : Gains old.list new.list call answer
   pub number : new.number ≡ old.number
   pub seen : new.seen ≡ seen_of old.seen answer
+  pub history : Calls opening old.front (caller.Session old.number) call answer new.front
 
--- what a book is: its version, its log and its scenarios
-abbrev pub moment_at : BookView → Moment
-moment_at b = record { version = length b.state.edits; log = b.state.current; listing = b.state.listing }
+-- a reading: at some place of the history this held of the machine, and the session knows the history up to there
+abbrev pub IsRead : Machine → SessionView → (Machine → Type 0) → SessionView → Type 0
+IsRead opening old Holds new = Reads opening old.front Holds new.front × (new ≡ record old { front = new.front })
 
--- at some moment a book was so, unless memory was refused
-abbrev pub WasOnce : Option Moment → Type 0
-WasOnce None = Unit {0}
-WasOnce (Some m) = (b : BookView) × IsBook b × (m ≡ moment_at b)
-
--- Of what a name finds, the version, and how far the scenarios are, nothing is said: each was so at some moment of the desk.
-abbrev pub desk_rules : Rules SessionView
-desk_rules = record {
-  does = IsListed;
-  sees = λ old id told. IfOk told (IsShownOnce id old.seen);
-  finds = λ old name found new. new ≡ old;
-  counts = λ old number new. new ≡ old;
-  reads = λ old moment new. WasOnce moment × (new ≡ old);
-  settles = λ old state new. new ≡ old;
+abbrev pub desk_rules : Machine → Rules SessionView
+desk_rules opening = record {
+  does = IsListed opening;
+  sees = λ old id told new. Views opening old.front (caller.Session old.number) id old.seen told new.front;
+  finds = λ old name found new. IsRead opening old (λ m. found ≡ id_of name m.listing) new;
+  counts = λ old number new. IsRead opening old (λ m. number ≡ version m) new;
+  reads = λ old moment new. IsRead opening old (λ m. IsPresent m moment) new;
+  settles = λ old told new. Settles opening old.front old.seen (ended_by told) new.front × (new ≡ record old { front = new.front });
   seen = λ s. s.seen;
 }
 
 -- the session worked a script to its end, and this was written
-abbrev pub IsWorkedAtDesk : Type 0 → List (List ℕ) → SessionView → List ℕ → SessionView → List ℕ → List ℕ → Type 0
-IsWorkedAtDesk A comments old script new before after =
-    (out : List ℕ) × LinesBy desk_rules A comments old (looked_at A (lines script)) 1 out new × (after ≡ before ++ out)
+abbrev pub IsWorkedAtDesk : Type 0 → Machine → List (List ℕ) → SessionView → List ℕ → SessionView → List ℕ → List ℕ → Type 0
+IsWorkedAtDesk A opening comments old script new before after =
+    (out : List ℕ) × LinesBy (desk_rules opening) A comments old (looked_at A (lines script)) 1 out new × (after ≡ before ++ out)
+
+-- a session with the text that it was answered
+pub record AnsweredView : Type 0 where
+  pub session : SessionView
+  pub text : List ℕ
+
+-- the text is what a new session was answered to the script of its number, and that is how the session stands then
+pub record IsAnsweredAtDesk (A : Type 0) (opening : Machine) (comments scripts : List (List ℕ)) (a : AnsweredView) : Type 0 where
+  pub first : SessionView
+  pub new : IsNewSession first
+  pub script : List ℕ
+  pub is_script : slice_get scripts first.number ≡ Some script
+  pub answered : LinesBy (desk_rules opening) A comments first (looked_at A (lines script)) 1 a.text a.session
+
+-- each of the sessions has the number of its place, and its text is what it was answered
+pub record AreAtDesk (A : Type 0) (opening : Machine) (comments scripts : List (List ℕ)) (sessions : List SessionView) (texts : List (List ℕ)) : Type 0 where
+  pub as_many : length sessions ≡ length texts
+  pub each : (k : ℕ) (session : SessionView) (text : List ℕ) → slice_get sessions k ≡ Some session → slice_get texts k ≡ Some text
+      → (session.number ≡ k) × IsAnsweredAtDesk A opening comments scripts (record { session = session; text = text })

@@ -1,4 +1,5 @@
 pub mod Alone
+pub mod Along
 pub mod Book
 pub mod DeskRules
 pub mod Fault

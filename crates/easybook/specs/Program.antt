@@ -92,7 +92,7 @@ EndsOnScripts sources names procs known old new (Err faults.Memory) = Keeps old 
 EndsOnScripts sources names procs known old new (Err faults.TooLong) = Keeps old new
 EndsOnScripts sources names procs known old new (Err (faults.Close fault)) = Keeps old new
 EndsOnScripts sources names procs known old new result =
-    OfAll known (λ log. (scripts : List (List ℕ)) × AreOf sources names scripts × RunsShared log procs scripts old new result)
+    OfAll known (λ log. (scripts : List (List ℕ)) × AreOf sources names scripts × RunsShared Global log procs scripts old new result)
 
 -- ---- the program
 

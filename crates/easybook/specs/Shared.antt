@@ -3,7 +3,12 @@ use Rattle.std.specs.Prelude.{◌≡◌, ℕ, ◌+◌, ◌<◌, nat_le, Bool, tr
 use Rattle.std.specs.Fmt.{decimal}
 use Rattle.std.specs.List.{list_all}
 use Rattle.std.specs.Io.KnownBytes.{Appends, Keeps}
-use Rattle.easybook.specs.Alone.{CanBeOpened, script_limit}
+use Rattle.swf_text.specs.Entry.{LogEntry}
+use Rattle.scenarios.specs.ScenarioList.{Listing}
+use Rattle.scripts.specs.Transcript.{begun}
+use Rattle.easybook.specs.Along.{AreAnsweredAlong}
+use Rattle.easybook.specs.Alone.{script_limit}
+use Rattle.easybook.specs.Opened.{IsOpened}
 use Rattle.easybook.specs.Plain.{IsFaultOf, log_limit}
 use Rattle.easybook.specs.declared.fault.ProgramFault.{ProgramFault}
 use Rattle.easybook.specs.declared.fault.ProgramFault.TheVariants as faults
@@ -24,17 +29,21 @@ are_within scripts = list_all (λ script. nat_le (length script) script_limit) s
 abbrev pub AreWithin : List (List ℕ) → Type 0
 AreWithin scripts = are_within scripts ≡ true
 
--- a text for each of so many scripts, one after another
-abbrev pub IsHeaded : ℕ → List ℕ → Type 0
-IsHeaded count text = (texts : List (List ℕ)) × (length texts ≡ count) × (text ≡ headed 1 texts)
+-- The log is opened, and each text answers its script along one legal history that goes on from the log's book.
+pub record AreAnswered (A : Type 0) (log : List ℕ) (procs : Option ℕ) (scripts texts : List (List ℕ)) : Type 0 where
+  pub comments : List (List ℕ)
+  pub table : List LogEntry
+  pub scenarios : Listing
+  pub is_opened : IsOpened log procs comments table scenarios
+  pub along : AreAnsweredAlong A comments (begun table scenarios.scenarios).machine scripts texts
 
 -- What was written, by what is answered: a text for each script, or where the writer failed a beginning of that, or nothing.
 -- The lengths are judged before the log; want of memory, and a history that is not the callers', say nothing of either.
-abbrev pub RunsShared : {X : Type 0} → List ℕ → Option ℕ → List (List ℕ) → Option (List ℕ) → Option (List ℕ) → Result X ProgramFault → Type 0
-RunsShared log procs scripts old new (Ok x) = AreWithin scripts × CanBeOpened log procs × ((text : List ℕ) × IsHeaded (length scripts) text × Appends old new text)
-RunsShared log procs scripts old new (Err faults.Write) =
-    AreWithin scripts × CanBeOpened log procs × ((text : List ℕ) × IsHeaded (length scripts) text × ((n : ℕ) × Appends old new (take n text)))
-RunsShared log procs scripts old new (Err faults.TooLong) = ((log_limit < length log) ⊎ (AreWithin scripts → ⊥)) × Keeps old new
-RunsShared log procs scripts old new (Err faults.Memory) = Keeps old new
-RunsShared log procs scripts old new (Err (faults.Close fault)) = Keeps old new
-RunsShared log procs scripts old new (Err fault) = AreWithin scripts × IsFaultOf log procs fault × Keeps old new
+abbrev pub RunsShared : {X : Type 0} → Type 0 → List ℕ → Option ℕ → List (List ℕ) → Option (List ℕ) → Option (List ℕ) → Result X ProgramFault → Type 0
+RunsShared A log procs scripts old new (Ok x) = AreWithin scripts × ((texts : List (List ℕ)) × AreAnswered A log procs scripts texts × Appends old new (headed 1 texts))
+RunsShared A log procs scripts old new (Err faults.Write) =
+    AreWithin scripts × ((texts : List (List ℕ)) × AreAnswered A log procs scripts texts × ((n : ℕ) × Appends old new (take n (headed 1 texts))))
+RunsShared A log procs scripts old new (Err faults.TooLong) = ((log_limit < length log) ⊎ (AreWithin scripts → ⊥)) × Keeps old new
+RunsShared A log procs scripts old new (Err faults.Memory) = Keeps old new
+RunsShared A log procs scripts old new (Err (faults.Close fault)) = Keeps old new
+RunsShared A log procs scripts old new (Err fault) = AreWithin scripts × IsFaultOf log procs fault × Keeps old new

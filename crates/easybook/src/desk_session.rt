@@ -1,5 +1,9 @@
 // An analyst at a desk.
+ghost use Rattle.std.specs.Prelude.{◌≡◌};
+ghost use Rattle.easybook.specs.Along.{ended_by};
+
 use book_machine::SettleState;
+use chronicle::Naming;
 use job_table::Edit;
 use scenarios::{Scenario, ScenarioId};
 use scripts::{Analyst, Reading};
@@ -12,13 +16,13 @@ use workers::{Desk, Session, Settled};
 
 /// A session, the desk that opened it, and how a thread waits for the desk.
 #[derive(Drop)]
-pub(crate) struct DeskSession<'d, A: Allocator + Copy, R: Wait> {
+pub(crate) struct DeskSession<'d, A: Allocator + Copy, J: Naming, R: Wait> {
     pub(crate) rt: &'d R,
-    pub(crate) desk: &'d Desk<A>,
-    pub(crate) session: Session<A>,
+    pub(crate) desk: &'d Desk<A, J>,
+    pub(crate) session: Session<A, J>,
 }
 
-impl<'d, A: Allocator + Copy, R: Wait> Model for DeskSession<'d, A, R> {
+impl<'d, A: Allocator + Copy, J: Naming, R: Wait> Model for DeskSession<'d, A, J, R> {
     ghost use Rattle.workers.specs.Callers.{SessionView};
 
     ghost Value = { SessionView };
@@ -26,10 +30,21 @@ impl<'d, A: Allocator + Copy, R: Wait> Model for DeskSession<'d, A, R> {
     ghost view = { λ s. s.session };
 }
 
-impl<'d, A: Allocator + Copy, R: Wait> Analyst<A> for DeskSession<'d, A, R> {
+// How far the scenarios are, by how a wait for them ended.
+fn state_of(ended: Settled) -> SettleState
+    ensures { ended ≡ ended_by result }
+{
+    match ended {
+        Settled::Done => SettleState::Done,
+        Settled::Failed(count) => SettleState::Failed(count),
+        Settled::Stopped => SettleState::Waiting,
+    }
+}
+
+impl<'d, A: Allocator + Copy, J: Naming, R: Wait> Analyst<A> for DeskSession<'d, A, J, R> {
     ghost use Rattle.easybook.specs.DeskRules.{desk_rules};
 
-    ghost rules = { desk_rules };
+    ghost rules = { desk_rules J.opening };
 
     fn edit(&mut self, edit: &Edit<A>) -> Result<u64, EditRefusal> {
         self.session.edit(self.rt, self.desk, edit)
@@ -53,15 +68,15 @@ impl<'d, A: Allocator + Copy, R: Wait> Analyst<A> for DeskSession<'d, A, R> {
     }
 
     fn find(&mut self, name: &str) -> Option<ScenarioId> {
-        self.session.find(self.rt, self.desk, name)
+        self.session.find_along(self.rt, self.desk, name)
     }
 
     fn version(&mut self) -> u64 {
-        self.session.version(self.rt, self.desk)
+        self.session.version_along(self.rt, self.desk)
     }
 
     fn current(&mut self) -> Result<Reading<A>, Memory> {
-        let current = self.session.current(self.rt, self.desk)?;
+        let current = self.session.current_along(self.rt, self.desk)?;
         Ok(Reading {
             version: current.version,
             table: current.table,
@@ -70,11 +85,7 @@ impl<'d, A: Allocator + Copy, R: Wait> Analyst<A> for DeskSession<'d, A, R> {
     }
 
     fn settle(&mut self) -> SettleState {
-        match self.session.settle(self.rt, self.desk) {
-            Settled::Done => SettleState::Done,
-            Settled::Failed(count) => SettleState::Failed(count),
-            Settled::Stopped => SettleState::Waiting,
-        }
+        state_of(self.session.settle_along(self.rt, self.desk))
     }
 
     fn seen(&self) -> u64 {

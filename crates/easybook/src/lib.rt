@@ -4,6 +4,7 @@
 #![tactic(auto)]
 
 mod alone;
+mod answered;
 mod book;
 mod crew;
 mod desk_session;
@@ -15,12 +16,14 @@ mod opened;
 mod options;
 mod plain;
 mod program;
+mod script_list;
 mod shared;
 mod shared_fault;
 mod sources;
 mod split;
 mod stop;
 mod words;
+mod works;
 
 pub use alone::run_alone;
 pub use fault::ProgramFault;

@@ -10,9 +10,11 @@ use crate::crew::run_scripts;
 use crate::fault::ProgramFault;
 use crate::opened::LOG_LIMIT;
 use crate::options::Options;
+use chronicle::Unnamed;
 use itoa::Buffer;
 use std::alloc::Allocator;
 use std::io::Write;
+use std::marker::Brand;
 use std::sync::Wait;
 use std::thread::Threads;
 use swf_text::{WriteFault, write_bytes};
@@ -70,6 +72,12 @@ fn write_all<W: Write, A: Allocator + Copy>(
 /// `options.workers` threads simulate. What each script is answered is written once all have ended,
 /// in the scripts' order, each after a line `== k`, k from 1. The scripts are 1 to 64.
 ///
+/// There is one legal history of the log's book along which each script is answered: each of its calls
+/// is answered as the book's machine does at the call's place, each report is that of the log of the
+/// version that the view tells there, and each reading is that of a place between those of the lines
+/// before and behind. The history's calls of session k, k from 0, are those of script k + 1, in their
+/// order.
+///
 /// The log is opened as by `run_alone`. The faults in their order: TooLong where the log has over
 /// 1,073,741,824 bytes, or a script over 16,777,216; Log with its first faulty line; NoMachine where
 /// nothing names a scenario or the machine's processors; BadMachine where it has not 1 to 16,777,216;
@@ -84,7 +92,7 @@ pub fn run_shared<W: Write, A: Allocator + Copy + Send + Sync, R: Threads + Wait
     log: &[u8],
     options: Options,
 ) -> Result<(), ProgramFault>
-    ensures { RunsShared log.now options.procs (map (λ s. s.items) scripts.now) (W.contents writer.old) (W.contents writer.new) result }
+    ensures { RunsShared A log.now options.procs (map (λ s. s.items) scripts.now) (W.contents writer.old) (W.contents writer.new) result }
 {
     run_shared_gated(rt, alloc, scripts, writer, log, options, &NoGate)
 }
@@ -104,7 +112,7 @@ pub fn run_shared_gated<
     options: Options,
     gate: &G,
 ) -> Result<(), ProgramFault>
-    ensures { RunsShared log.now options.procs (map (λ s. s.items) scripts.now) (W.contents writer.old) (W.contents writer.new) result }
+    ensures { RunsShared A log.now options.procs (map (λ s. s.items) scripts.now) (W.contents writer.old) (W.contents writer.new) result }
 {
     if log.len() > LOG_LIMIT {
         return Err(ProgramFault::TooLong);
@@ -114,7 +122,16 @@ pub fn run_shared_gated<
     }
     let OpenedBook { book, comments } = opened_book(rt, alloc, log, options)?;
     let comments = comments.as_slice();
-    let texts = run_scripts(rt, alloc, book, comments, scripts, options.workers, gate)?;
+    let texts = run_scripts::<A, Brand, R, G>(
+        rt,
+        alloc,
+        book,
+        Unnamed::new(),
+        comments,
+        scripts,
+        options.workers,
+        gate,
+    )?;
     write_all(writer, 1, texts.as_slice())?;
     Ok(())
 }

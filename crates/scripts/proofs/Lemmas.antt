@@ -7,3 +7,7 @@ pub use Rattle.scripts.proofs.Starts.{with-one}
 pub use Rattle.scripts.proofs.Sides.{side-text}
 -- the schedule of the first scenario
 pub use Rattle.scripts.proofs.FirstSchedules.{schedules_first}
+-- what a book shows is true of it
+pub use Rattle.scripts.proofs.Looking.{shown-true}
+-- rules that lead to others
+pub use Rattle.scripts.proofs.Lifts.{lines-lift}

@@ -8,6 +8,7 @@ mod Sides
 mod Besides
 mod Scripts
 mod BookAnswers
+mod Lifts
 mod Hearings
 mod Conversations
 mod OneAnswer

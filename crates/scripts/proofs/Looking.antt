@@ -13,7 +13,7 @@ use Rattle.report.specs.Side.{shown_line}
 use Rattle.book_machine.specs.declared.caller.Caller.{Caller}
 use Rattle.book_machine.specs.declared.reply.Reply.TheVariants as reply
 use Rattle.book_machine.specs.Call.{View}
-use Rattle.book_machine.specs.Machine.{Machine, Progress, progress_of, view_reply, view_reply_at}
+use Rattle.book_machine.specs.Machine.{Machine, Progress, progress_of, reply_to, view_reply, view_reply_at}
 use Rattle.version_book.specs.declared.faults.ViewFault.{ViewFault}
 use Rattle.version_book.specs.declared.faults.ViewFault.TheVariants as view
 use Rattle.version_book.specs.declared.refusal.Refusal.{Refusal}
@@ -29,6 +29,7 @@ use Rattle.scripts.specs.declared.view_report.Report.{Report}
 use Rattle.scripts.specs.declared.view_report.Report.TheVariants as report
 use Rattle.scripts.specs.Lines.{refused}
 use Rattle.scripts.specs.BookRules.{IsTrueOf}
+use Rattle.scripts.specs.Laws.{ShownIsTrue}
 use Rattle.scripts.specs.Looks.{IsListedAs, IsLooked, IsOf, NotLooked, unseen_line}
 use Rattle.scripts.specs.Session.{Session, IsStep}
 use Rattle.scripts.specs.Steps.{IsView, IsSeen, log_of_version}
@@ -67,17 +68,24 @@ not-missing b id seen s book listed is =
     not-missing-at seen (progress_of_shown shown.0).published (is ∙ ap (λ (o : Option Progress). elim o [ None ↦ reply.NoSuchScenario | Some p ↦ view_reply_at seen p.published ]) found)
 
 -- what a view tells is true of the book
-view-true : (b new : BookView) (who : Caller) (id seen : ℕ) (result : Result PublishedView (Refusal ViewFault)) → IsBook b → IfOk result (IsShownFor b.state id seen) → Answered b new who (View id seen) (view_answer result) → IsTrueOf (machine_of b) id result
-view-true b new who id seen (Ok p) book shown h = looked b id seen p book shown
-view-true b new who id seen (Err why.JournalFull) book shown h = tt
-view-true b new who id seen (Err (why.Fault view.NoSuchScenario)) book shown h = λ s listed. not-missing b id seen s book listed h.1
-view-true b new who id seen (Err (why.Fault view.NotYet)) book shown h = tt
-view-true b new who id seen (Err (why.Fault (view.Behind x y))) book shown h = tt
-view-true b new who id seen (Err why.Memory) book shown h = tt
+pub shown-true : ShownIsTrue
+shown-true b id seen (Ok p) book shown missing = looked b id seen p book shown
+shown-true b id seen (Err why.JournalFull) book shown missing = tt
+shown-true b id seen (Err (why.Fault view.NoSuchScenario)) book shown missing = λ s listed. not-missing b id seen s book listed (sym (missing refl))
+shown-true b id seen (Err (why.Fault view.NotYet)) book shown missing = tt
+shown-true b id seen (Err (why.Fault (view.Behind x y))) book shown missing = tt
+shown-true b id seen (Err why.Memory) book shown missing = tt
+
+-- what is told of a missing scenario is the machine's reply
+missing-replied : (b new : BookView) (who : Caller) (id seen : ℕ) (result : Result PublishedView (Refusal ViewFault)) → Answered b new who (View id seen) (view_answer result)
+    → result ≡ Err (why.Fault view.NoSuchScenario) → reply_to (View id seen) (machine_of b) ≡ reply.NoSuchScenario
+missing-replied b new who id seen result h is =
+    let there = subst (λ (r : Result PublishedView (Refusal ViewFault)). Answered b new who (View id seen) (view_answer r)) is h in
+    sym there.1
 
 -- the same, of a session that was seen so
 pub view-true-as : {u : Session} (b new : BookView) (who : Caller) (id seen : ℕ) (result : Result PublishedView (Refusal ViewFault)) → with b seen ≡ u → IsBook b → IfOk result (IsShownFor b.state id seen) → Answered b new who (View id seen) (view_answer result) → IsTrueOf u.machine id result
-view-true-as {u} b new who id seen result is book shown h = subst (λ (w : Session). IsTrueOf w.machine id result) is (view-true b new who id seen result book shown h)
+view-true-as {u} b new who id seen result is book shown h = subst (λ (w : Session). IsTrueOf w.machine id result) is (shown-true b id seen result book shown (missing-replied b new who id seen result h))
 
 -- ---- a report
 

@@ -85,7 +85,7 @@ module _ {S : Type 0} (rules : Rules S) where
   -- a view of the scenario with this id, with what was seen by then
   pub record IsViewed (old : S) (id : ℕ) (told : Result PublishedView (Refusal ViewFault)) (new : S) : Type 0 where
     pub call : rules.does old (View id (rules.seen old)) (view_answer told) new
-    pub shown : rules.sees old id told
+    pub shown : rules.sees old id told new
 
   abbrev pub ViewBy : S → ℕ → List ℕ → Report → List ℕ → S → Type 0
   ViewBy old id name kind text new = (told : Result PublishedView (Refusal ViewFault)) × IsViewed old id told new × IsViewText kind name told text

@@ -37,7 +37,7 @@ IsPresent m (Some moment) = moment ≡ present m
 abbrev pub book_rules : Rules Session
 book_rules = record {
   does = IsAnswered;
-  sees = λ old id told. IsTrueOf old.machine id told;
+  sees = λ old id told new. IsTrueOf old.machine id told;
   finds = λ old name found new. (found ≡ id_of name old.machine.listing) × (new ≡ old);
   counts = λ old number new. (number ≡ version old.machine) × (new ≡ old);
   reads = λ old moment new. IsPresent old.machine moment × (new ≡ old);

@@ -9,10 +9,11 @@ pub mod Reports
 pub mod Looks
 pub mod Transcript
 pub mod FirstSchedule
-pub mod Laws
 pub mod Hearing
 pub mod Live
 pub mod Rules
 pub mod Analysts
 pub mod Scripts
 pub mod BookRules
+pub mod Lifting
+pub mod Laws

@@ -17,7 +17,7 @@ use Rattle.scripts.specs.declared.views.Beside.{Beside}
 use Rattle.scripts.specs.declared.views.Beside.TheVariants as beside
 use Rattle.scripts.specs.Lines.{refused, behind_line}
 use Rattle.scripts.specs.Session.{Session, IsStep}
-use Rattle.scripts.specs.Steps.{IsSeen, log_of_version}
+use Rattle.scripts.specs.Steps.{log_of_version}
 
 -- the run that is published is of its version's log, under the scenario
 pub record IsOf (m : Machine) (s : Listed) (p : PublishedView) : Type 0 where
@@ -30,10 +30,6 @@ pub record IsListedAs (m : Machine) (wanted : ℕ) (s : Listed) : Type 0 where
   pub place : ℕ
   pub listed : slice_get m.listing.scenarios place ≡ Some s
   pub id : s.id ≡ wanted
-
--- a scenario with this id is listed
-abbrev pub IsListedSome : Machine → ℕ → Type 0
-IsListedSome m id = (s : Listed) × IsListedAs m id s
 
 -- the run is that of the listed scenario with this id
 abbrev pub IsLooked : Machine → ℕ → PublishedView → Type 0
@@ -59,10 +55,6 @@ abbrev pub beside_line : List ℕ → {A : Type 0} → Beside A → List ℕ
 beside_line name (beside.Shown p) = shown_line name p.version p.run.tables.overall
 beside_line name beside.NotYet = left 16 name ++ codes " not yet\n"
 beside_line name beside.Behind = left 16 name ++ codes " behind\n"
-
--- the listed scenario with this id is seen so
-abbrev pub IsSeenSo : {A : Type 0} → Session → ℕ → Beside A → Session → Type 0
-IsSeenSo old id shown new = (s : Listed) → IsListedAs old.machine id s → IsSeen old s (beside_line s.name shown) new
 
 -- no view was noted: the journal is full, or memory was refused
 abbrev pub IsUnseen : Refusal ViewFault → Session → Session → Type 0

@@ -29,8 +29,8 @@ read_of (Err fault) = None
 pub record Rules (S : Type 0) : Type 1 where
   -- a call is answered so
   pub does : S → BookCall → Answer → S → Type 0
-  -- a view of the scenario with this id tells this; how one stands then, `does` says
-  pub sees : S → ℕ → Result PublishedView (Refusal ViewFault) → Type 0
+  -- a view of the scenario with this id tells this
+  pub sees : S → ℕ → Result PublishedView (Refusal ViewFault) → S → Type 0
   -- the scenario with this name has this id
   pub finds : S → List ℕ → Option ℕ → S → Type 0
   -- the log has this version

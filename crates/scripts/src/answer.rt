@@ -14,7 +14,7 @@ const ROOM: usize = 96;
 
 /// What became of a scenario.
 #[derive(Clone, Copy, Debug, PartialEq, Eq)]
-pub enum Became {
+pub(crate) enum Became {
     Added,
     Dropped,
     Retried,
@@ -22,7 +22,7 @@ pub enum Became {
 
 /// A line that answers a command. It takes no memory.
 #[derive(Drop)]
-pub enum Answer {
+pub(crate) enum Answer {
     /// The log's version.
     Version(u64),
     /// What became of the scenario with this name.
@@ -143,7 +143,7 @@ fn fault_text(line: u64, fault: CommandFault) -> ArrayVec<u8, ROOM>
 
 impl Answer {
     /// That a command is refused for this, a refusal or a fault.
-    pub fn refused<N: Named>(why: &N) -> Answer
+    pub(crate) fn refused<N: Named>(why: &N) -> Answer
         ensures { answer_line result ≡ refused (N.name why.now) }
     {
         Answer::Refused(RefusalName::of(why))
@@ -164,7 +164,7 @@ impl Answer {
     }
 
     /// The line, with its line feed.
-    pub fn line(&self) -> ArrayVec<u8, ROOM>
+    pub(crate) fn line(&self) -> ArrayVec<u8, ROOM>
         ensures { result.items ≡ answer_line self.now }
     {
         match self {

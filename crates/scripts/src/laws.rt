@@ -1,6 +1,8 @@
 ghost use Rattle.scripts.specs.FirstSchedule.{SchedulesTheFirst};
-ghost use Rattle.scripts.specs.Laws.{LinesAreOne, TranscriptsAreOne, TranscriptsAreSome};
+ghost use Rattle.scripts.specs.Laws.{LinesAreOne, ShownIsTrue, TranscriptsAreOne, TranscriptsAreSome};
+ghost use Rattle.scripts.specs.Lifting.{LinesLift};
 
+use crate::lifting::Lifting;
 use std::alloc::Allocator;
 
 /// Where no memory is refused, what a script is answered follows from the state of the book that it
@@ -17,4 +19,16 @@ pub fn unrefused_transcripts_are_one<A: Allocator>()
 /// the log under that scenario.
 pub fn the_first_schedule<A: Allocator>()
     ensures { SchedulesTheFirst A }
+{}
+
+/// What a view of a book shows is true of the book: a run is that of the log of its version under the
+/// scenario, and a scenario of which the book replies that there is none is not listed.
+pub fn what_is_shown_is_true()
+    ensures { ShownIsTrue }
+{}
+
+/// Where the rules of one analyst lead to those of another, what a script is answered by the one it is
+/// answered by the other.
+pub fn transcripts_lift<L: Lifting, A: Allocator>()
+    ensures { LinesLift L.told L.known L.at L.Inv L.Good A }
 {}

@@ -9,6 +9,7 @@ mod book_session;
 mod calls;
 mod hearing;
 mod laws;
+mod lifting;
 mod live;
 mod refusal_name;
 mod reply;
@@ -20,12 +21,10 @@ mod view_report;
 mod views;
 
 pub use analyst::{Analyst, Reading};
-pub use answer::{Answer, Became};
-pub use laws::{the_first_schedule, unrefused_transcripts_are_one};
+pub use laws::{
+    the_first_schedule, transcripts_lift, unrefused_transcripts_are_one, what_is_shown_is_true,
+};
+pub use lifting::Lifting;
 pub use live::{LiveFault, run_live};
-pub use refusal_name::RefusalName;
-pub use reply::Reply;
 pub use run::{run_lines, work_lines};
-pub use saving::{bytes_of, scenario_of};
-pub use view_report::Report;
-pub use views::{Beside, unseen};
+pub use saving::bytes_of;

@@ -5,7 +5,7 @@ use version_book::Named;
 
 /// The name of a refusal, which is what is written of it.
 #[derive(Drop)]
-pub struct RefusalName {
+pub(crate) struct RefusalName {
     name: &'static str,
     ghost short: { length name.now ≤ 16 },
 }

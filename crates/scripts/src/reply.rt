@@ -13,7 +13,7 @@ use version_book::Named;
 
 /// What a line of a script is answered: nothing, a line, which takes no memory, a report, or a log.
 #[derive(Drop)]
-pub enum Reply<A: Allocator + Copy> {
+pub(crate) enum Reply<A: Allocator + Copy> {
     /// Nothing is written.
     Nothing,
     /// One line.
@@ -42,14 +42,14 @@ fn write_saved<W: Write>(writer: &mut W, text: &[u8]) -> Result<(), WriteFault>
 
 impl<A: Allocator + Copy> Reply<A> {
     /// That the command is refused for this, a refusal or a fault.
-    pub fn refused<N: Named>(why: &N) -> Reply<A>
+    pub(crate) fn refused<N: Named>(why: &N) -> Reply<A>
         ensures { reply_text result ≡ refused (N.name why.now) }
     {
         Reply::Line(Answer::refused(why))
     }
 
     /// Writes what is answered. Device where the writer answers an error or takes no byte.
-    pub fn write<W: Write>(&self, writer: &mut W) -> Result<(), WriteFault>
+    pub(crate) fn write<W: Write>(&self, writer: &mut W) -> Result<(), WriteFault>
         ensures { Writes result (W.contents writer.old) (W.contents writer.new) (reply_text self.now) }
     {
         match self {

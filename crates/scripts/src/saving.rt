@@ -17,8 +17,8 @@ use scenarios::{NoSuchScenario, Scenario, ScenarioList};
 use std::alloc::Allocator;
 use swf_text::{Memory, SwfText, write_swf};
 
-/// What a log is simulated under in the scenario with this name; None where none has it.
-pub fn scenario_of<A: Allocator + Copy>(list: &ScenarioList<A>, name: &str) -> Option<Scenario>
+// What a log is simulated under in the scenario with this name; None where none has it.
+fn scenario_of<A: Allocator + Copy>(list: &ScenarioList<A>, name: &str) -> Option<Scenario>
     ensures { result ≡ option_map (λ s. s.setting) (named name.now list.now.scenarios) }
 {
     for place in 0..list.len() {

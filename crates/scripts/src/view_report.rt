@@ -8,7 +8,7 @@ use swf_text::Memory;
 
 /// What a report tells of a run.
 #[derive(Clone, Copy, Debug, PartialEq, Eq)]
-pub enum Report {
+pub(crate) enum Report {
     /// The start and the end of each job.
     Schedule,
     /// Counts, waits, slowdowns and utilization.
@@ -22,7 +22,7 @@ pub enum Report {
 impl Report {
     /// The report on a run of a scenario of this name, at this version. Memory where a growth is
     /// refused.
-    pub fn text<A: Allocator + Copy>(
+    pub(crate) fn text<A: Allocator + Copy>(
         self,
         alloc: A,
         name: &str,

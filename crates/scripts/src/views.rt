@@ -19,7 +19,7 @@ use version_book::{Published, Refusal, ViewFault, ViewRefusal};
 
 /// What is shown of a scenario beside others.
 #[derive(Drop)]
-pub enum Beside<A: Allocator + Copy> {
+pub(crate) enum Beside<A: Allocator + Copy> {
     /// This is published.
     Shown(Published<A>),
     /// Nothing is published.
@@ -30,7 +30,7 @@ pub enum Beside<A: Allocator + Copy> {
 
 impl<A: Allocator + Copy> Beside<A> {
     /// Its line, under the scenario's name.
-    pub fn line(self, name: &str) -> SideLine<'_, A>
+    pub(crate) fn line(self, name: &str) -> SideLine<'_, A>
         ensures { side_line result ≡ beside_line name.now self }
     {
         match self {
@@ -45,8 +45,8 @@ impl<A: Allocator + Copy> Beside<A> {
     }
 }
 
-/// The line of a view that shows nothing.
-pub fn unseen(refusal: ViewRefusal) -> Answer
+// The line of a view that shows nothing.
+fn unseen(refusal: ViewRefusal) -> Answer
     ensures { answer_line result ≡ unseen_line refusal }
 {
     match refusal {

@@ -1,4 +1,7 @@
 mod Gaining
+mod Tying
+mod Settling
+mod Closed
 mod Causes
 mod Works
 mod Portions

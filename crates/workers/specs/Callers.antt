@@ -1,12 +1,15 @@
 -- Sessions and workers, as those who use them see them.
 use Rattle.std.specs.Prelude.{ℕ, ◌+◌, ◌≡◌, ◌<◌, nat_lt, if◌then◌else◌, max, List, [], Option, None, Some, Result, Ok, Err}
+use Rattle.chronicle.specs.Fronts.{Seen}
 use Rattle.workers.specs.Lists.{Exchanged}
 
--- a session: its number, the calls that it made with their replies, and the greatest version that an edit or a view gave it
+-- a session: its number, the calls that it made with their replies, the greatest version that an edit or a view gave it, and
+-- the history of the desk up to what it was answered last
 pub record SessionView : Type 0 where
   pub number : ℕ
   pub list : List Exchanged
   pub seen : ℕ
+  pub front : Seen
 
 -- a worker: its number, the calls that it made with their replies, and for how many more its list has room
 pub record WorkerView : Type 0 where
@@ -27,15 +30,15 @@ abbrev pub opened_after : ℕ → ℕ
 opened_after opened = if nat_lt opened most then opened + 1 else opened
 
 -- a caller who has called nothing
-abbrev pub new_session : ℕ → SessionView
-new_session number = record { number = number; list = []; seen = 0 }
+abbrev pub new_session : ℕ → Seen → SessionView
+new_session number front = record { number = number; list = []; seen = 0; front = front }
 
 abbrev pub new_worker : ℕ → WorkerView
 new_worker number = record { number = number; list = []; room = 0 }
 
 -- one who was just opened, under a number below 64
 abbrev pub IsNewSession : SessionView → Type 0
-IsNewSession s = (s ≡ new_session s.number) × (s.number < most)
+IsNewSession s = (s ≡ new_session s.number s.front) × (s.number < most)
 
 abbrev pub IsNewWorker : WorkerView → Type 0
 IsNewWorker w = (w ≡ new_worker w.number) × (w.number < most)

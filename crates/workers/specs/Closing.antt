@@ -1,10 +1,15 @@
 -- What a closed desk says of its callers' lists.
 use Rattle.std.specs.Prelude.{◌≡◌, ℕ, ◌<◌, ◌==◌, ◌||◌, Bool, true, List, length, Option, None, Some}
 use Rattle.std.specs.List.{All, list_any}
+use mathlib.Core.List.{IsPrefix}
 use Rattle.book_machine.specs.declared.caller.Caller.TheVariants as caller
 use Rattle.book_machine.specs.History.{Noted}
+use Rattle.book_machine.specs.Machine.{Machine}
+use Rattle.chronicle.specs.Events.{Happened, IsLegalFrom, notes_of}
+use Rattle.chronicle.specs.Fronts.{Seen, Begins}
 use Rattle.workers.specs.Lists.{part_of, same_caller}
 use Rattle.workers.specs.Callers.{SessionView, WorkerView}
+use Rattle.workers.specs.Tied.{opened_sessions, opened_workers}
 use Rattle.workers.specs.declared.close_fault.CloseFault.{CloseFault}
 use Rattle.workers.specs.declared.close_fault.CloseFault.TheVariants as faults
 
@@ -41,8 +46,28 @@ pub record AreAll (opened_sessions opened_workers : ℕ) (sessions : List Sessio
   pub sessions_in : (k : ℕ) → k < opened_sessions → has_session sessions k ≡ true
   pub workers_in : (k : ℕ) → k < opened_workers → has_worker workers k ≡ true
 
--- What speaks against closing: that callers are missing, or else that the lists are not the notes; each exactly where it holds.
+-- All sessions stand in one history: it is legal, its calls are the notes, and what each session has seen is a beginning of it.
+abbrev pub StandInOne : Machine → List SessionView → List Noted → Type 0
+StandInOne opening sessions notes =
+    (events : List Happened) × IsLegalFrom opening events × (notes_of events ≡ notes) × All (λ (s : SessionView). (s.front.kept ≡ true) × IsPrefix s.front.events events) sessions
+
+-- The history is kept, what each session has seen begins it, and the lists are its notes.
+pub record IsTheirs (all : Seen) (sessions : List SessionView) (workers : List WorkerView) : Type 0 where
+  pub kept : all.kept ≡ true
+  pub fronts : All (λ (s : SessionView). Begins s.front all) sessions
+  pub lists : IsTold sessions workers (notes_of all.events)
+
+-- the callers are all that were opened in the history
+abbrev pub AreOpened : Seen → List SessionView → List WorkerView → Type 0
+AreOpened all sessions workers = all.kept ≡ true → AreAll (opened_sessions all.events) (opened_workers all.events) sessions workers
+
+-- What speaks against closing: that callers are missing, or else that the history is not theirs; each exactly where it holds.
 abbrev pub SpeaksAgainst : Type 0 → Type 0 → Option CloseFault → Type 0
 SpeaksAgainst AreIn Told None = AreIn × Told
 SpeaksAgainst AreIn Told (Some faults.StillOut) = AreIn → ⊥
 SpeaksAgainst AreIn Told (Some faults.Mismatch) = AreIn × (Told → ⊥)
+
+-- the desk stays open for this fault, beside all of its history
+abbrev pub StaysFor : CloseFault → Option Seen → List SessionView → List WorkerView → Type 0
+StaysFor fault closed sessions workers =
+    (all : Seen) × (closed ≡ Some all) × SpeaksAgainst (AreOpened all sessions workers) (IsTheirs all sessions workers) (Some fault)

@@ -1,5 +1,7 @@
 pub mod Lists
 pub mod Callers
+pub mod History
+pub mod Tied
 pub mod Settling
 pub mod Readings
 pub mod Work

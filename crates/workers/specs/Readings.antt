@@ -1,6 +1,7 @@
 -- What is read of the book under the lock. It is a book at every moment at which the lock is got.
-use Rattle.std.specs.Prelude.{◌≡◌, ◌&&◌, ◌⊎◌, ℕ, Bool, is_none, length, not}
+use Rattle.std.specs.Prelude.{◌≡◌, ◌&&◌, ◌⊎◌, ℕ, Bool, List, Option, is_none, length, not}
 use Rattle.std.specs.Arc.{arc_value}
+use Rattle.scenarios.specs.ScenarioList.{id_of}
 use Rattle.book_machine.specs.declared.caller.Caller.{Caller}
 use Rattle.book_machine.specs.declared.caller.Caller.TheVariants as caller
 use Rattle.book_machine.specs.Call.{BookCall}
@@ -25,6 +26,14 @@ pub record IsCurrentOf {A : Type 0} (b : BookView) (c : Current A) : Type 0 wher
 -- At some moment a book stood there.
 abbrev pub IsCurrentOnce : {A : Type 0} → Current A → Type 0
 IsCurrentOnce c = (b : BookView) × IsBook b × IsCurrentOf b c
+
+-- At some moment a book had so many versions.
+abbrev pub IsVersionOnce : ℕ → Type 0
+IsVersionOnce v = (b : BookView) × IsBook b × (v ≡ length b.state.edits)
+
+-- At some moment a book found so by this name.
+abbrev pub IsFoundOnce : List ℕ → Option ℕ → Type 0
+IsFoundOnce name found = (b : BookView) × IsBook b × (found ≡ id_of name b.state.listing)
 
 -- At some moment this was shown by a book: it is what the book had published for the scenario, at a version that is not below the
 -- one seen, and the simulation, second by second, of that version's log under the scenario.

@@ -1,12 +1,31 @@
 -- What a session that waits for its runs is told.
-use Rattle.std.specs.Prelude.{Bool, if◌then◌else◌, Option, None, Some}
+use Rattle.std.specs.Prelude.{◌≡◌, ℕ, Bool, true, false, if◌then◌else◌, List, Option, None, Some}
+use Rattle.std.specs.List.{list_any}
 use Rattle.book_machine.specs.declared.settle_state.SettleState.{SettleState}
 use Rattle.book_machine.specs.declared.settle_state.SettleState.TheVariants as state
+use Rattle.book_machine.specs.Machine.{settled}
+use Rattle.chronicle.specs.Events.{Happened, Called, Opened, Stopped}
+use Rattle.version_book.specs.Book.{BookView, machine_of}
+use Rattle.version_book.specs.Sound.{IsBook}
 use Rattle.workers.specs.declared.settled.Settled.{Settled}
-use Rattle.workers.specs.declared.settled.Settled.TheVariants as settled
+use Rattle.workers.specs.declared.settled.Settled.TheVariants as settled_as
 
 -- by how far the scenarios are, and whether the desk is stopped; none: it waits on
 abbrev pub told_settled : SettleState → Bool → Option Settled
-told_settled state.Waiting stopped = if stopped then Some settled.Stopped else None
-told_settled (state.Failed n) stopped = Some (settled.Failed n)
-told_settled state.Done stopped = Some settled.Done
+told_settled state.Waiting stopped = if stopped then Some settled_as.Stopped else None
+told_settled (state.Failed n) stopped = Some (settled_as.Failed n)
+told_settled state.Done stopped = Some settled_as.Done
+
+-- At some moment a book and its desk told a session that has seen this version so.
+abbrev pub IsSettledOnce : ℕ → Settled → Type 0
+IsSettledOnce seen answer = (b : BookView) × (stopped : Bool) × IsBook b × (told_settled (settled seen (machine_of b)) stopped ≡ Some answer)
+
+-- ---- stops
+
+abbrev pub is_stop : Happened → Bool
+is_stop (Called note) = false
+is_stop (Opened who) = false
+is_stop Stopped = true
+
+abbrev pub has_stopped : List Happened → Bool
+has_stopped events = list_any is_stop events

@@ -1,47 +1,61 @@
-ghost use Rattle.std.specs.Prelude.{◌≡◌, false, length, IfSome};
+ghost use Rattle.std.specs.Prelude.{◌≡◌, false, is_none, length, IfSome};
 ghost use Rattle.std.specs.Sync.Mutex.{mutex_guard_value};
+ghost use Rattle.book_machine.specs.declared.caller.Caller.TheVariants as caller;
+ghost use Rattle.book_machine.specs.Machine.{settled};
+ghost use Rattle.version_book.specs.Book.{machine_of};
 ghost use Rattle.workers.specs.Callers.{IsNewSession, IsNewWorker};
+ghost use Rattle.workers.specs.History.{EndsOpened};
 ghost use Rattle.workers.specs.Readings.{is_idle};
+ghost use Rattle.workers.specs.Settling.{told_settled};
 
 use crate::session::Session;
 use crate::shared::Shared;
 use crate::worker::Worker;
+use chronicle::{Front, Naming, Unnamed};
 use std::alloc::Allocator;
 use std::sync::{Condvar, Mutex, MutexGuard, Wait};
 use version_book::Book;
 
 /// A book that sessions and workers share, each call of theirs under one lock.
 ///
-/// The notes that the book had when the desk was made are the opening ones. The callers' lists, and
-/// `close`, speak of the later ones.
+/// The notes that the book had when the desk was made are the opening ones. The callers' lists, the
+/// desk's history and `close` speak of the later ones.
 #[derive(Drop)]
-pub struct Desk<A: Allocator + Copy> {
+pub struct Desk<A: Allocator + Copy, J: Naming> {
     pub(crate) alloc: A,
     pub(crate) opening: usize,
-    pub(crate) shared: Mutex<Shared<A>>,
+    pub(crate) shared: Mutex<Shared<A, J>>,
     pub(crate) changed: Condvar,
+    // All of the history where `close` handed the desk back.
+    pub(crate) closed: Option<Front<J>>,
+    pub ghost opened_at: { opening ≡ J.opening.notes },
 }
 
-impl<A: Allocator + Copy> Desk<A> {
+impl<A: Allocator + Copy, J: Naming> Desk<A, J> {
     /// A desk over a book, without callers; it takes no memory. Its callers keep their lists on this
-    /// allocator.
-    pub fn new(alloc: A, book: Book<A>) -> Desk<A>
+    /// allocator. Its history begins where the book stands.
+    pub fn new(alloc: A, book: Book<A>, unnamed: Unnamed) -> Desk<A, J>
+        requires name { unnamed ≡ J.book }
+        requires opening { J.opening ≡ machine_of book }
         ensures { result.opening ≡ length book.journal }
     {
         Desk {
             alloc,
             opening: book.journal().len(),
-            shared: Mutex::new(Shared::new(book)),
+            shared: Mutex::new(Shared::new(book, unnamed.named::<J>())),
             changed: Condvar::new(),
+            closed: None,
         }
     }
 
     /// A session, numbered from 0 on; None after 64. It may wait for the lock, and takes no memory.
-    pub fn open_session<R: Wait>(&self, rt: &R) -> Option<Session<A>>
-        ensures { IfSome result IsNewSession }
+    /// The history that it knows ends where it was opened.
+    pub fn open_session<R: Wait>(&self, rt: &R) -> Option<Session<A, J>>
+        ensures new { IfSome result IsNewSession }
+        ensures opened { IfSome result (λ s. EndsOpened (caller.Session s.number) s.front) }
     {
-        let number = self.shared.lock(rt).next_session()?;
-        Some(Session::new(self.alloc, number))
+        let (number, front) = self.shared.lock(rt).next_session()?;
+        Some(Session::new(self.alloc, number, front))
     }
 
     /// A worker, numbered from 0 on; None after 64. It may wait for the lock, and takes no memory.
@@ -59,10 +73,22 @@ impl<A: Allocator + Copy> Desk<A> {
     }
 
     // The lock, got while a scenario is due or the desk is stopped; until then it sleeps.
-    pub(crate) fn when_busy<R: Wait>(&self, rt: &R) -> MutexGuard<'_, Shared<A>>
+    pub(crate) fn when_busy<R: Wait>(&self, rt: &R) -> MutexGuard<'_, Shared<A, J>>
         ensures { is_idle (mutex_guard_value result).stopped (mutex_guard_value result).book.state ≡ false }
     {
         self.changed
             .wait_while(rt, self.shared.lock(rt), |shared| shared.is_idle())
+    }
+
+    // The lock, got while a session that has seen this version is to wait no longer; until then it
+    // sleeps.
+    pub(crate) fn when_settled<R: Wait>(&self, rt: &R, seen: u64) -> MutexGuard<'_, Shared<A, J>>
+        ensures { is_none (told_settled (settled seen (machine_of (mutex_guard_value result).book)) (mutex_guard_value result).stopped) ≡ false }
+    {
+        self.changed.wait_while(
+            rt,
+            self.shared.lock(rt),
+            |shared| shared.settled_for(seen).is_none(),
+        )
     }
 }

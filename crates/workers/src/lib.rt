@@ -8,6 +8,7 @@ mod current;
 mod desk;
 mod exchange;
 mod gate;
+mod hearing;
 mod making;
 mod parts;
 mod session;

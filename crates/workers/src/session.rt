@@ -1,16 +1,23 @@
-ghost use Rattle.std.specs.Prelude.{◌≡◌, ◌≤◌, IfOk, OnErr};
+ghost use Rattle.std.specs.Prelude.{◌≡◌, ◌↔◌, ◌≤◌, IfOk, IsTrue, OnErr};
 ghost use Rattle.job_table.specs.Edit.{edit_of};
+ghost use Rattle.scenarios.specs.ScenarioList.{id_of};
+ghost use Rattle.book_machine.specs.declared.caller.Caller.TheVariants as caller;
 ghost use Rattle.book_machine.specs.Call.{AddScenario, DropScenario, Edit as Edits, Retry, View};
+ghost use Rattle.book_machine.specs.Machine.{version};
+ghost use Rattle.chronicle.specs.Fronts.{Begins};
 ghost use Rattle.version_book.specs.Answers.{add_answer, drop_answer, edit_answer, retry_answer, view_answer};
 ghost use Rattle.workers.specs.Callers.{new_session, seen_after};
+ghost use Rattle.workers.specs.History.{Calls, IsCurrentAt, Reads, Settles, Views};
 ghost use Rattle.workers.specs.Lists.{Gains};
-ghost use Rattle.workers.specs.Readings.{IsCurrentOnce, IsShownOnce};
+ghost use Rattle.workers.specs.Readings.{IsCurrentOnce, IsFoundOnce, IsShownOnce, IsVersionOnce};
+ghost use Rattle.workers.specs.Settling.{IsSettledOnce};
 
 use crate::current::Current;
 use crate::desk::Desk;
 use crate::exchange::{Exchange, make_room};
 use crate::settled::Settled;
 use book_machine::{Call, Name, NotedEdit};
+use chronicle::{Front, Naming, Whole};
 use job_table::Edit;
 use scenarios::{Scenario, ScenarioId};
 use std::alloc::Allocator;
@@ -19,42 +26,45 @@ use std::sync::Wait;
 use swf_text::Memory;
 use version_book::{AddRefusal, DropRefusal, EditRefusal, Published, RetryRefusal, ViewRefusal};
 
-/// An analyst at a desk: a number, a list of its own calls with their replies, and the greatest
-/// version that an edit or a view gave it.
+/// An analyst at a desk: a number, a list of its own calls with their replies, the greatest version
+/// that an edit or a view gave it, and the desk's history up to what it was answered last.
 ///
-/// Each call takes the desk that opened the session, and holds its lock for one call of the book.
+/// Each call takes the desk that opened the session, and holds its lock for one call of the book. It
+/// stands in the history behind all that the session was answered before.
 /// JournalFull and Memory are not listed; Memory comes first where the list has no room.
 #[derive(Drop)]
-pub struct Session<A: Allocator + Copy> {
+pub struct Session<A: Allocator + Copy, J: Naming> {
     alloc: A,
     number: u64,
     list: Vec<Exchange<A>, A>,
     seen: u64,
+    front: Front<J>,
 }
 
-impl<A: Allocator + Copy> Model for Session<A> {
+impl<A: Allocator + Copy, J: Naming> Model for Session<A, J> {
     ghost use Rattle.std.specs.Prelude.{map};
     ghost use Rattle.workers.specs.Callers.{SessionView};
     ghost use Rattle.workers.specs.Lists.{exchanged_of};
 
     ghost Value = { SessionView };
 
-    ghost view = { λ s. record { number = s.number; list = map exchanged_of s.list.items; seen = s.seen } };
+    ghost view = { λ s. record { number = s.number; list = map exchanged_of s.list.items; seen = s.seen; front = s.front } };
 }
 
-impl<A: Allocator + Copy> Session<A> {
+impl<A: Allocator + Copy, J: Naming> Session<A, J> {
     ghost use Rattle.std.specs.Prelude.{map};
     ghost use Rattle.workers.specs.Lists.{exchanged_of};
 
     // A session that has called nothing.
-    pub(crate) fn new(alloc: A, number: u64) -> Session<A>
-        ensures { result ≡ new_session number }
+    pub(crate) fn new(alloc: A, number: u64, front: Front<J>) -> Session<A, J>
+        ensures { result ≡ new_session number front }
     {
         Session {
             alloc,
             number,
             list: Vec::new(alloc),
             seen: 0,
+            front,
         }
     }
 
@@ -79,14 +89,22 @@ impl<A: Allocator + Copy> Session<A> {
         self.seen
     }
 
+    // Whether what it knows begins the history.
+    pub(crate) fn begins(&self, whole: &Whole<J>) -> bool
+        ensures { IsTrue result ↔ Begins self.now.front whole.now }
+    {
+        self.front.begins(whole)
+    }
+
     /// Edits the log, as `Book::edit` does, and has then seen the new version. Whoever waits is woken.
     pub fn edit<R: Wait>(
         &mut self,
         rt: &R,
-        desk: &Desk<A>,
+        desk: &Desk<A, J>,
         edit: &Edit<A>,
     ) -> Result<u64, EditRefusal>
         ensures list { Gains self.old.list self.new.list (Edits (edit_of edit.now)) (edit_answer result) }
+        ensures history { Calls J.opening self.old.front (caller.Session self.old.number) (Edits (edit_of edit.now)) (edit_answer result) self.new.front }
         ensures number { self.new.number ≡ self.old.number }
         ensures seen { self.new.seen ≡ seen_after self.old.seen result }
     {
@@ -95,7 +113,7 @@ impl<A: Allocator + Copy> Session<A> {
         let told = desk
             .shared
             .lock(rt)
-            .edit_for(self.number, &mut self.list, call, edit);
+            .edit_for(self.number, &mut self.list, &mut self.front, call, edit);
         if let Ok(version) = told {
             self.seen = self.seen.max(version);
             desk.changed.notify_all();
@@ -107,11 +125,12 @@ impl<A: Allocator + Copy> Session<A> {
     pub fn add_scenario<R: Wait>(
         &mut self,
         rt: &R,
-        desk: &Desk<A>,
+        desk: &Desk<A, J>,
         name: &str,
         scenario: Scenario,
     ) -> Result<ScenarioId, AddRefusal>
         ensures list { Gains self.old.list self.new.list (AddScenario name.now scenario) (add_answer result) }
+        ensures history { Calls J.opening self.old.front (caller.Session self.old.number) (AddScenario name.now scenario) (add_answer result) self.new.front }
         ensures number { self.new.number ≡ self.old.number }
         ensures seen { self.new.seen ≡ self.old.seen }
     {
@@ -120,10 +139,14 @@ impl<A: Allocator + Copy> Session<A> {
             scenario,
         };
         make_room(&mut self.list)?;
-        let told = desk
-            .shared
-            .lock(rt)
-            .add_for(self.number, &mut self.list, call, name, scenario);
+        let told = desk.shared.lock(rt).add_for(
+            self.number,
+            &mut self.list,
+            &mut self.front,
+            call,
+            name,
+            scenario,
+        );
         if told.is_ok() {
             desk.changed.notify_all();
         }
@@ -134,10 +157,11 @@ impl<A: Allocator + Copy> Session<A> {
     pub fn drop_scenario<R: Wait>(
         &mut self,
         rt: &R,
-        desk: &Desk<A>,
+        desk: &Desk<A, J>,
         name: &str,
     ) -> Result<ScenarioId, DropRefusal>
         ensures list { Gains self.old.list self.new.list (DropScenario name.now) (drop_answer result) }
+        ensures history { Calls J.opening self.old.front (caller.Session self.old.number) (DropScenario name.now) (drop_answer result) self.new.front }
         ensures number { self.new.number ≡ self.old.number }
         ensures seen { self.new.seen ≡ self.old.seen }
     {
@@ -148,7 +172,7 @@ impl<A: Allocator + Copy> Session<A> {
         let told = desk
             .shared
             .lock(rt)
-            .drop_for(self.number, &mut self.list, call, name);
+            .drop_for(self.number, &mut self.list, &mut self.front, call, name);
         if told.is_ok() {
             desk.changed.notify_all();
         }
@@ -159,10 +183,11 @@ impl<A: Allocator + Copy> Session<A> {
     pub fn retry<R: Wait>(
         &mut self,
         rt: &R,
-        desk: &Desk<A>,
+        desk: &Desk<A, J>,
         id: ScenarioId,
     ) -> Result<(), RetryRefusal>
         ensures list { Gains self.old.list self.new.list (Retry id) (retry_answer result) }
+        ensures history { Calls J.opening self.old.front (caller.Session self.old.number) (Retry id) (retry_answer result) self.new.front }
         ensures number { self.new.number ≡ self.old.number }
         ensures seen { self.new.seen ≡ self.old.seen }
     {
@@ -170,7 +195,7 @@ impl<A: Allocator + Copy> Session<A> {
         let told = desk
             .shared
             .lock(rt)
-            .retry_for(self.number, &mut self.list, id);
+            .retry_for(self.number, &mut self.list, &mut self.front, id);
         if told.is_ok() {
             desk.changed.notify_all();
         }
@@ -182,20 +207,24 @@ impl<A: Allocator + Copy> Session<A> {
     pub fn view<R: Wait>(
         &mut self,
         rt: &R,
-        desk: &Desk<A>,
+        desk: &Desk<A, J>,
         id: ScenarioId,
     ) -> Result<Published<A>, ViewRefusal>
         ensures list { Gains self.old.list self.new.list (View id self.old.seen) (view_answer result) }
+        ensures history { Views J.opening self.old.front (caller.Session self.old.number) id self.old.seen result self.new.front }
         ensures number { self.new.number ≡ self.old.number }
         ensures seen { IfOk result (λ p. (self.old.seen ≤ p.version) × (self.new.seen ≡ p.version)) }
         ensures err { OnErr result (self.new.seen ≡ self.old.seen) }
         ensures shown { IfOk result (IsShownOnce id self.old.seen) }
     {
         make_room(&mut self.list)?;
-        let told = desk
-            .shared
-            .lock(rt)
-            .view_for(self.number, &mut self.list, id, self.seen);
+        let told = desk.shared.lock(rt).view_for(
+            self.number,
+            &mut self.list,
+            &mut self.front,
+            id,
+            self.seen,
+        );
         if let Ok(published) = &told {
             self.seen = published.version();
         }
@@ -203,32 +232,78 @@ impl<A: Allocator + Copy> Session<A> {
     }
 
     /// The id of the scenario with this name. It is not listed.
-    pub fn find<R: Wait>(&self, rt: &R, desk: &Desk<A>, name: &str) -> Option<ScenarioId> {
+    pub fn find<R: Wait>(&self, rt: &R, desk: &Desk<A, J>, name: &str) -> Option<ScenarioId>
+        ensures { IsFoundOnce name.now result }
+    {
         desk.shared.lock(rt).find(name)
     }
 
+    /// The same, at a place of the history behind all that the session was answered before, to which
+    /// it then goes on.
+    pub fn find_along<R: Wait>(
+        &mut self,
+        rt: &R,
+        desk: &Desk<A, J>,
+        name: &str,
+    ) -> Option<ScenarioId>
+        ensures history { Reads J.opening self.old.front (λ m. result ≡ id_of name.now m.listing) self.new.front }
+        ensures same { self.new ≡ record self.old { front = self.new.front } }
+    {
+        desk.shared.lock(rt).find_along(name, &mut self.front)
+    }
+
     /// The current version. It is not listed.
-    pub fn version<R: Wait>(&self, rt: &R, desk: &Desk<A>) -> u64 {
+    pub fn version<R: Wait>(&self, rt: &R, desk: &Desk<A, J>) -> u64
+        ensures { IsVersionOnce result }
+    {
         desk.shared.lock(rt).version()
+    }
+
+    /// The same, at a place of the history behind all that the session was answered before, to which
+    /// it then goes on.
+    pub fn version_along<R: Wait>(&mut self, rt: &R, desk: &Desk<A, J>) -> u64
+        ensures history { Reads J.opening self.old.front (λ m. result ≡ version m) self.new.front }
+        ensures same { self.new ≡ record self.old { front = self.new.front } }
+    {
+        desk.shared.lock(rt).version_along(&mut self.front)
     }
 
     /// The current version with its log and the scenarios, all of one moment. It is not listed.
     /// Memory where a growth is refused.
-    pub fn current<R: Wait>(&self, rt: &R, desk: &Desk<A>) -> Result<Current<A>, Memory>
+    pub fn current<R: Wait>(&self, rt: &R, desk: &Desk<A, J>) -> Result<Current<A>, Memory>
         ensures { IfOk result IsCurrentOnce }
     {
         desk.shared.lock(rt).current()
     }
 
+    /// The same, at a place of the history behind all that the session was answered before, to which
+    /// it then goes on.
+    pub fn current_along<R: Wait>(
+        &mut self,
+        rt: &R,
+        desk: &Desk<A, J>,
+    ) -> Result<Current<A>, Memory>
+        ensures history { Reads J.opening self.old.front (λ m. IfOk result (IsCurrentAt m)) self.new.front }
+        ensures same { self.new ≡ record self.old { front = self.new.front } }
+    {
+        desk.shared.lock(rt).current_along(&mut self.front)
+    }
+
     /// Waits until every scenario shows a version that this session has seen, or a newer one, or is
     /// given up, or until the desk is stopped, and answers which. It sleeps while it waits.
-    pub fn settle<R: Wait>(&self, rt: &R, desk: &Desk<A>) -> Settled {
-        let seen = self.seen;
-        let shared = desk.changed.wait_while(
-            rt,
-            desk.shared.lock(rt),
-            |shared| shared.settled_for(seen).is_none(),
-        );
-        shared.settled_for(seen).unwrap()
+    pub fn settle<R: Wait>(&self, rt: &R, desk: &Desk<A, J>) -> Settled
+        ensures { IsSettledOnce self.now.seen result }
+    {
+        desk.when_settled(rt, self.seen).settle(self.seen)
+    }
+
+    /// The same, at a place of the history behind all that the session was answered before, to which
+    /// it then goes on.
+    pub fn settle_along<R: Wait>(&mut self, rt: &R, desk: &Desk<A, J>) -> Settled
+        ensures history { Settles J.opening self.old.front self.old.seen result self.new.front }
+        ensures same { self.new ≡ record self.old { front = self.new.front } }
+    {
+        desk.when_settled(rt, self.seen)
+            .settle_along(self.seen, &mut self.front)
     }
 }

@@ -8,22 +8,26 @@ ghost use Rattle.version_book.specs.Answers.{add_answer, drop_answer, edit_answe
 ghost use Rattle.version_book.specs.Sound.{IsBook};
 ghost use Rattle.version_book.specs.Steps.{Answers};
 ghost use Rattle.version_book.specs.Tasks.{IsShownFor};
+ghost use Rattle.workers.specs.History.{Calls, Views};
 ghost use Rattle.workers.specs.Lists.{Gains, exchanged_of};
 
 use crate::exchange::{Exchange, keep};
+use crate::hearing::{followed, notes_in};
 use crate::shared::Shared;
 use book_machine::Call;
+use chronicle::{Front, Naming};
 use job_table::Edit;
 use scenarios::{Scenario, ScenarioId};
 use std::alloc::Allocator;
 use version_book::{AddRefusal, DropRefusal, EditRefusal, Published, RetryRefusal, ViewRefusal};
 
-impl<A: Allocator + Copy> Shared<A> {
+impl<A: Allocator + Copy, J: Naming> Shared<A, J> {
     // An edit of the log.
     pub(crate) fn edit_for(
         &mut self,
         session: u64,
         list: &mut Vec<Exchange<A>, A>,
+        front: &mut Front<J>,
         call: Call<A>,
         edit: &Edit<A>,
     ) -> Result<u64, EditRefusal>
@@ -31,10 +35,13 @@ impl<A: Allocator + Copy> Shared<A> {
         requires call { call_of call ≡ Edits (edit_of edit.now) }
         ensures book { Answers self.old.book self.new.book (caller.Session session) (Edits (edit_of edit.now)) (edit_answer result) }
         ensures list { Gains (map exchanged_of list.old.items) (map exchanged_of list.new.items) (Edits (edit_of edit.now)) (edit_answer result) }
+        ensures history { Calls J.opening front.old (caller.Session session) (Edits (edit_of edit.now)) (edit_answer result) front.new }
     {
-        let notes = self.notes();
+        let notes = notes_in(&self.book);
+        front.follow(&self.whole);
         let told = self.book.edit(session, edit);
-        keep(list, call, self.reply_behind(notes));
+        let reply = followed(&mut self.whole, front, &self.book, notes);
+        keep(list, call, reply);
         told
     }
 
@@ -43,6 +50,7 @@ impl<A: Allocator + Copy> Shared<A> {
         &mut self,
         session: u64,
         list: &mut Vec<Exchange<A>, A>,
+        front: &mut Front<J>,
         call: Call<A>,
         name: &str,
         scenario: Scenario,
@@ -51,10 +59,13 @@ impl<A: Allocator + Copy> Shared<A> {
         requires call { call_of call ≡ AddScenario name.now scenario }
         ensures book { Answers self.old.book self.new.book (caller.Session session) (AddScenario name.now scenario) (add_answer result) }
         ensures list { Gains (map exchanged_of list.old.items) (map exchanged_of list.new.items) (AddScenario name.now scenario) (add_answer result) }
+        ensures history { Calls J.opening front.old (caller.Session session) (AddScenario name.now scenario) (add_answer result) front.new }
     {
-        let notes = self.notes();
+        let notes = notes_in(&self.book);
+        front.follow(&self.whole);
         let told = self.book.add_scenario(session, name, scenario);
-        keep(list, call, self.reply_behind(notes));
+        let reply = followed(&mut self.whole, front, &self.book, notes);
+        keep(list, call, reply);
         told
     }
 
@@ -63,6 +74,7 @@ impl<A: Allocator + Copy> Shared<A> {
         &mut self,
         session: u64,
         list: &mut Vec<Exchange<A>, A>,
+        front: &mut Front<J>,
         call: Call<A>,
         name: &str,
     ) -> Result<ScenarioId, DropRefusal>
@@ -70,10 +82,13 @@ impl<A: Allocator + Copy> Shared<A> {
         requires call { call_of call ≡ DropScenario name.now }
         ensures book { Answers self.old.book self.new.book (caller.Session session) (DropScenario name.now) (drop_answer result) }
         ensures list { Gains (map exchanged_of list.old.items) (map exchanged_of list.new.items) (DropScenario name.now) (drop_answer result) }
+        ensures history { Calls J.opening front.old (caller.Session session) (DropScenario name.now) (drop_answer result) front.new }
     {
-        let notes = self.notes();
+        let notes = notes_in(&self.book);
+        front.follow(&self.whole);
         let told = self.book.drop_scenario(session, name);
-        keep(list, call, self.reply_behind(notes));
+        let reply = followed(&mut self.whole, front, &self.book, notes);
+        keep(list, call, reply);
         told
     }
 
@@ -82,15 +97,19 @@ impl<A: Allocator + Copy> Shared<A> {
         &mut self,
         session: u64,
         list: &mut Vec<Exchange<A>, A>,
+        front: &mut Front<J>,
         id: ScenarioId,
     ) -> Result<(), RetryRefusal>
         requires room { vec_len list.old < vec_capacity list.old }
         ensures book { Answers self.old.book self.new.book (caller.Session session) (Retry id) (retry_answer result) }
         ensures list { Gains (map exchanged_of list.old.items) (map exchanged_of list.new.items) (Retry id) (retry_answer result) }
+        ensures history { Calls J.opening front.old (caller.Session session) (Retry id) (retry_answer result) front.new }
     {
-        let notes = self.notes();
+        let notes = notes_in(&self.book);
+        front.follow(&self.whole);
         let told = self.book.retry(session, id);
-        keep(list, Call::Retry { id }, self.reply_behind(notes));
+        let reply = followed(&mut self.whole, front, &self.book, notes);
+        keep(list, Call::Retry { id }, reply);
         told
     }
 
@@ -99,18 +118,22 @@ impl<A: Allocator + Copy> Shared<A> {
         &mut self,
         session: u64,
         list: &mut Vec<Exchange<A>, A>,
+        front: &mut Front<J>,
         id: ScenarioId,
         seen: u64,
     ) -> Result<Published<A>, ViewRefusal>
         requires room { vec_len list.old < vec_capacity list.old }
         ensures book { Answers self.old.book self.new.book (caller.Session session) (View id seen) (view_answer result) }
         ensures list { Gains (map exchanged_of list.old.items) (map exchanged_of list.new.items) (View id seen) (view_answer result) }
+        ensures history { Views J.opening front.old (caller.Session session) id seen result front.new }
         ensures shown { IfOk result (IsShownFor self.old.book.state id seen) }
         ensures sound { IsBook self.old.book }
     {
-        let notes = self.notes();
+        let notes = notes_in(&self.book);
+        front.follow(&self.whole);
         let told = self.book.view(session, id, seen);
-        keep(list, Call::View { id, seen }, self.reply_behind(notes));
+        let reply = followed(&mut self.whole, front, &self.book, notes);
+        keep(list, Call::View { id, seen }, reply);
         told
     }
 }

@@ -1,31 +1,51 @@
-ghost use Rattle.std.specs.Prelude.{◌≡◌, true, false, length, IfOk};
+ghost use Rattle.std.specs.Prelude.{◌≡◌, true, false, is_none, length, IfOk, IfSome};
+ghost use Rattle.std.specs.Option.{option_map};
 ghost use Rattle.scenarios.specs.ScenarioList.{id_of};
-ghost use Rattle.book_machine.specs.Machine.{settled};
+ghost use Rattle.book_machine.specs.declared.caller.Caller.TheVariants as caller;
+ghost use Rattle.book_machine.specs.Machine.{settled, version};
+ghost use Rattle.chronicle.specs.Events.{IsLegalFrom};
+ghost use Rattle.chronicle.specs.Fronts.{nothing_yet};
 ghost use Rattle.version_book.specs.Book.{machine_of};
 ghost use Rattle.version_book.specs.Sound.{IsBook};
 ghost use Rattle.workers.specs.Callers.{next_caller, opened_after};
-ghost use Rattle.workers.specs.Lists.{reply_behind};
+ghost use Rattle.workers.specs.History.{EndsOpened, IsCurrentAt, Reads, Settles};
 ghost use Rattle.workers.specs.Readings.{IsCurrentOf, is_idle};
-ghost use Rattle.workers.specs.Settling.{told_settled};
+ghost use Rattle.workers.specs.Settling.{IsSettledOnce, told_settled};
+ghost use Rattle.workers.specs.Tied.{IsTied};
 
 use crate::current::Current;
 use crate::settled::Settled;
-use book_machine::{Reply, SettleState};
+use book_machine::{Caller, SettleState};
+use chronicle::{Front, Naming, Whole};
 use scenarios::ScenarioId;
 use std::alloc::Allocator;
+use std::marker::Model;
 use swf_text::Memory;
 use version_book::Book;
 
 // How many sessions, and how many workers, a desk opens at most.
 const MOST: u64 = 64;
 
-/// What lies under the lock: the book, how many callers were opened, and whether the desk is stopped.
+/// What lies under the lock: the book, the history of the desk, how many callers were opened, and
+/// whether the desk is stopped. The history's calls are those that the book noted since the desk was
+/// made, and lead to where the book stands.
 #[derive(Drop)]
-pub struct Shared<A: Allocator + Copy> {
+pub struct Shared<A: Allocator + Copy, J: Naming> {
     pub(crate) book: Book<A>,
+    pub(crate) whole: Whole<J>,
     pub(crate) sessions: u64,
     pub(crate) workers: u64,
     pub(crate) stopped: bool,
+}
+
+impl<A: Allocator + Copy, J: Naming> Model for Shared<A, J> {
+    ghost use Rattle.workers.specs.Tied.{IsTied, SharedView};
+
+    ghost Value = { SharedView };
+
+    ghost view = { λ s. record { book = s.book; history = s.whole; sessions = s.sessions; workers = s.workers; stopped = s.stopped } };
+
+    ghost invariant = { λ s. IsTied J.opening (record { book = s.book; history = s.whole; sessions = s.sessions; workers = s.workers; stopped = s.stopped }) };
 }
 
 // The number of the next caller of a kind, or none after 64.
@@ -35,13 +55,16 @@ fn next_caller(opened: u64) -> Option<u64>
     if opened < MOST { Some(opened) } else { None }
 }
 
-impl<A: Allocator + Copy> Shared<A> {
-    // A book of which no caller was opened yet.
-    pub(crate) fn new(book: Book<A>) -> Shared<A>
-        ensures { result ≡ record { book = book; sessions = 0; workers = 0; stopped = false } }
+impl<A: Allocator + Copy, J: Naming> Shared<A, J> {
+    // A book of which no caller was opened yet, and a history that begins there.
+    pub(crate) fn new(book: Book<A>, whole: Whole<J>) -> Shared<A, J>
+        requires opening { J.opening ≡ machine_of book }
+        requires whole { whole ≡ nothing_yet }
+        ensures { result ≡ record { book = book; history = nothing_yet; sessions = 0; workers = 0; stopped = false } }
     {
         Shared {
             book,
+            whole,
             sessions: 0,
             workers: 0,
             stopped: false,
@@ -62,8 +85,10 @@ impl<A: Allocator + Copy> Shared<A> {
     /// What a session that has seen this version is told: how far the scenarios are, Stopped where
     /// one is waited for and the desk is stopped, and None where it is to wait on.
     pub fn settled_for(&self, seen: u64) -> Option<Settled>
-        ensures { result ≡ told_settled (settled seen (machine_of self.now.book)) self.now.stopped }
+        ensures told { result ≡ told_settled (settled seen (machine_of self.now.book)) self.now.stopped }
+        ensures book { IsBook self.now.book }
     {
+        let _version = self.book.version();
         match self.book.settled(seen) {
             SettleState::Done => Some(Settled::Done),
             SettleState::Failed(n) => Some(Settled::Failed(n)),
@@ -78,30 +103,34 @@ impl<A: Allocator + Copy> Shared<A> {
         !self.stopped && self.book.due().is_none()
     }
 
-    // Opens a session, and answers its number.
-    pub(crate) fn next_session(&mut self) -> Option<u64>
-        ensures number { result ≡ next_caller self.old.sessions }
-        ensures rest { self.new ≡ record self.old { sessions = opened_after self.old.sessions } }
+    // Opens a session, and answers its number and the history up to there.
+    pub(crate) fn next_session(&mut self) -> Option<(u64, Front<J>)>
+        ensures number { option_map (λ it. it.0) result ≡ next_caller self.old.sessions }
+        ensures front { IfSome result (λ it. EndsOpened (caller.Session it.0) it.1) }
+        ensures rest { self.new ≡ record self.old { sessions = opened_after self.old.sessions; history = self.new.history } }
     {
         let number = next_caller(self.sessions)?;
+        self.whole.open(Caller::Session(number));
         self.sessions = number + 1;
-        Some(number)
+        Some((number, self.whole.front()))
     }
 
     // Opens a worker, and answers its number.
     pub(crate) fn next_worker(&mut self) -> Option<u64>
         ensures number { result ≡ next_caller self.old.workers }
-        ensures rest { self.new ≡ record self.old { workers = opened_after self.old.workers } }
+        ensures rest { self.new ≡ record self.old { workers = opened_after self.old.workers; history = self.new.history } }
     {
         let number = next_caller(self.workers)?;
+        self.whole.open(Caller::Worker(number));
         self.workers = number + 1;
         Some(number)
     }
 
     // Stops the desk.
     pub(crate) fn stop(&mut self)
-        ensures { self.new ≡ record self.old { stopped = true } }
+        ensures { self.new ≡ record self.old { stopped = true; history = self.new.history } }
     {
+        self.whole.stop();
         self.stopped = true;
     }
 
@@ -114,18 +143,46 @@ impl<A: Allocator + Copy> Shared<A> {
         self.book
     }
 
+    // Whether the history is kept. Its calls are a legal history, and it is tied to the book.
+    pub(crate) fn is_kept(&self) -> bool
+        ensures kept { result ≡ self.now.history.kept }
+        ensures legal { IsLegalFrom J.opening self.now.history.events }
+        ensures tied { IsTied J.opening self.now }
+    {
+        self.whole.is_kept()
+    }
+
     // The current version.
     pub(crate) fn version(&self) -> u64
-        ensures { result ≡ length self.now.book.state.edits }
+        ensures version { result ≡ length self.now.book.state.edits }
+        ensures book { IsBook self.now.book }
     {
         self.book.version()
     }
 
+    // The same, and the front goes on to where the book stands.
+    pub(crate) fn version_along(&self, front: &mut Front<J>) -> u64
+        ensures { Reads J.opening front.old (λ m. result ≡ version m) front.new }
+    {
+        front.follow(&self.whole);
+        self.version()
+    }
+
     // The id of the scenario with this name.
     pub(crate) fn find(&self, name: &str) -> Option<ScenarioId>
-        ensures { result ≡ id_of name.now self.now.book.state.listing }
+        ensures found { result ≡ id_of name.now self.now.book.state.listing }
+        ensures book { IsBook self.now.book }
     {
+        let _version = self.book.version();
         self.book.id_of(name)
+    }
+
+    // The same, and the front goes on to where the book stands.
+    pub(crate) fn find_along(&self, name: &str, front: &mut Front<J>) -> Option<ScenarioId>
+        ensures { Reads J.opening front.old (λ m. result ≡ id_of name.now m.listing) front.new }
+    {
+        front.follow(&self.whole);
+        self.find(name)
     }
 
     // Where the book stands.
@@ -140,20 +197,28 @@ impl<A: Allocator + Copy> Shared<A> {
         })
     }
 
-    // How many calls were noted.
-    pub(crate) fn notes(&self) -> usize
-        ensures count { result ≡ length self.now.book.journal }
-        ensures book { IsBook self.now.book }
+    // The same, and the front goes on to there.
+    pub(crate) fn current_along(&self, front: &mut Front<J>) -> Result<Current<A>, Memory>
+        ensures { Reads J.opening front.old (λ m. IfOk result (IsCurrentAt m)) front.new }
     {
-        let _version = self.book.version();
-        self.book.journal().len()
+        front.follow(&self.whole);
+        self.current()
     }
 
-    // The reply that was noted behind so many notes.
-    pub(crate) fn reply_behind(&self, notes: usize) -> Option<Reply>
-        ensures { result ≡ reply_behind notes self.now.book.journal }
+    // What a session is told that waits no longer.
+    pub(crate) fn settle(&self, seen: u64) -> Settled
+        requires { is_none (told_settled (settled seen (machine_of self.now.book)) self.now.stopped) ≡ false }
+        ensures { IsSettledOnce seen result }
     {
-        let note = self.book.journal().get(notes)?;
-        Some(note.reply)
+        self.settled_for(seen).unwrap()
+    }
+
+    // The same, and the front goes on to where the book stands.
+    pub(crate) fn settle_along(&self, seen: u64, front: &mut Front<J>) -> Settled
+        requires { is_none (told_settled (settled seen (machine_of self.now.book)) self.now.stopped) ≡ false }
+        ensures { Settles J.opening front.old seen result front.new }
+    {
+        front.follow(&self.whole);
+        self.settled_for(seen).unwrap()
     }
 }

@@ -9,6 +9,7 @@ use crate::exchange::{Exchange, make_room};
 use crate::gate::Gate;
 use crate::making::Making;
 use checkpoints::Run;
+use chronicle::Naming;
 use std::alloc::Allocator;
 use std::marker::Model;
 use std::sync::{Arc, Wait};
@@ -91,7 +92,7 @@ impl<A: Allocator + Copy> Worker<A> {
     }
 
     // Waits until a scenario is due or the desk is stopped, and claims; or why the worker ends.
-    fn claim<R: Wait>(&mut self, rt: &R, desk: &Desk<A>) -> Result<Task<A>, WorkerEnd>
+    fn claim<J: Naming, R: Wait>(&mut self, rt: &R, desk: &Desk<A, J>) -> Result<Task<A>, WorkerEnd>
         ensures list { GainsClaim result self.old.list self.new.list }
         ensures full { result ≡ Err ends.Full → WasFull }
         ensures memory { result ≡ Err ends.Memory → LackedMemory self.new }
@@ -102,10 +103,10 @@ impl<A: Allocator + Copy> Worker<A> {
     }
 
     // Hands in the run for a ticket, and wakes whoever waits.
-    fn finish<R: Wait>(
+    fn finish<J: Naming, R: Wait>(
         &mut self,
         rt: &R,
-        desk: &Desk<A>,
+        desk: &Desk<A, J>,
         ticket: u64,
         run: Arc<Run<A>, A>,
     ) -> Option<WorkerEnd>
@@ -126,7 +127,12 @@ impl<A: Allocator + Copy> Worker<A> {
     }
 
     // Gives a ticket up, and wakes whoever waits.
-    fn give_up<R: Wait>(&mut self, rt: &R, desk: &Desk<A>, ticket: u64) -> Option<WorkerEnd>
+    fn give_up<J: Naming, R: Wait>(
+        &mut self,
+        rt: &R,
+        desk: &Desk<A, J>,
+        ticket: u64,
+    ) -> Option<WorkerEnd>
         ensures list { GivesUp ticket self.old.list self.new.list result }
         ensures full { result ≡ Some ends.Full → WasFull }
         ensures memory { result ≡ Some ends.Memory → LackedMemory self.new }
@@ -145,10 +151,10 @@ impl<A: Allocator + Copy> Worker<A> {
 
     // Makes the run for a ticket without the lock, and hands it in; or gives the ticket up, where a
     // growth was refused.
-    fn make<R: Wait, G: Gate, M: Making<A>>(
+    fn make<J: Naming, R: Wait, G: Gate, M: Making<A>>(
         &mut self,
         rt: &R,
-        desk: &Desk<A>,
+        desk: &Desk<A, J>,
         gate: &G,
         ticket: u64,
         making: &mut M,
@@ -169,10 +175,10 @@ impl<A: Allocator + Copy> Worker<A> {
     }
 
     // Works a task, and hands in what came of it.
-    fn work<R: Wait, G: Gate>(
+    fn work<J: Naming, R: Wait, G: Gate>(
         &mut self,
         rt: &R,
-        desk: &Desk<A>,
+        desk: &Desk<A, J>,
         gate: &G,
         mut task: Task<A>,
     ) -> Option<WorkerEnd>
@@ -186,7 +192,12 @@ impl<A: Allocator + Copy> Worker<A> {
     }
 
     // One round: waits, claims, works, hands in. None where another round is to come.
-    fn round<R: Wait, G: Gate>(&mut self, rt: &R, desk: &Desk<A>, gate: &G) -> Option<WorkerEnd>
+    fn round<J: Naming, R: Wait, G: Gate>(
+        &mut self,
+        rt: &R,
+        desk: &Desk<A, J>,
+        gate: &G,
+    ) -> Option<WorkerEnd>
         ensures on { WorksOn self.old.list self.new.list }
         ensures through { IfNone result (WorksThrough self.old.list self.new.list) }
         ensures stopped { result ≡ Some ends.Stopped → WorksThrough self.old.list self.new.list }
@@ -205,7 +216,12 @@ impl<A: Allocator + Copy> Worker<A> {
     ///
     /// Its list goes on with claims, each of a ticket followed by a finish or a give-up of this
     /// ticket, the last one perhaps not.
-    pub fn run<R: Wait, G: Gate>(&mut self, rt: &R, desk: &Desk<A>, gate: &G) -> WorkerEnd
+    pub fn run<J: Naming, R: Wait, G: Gate>(
+        &mut self,
+        rt: &R,
+        desk: &Desk<A, J>,
+        gate: &G,
+    ) -> WorkerEnd
         ensures list { WorksOn self.old.list self.new.list }
         ensures stopped { result ≡ ends.Stopped → WorksThrough self.old.list self.new.list }
         ensures full { result ≡ ends.Full → WasFull }

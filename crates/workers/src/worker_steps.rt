@@ -14,10 +14,12 @@ ghost use Rattle.workers.specs.Work.{Finds, GainsClaim, end_of};
 ghost use Rattle.workers.specs.declared.worker.WorkerEnd.TheVariants as ends;
 
 use crate::exchange::{Exchange, keep};
+use crate::hearing::{heard, notes_in};
 use crate::shared::Shared;
 use crate::worker::WorkerEnd;
 use book_machine::Call;
 use checkpoints::Run;
+use chronicle::Naming;
 use std::alloc::Allocator;
 use std::sync::Arc;
 use version_book::{ClaimRefusal, FinishFault, FinishRefusal, GiveUpRefusal, Task, TooManyTickets};
@@ -32,7 +34,7 @@ fn is_fitting(told: &Result<u64, FinishRefusal>) -> bool
     )
 }
 
-impl<A: Allocator + Copy> Shared<A> {
+impl<A: Allocator + Copy, J: Naming> Shared<A, J> {
     // A ticket for the first scenario that is due.
     pub(crate) fn claim_for(
         &mut self,
@@ -45,9 +47,10 @@ impl<A: Allocator + Copy> Shared<A> {
         ensures task { IfOk result (λ task. task ≡ option_map (task_for self.old.book.state) (due_shown self.old.book.state)) }
         ensures is_book { IsBook self.old.book }
     {
-        let notes = self.notes();
+        let notes = notes_in(&self.book);
         let told = self.book.claim(worker);
-        keep(list, Call::Claim, self.reply_behind(notes));
+        let reply = heard(&mut self.whole, &self.book, notes);
+        keep(list, Call::Claim, reply);
         told
     }
 
@@ -91,14 +94,11 @@ impl<A: Allocator + Copy> Shared<A> {
         ensures full { end_of result ≡ Some ends.Full → WasFull }
         ensures memory { end_of result ≡ Some ends.Memory → WasRefused (caller.Worker worker) }
     {
-        let notes = self.notes();
+        let notes = notes_in(&self.book);
         let told = self.book.hand_in(worker, ticket, run);
         let fits = is_fitting(&told);
-        keep(
-            list,
-            Call::Finish { ticket, fits },
-            self.reply_behind(notes),
-        );
+        let reply = heard(&mut self.whole, &self.book, notes);
+        keep(list, Call::Finish { ticket, fits }, reply);
         told
     }
 
@@ -115,9 +115,10 @@ impl<A: Allocator + Copy> Shared<A> {
         ensures full { end_of result ≡ Some ends.Full → WasFull }
         ensures memory { end_of result ≡ Some ends.Memory → WasRefused (caller.Worker worker) }
     {
-        let notes = self.notes();
+        let notes = notes_in(&self.book);
         let told = self.book.give_up(worker, ticket);
-        keep(list, Call::GiveUp { ticket }, self.reply_behind(notes));
+        let reply = heard(&mut self.whole, &self.book, notes);
+        keep(list, Call::GiveUp { ticket }, reply);
         told
     }
 }

@@ -1,7 +1,6 @@
-use Rattle.std.proofs.Common.{rules, ◌≡◌, ℕ, ◌<◌, List, length, map, take, true, false, nat_le, Err, sym, ◌∙◌, arith}
+use Rattle.std.proofs.Common.{rules, ◌≡◌, ℕ, ◌<◌, List, length, map, take, true, false, nat_le, Err, sym, ap, ◌∙◌}
 use Rattle.std.specs.List.{list_all}
 use Rattle.std.specs.Io.KnownBytes.{Appends}
-use Rattle.std.proofs.lemmas.List.{length-map}
 use Rattle.std.proofs.lemmas.List.Folds.{list_all-map}
 use Rattle.std.proofs.lemmas.Bool.{true≢false}
 use Rattle.easybook.specs.Alone.{script_limit}
@@ -18,9 +17,8 @@ returns-in_err-write_all g c =
     let told : c.from_residual-in_err-write_all.result ≡ Err faults.Write = search rules in
     let few : list_all (λ s. nat_le (length s.items) script_limit) c.args.scripts.now ≡ true = search rules in
     let within : are_within scripts ≡ true = list_all-map (λ (s : List ℕ). nat_le (length s) script_limit) (λ s. s.items) c.args.scripts.now ∙ few in
-    let count : length texts ≡ length scripts = omega (arith, length-map c.in_ok-texts.texts.items (λ t. t.items), length-map c.args.scripts.now (λ s. s.items), c.in_ok-texts.texts.ok.0, c.in_ok-texts.ensures) in
     let wrote : (n : ℕ) × Appends (g.W.Write.contents c.args.writer.now) (g.W.Write.contents c.write_all.new.writer) (take n (headed 1 texts)) = rw (← c.as_slice.ensures.value) c.in_err-write_all.ensures in
-    shared_stopped c.from_residual-in_err-write_all.result c.args.log.now c.args.options.procs c.args.options.spacing _ _ scripts texts _ _ told c.in_ok-book.ensures.book within count wrote
+    shared_stopped c.from_residual-in_err-write_all.result g.row.A.Denot c.args.log.now c.args.options.procs c.args.options.spacing _ _ _ scripts texts _ _ told c.in_ok-book.ensures.book (ap (map (λ k. k.items)) c.as_slice-comments.ensures.value) within c.in_ok-texts.ensures wrote
 
 pub returns : goal.returns
 returns g c =
@@ -28,20 +26,19 @@ returns g c =
     let texts : List (List ℕ) = map (λ t. t.items) c.in_ok-texts.texts.items in
     let few : list_all (λ s. nat_le (length s.items) script_limit) c.args.scripts.now ≡ true = search rules in
     let within : are_within scripts ≡ true = list_all-map (λ (s : List ℕ). nat_le (length s) script_limit) (λ s. s.items) c.args.scripts.now ∙ few in
-    let count : length texts ≡ length scripts = omega (arith, length-map c.in_ok-texts.texts.items (λ t. t.items), length-map c.args.scripts.now (λ s. s.items), c.in_ok-texts.texts.ok.0, c.in_ok-texts.ensures) in
     let wrote : Appends (g.W.Write.contents c.args.writer.now) (g.W.Write.contents c.write_all.new.writer) (headed 1 texts) = rw (← c.as_slice.ensures.value) c.in_ok-write_all.ensures in
-    shared_written (tt {0}) c.args.log.now c.args.options.procs c.args.options.spacing _ _ scripts texts _ _ c.in_ok-book.ensures.book within count wrote
+    shared_written (tt {0}) g.row.A.Denot c.args.log.now c.args.options.procs c.args.options.spacing _ _ _ scripts texts _ _ c.in_ok-book.ensures.book (ap (map (λ k. k.items)) c.as_slice-comments.ensures.value) within c.in_ok-texts.ensures wrote
 
 pub returns-then-log-gt-LOG_LIMIT : goal.returns-then-log-gt-LOG_LIMIT
 returns-then-log-gt-LOG_LIMIT g c =
     let long : log_limit < length c.args.log.now = search rules in
-    shared_long_log (Unit {0}) c.args.log.now c.args.options.procs (map (λ s. s.items) c.args.scripts.now) _ long
+    shared_long_log (Unit {0}) g.row.A.Denot c.args.log.now c.args.options.procs (map (λ s. s.items) c.args.scripts.now) _ long
 
 pub returns-then-not-are_within : goal.returns-then-not-are_within
 returns-then-not-are_within g c =
     let some : list_all (λ s. nat_le (length s.items) script_limit) c.args.scripts.now ≡ false = search rules in
     let whole = list_all-map (λ (s : List ℕ). nat_le (length s) script_limit) (λ s. s.items) c.args.scripts.now in
-    shared_long_script (Unit {0}) c.args.log.now c.args.options.procs (map (λ s. s.items) c.args.scripts.now) _ (λ within. true≢false (sym within ∙ (whole ∙ some)))
+    shared_long_script (Unit {0}) g.row.A.Denot c.args.log.now c.args.options.procs (map (λ s. s.items) c.args.scripts.now) _ (λ within. true≢false (sym within ∙ (whole ∙ some)))
 
 pub returns-in_err-book : goal.returns-in_err-book
 returns-in_err-book g c =
@@ -49,4 +46,4 @@ returns-in_err-book g c =
     let told : c.from_residual.result ≡ Err c.in_err-book.field-0.0 = search rules in
     let few : list_all (λ s. nat_le (length s.items) script_limit) c.args.scripts.now ≡ true = search rules in
     let within : are_within scripts ≡ true = list_all-map (λ (s : List ℕ). nat_le (length s) script_limit) (λ s. s.items) c.args.scripts.now ∙ few in
-    shared_unopened c.from_residual.result c.args.log.now c.args.options.procs scripts _ c.in_err-book.field-0.0 told within c.in_err-book.ensures.fault
+    shared_unopened c.from_residual.result g.row.A.Denot c.args.log.now c.args.options.procs scripts _ c.in_err-book.field-0.0 told within c.in_err-book.ensures.fault

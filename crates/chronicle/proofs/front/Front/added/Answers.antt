@@ -1,6 +1,6 @@
 use Rattle.std.proofs.Common.{sym, ◌∙◌, ap}
 use Rattle.chronicle.proofs.Adding.{adds_moves}
-use Rattle.chronicle.proofs.front.Front.add.Goals as goal
+use Rattle.chronicle.proofs.front.Front.added.Goals as goal
 
 pub compare_exchange-found-requires : goal.compare_exchange-found-requires
 compare_exchange-found-requires g c =

@@ -1,0 +1,18 @@
+use std::marker::Brand;
+
+// Which scripts a crew works, and which comments their log has. Each call of a program picks both.
+pub(crate) trait Works {
+    ghost use Rattle.std.specs.Prelude.{ℕ, List};
+
+    ghost comments: { List (List ℕ) };
+
+    ghost scripts: { List (List ℕ) };
+}
+
+impl Works for Brand {
+    ghost use Rattle.std.specs.Prelude.{[]};
+
+    ghost comments = { [] };
+
+    ghost scripts = { [] };
+}

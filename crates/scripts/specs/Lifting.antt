@@ -1,0 +1,33 @@
+-- How what one analyst may be told, by the rules of a session, is what another may be told, by rules of the session's history.
+use Rattle.std.specs.Prelude.{◌≡◌, ℕ, List, Option, Result}
+use Rattle.book_machine.specs.declared.settle_state.SettleState.{SettleState}
+use Rattle.book_machine.specs.Call.{BookCall}
+use Rattle.version_book.specs.declared.faults.ViewFault.{ViewFault}
+use Rattle.version_book.specs.declared.refusal.Refusal.{Refusal}
+use Rattle.version_book.specs.Book.{PublishedView}
+use Rattle.version_book.specs.Steps.{Answer}
+use Rattle.scripts.specs.Analysts.{IsViewed, LinesBy}
+use Rattle.scripts.specs.Rules.{Moment, Rules}
+
+-- A step keeps the invariant. Whether the fact holds may be known at the end alone: where the new state is good, it does, and
+-- the old one was good.
+abbrev pub Leads : {S : Type 0} → (S → Type 0) → (S → Type 0) → S → S → Type 0 → Type 0
+Leads Inv Good old new fact = Inv old → Inv new × (Good new → Good old × fact)
+
+module _ {S T : Type 0} (from : Rules S) (to : Rules T) (at : S → T) (Inv Good : S → Type 0) where
+  -- each rule of the one leads to that of the other, where its states stand; a call that views goes with what it shows
+  pub record Lifts : Type 0 where
+    pub does : (old new : S) (call : BookCall) (answer : Answer) → from.does old call answer new → Leads Inv Good old new (to.does (at old) call answer (at new))
+    pub views : (old new : S) (id : ℕ) (told : Result PublishedView (Refusal ViewFault)) → IsViewed from old id told new → Leads Inv Good old new (IsViewed to (at old) id told (at new))
+    pub finds : (old new : S) (name : List ℕ) (found : Option ℕ) → from.finds old name found new → Leads Inv Good old new (to.finds (at old) name found (at new))
+    pub counts : (old new : S) (version : ℕ) → from.counts old version new → Leads Inv Good old new (to.counts (at old) version (at new))
+    pub reads : (old new : S) (moment : Option Moment) → from.reads old moment new → Leads Inv Good old new (to.reads (at old) moment (at new))
+    pub settles : (old new : S) (state : SettleState) → from.settles old state new → Leads Inv Good old new (to.settles (at old) state (at new))
+    pub seen : (s : S) → from.seen s ≡ to.seen (at s)
+
+  -- What a script is answered by the rules of the one it is answered by those of the other: from where the invariant holds, if
+  -- the state in the end is good.
+  abbrev pub LinesLift : Type 0 → Type 0
+  LinesLift A =
+      Lifts → (comments : List (List ℕ)) (old : S) (ls : List (List ℕ)) (number : ℕ) (out : List ℕ) (new : S)
+      → LinesBy from A comments old ls number out new → Leads Inv Good old new (LinesBy to A comments (at old) ls number out (at new))

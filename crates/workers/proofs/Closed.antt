@@ -1,0 +1,46 @@
+-- What a closed desk says, by what speaks against closing.
+use Rattle.std.proofs.Common.{◌≡◌, ◌∙◌, ℕ, Bool, List, drop, length, sym, ap, subst}
+use Rattle.std.specs.Prelude.{Option}
+use Rattle.book_machine.specs.History.{Noted}
+use Rattle.book_machine.specs.Machine.{Machine}
+use Rattle.chronicle.specs.Events.{IsLegalFrom}
+use Rattle.chronicle.specs.Fronts.{Seen}
+use Rattle.version_book.specs.Book.{BookView}
+use Rattle.workers.specs.Callers.{SessionView, WorkerView}
+use Rattle.workers.specs.Closing.{AreAll, AreOpened, IsTheirs, IsTold, SpeaksAgainst, StandInOne}
+use Rattle.workers.specs.declared.close_fault.CloseFault.{CloseFault}
+use Rattle.workers.specs.Tied.{IsTied, opened_sessions, opened_workers}
+use Rattle.workers.proofs.Tying.{lain}
+
+-- as many were opened in the history as the desk has counted
+pub opened_all : (sessions : List SessionView) (workers : List WorkerView) (m n m' n' : ℕ) → m ≡ m' → n ≡ n' → (AreAll m n sessions workers → AreAll m' n' sessions workers) × (AreAll m' n' sessions workers → AreAll m n sessions workers)
+opened_all sessions workers m n m' n' s w = (
+  (λ a. subst (λ (k : ℕ). AreAll m' k sessions workers) w (subst (λ (k : ℕ). AreAll k n sessions workers) s a)),
+  (λ a. subst (λ (k : ℕ). AreAll m k sessions workers) (sym w) (subst (λ (k : ℕ). AreAll k n' sessions workers) (sym s) a)),
+)
+
+-- the callers are all, where what was opened is no matter
+pub all_in : (all : Seen) (sessions : List SessionView) (workers : List WorkerView) → AreOpened all sessions workers → IsTheirs all sessions workers → AreAll (length sessions) (length workers) sessions workers
+all_in all sessions workers opened theirs =
+    let a = opened theirs.kept in
+    (opened_all sessions workers (length sessions) (length workers) (opened_sessions all.events) (opened_workers all.events) a.as_many_sessions a.as_many_workers).1 a
+
+-- the lists are the notes after the opening ones
+pub told_in : (opening : Machine) (n : ℕ) (book : BookView) (all : Seen) (s w : ℕ) (stopped : Bool) (sessions : List SessionView) (workers : List WorkerView)
+    → n ≡ opening.notes → IsTied opening (lain book all s w stopped) → IsTheirs all sessions workers → IsTold sessions workers (drop n book.journal)
+told_in opening n book all s w stopped sessions workers at tied theirs =
+    subst (λ (ns : List Noted). IsTold sessions workers ns) ((tied theirs.kept).notes ∙ ap (λ (k : ℕ). drop k book.journal) (sym at)) theirs.lists
+
+-- all sessions stand in the history
+pub stand_in : (opening : Machine) (n : ℕ) (book : BookView) (all : Seen) (s w : ℕ) (stopped : Bool) (sessions : List SessionView) (workers : List WorkerView)
+    → n ≡ opening.notes → IsTied opening (lain book all s w stopped) → IsLegalFrom opening all.events → IsTheirs all sessions workers → StandInOne opening sessions (drop n book.journal)
+stand_in opening n book all s w stopped sessions workers at tied legal theirs =
+    (all.events, legal, (tied theirs.kept).notes ∙ ap (λ (k : ℕ). drop k book.journal) (sym at), (λ k d lt. let b = theirs.fronts k d lt in (b.0, b.2)))
+
+-- what speaks against closing, of equal lists
+pub against : (all : Seen) (sessions sessions' : List SessionView) (workers workers' : List WorkerView) (found found' : Option CloseFault) → sessions ≡ sessions' → workers ≡ workers' → found ≡ found'
+    → SpeaksAgainst (AreOpened all sessions workers) (IsTheirs all sessions workers) found → SpeaksAgainst (AreOpened all sessions' workers') (IsTheirs all sessions' workers') found'
+against all sessions sessions' workers workers' found found' s w f speaks =
+    subst (λ (o : Option CloseFault). SpeaksAgainst (AreOpened all sessions' workers') (IsTheirs all sessions' workers') o) f
+    (subst (λ (ws : List WorkerView). SpeaksAgainst (AreOpened all sessions' ws) (IsTheirs all sessions' ws) found) w
+    (subst (λ (ss : List SessionView). SpeaksAgainst (AreOpened all ss workers) (IsTheirs all ss workers) found) s speaks))

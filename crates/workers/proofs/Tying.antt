@@ -1,0 +1,220 @@
+-- The history stays tied to the book, and a session's front to the history.
+use Rattle.std.proofs.Common.{◌≡◌, ◌<◌, ◌+◌, ◌||◌, ℕ, Bool, true, false, cond, List, [], ◌∷◌, ◌++◌, drop, length, refl, sym, ◌∙◌, ap, subst, arith, length-append, append-nil, inl, inr}
+use Rattle.std.specs.Prelude.{if◌then◌else◌, nat_lt, Option, None, Some, IfSome, IfOk, Result, Err, count_by}
+use Rattle.std.specs.List.{cons_option, slice_get}
+use Rattle.std.proofs.lemmas.List.{drop-append-le}
+use Rattle.std.proofs.lemmas.List.Elements.{filter_map-append}
+use Rattle.std.proofs.lemmas.List.Folds.{list_any-append}
+use Rattle.std.proofs.lemmas.List.Sums.{sum_by-append}
+use Rattle.std.proofs.lemmas.Option.{slice_get_past, slice_get-get_or}
+use Rattle.std.proofs.Math.ListN.{drop_of_length-le}
+use Rattle.std.proofs.Math.Seq.{get_or-append_seam}
+use mathlib.Core.List.{IsPrefix}
+use Rattle.book_machine.specs.declared.caller.Caller.{Caller}
+use Rattle.book_machine.specs.declared.reply.Reply.{Reply}
+use Rattle.book_machine.specs.Call.{BookCall, View}
+use Rattle.book_machine.specs.History.{Noted, after_all}
+use Rattle.book_machine.specs.Machine.{Machine, after}
+use Rattle.chronicle.specs.Events.{Happened, Called, Opened, IsAccepted, note_in, notes_of, state_after}
+use Rattle.chronicle.specs.Fronts.{Seen, Adds, Follows, nothing_yet}
+use Rattle.version_book.specs.declared.faults.ViewFault.{ViewFault}
+use Rattle.version_book.specs.declared.refusal.Refusal.{Refusal}
+use Rattle.version_book.specs.declared.refusal.Refusal.TheVariants as why
+use Rattle.version_book.specs.Answers.{view_answer}
+use Rattle.version_book.specs.Book.{BookView, PublishedView, machine_of}
+use Rattle.version_book.specs.Sound.{IsBook}
+use Rattle.version_book.specs.Steps.{Answer, Answers, full, memory, told, note_of}
+use Rattle.version_book.specs.Tasks.{IsShownFor}
+use Rattle.workers.specs.Callers.{most, next_caller}
+use Rattle.workers.specs.History.{Calls, CalledAt, EndsOpened, Reads, Views}
+use Rattle.workers.specs.Settling.{has_stopped, is_stop}
+use Rattle.workers.specs.Tied.{AreOne, Hears, IsTied, SharedView, opened_sessions, opened_workers, opens_session, opens_worker}
+
+-- what lies under the lock, by its parts
+abbrev pub lain : BookView → Seen → ℕ → ℕ → Bool → SharedView
+lain book history sessions workers stopped = record { book = book; history = history; sessions = sessions; workers = workers; stopped = stopped }
+
+-- ---- what is noted
+
+behind_all : (xs : List Noted) → slice_get xs (length xs) ≡ None
+behind_all xs = slice_get_past xs (length xs) (omega arith)
+
+behind_last : (xs : List Noted) (x : Noted) → slice_get (xs ++ x ∷ []) (length xs) ≡ Some x
+behind_last xs x =
+    let within : length xs < length (xs ++ x ∷ []) = omega (arith, length-append xs (x ∷ [])) in
+    slice_get-get_or (xs ++ x ∷ []) (length xs) x within ∙ ap Some (get_or-append_seam xs x [] x)
+
+-- the note of an answer, if there is one
+abbrev noted_by : Caller → BookCall → Answer → Option Noted
+noted_by who call full = None
+noted_by who call memory = None
+noted_by who call (told reply) = Some (note_of who call reply)
+
+behind : (old new : BookView) (who : Caller) (call : BookCall) (answer : Answer) (notes : ℕ) → Answers old new who call answer → notes ≡ length old.journal
+    → slice_get new.journal notes ≡ noted_by who call answer
+behind old new who call full notes h from = ap (λ (n : ℕ). slice_get new.journal n) from ∙ (ap (λ (b : BookView). slice_get b.journal (length old.journal)) h.1 ∙ behind_all old.journal)
+behind old new who call memory notes h from = ap (λ (n : ℕ). slice_get new.journal n) from ∙ (ap (λ (b : BookView). slice_get b.journal (length old.journal)) h.1 ∙ behind_all old.journal)
+behind old new who call (told reply) notes h from =
+    ap (λ (n : ℕ). slice_get new.journal n) from ∙ (ap (λ (js : List Noted). slice_get js (length old.journal)) h.3 ∙ behind_last old.journal (note_of who call reply))
+
+fits : (opening : Machine) (old new : BookView) (history : Seen) (who : Caller) (call : BookCall) (answer : Answer)
+    → state_after opening history.events ≡ machine_of old → Answers old new who call answer → IfSome (noted_by who call answer) (IsAccepted (state_after opening history.events))
+fits opening old new history who call full at h = tt
+fits opening old new history who call memory at h = tt
+fits opening old new history who call (told reply) at h = subst (λ (m : Machine). IsAccepted m (note_of who call reply)) (sym at) (h.0, h.1)
+
+-- the machine accepts what the book noted
+pub accepted : (opening : Machine) (old new : BookView) (history : Seen) (sessions workers : ℕ) (stopped : Bool) (who : Caller) (call : BookCall) (answer : Answer) (notes : ℕ)
+    → IsTied opening (lain old history sessions workers stopped) → Answers old new who call answer → notes ≡ length old.journal
+    → history.kept ≡ true → IfSome (slice_get new.journal notes) (IsAccepted (state_after opening history.events))
+accepted opening old new history sessions workers stopped who call answer notes tied h from kept =
+    subst (λ (o : Option Noted). IfSome o (IsAccepted (state_after opening history.events))) (sym (behind old new who call answer notes h from))
+    (fits opening old new history who call answer (tied kept).machine h)
+
+-- ---- the tie
+
+after_append : (m : Machine) (notes more : List Noted) → after_all m (notes ++ more) ≡ after_all (after_all m notes) more
+after_append m [] more = refl
+after_append m (n ∷ notes) more = after_append (after n.call m) notes more
+
+counted : (p : Happened → Bool) (xs : List Happened) (x : Happened) → count_by p (xs ++ x ∷ []) ≡ count_by p xs + cond (p x) 1 0
+counted p xs x =
+    let none_more : 0 + cond (p x) 1 0 ≡ cond (p x) 1 0 = omega arith in
+    sum_by-append (λ (y : Happened). cond (p y) 1 0) xs (x ∷ []) ∙ ap (λ (n : ℕ). count_by p xs + n) none_more
+
+pub or_false : (b : Bool) → b ≡ (b || false)
+or_false true = refl
+or_false false = refl
+
+pub or_true : (b : Bool) → true ≡ (b || true)
+or_true true = refl
+or_true false = refl
+
+-- the next caller's number is how many there were
+pub next_is : (opened n : ℕ) → next_caller opened ≡ Some n → n ≡ opened
+next_is opened n is = go (nat_lt opened most) is
+  where
+    go : (b : Bool) → (if b then Some opened else None) ≡ Some n → n ≡ opened
+    go true e = cc
+    go false e = cc
+
+grows : (opening : Machine) (old new : BookView) (history later : Seen) (sessions workers : ℕ) (stopped : Bool) (who : Caller) (call : BookCall) (reply : Reply)
+    → AreOne opening (lain old history sessions workers stopped) → later.events ≡ history.events ++ Called (note_of who call reply) ∷ []
+    → machine_of new ≡ after call (machine_of old) → new.journal ≡ old.journal ++ note_of who call reply ∷ [] → AreOne opening (lain new later sessions workers stopped)
+grows opening old new history later sessions workers stopped who call reply t added machine journal =
+    let note : Noted = note_of who call reply in
+    let notes : notes_of later.events ≡ notes_of history.events ++ note ∷ [] = ap notes_of added ∙ filter_map-append note_in history.events (Called note ∷ []) in
+    let more : length new.journal ≡ length old.journal + 1 = ap length journal ∙ length-append old.journal (note ∷ []) in
+    record {
+      notes = notes ∙ (ap (λ (ns : List Noted). ns ++ note ∷ []) t.notes ∙ (sym (drop-append-le opening.notes old.journal (note ∷ []) t.far) ∙ ap (drop opening.notes) (sym journal)));
+      far = omega (arith, t.far, more);
+      machine = ap (after_all opening) notes ∙ (after_append opening (notes_of history.events) (note ∷ []) ∙ (ap (after call) t.machine ∙ sym machine));
+      sessions = omega (arith, ap opened_sessions added, counted opens_session history.events (Called note), t.sessions);
+      workers = omega (arith, ap opened_workers added, counted opens_worker history.events (Called note), t.workers);
+      stopped = t.stopped ∙ (or_false (has_stopped history.events) ∙ sym (ap has_stopped added ∙ list_any-append is_stop history.events (Called note ∷ [])));
+    }
+
+stays : (opening : Machine) (old new : BookView) (history later : Seen) (sessions workers : ℕ) (stopped : Bool)
+    → IsTied opening (lain old history sessions workers stopped) → new ≡ old → later ≡ history → IsTied opening (lain new later sessions workers stopped)
+stays opening old new history later sessions workers stopped tied book same =
+    subst (λ (b : BookView). IsTied opening (lain b later sessions workers stopped)) (sym book) (subst (λ (s : Seen). IsTied opening (lain old s sessions workers stopped)) (sym same) tied)
+
+tied_by : (opening : Machine) (old new : BookView) (history later : Seen) (sessions workers : ℕ) (stopped : Bool) (who : Caller) (call : BookCall) (answer : Answer)
+    → IsTied opening (lain old history sessions workers stopped) → Answers old new who call answer → Hears history (noted_by who call answer) later → IsTied opening (lain new later sessions workers stopped)
+tied_by opening old new history later sessions workers stopped who call full tied h hears = stays opening old new history later sessions workers stopped tied h.1 hears
+tied_by opening old new history later sessions workers stopped who call memory tied h hears = stays opening old new history later sessions workers stopped tied h.1 hears
+tied_by opening old new history later sessions workers stopped who call (told reply) tied h hears = λ kept.
+    let added = hears.0 kept in
+    grows opening old new history later sessions workers stopped who call reply (tied added.0) added.1 h.2 h.3
+
+hears_by : (old new : BookView) (history later : Seen) (who : Caller) (call : BookCall) (answer : Answer) (notes : ℕ)
+    → Answers old new who call answer → notes ≡ length old.journal → Hears history (slice_get new.journal notes) later → Hears history (noted_by who call answer) later
+hears_by old new history later who call answer notes h from hears = subst (λ (o : Option Noted). Hears history o later) (behind old new who call answer notes h from) hears
+
+-- a call keeps it
+pub tied : (opening : Machine) (old new : BookView) (history later : Seen) (sessions workers : ℕ) (stopped : Bool) (who : Caller) (call : BookCall) (answer : Answer) (notes : ℕ)
+    → IsTied opening (lain old history sessions workers stopped) → Answers old new who call answer → notes ≡ length old.journal → Hears history (slice_get new.journal notes) later
+    → IsTied opening (lain new later sessions workers stopped)
+tied opening old new history later sessions workers stopped who call answer notes before h from hears =
+    tied_by opening old new history later sessions workers stopped who call answer before h (hears_by old new history later who call answer notes h from hears)
+
+-- so does what is no call
+pub tied_behind : (opening : Machine) (book : BookView) (history later : Seen) (sessions workers sessions' workers' : ℕ) (stopped stopped' : Bool) (e : Happened)
+    → note_in e ≡ None → sessions' ≡ sessions + cond (opens_session e) 1 0 → workers' ≡ workers + cond (opens_worker e) 1 0 → stopped' ≡ (stopped || (is_stop e || false))
+    → IsTied opening (lain book history sessions workers stopped) → Adds history e later → IsTied opening (lain book later sessions' workers' stopped')
+tied_behind opening book history later sessions workers sessions' workers' stopped stopped' e none s w st before adds = λ kept.
+    let added = adds.0 kept in
+    let t = before added.0 in
+    let notes : notes_of later.events ≡ notes_of history.events =
+    ap notes_of added.1 ∙ (filter_map-append note_in history.events (e ∷ []) ∙ (ap (λ (o : Option Noted). notes_of history.events ++ cons_option o []) none ∙ append-nil (notes_of history.events))) in
+    record {
+      notes = notes ∙ t.notes;
+      far = t.far;
+      machine = ap (after_all opening) notes ∙ t.machine;
+      sessions = omega (arith, ap opened_sessions added.1, counted opens_session history.events e, t.sessions, s);
+      workers = omega (arith, ap opened_workers added.1, counted opens_worker history.events e, t.workers, w);
+      stopped = st ∙ (ap (λ (b : Bool). b || (is_stop e || false)) t.stopped ∙ sym (ap has_stopped added.1 ∙ list_any-append is_stop history.events (e ∷ [])));
+    }
+
+-- a history begins where the book stands
+pub tied_first : (opening : Machine) (book : BookView) (whole : Seen) → opening ≡ machine_of book → whole ≡ nothing_yet → IsTied opening (lain book whole 0 0 false)
+tied_first opening book whole at is = subst (λ (s : Seen). IsTied opening (lain book s 0 0 false)) (sym is) (subst (λ (m : Machine). IsTied m (lain book nothing_yet 0 0 false)) (sym at) (λ kept. record {
+  notes = sym (drop_of_length-le book.journal (omega arith));
+  far = omega arith;
+  machine = refl;
+  sessions = refl;
+  workers = refl;
+  stopped = refl;
+}))
+
+-- ---- a session's front
+
+prefix_self : {A : Type 0} (xs : List A) → IsPrefix xs xs
+prefix_self xs = ([], append-nil xs)
+
+called_at : (opening : Machine) (old new : BookView) (history later front : Seen) (who : Caller) (call : BookCall) (answer : Answer)
+    → state_after opening history.events ≡ machine_of old → Answers old new who call answer → Hears history (noted_by who call answer) later → later.kept ≡ true → front.events ≡ later.events
+    → CalledAt opening history.events who call answer front.events
+called_at opening old new history later front who call full at h hears kept is = (ap (λ (m : Machine). m.notes) at ∙ h.0, is ∙ ap (λ (s : Seen). s.events) hears)
+called_at opening old new history later front who call memory at h hears kept is = is ∙ ap (λ (s : Seen). s.events) hears
+called_at opening old new history later front who call (told reply) at h hears kept is =
+    let fits : IsAccepted (state_after opening history.events) (note_of who call reply) = subst (λ (m : Machine). IsAccepted m (note_of who call reply)) (sym at) (h.0, h.1) in
+    (fits.0, fits.1, is ∙ (hears.0 kept).1)
+
+-- the call stands in it
+pub called : (opening : Machine) (old new : BookView) (history later : Seen) (sessions workers : ℕ) (stopped : Bool) (who : Caller) (call : BookCall) (answer : Answer) (notes : ℕ) (front at front' : Seen)
+    → IsTied opening (lain old history sessions workers stopped) → Answers old new who call answer → notes ≡ length old.journal → Hears history (slice_get new.journal notes) later
+    → Follows front history at → Follows at later front' → Calls opening front who call answer front'
+called opening old new history later sessions workers stopped who call answer notes front at front' before h from hears first second = λ kept.
+    let two = second.0 kept in
+    let one = first.0 two.0.0 in
+    let here = called_at opening old new history later front' who call answer (before one.0.1).machine h (hears_by old new history later who call answer notes h from hears) two.0.1 two.1 in
+    (one.0.0, (history.events, one.0.2, here))
+
+-- and so does a view
+pub viewed : (opening : Machine) (old new : BookView) (history later : Seen) (sessions workers : ℕ) (stopped : Bool) (who : Caller) (id seen : ℕ) (shown : Result PublishedView (Refusal ViewFault)) (notes : ℕ) (front at front' : Seen)
+    → IsTied opening (lain old history sessions workers stopped) → Answers old new who (View id seen) (view_answer shown) → notes ≡ length old.journal → Hears history (slice_get new.journal notes) later
+    → Follows front history at → Follows at later front' → IsBook old → IfOk shown (IsShownFor old.state id seen) → Views opening front who id seen shown front'
+viewed opening old new history later sessions workers stopped who id seen shown notes front at front' before h from hears first second book is = λ kept.
+    let two = second.0 kept in
+    let one = first.0 two.0.0 in
+    let at_book = (before one.0.1).machine in
+    let here = called_at opening old new history later front' who (View id seen) (view_answer shown) at_book h (hears_by old new history later who (View id seen) (view_answer shown) notes h from hears) two.0.1 two.1 in
+    (one.0.0, (history.events, one.0.2, here, inr (old, book, sym at_book, is)))
+
+-- a call for which memory was short before the lock
+pub calls_nothing : (opening : Machine) (front : Seen) (who : Caller) (call : BookCall) → Calls opening front who call memory front
+calls_nothing opening front who call = λ kept. (kept, (front.events, prefix_self front.events, refl))
+
+pub views_nothing : (opening : Machine) (front : Seen) (who : Caller) (id seen : ℕ) → Views opening front who id seen (Err why.Memory) front
+views_nothing opening front who id seen = λ kept. (kept, (front.events, prefix_self front.events, refl, inl refl))
+
+-- what is read of the book is read there
+pub read : (opening : Machine) (book : BookView) (history : Seen) (sessions workers : ℕ) (stopped : Bool) (front front' : Seen) (Holds : Machine → Type 0)
+    → IsTied opening (lain book history sessions workers stopped) → Follows front history front' → Holds (machine_of book) → Reads opening front Holds front'
+read opening book history sessions workers stopped front front' Holds before follows holds = λ kept.
+    let one = follows.0 kept in
+    (one.0.0, subst (IsPrefix front.events) (sym one.1) one.0.2, subst Holds (sym (ap (state_after opening) one.1 ∙ (before one.0.1).machine)) holds)
+
+pub ends_opened : (old new : Seen) (who : Caller) → Adds old (Opened who) new → EndsOpened who new
+ends_opened old new who adds = λ kept. (old.events, (adds.0 kept).1)

@@ -1,0 +1,74 @@
+-- Where in the history of a desk a caller is answered. The history begins in the machine's state `opening`; what is said of a
+-- front holds where it is kept.
+use Rattle.std.specs.Prelude.{◌≡◌, ◌<◌, ◌⊎◌, ℕ, true, List, [], ◌∷◌, ◌++◌, Result, Err, IfOk}
+use Rattle.std.specs.Arc.{arc_value}
+use mathlib.Core.List.{IsPrefix}
+use Rattle.book_machine.specs.declared.caller.Caller.{Caller}
+use Rattle.book_machine.specs.declared.settle_state.SettleState.TheVariants as state
+use Rattle.book_machine.specs.Call.{BookCall, View}
+use Rattle.book_machine.specs.Machine.{Machine, current, note_limit, reply_to, settled, version}
+use Rattle.chronicle.specs.Events.{Happened, Called, Opened, state_after}
+use Rattle.chronicle.specs.Fronts.{Seen}
+use Rattle.version_book.specs.declared.faults.ViewFault.{ViewFault}
+use Rattle.version_book.specs.declared.refusal.Refusal.{Refusal}
+use Rattle.version_book.specs.declared.refusal.Refusal.TheVariants as why
+use Rattle.version_book.specs.Answers.{view_answer}
+use Rattle.version_book.specs.Book.{BookView, PublishedView, machine_of}
+use Rattle.version_book.specs.Sound.{IsBook}
+use Rattle.version_book.specs.Steps.{Answer, full, memory, told, note_of}
+use Rattle.version_book.specs.Tasks.{IsShownFor}
+use Rattle.workers.specs.Settling.{has_stopped}
+use Rattle.workers.specs.declared.current.Current.{Current}
+use Rattle.workers.specs.declared.settled.Settled.{Settled}
+use Rattle.workers.specs.declared.settled.Settled.TheVariants as settled_as
+
+-- the caller was opened last
+abbrev pub EndsOpened : Caller → Seen → Type 0
+EndsOpened who front = front.kept ≡ true → (before : List Happened) × (front.events ≡ before ++ Opened who ∷ [])
+
+-- ---- calls
+
+-- The call was made at this place of the history, and answered as the machine does there; one that is noted stands behind it.
+abbrev pub CalledAt : Machine → List Happened → Caller → BookCall → Answer → List Happened → Type 0
+CalledAt opening before who call full after = ((state_after opening before).notes ≡ note_limit) × (after ≡ before)
+CalledAt opening before who call memory after = after ≡ before
+CalledAt opening before who call (told reply) after =
+    ((state_after opening before).notes < note_limit) × (reply ≡ reply_to call (state_after opening before)) × (after ≡ before ++ Called (note_of who call reply) ∷ [])
+
+-- the history went on, and then the call was made
+abbrev pub Calls : Machine → Seen → Caller → BookCall → Answer → Seen → Type 0
+Calls opening old who call answer new =
+    new.kept ≡ true → (old.kept ≡ true) × ((before : List Happened) × IsPrefix old.events before × CalledAt opening before who call answer new.events)
+
+-- a book that stood where the machine stands showed this; where memory was refused nothing is said
+abbrev pub IsShownAt : Machine → ℕ → ℕ → Result PublishedView (Refusal ViewFault) → Type 0
+IsShownAt m id seen shown = (shown ≡ Err why.Memory) ⊎ ((b : BookView) × IsBook b × (machine_of b ≡ m) × IfOk shown (IsShownFor b.state id seen))
+
+-- the history went on, and then the scenario was viewed
+abbrev pub Views : Machine → Seen → Caller → ℕ → ℕ → Result PublishedView (Refusal ViewFault) → Seen → Type 0
+Views opening old who id seen shown new =
+    new.kept ≡ true → (old.kept ≡ true) × ((before : List Happened) × IsPrefix old.events before
+    × CalledAt opening before who (View id seen) (view_answer shown) new.events × IsShownAt (state_after opening before) id seen shown)
+
+-- ---- readings
+
+-- the history went on, and at its end this holds of the machine
+abbrev pub Reads : Machine → Seen → (Machine → Type 0) → Seen → Type 0
+Reads opening old Holds new = new.kept ≡ true → (old.kept ≡ true) × IsPrefix old.events new.events × Holds (state_after opening new.events)
+
+-- this is where the machine stands
+pub record IsCurrentAt {A : Type 0} (m : Machine) (c : Current A) : Type 0 where
+  pub version : c.version ≡ version m
+  pub table : arc_value c.table ≡ current m
+  pub scenarios : c.scenarios ≡ m.listing
+
+-- what a session that waits for its runs may be answered at this place: how far the scenarios are; or that one is waited for,
+-- behind a stop
+abbrev pub IsSettledAt : Machine → List Happened → ℕ → Settled → Type 0
+IsSettledAt opening events seen settled_as.Done = settled seen (state_after opening events) ≡ state.Done
+IsSettledAt opening events seen (settled_as.Failed n) = settled seen (state_after opening events) ≡ state.Failed n
+IsSettledAt opening events seen settled_as.Stopped = (settled seen (state_after opening events) ≡ state.Waiting) × (has_stopped events ≡ true)
+
+-- the history went on, and at its end the session was answered so
+abbrev pub Settles : Machine → Seen → ℕ → Settled → Seen → Type 0
+Settles opening old seen answer new = new.kept ≡ true → (old.kept ≡ true) × IsPrefix old.events new.events × IsSettledAt opening new.events seen answer
