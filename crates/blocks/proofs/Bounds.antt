@@ -18,11 +18,11 @@ module _ {X : Type 0} (f : X → ℕ) where
   pub lower : (least less : ℕ) (xs : List X) → less ≤ least → Low least xs → Low less xs
   lower least less xs le low = All-weaker (λ x. least ≤ f x) (λ x. less ≤ f x) (λ x (k : least ≤ f x). omega (arith, k, le)) xs low
 
-  low_insert : (least at : ℕ) (xs : List X) (x : X) → Low least xs → least ≤ f x → Low least (insert xs at x)
+  pub low_insert : (least at : ℕ) (xs : List X) (x : X) → Low least xs → least ≤ f x → Low least (insert xs at x)
   low_insert least at xs x low le =
       All-append (λ y. least ≤ f y) (take at xs) (x ∷ drop at xs) (All-take (λ y. least ≤ f y) at xs low) (All-cons (λ y. least ≤ f y) x (drop at xs) le (All-drop (λ y. least ≤ f y) at xs low))
 
-  low_remove : (least at : ℕ) (xs : List X) → Low least xs → Low least (remove xs at)
+  pub low_remove : (least at : ℕ) (xs : List X) → Low least xs → Low least (remove xs at)
   low_remove least at xs low = All-append (λ y. least ≤ f y) (take at xs) (drop (suc at) xs) (All-take (λ y. least ≤ f y) at xs low) (All-drop (λ y. least ≤ f y) (suc at) xs low)
 
   pub low_one : (least : ℕ) (x : X) (new : List (List X)) → least ≤ f x → new ≡ (x ∷ []) ∷ [] → Low least (flat new)

@@ -90,7 +90,7 @@ module _ {X : Type 0} where
       ∙ ap (λ (n : ℕ). flat (take k cs) ++ [] ++ flat (drop n cs)) (sym (next_is k)))
 
   -- ---- a block that is cut
-  cut_parts : (k : ℕ) (cs : List (List X)) → k < length cs → cut_at k cs ≡ take k cs ++ take 64 (get_or cs k []) ∷ drop 64 (get_or cs k []) ∷ drop (k + 1) cs
+  pub cut_parts : (k : ℕ) (cs : List (List X)) → k < length cs → cut_at k cs ≡ take k cs ++ take 64 (get_or cs k []) ∷ drop 64 (get_or cs k []) ∷ drop (k + 1) cs
   cut_parts k cs lt =
       let low = take 64 (get_or cs k []) in
       let high = drop 64 (get_or cs k []) in
@@ -207,7 +207,7 @@ module _ {X : Type 0} where
   item_is k at cs d lt le = get_or-flat_map (λ (c : List X). c) cs k at [] d lt le
 
   -- ---- two blocks that are joined
-  join_parts : (k : ℕ) (cs : List (List X)) → k + 1 < length cs → joined_at k cs ≡ take k cs ++ (get_or cs k [] ++ get_or cs (k + 1) []) ∷ drop (suc (k + 1)) cs
+  pub join_parts : (k : ℕ) (cs : List (List X)) → k + 1 < length cs → joined_at k cs ≡ take k cs ++ (get_or cs k [] ++ get_or cs (k + 1) []) ∷ drop (suc (k + 1)) cs
   join_parts k cs lt =
       let both = get_or cs k [] ++ get_or cs (k + 1) [] in
       ap (λ (r : List (List X)). set (r ++ drop (suc (k + 1)) cs) k both) (take_more cs k [] (omega (arith, lt))) ∙ ap (λ (r : List (List X)). set r k both) (append_assoc (take k cs) (get_or cs k [] ∷ []) (drop (suc (k + 1)) cs))

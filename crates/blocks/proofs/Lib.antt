@@ -8,3 +8,5 @@ mod Rooms
 mod Order
 mod Found
 mod Weighed
+mod Grouped
+mod Passed

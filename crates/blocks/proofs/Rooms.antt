@@ -71,6 +71,13 @@ module _ {X : Type 0} where
         let none : b ≡ [] = sym (get_or_at rest b [] [] (length rest) refl) ∙ All-get_or IsClear (rest ++ b ∷ []) (length rest) [] (omega (arith, length_push rest b)) (subst (All IsClear) e row.cleared) in
         f ∙ ap (λ (l : List X). insert l 0 x) none
 
+    -- blocks in use and empty ones together
+    pub moved_count : (new rest : List (List X)) (room room' : ℕ) → length new ≡ length used + 1 → 1 ≤ length empty → rest ≡ take (length empty - 1) empty → length used + length empty ≤ 64 * room + 63 → room ≤ room' → length new + length rest ≤ 64 * room' + 63
+    moved_count new rest room room' count some e le wide = omega (arith, count, left_length rest some e, le, wide)
+
+    pub returned_count : (new rest : List (List X)) (c : List X) (room room' : ℕ) → length new + 1 ≡ length used → rest ≡ empty ++ c ∷ [] → length used + length empty ≤ 64 * room + 63 → room ≤ room' → length new + length rest ≤ 64 * room' + 63
+    returned_count new rest c room room' count e le wide = omega (arith, count, more_length rest c e, le, wide)
+
     pub grown_row : (more rest : List (List X)) (b : List X) (ur' er' : ℕ) → more ≡ used → b ≡ [] → rest ≡ empty ++ b ∷ [] → length used + length empty < 2 ^ 40 → length used + length empty < ur' → length used + length empty < er' → IsRow more rest over len ur' er'
     grown_row more rest b ur' er' e none f few wide room =
         let count : length more ≡ length used = ap (λ (r : List (List X)). length r) e in

@@ -1,5 +1,5 @@
 -- Items that weigh at most so much, by their places, and where blocks begin.
-use Rattle.std.proofs.Common.{◌≡◌, ℕ, suc, ◌+◌, ◌-◌, ◌<◌, ◌≤◌, Bool, true, false, nat_le, nat_lt, Option, Some, None, List, [], ◌∷◌, ◌++◌, length, length-append, take, drop, slice_get, get_or, set, refl, ap, sym, subst, ◌∙◌, arith, ⊎_elim}
+use Rattle.std.proofs.Common.{◌≡◌, ℕ, zero, suc, ◌+◌, ◌-◌, ◌<◌, ◌≤◌, Bool, true, false, nat_le, nat_lt, Option, Some, None, List, [], ◌∷◌, ◌++◌, length, length-append, take, drop, slice_get, get_or, set, refl, ap, sym, subst, ◌∙◌, arith, ⊎_elim}
 use Rattle.std.specs.List.{All}
 use Rattle.std.specs.Prelude.{if◌then◌else◌}
 use Rattle.std.proofs.lemmas.Bool.Decides.{nat_tests}
@@ -8,7 +8,8 @@ use Rattle.std.proofs.lemmas.List.{append-nil, set-get_or, take_all, take_more}
 use Rattle.std.proofs.lemmas.List.Concat.{flat_map-append}
 use Rattle.std.proofs.lemmas.Option.{slice_get_cases, slice_get_past}
 use Rattle.blocks.specs.Rows.{flat, passes, start}
-use Rattle.blocks.specs.Light.{IsFirstLight, NoneLight, is_light}
+use Rattle.blocks.specs.Groups.{IsGroup}
+use Rattle.blocks.specs.Light.{IsFirstLight, IsFirstUntil, NoneLight, NoneWithin, is_light}
 use Rattle.blocks.proofs.Changes.{flat_at}
 use Rattle.blocks.proofs.Edits.{read_is}
 use Rattle.blocks.proofs.Found.{get_is, inside_flat}
@@ -122,3 +123,63 @@ module _ {X : Type 0} (n : ℕ) (cs : List (List X)) (b items : List X) (begin :
 
   pub block_next : n < length cs → b ≡ get_or cs n b → items ≡ b → begin ≡ start n cs → begin + length items ≡ start (n + 1) cs
   block_next lt read e at = omega (arith, at, ap length e, next n cs b lt read)
+
+-- ---- what a walk up to a place tells of a walk up to the end
+module _ {X : Type 0} (f : X → ℕ) (limit : ℕ) (xs : List X) (from end : ℕ) where
+  pub within_none : (to : ℕ) → NoneLight f limit xs from to → NoneWithin f limit xs from end to
+  within_none to none place low _ high = none place low high
+
+  pub none_within : (to : ℕ) → to ≤ end → NoneWithin f limit xs from end to → NoneLight f limit xs from to
+  none_within to le none place low high = none place low (omega (arith, high, le)) high
+
+  pub ended : (at to : ℕ) → end ≤ at → NoneWithin f limit xs from end at → NoneWithin f limit xs from end to
+  ended at to le none place low high _ = none place low high (omega (arith, high, le))
+
+  pub ended_none : (at : ℕ) → end ≤ at → NoneWithin f limit xs from end at → NoneLight f limit xs from end
+  ended_none at le none place low high = none place low high (omega (arith, high, le))
+
+  pub all_none : (at : ℕ) → length xs ≤ at → NoneWithin f limit xs from end at → NoneLight f limit xs from end
+  all_none at le none place low high =
+      ⊎_elim
+      (λ (l : place < at). none place low high l)
+      (λ (g : at ≤ place). ap (passes (λ x. nat_le (f x) limit)) (slice_get_past xs place (omega (arith, g, le))))
+      (cases_lt place at)
+
+  pub until : (to : ℕ) (r : Option ℕ) → IsFirstLight f limit xs from end r → IsFirstUntil f limit xs from end to r
+  until to None h = λ place low high _. h place low high
+  until to (Some k) h = h
+
+  pub until_all : (to : ℕ) (r : Option ℕ) → length xs ≤ to → IsFirstUntil f limit xs from end to r → IsFirstLight f limit xs from end r
+  until_all to None le h = all_none to le h
+  until_all to (Some k) le h = h
+
+-- ---- a group that is passed over
+module _ {X : Type 0} (f : X → ℕ) (limit from end : ℕ) (cs : List (List X)) (first items least : ℕ) (g : IsGroup f cs first items least) where
+  pub behind_from : (begin : ℕ) → begin ≡ start first cs → begin + items ≤ from → NoneWithin f limit (flat cs) from end (start (first + 64) cs)
+  behind_from begin at le place low _ high = absurd (omega (arith, at, le, low, high, g.count))
+
+  heavy_next : (n : ℕ) → n ≤ 64 → limit < least → NoneLight f limit (flat cs) from (start first cs) → NoneLight f limit (flat cs) from (start (first + n) cs)
+  heavy_next zero le lt none = let same : first ≡ first + 0 = omega arith in subst (λ (k : ℕ). NoneLight f limit (flat cs) from (start k cs)) same none
+  heavy_next (suc n) le lt none =
+      let there : first + n < length cs = omega (arith, le, g.there) in
+      let far : first + n + 1 ≡ first + suc n = omega arith in
+      let b = get_or cs (first + n) [] in
+      let low = g.bound (first + n) (omega arith) (omega (arith, le)) in
+      let read : b ≡ get_or cs (first + n) b = item_read (first + n) cs there in
+      subst (λ (k : ℕ). NoneLight f limit (flat cs) from (start k cs)) far
+      (subst (λ (k : ℕ). NoneLight f limit (flat cs) from k) (sym (next (first + n) cs b there read))
+      (on f limit (first + n) from cs b there read (length b) (omega arith) (heavy_next n (omega (arith, le)) lt none) (none_light f limit b least (from - start (first + n) cs) (length b) lt low)))
+    where
+      item_read : (k : ℕ) (ds : List (List X)) → k < length ds → get_or ds k [] ≡ get_or ds k (get_or ds k [])
+      item_read k [] l = absurd (omega (arith, l))
+      item_read zero (d ∷ ds) l = refl
+      item_read (suc k) (d ∷ ds) l = item_read k ds (omega (arith, l))
+
+  pub heavy_group : (begin : ℕ) → begin ≡ start first cs → limit < least → NoneWithin f limit (flat cs) from end begin → NoneWithin f limit (flat cs) from end (start (first + 64) cs)
+  heavy_group begin at lt none =
+      ⊎_elim
+      (λ (l : begin < end).
+      let strong : NoneLight f limit (flat cs) from begin = none_within f limit (flat cs) from end begin (omega (arith, l)) none in
+      within_none f limit (flat cs) from end (start (first + 64) cs) (heavy_next 64 (omega arith) lt (subst (λ (k : ℕ). NoneLight f limit (flat cs) from k) at strong)))
+      (λ (le : end ≤ begin). ended f limit (flat cs) from end begin (start (first + 64) cs) le none)
+      (cases_lt begin end)

@@ -1,11 +1,13 @@
 ghost use Rattle.std.specs.Prelude.{◌≡◌, ◌≤◌, ◌<◌, ◌+◌, ◌-◌, ◌^◌, [], ◌∷◌, IfOk, OnErr, OnOk, IsOk, length, slice_index_or, slice_set, vec_capacity};
 ghost use Rattle.std.specs.List.{insert, remove};
+ghost use Rattle.blocks.specs.Groups.{AreGroups};
 ghost use Rattle.blocks.specs.Light.{IsFirstLight};
 ghost use Rattle.blocks.specs.Rows.{AreFilled, block_of, cut_at, flat, joined_at, start};
 
 use crate::block::{BLOCK_HALF, BLOCK_LIMIT, Block};
+use crate::groups::{GROUP, Group, mend, put_item, take_item};
 use crate::growth::{another, over_of};
-use crate::light::{first_light, least_of};
+use crate::light::{Wanted, first_light, least_of_all};
 use crate::place::{Place, halved, items_of, mate, open_place};
 use crate::ranked::Ranked;
 use std::alloc::Allocator;
@@ -20,6 +22,9 @@ const FULL_OVER: usize = BLOCK_LIMIT - BLOCK_HALF - 1;
 pub(crate) struct BlockRow<T: Ranked, A: Allocator + Copy> {
     used: Vec<Block<T, A>, A>,
     empty: Vec<Block<T, A>, A>,
+    // What is known of the first 64 blocks in use, of the next 64, and so on; blocks behind them need not
+    // be in a group until a search asks for it.
+    groups: Vec<Group, A>,
     // How many items blocks in use have above 65 each: a cut takes one empty block and makes room for
     // 63 of them, so that each insertion costs at most one of 64 for an empty block.
     over: usize,
@@ -29,14 +34,15 @@ pub(crate) struct BlockRow<T: Ranked, A: Allocator + Copy> {
 }
 
 impl<T: Ranked, A: Allocator + Copy> Model for BlockRow<T, A> {
-    ghost use Rattle.std.specs.Prelude.{◌≤◌, All, length, vec_capacity};
+    ghost use Rattle.std.specs.Prelude.{◌≤◌, ◌+◌, ◌*◌, All, length, vec_capacity};
+    ghost use Rattle.blocks.specs.Groups.{AreGroups};
     ghost use Rattle.blocks.specs.Rows.{BlocksView, IsRow, flat, room_of};
 
     ghost Value = { BlocksView T };
 
     ghost view = { λ r. record { blocks = r.used.items; spare = room_of (length r.used.items) (length r.empty.items) r.over } };
 
-    ghost invariant = { λ r. IsRow r.used.items r.empty.items r.over r.len (vec_capacity r.used) (vec_capacity r.empty) × All (λ x. r.least ≤ T.weight x) (flat r.used.items) };
+    ghost invariant = { λ r. IsRow r.used.items r.empty.items r.over r.len (vec_capacity r.used) (vec_capacity r.empty) × All (λ x. r.least ≤ T.weight x) (flat r.used.items) × AreGroups T.weight r.used.items r.groups.items × (length r.used.items + length r.empty.items ≤ 64 * vec_capacity r.groups + 63) };
 }
 
 impl<T: Ranked, A: Allocator + Copy> BlockRow<T, A> {
@@ -47,6 +53,7 @@ impl<T: Ranked, A: Allocator + Copy> BlockRow<T, A> {
         BlockRow {
             used: Vec::new(alloc),
             empty: Vec::new(alloc),
+            groups: Vec::new(alloc),
             over: 0,
             len: 0,
             least: u64::MAX,
@@ -61,6 +68,14 @@ impl<T: Ranked, A: Allocator + Copy> BlockRow<T, A> {
     {
         let _len = &self.len;
         self.used.as_slice()
+    }
+
+    // What is known of groups of blocks.
+    pub(crate) fn groups(&self) -> &[Group]
+        ensures { AreGroups T.weight self.now.blocks result.now }
+    {
+        let _len = &self.len;
+        self.groups.as_slice()
     }
 
     // How many items there are.
@@ -85,7 +100,7 @@ impl<T: Ranked, A: Allocator + Copy> BlockRow<T, A> {
         ensures ok { OnOk result (self.old.spare < self.new.spare) }
         ensures kept { OnErr result (self.new.spare ≡ self.old.spare) }
     {
-        let block = another(&mut self.used, &mut self.empty)?;
+        let block = another(&mut self.used, &mut self.empty, &mut self.groups)?;
         let Ok(()) = self.empty.push(block) else {
             unreachable!()
         };
@@ -139,6 +154,7 @@ impl<T: Ranked, A: Allocator + Copy> BlockRow<T, A> {
         let Ok(()) = self.used.insert(block + 1, high) else {
             unreachable!()
         };
+        self.groups.truncate(block / GROUP);
         self.over -= FULL_OVER;
     }
 
@@ -154,7 +170,12 @@ impl<T: Ranked, A: Allocator + Copy> BlockRow<T, A> {
     {
         let len = items_of(self.used.as_slice(), place.block).len();
         self.least = self.least.min(item.weight());
-        self.used[place.block].insert(place.at, item);
+        put_item(
+            self.used.as_mut_slice(),
+            self.groups.as_mut_slice(),
+            place,
+            item,
+        );
         self.over = self.over - over_of(len) + over_of(len + 1);
         self.len += 1;
     }
@@ -204,6 +225,7 @@ impl<T: Ranked, A: Allocator + Copy> BlockRow<T, A> {
         let Ok(()) = self.empty.push(last) else {
             unreachable!()
         };
+        self.groups.truncate(block / GROUP);
         self.len -= 1;
         item
     }
@@ -218,7 +240,7 @@ impl<T: Ranked, A: Allocator + Copy> BlockRow<T, A> {
         ensures spare { self.old.spare ≤ self.new.spare }
     {
         let len = items_of(self.used.as_slice(), place.block).len();
-        let item = self.used[place.block].remove(place.at);
+        let item = take_item(self.used.as_mut_slice(), self.groups.as_mut_slice(), place);
         self.over = self.over - over_of(len) + over_of(len - 1);
         self.len -= 1;
         item
@@ -233,6 +255,7 @@ impl<T: Ranked, A: Allocator + Copy> BlockRow<T, A> {
     {
         let mut next = self.used.remove(block + 1);
         self.used[block].join(&mut next);
+        self.groups.truncate(block / GROUP);
         let Ok(()) = self.empty.push(next) else {
             unreachable!()
         };
@@ -265,6 +288,22 @@ impl<T: Ranked, A: Allocator + Copy> BlockRow<T, A> {
         item
     }
 
+    // The wanted place; None where there is none. It groups the blocks that are in no group yet.
+    fn look(&mut self, wanted: Wanted) -> Option<usize>
+        ensures place { IsFirstLight T.weight wanted.limit (flat self.old.blocks) wanted.from wanted.end result }
+        ensures same { self.new ≡ self.old }
+    {
+        mend(&mut self.groups, self.used.as_slice());
+        first_light(self.used.as_mut_slice(), self.groups.as_mut_slice(), wanted)
+    }
+
+    // Learns from groups and blocks what all items weigh at least.
+    fn learn(&mut self)
+        ensures { self.new ≡ self.old }
+    {
+        self.least = least_of_all(self.used.as_slice(), self.groups.as_slice());
+    }
+
     // The first place from one to another whose item weighs at most so much. A search up to the end that
     // found nothing learns from the blocks what all items weigh at least.
     pub(crate) fn first_light(&mut self, from: usize, end: usize, limit: u64) -> Option<usize>
@@ -274,9 +313,9 @@ impl<T: Ranked, A: Allocator + Copy> BlockRow<T, A> {
         if limit < self.least {
             return None;
         }
-        let found = first_light(self.used.as_mut_slice(), from, end, limit);
+        let found = self.look(Wanted { from, end, limit });
         if found.is_none() && self.len <= end {
-            self.least = least_of(self.used.as_slice());
+            self.learn();
         }
         found
     }
@@ -292,6 +331,7 @@ impl<T: Ranked, A: Allocator + Copy> BlockRow<T, A> {
                 unreachable!()
             };
         }
+        self.groups.clear();
         self.over = 0;
         self.len = 0;
     }

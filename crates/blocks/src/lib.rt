@@ -4,6 +4,7 @@
 mod block;
 mod block_row;
 mod front;
+mod groups;
 mod growth;
 mod items;
 mod light;
@@ -11,6 +12,7 @@ mod place;
 mod ranked;
 mod search;
 mod sorted;
+mod walk;
 
 pub use items::Items;
 pub use ranked::Ranked;

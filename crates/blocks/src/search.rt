@@ -1,11 +1,14 @@
 ghost use Rattle.std.specs.Prelude.{◌≡◌, ◌≤◌, ◌<◌, ◌+◌, ◌^◌, IfSome, MatchOption, None, find, length, not, option_copied, slice_get};
 ghost use Rattle.std.specs.List.{position_or_len, remove};
 ghost use Rattle.std.specs.List.Sorted.{IsPartitionedBy};
+ghost use Rattle.blocks.specs.Groups.{AreGroups};
 ghost use Rattle.blocks.specs.Rows.{AreBefore, AreFilled, Rises, block_of, ends_by, flat, is_at, passes, place_in, stands, start, without_first};
 
 use crate::block::Block;
+use crate::groups::Group;
 use crate::place::{Place, items_of};
 use crate::ranked::Ranked;
+use crate::walk::start_of;
 use std::alloc::Allocator;
 
 // Whether an item stands before one with these two numbers.
@@ -79,32 +82,21 @@ pub(crate) fn place_of<T: Ranked, A: Allocator + Copy>(
     Place { block, at }
 }
 
-// How many items the blocks before one have.
-fn start_of<T: Ranked, A: Allocator + Copy>(blocks: &[Block<T, A>], block: usize) -> usize
-    requires within { block ≤ length blocks.now }
-    requires few { length (flat blocks.now) < 2 ^ 64 }
-    ensures { result ≡ start block blocks.now }
-{
-    let mut start = 0;
-    for number in 0..block {
-        start += blocks[number].as_slice().len();
-    }
-    start
-}
-
 // How many items stand before one with these two numbers.
 pub(crate) fn count_before<T: Ranked, A: Allocator + Copy>(
     blocks: &[Block<T, A>],
+    groups: &[Group],
     major: u128,
     minor: u64,
 ) -> usize
     requires filled { AreFilled blocks.now }
     requires rises { Rises T.major T.minor (flat blocks.now) }
     requires few { length (flat blocks.now) < 2 ^ 64 }
+    requires groups { AreGroups T.weight blocks.now groups.now }
     ensures { AreBefore T.major T.minor major minor (flat blocks.now) result }
 {
     let place = place_of(blocks, major, minor);
-    start_of(blocks, place.block) + place.at
+    start_of(blocks, groups, place.block) + place.at
 }
 
 // Whether an item has these two numbers.
@@ -140,24 +132,6 @@ pub(crate) fn place_with<T: Ranked, A: Allocator + Copy>(
     let place = place_of(blocks, major, minor);
     if has_at(items_of(blocks, place.block), place.at, major, minor) {
         return Some(place);
-    }
-    None
-}
-
-// The item at a place; None past the last one.
-pub(crate) fn item_at<T: Ranked, A: Allocator + Copy>(
-    blocks: &[Block<T, A>],
-    place: usize,
-) -> Option<&T>
-    ensures { option_copied result ≡ slice_get (flat blocks.now) place }
-{
-    let mut left = place;
-    for block in blocks {
-        let items = block.as_slice();
-        if left < items.len() {
-            return items.get(left);
-        }
-        left -= items.len();
     }
     None
 }

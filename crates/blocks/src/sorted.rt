@@ -7,7 +7,8 @@ use crate::front::lighter;
 use crate::items::Items;
 use crate::place::items_of;
 use crate::ranked::Ranked;
-use crate::search::{count_before, item_at, place_of, place_with};
+use crate::search::{count_before, place_of, place_with};
+use crate::walk::item_at;
 use std::alloc::Allocator;
 use std::marker::Model;
 use swf_text::Memory;
@@ -120,7 +121,7 @@ impl<T: Ranked, A: Allocator + Copy> Blocks<T, A> {
     pub fn at(&self, place: usize) -> Option<&T>
         ensures { option_copied result ≡ slice_get (flat self.now.blocks) place }
     {
-        item_at(self.row.blocks(), place)
+        item_at(self.row.blocks(), self.row.groups(), place)
     }
 
     /// The first item; None where there is none.
@@ -178,7 +179,7 @@ impl<T: Ranked, A: Allocator + Copy> Blocks<T, A> {
         ensures { AreBefore T.major T.minor major minor (flat self.now.blocks) result }
     {
         let _len = self.row.len();
-        count_before(self.row.blocks(), major, minor)
+        count_before(self.row.blocks(), self.row.groups(), major, minor)
     }
 
     /// The first place from one to another whose item weighs at most so much; None where there is none.

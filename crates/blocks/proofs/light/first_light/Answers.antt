@@ -1,35 +1,38 @@
-use Rattle.std.proofs.Common.{◌+◌, ◌^◌, ◌<◌, ◌≡◌, arith, ℕ, length, rules, subst, sym, ap, ◌∙◌}
-use Rattle.blocks.specs.Rows.{flat, start}
-use Rattle.blocks.specs.Light.{IsFirstLight}
-use Rattle.blocks.proofs.Weighed.{fits_found, fits_next, found_by, next_by, none_by, none_left, same_by, same_length}
+use Rattle.std.proofs.Common.{◌≡◌, ◌≤◌, ◌<◌, ◌+◌, ◌*◌, ◌^◌, ap, arith, length, rules, ◌∙◌}
+use Rattle.blocks.specs.Groups.{AreGroups}
+use Rattle.blocks.specs.declared.groups.Group.{Group}
+use Rattle.std.proofs.Common.{subst}
+use Rattle.blocks.proofs.Grouped.{groups_there}
+use Rattle.blocks.proofs.Passed.{passed_all, passed_fits, passed_next, passed_none}
 use Rattle.blocks.proofs.light.first_light.Goals as goal
 
 pub overflow_add-start : goal.overflow_add-start
 overflow_add-start g c =
-    let fits : c.loop-number.start + c.in-Some.at < 2 ^ 64 = fits_found g.T.Ranked.weight c.args.limit c.loop-number.number c.args.from c.args.blocks.now c.loop-number.blocks c.index-blocks-number-in-loop-number.result c.loop-number.start c.saturating_sub-first.result c.loop-number.invariant.same (search rules) c.index-blocks-number-in-loop-number.is c.loop-number.invariant.at c.saturating_sub-first.ensures c.loop-number.invariant.none c.in-Some.at (2 ^ 64) c.requires c.in-Some.ensures.first.1 in
-    omega (arith, fits)
-
-pub returns-in-Some-clause-place : goal.returns-in-Some-clause-place
-returns-in-Some-clause-place g c =
-    subst (IsFirstLight g.T.Ranked.weight c.args.limit (flat c.args.blocks.now) c.args.from c.args.end) (sym c.within.ensures)
-    (found_by g.T.Ranked.weight c.args.limit c.loop-number.number c.args.from c.args.blocks.now c.loop-number.blocks c.index-blocks-number-in-loop-number.result c.loop-number.start c.saturating_sub-first.result c.loop-number.invariant.same (search rules) c.index-blocks-number-in-loop-number.is c.loop-number.invariant.at c.saturating_sub-first.ensures c.loop-number.invariant.none c.args.end c.in-Some.at c.in-Some.ensures.first)
-
-pub overflow_add-start-in-loop-number : goal.overflow_add-start-in-loop-number
-overflow_add-start-in-loop-number g c =
-    let len = same_length g.T.Ranked.weight c.args.limit c.loop-number.number c.loop-number.blocks c.index-blocks-number.result c.index-blocks-number-in-loop-number.result c.as_slice-len.result.now (search rules) c.index-blocks-number.is c.index-blocks-number-in-loop-number.is (c.as_slice-len.ensures.items ∙ sym c.index-blocks-number.is) in
-    let fits : c.loop-number.start + length c.as_slice-len.result.now < 2 ^ 64 = fits_next g.T.Ranked.weight c.args.limit c.loop-number.number c.args.from c.args.blocks.now c.loop-number.blocks c.index-blocks-number-in-loop-number.result c.loop-number.start c.saturating_sub-first.result c.loop-number.invariant.same (search rules) c.index-blocks-number-in-loop-number.is c.loop-number.invariant.at c.saturating_sub-first.ensures c.loop-number.invariant.none (length c.as_slice-len.result.now) (2 ^ 64) c.requires len in
+    let d : Group = record { items = 0; least = 0 } in
+    let fits = passed_fits g.T.Ranked.weight c.args.wanted.limit c.args.wanted.from c.args.wanted.end c.args.blocks.now c.loop-number.blocks c.loop-number.invariant.same c.loop-number.groups c.loop-number.number c.loop-number.start (2 ^ 64) d c.loop-number.invariant.known (omega (arith, c.loop-number-test.true, c.loop-number.invariant.count)) c.loop-number.invariant.at c.requires.few in
     omega (arith, fits)
 
 pub loop-number-preserved : goal.loop-number-preserved
 loop-number-preserved g c =
-    let len = same_length g.T.Ranked.weight c.args.limit c.loop-number.number c.loop-number.blocks c.index-blocks-number.result c.index-blocks-number-in-loop-number.result c.as_slice-len.result.now (search rules) c.index-blocks-number.is c.index-blocks-number-in-loop-number.is (c.as_slice-len.ensures.items ∙ sym c.index-blocks-number.is) in
+    let d : Group = record { items = 0; least = 0 } in
     record {
-      same = same_by g.T.Ranked.weight c.args.limit c.loop-number.number c.args.from c.args.blocks.now c.loop-number.blocks c.index-blocks-number-in-loop-number.result c.loop-number.start c.saturating_sub-first.result c.loop-number.invariant.same (search rules) c.index-blocks-number-in-loop-number.is c.loop-number.invariant.at c.saturating_sub-first.ensures c.loop-number.invariant.none c.first_light.new.self c.first_light.ensures.same;
-      at = next_by g.T.Ranked.weight c.args.limit c.loop-number.number c.args.from c.args.blocks.now c.loop-number.blocks c.index-blocks-number-in-loop-number.result c.loop-number.start c.saturating_sub-first.result c.loop-number.invariant.same (search rules) c.index-blocks-number-in-loop-number.is c.loop-number.invariant.at c.saturating_sub-first.ensures c.loop-number.invariant.none (length c.as_slice-len.result.now) len;
-      none = none_by g.T.Ranked.weight c.args.limit c.loop-number.number c.args.from c.args.blocks.now c.loop-number.blocks c.index-blocks-number-in-loop-number.result c.loop-number.start c.saturating_sub-first.result c.loop-number.invariant.same (search rules) c.index-blocks-number-in-loop-number.is c.loop-number.invariant.at c.saturating_sub-first.ensures c.loop-number.invariant.none (length c.as_slice-len.result.now) len c.in_default.ensures.first;
+      same = c.light_in_group.ensures.same ∙ c.loop-number.invariant.same;
+      count = c.light_in_group.ensures.len ∙ c.loop-number.invariant.count;
+      known = subst (λ blocks. AreGroups g.T.Ranked.weight blocks c.light_in_group.new.groups) c.loop-number.invariant.same c.light_in_group.ensures.groups;
+      at = passed_next g.T.Ranked.weight c.args.wanted.limit c.args.wanted.from c.args.wanted.end c.args.blocks.now c.loop-number.blocks c.loop-number.invariant.same c.loop-number.groups c.loop-number.number c.loop-number.start d c.loop-number.invariant.known (omega (arith, c.loop-number-test.true, c.loop-number.invariant.count)) c.loop-number.invariant.at;
+      none = passed_none g.T.Ranked.weight c.args.wanted.limit c.args.wanted.from c.args.wanted.end c.args.blocks.now c.loop-number.blocks c.loop-number.invariant.same c.loop-number.groups c.loop-number.number c.loop-number.start d c.loop-number.invariant.known (omega (arith, c.loop-number-test.true, c.loop-number.invariant.count)) c.loop-number.invariant.at
+          c.in_default.ensures.place;
     }
 
+pub overflow_mul-groups : goal.overflow_mul-groups
+overflow_mul-groups g c =
+    let all = groups_there g.T.Ranked.weight c.args.blocks.now c.loop-number.groups c.loop-number.invariant.known in
+    omega (arith, all, c.requires.short)
+
+pub light_within-requires-clause-order : goal.light_within-requires-clause-order
+light_within-requires-clause-order g c =
+    let all = groups_there g.T.Ranked.weight c.args.blocks.now c.loop-number.groups c.loop-number.invariant.known in
+    omega (arith, all, ap length c.loop-number.invariant.same)
+
 pub returns-clause-place : goal.returns-clause-place
-returns-clause-place g c =
-    let last : c.loop-number.number ≡ length c.args.blocks.now = search rules in
-    none_left g.T.Ranked.weight c.args.limit c.args.blocks.now c.args.from c.args.end c.loop-number.start (c.loop-number.invariant.at ∙ ap (λ (n : ℕ). start n c.args.blocks.now) last) c.loop-number.invariant.none
+returns-clause-place g c = passed_all g.T.Ranked.weight c.args.wanted.limit c.args.wanted.from c.args.wanted.end c.args.blocks.now c.loop-number.blocks c.loop-number.invariant.same _ c.light_within.result (search rules) c.light_within.ensures.place

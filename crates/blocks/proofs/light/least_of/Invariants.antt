@@ -1,7 +1,6 @@
-use Rattle.std.proofs.Common.{◌≤◌, take}
+use Rattle.std.proofs.Common.{ℕ, ◌≤◌, ◌<◌, [], get_or}
 use Rattle.std.specs.List.{All}
-use Rattle.blocks.specs.Rows.{flat}
 use Rattle.blocks.proofs.light.least_of.Given as goal
 
-abbrev pub invariant-loop-block : goal.invariant-loop-block
-invariant-loop-block g l = All (λ x. l.least ≤ g.T.Ranked.weight x) (flat (take l.block-index l.blocks))
+abbrev pub invariant-loop-number : goal.invariant-loop-number
+invariant-loop-number g l = (block : ℕ) → l.first ≤ block → block < l.number → All (λ x. l.least ≤ g.T.Ranked.weight x) (get_or l.blocks block [])

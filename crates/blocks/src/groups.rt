@@ -1,0 +1,105 @@
+ghost use Rattle.std.specs.Prelude.{◌≡◌, ◌≤◌, ◌<◌, ◌+◌, ◌*◌, ◌-◌, ◌/◌, ◌^◌, All, length, slice_index_or, slice_set, sum_by, take, vec_capacity};
+ghost use Rattle.std.specs.List.{insert, remove};
+ghost use Rattle.blocks.specs.Groups.{AreGroups, IsGroup};
+ghost use Rattle.blocks.specs.Rows.{block_of, flat, start};
+
+use crate::block::Block;
+use crate::light::least_of;
+use crate::place::Place;
+use crate::ranked::Ranked;
+use crate::walk::items_in;
+use std::alloc::Allocator;
+
+/// How many blocks a group has.
+pub(crate) const GROUP: usize = 64;
+
+/// What is known of 64 blocks that follow each other.
+#[derive(Clone, Copy)]
+pub(crate) struct Group {
+    // How many items they have together.
+    pub(crate) items: usize,
+    // None of these weighs less than this; kept as each block keeps its own bound.
+    pub(crate) least: u64,
+}
+
+// What is known of the 64 blocks from one on.
+fn group_from<T: Ranked, A: Allocator + Copy>(blocks: &[Block<T, A>], first: usize) -> Group
+    requires there { first + 64 ≤ length blocks.now }
+    requires few { length (flat blocks.now) < 2 ^ 64 }
+    ensures { IsGroup T.weight blocks.now first result.items result.least }
+{
+    Group {
+        items: items_in(blocks, first, first + GROUP),
+        least: least_of(blocks, first, first + GROUP),
+    }
+}
+
+// Adds the groups that are missing, for which there is room.
+pub(crate) fn mend<T: Ranked, A: Allocator + Copy>(
+    groups: &mut Vec<Group, A>,
+    blocks: &[Block<T, A>],
+)
+    requires few { length (flat blocks.now) < 2 ^ 64 }
+    requires groups { AreGroups T.weight blocks.now groups.old.items }
+    requires room { length blocks.now ≤ 64 * vec_capacity groups.old + 63 }
+    ensures groups { AreGroups T.weight blocks.now groups.new.items }
+    ensures room { vec_capacity groups.old ≤ vec_capacity groups.new }
+{
+    'missing: while groups.len() < blocks.len() / GROUP {
+        let group = group_from(blocks, GROUP * groups.len());
+        let Ok(()) = groups.push(group) else {
+            unreachable!()
+        };
+    }
+}
+
+// Puts one item more at a place of a block that has room.
+pub(crate) fn put_item<T: Ranked, A: Allocator + Copy>(
+    blocks: &mut [Block<T, A>],
+    groups: &mut [Group],
+    place: Place,
+    item: T,
+)
+    requires block { place.block < length blocks.old }
+    requires within { place.at ≤ length (block_of blocks.old place.block) }
+    requires short { length (block_of blocks.old place.block) < 128 }
+    requires few { length (flat blocks.old) < 2 ^ 63 }
+    requires groups { AreGroups T.weight blocks.old groups.old }
+    ensures blocks { blocks.new ≡ slice_set blocks.old place.block (insert (block_of blocks.old place.block) place.at item) }
+    ensures groups { AreGroups T.weight blocks.new groups.new }
+{
+    let number = place.block / GROUP;
+    if number < groups.len() {
+        let group = groups[number];
+        groups[number] = Group {
+            items: group.items + 1,
+            least: group.least.min(item.weight()),
+        };
+    }
+    blocks[place.block].insert(place.at, item);
+}
+
+// Takes the item at a place out of a block that has others, too.
+pub(crate) fn take_item<T: Ranked, A: Allocator + Copy>(
+    blocks: &mut [Block<T, A>],
+    groups: &mut [Group],
+    place: Place,
+) -> T
+    requires block { place.block < length blocks.old }
+    requires at { place.at < length (block_of blocks.old place.block) }
+    requires few { length (flat blocks.old) < 2 ^ 64 }
+    requires groups { AreGroups T.weight blocks.old groups.old }
+    ensures item { result ≡ slice_index_or (block_of blocks.old place.block) place.at result }
+    ensures blocks { blocks.new ≡ slice_set blocks.old place.block (remove (block_of blocks.old place.block) place.at) }
+    ensures groups { AreGroups T.weight blocks.new groups.new }
+{
+    let number = place.block / GROUP;
+    if number < groups.len() {
+        let group = groups[number];
+        groups[number] = Group {
+            items: group.items - 1,
+            ..group
+        };
+    }
+    blocks[place.block].remove(place.at)
+}
