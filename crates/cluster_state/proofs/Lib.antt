@@ -10,5 +10,6 @@ mod KeyLemmas
 mod PlaceLemmas
 mod TicketLemmas
 mod StartLemmas
+mod ArrivingLemmas
 mod PastLemmas
 pub mod Lemmas

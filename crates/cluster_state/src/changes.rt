@@ -38,6 +38,22 @@ impl<A: Allocator + Copy> Cluster<A> {
         Ok(())
     }
 
+    /// A job that arrives starts at second `now`, and doesn't join the queue before: the state is that after
+    /// its arrival and its start. It takes no memory.
+    pub fn start_arriving(&mut self, job: Job, now: u64)
+        requires absent { holders self.old.state job.number ≡ 0 }
+        requires fits { job.size ≤ free self.old.state }
+        requires room { 1 ≤ self.old.spare }
+        requires now { now < seconds_end }
+        ensures state { self.new.state ≡ started (arrived self.old.state job) job now }
+        ensures places { self.new.places ≡ self.old.places }
+        ensures spare { self.old.spare ≤ self.new.spare + 1 }
+    {
+        let taken = job.size();
+        self.running.join(Placed { job, start: now });
+        self.free -= taken;
+    }
+
     /// How many starts surely find room. Each start takes up one at most, and nothing else takes any.
     pub fn spare_starts(&self) -> usize
         ensures { result ≡ self.now.spare }

@@ -6,6 +6,7 @@ mod PlaceLemmas
 mod CandidateLemmas
 mod Begun
 mod BehindLemmas
+mod AtOnceLemmas
 mod Decisions
 mod EasyLaws
 mod FirstLemmas

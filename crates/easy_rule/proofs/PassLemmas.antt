@@ -94,7 +94,7 @@ still-refused now room room' w w' job a b c no' =
     let again : may_backfill now room w job ≡ true = and_from (nat_le job.size room) (t || x) (le-leb job.size room (let z = v.0 in omega arith)) either in
     true≢false (sym again ∙ no'))
 
-less-extra : (w : Shadow) (now : ℕ) (job : EffectiveJob) → (less w now job).extra ≤ w.extra
+pub less-extra : (w : Shadow) (now : ℕ) (job : EffectiveJob) → (less w now job).extra ≤ w.extra
 less-extra w now job = cond_both (nat_le (now + job.estimate) w.time) w.extra (w.extra - job.size) (λ x. x ≤ w.extra) (λ _. omega arith) (λ _. omega arith)
 
 -- where none passes none is found

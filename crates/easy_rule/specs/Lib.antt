@@ -2,6 +2,7 @@ pub mod Rule
 pub mod Walk
 pub mod Pass
 pub mod Decision
+pub mod AtOnce
 pub mod First
 pub mod Laws
 pub mod RuleLaws

@@ -1,6 +1,7 @@
 //! EASY backfilling: which waiting jobs start now, and when the first one can start at the latest.
 #![tactic(auto)]
 
+mod at_once;
 mod backfill;
 mod behind;
 mod candidate;
@@ -13,6 +14,7 @@ mod shadow_time;
 mod shadow_walk;
 mod start;
 
+pub use at_once::{start_at_once, starts_at_once};
 pub use behind::decide_behind;
 pub use decision::{decide, decide_into};
 pub use shadow_time::Shadow;

@@ -1,5 +1,6 @@
 mod ToCome
 mod Rows
+mod Alone
 mod EventLemmas
 mod Kept
 mod RunOn

@@ -89,7 +89,7 @@ from-same t (j ∷ js) a =
     from-in t j js (All-head (λ (j : EffectiveJob). t ≤ j.submit) j js a) ∙ ap (λ xs. j ∷ xs) (from-same t js (All-tail (λ (j : EffectiveJob). t ≤ j.submit) j js a))
 
 -- where the first is submitted later, so are all
-later-all : (t : ℕ) (j : EffectiveJob) (js : List EffectiveJob) → t < j.submit → NonFalling (j ∷ js) → All (λ (k : EffectiveJob). t < k.submit) (j ∷ js)
+pub later-all : (t : ℕ) (j : EffectiveJob) (js : List EffectiveJob) → t < j.submit → NonFalling (j ∷ js) → All (λ (k : EffectiveJob). t < k.submit) (j ∷ js)
 later-all t j js l r = All-cons (λ (k : EffectiveJob). t < k.submit) j js l (All-weaker (λ (k : EffectiveJob). j.submit ≤ k.submit) (λ (k : EffectiveJob). t < k.submit) (λ k m. omega arith) js r.0)
 
 -- ---- the loop over those that arrive

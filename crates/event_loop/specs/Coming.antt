@@ -1,5 +1,5 @@
 -- The jobs that are to come.
-use Rattle.std.specs.Prelude.{◌≡◌, ℕ, ◌≤◌, ◌<◌, List, [], ◌∷◌, ◌++◌, All, Option, Some, None, IfSome}
+use Rattle.std.specs.Prelude.{◌≡◌, ℕ, ◌≤◌, ◌<◌, List, [], ◌∷◌, ◌++◌, drop, All, Option, Some, None, IfSome}
 use Rattle.std.specs.Option.{option_or}
 use Rattle.scenarios.specs.Job.{EffectiveJob}
 use Rattle.scenarios.specs.Plan.{from_on}
@@ -27,6 +27,10 @@ pub record NextJobs : Type 0 where
 -- the submit second of the next job
 abbrev pub next_of : NextJobs → Option ℕ
 next_of coming = option_or (first_submit coming.row) coming.later
+
+-- the first job comes no more
+abbrev pub without_first : NextJobs → NextJobs
+without_first coming = record { row = drop 1 coming.row; later = coming.later }
 
 -- of these jobs, those from a position on are the jobs of the row, and then all that are submitted at the later second or after it; the jobs of the row are submitted before it
 pub record IsComing (coming : NextJobs) (position : ℕ) (jobs : List EffectiveJob) : Type 0 where

@@ -1,4 +1,4 @@
-ghost use Rattle.std.specs.Prelude.{◌≡◌, ◌≢◌, ◌+◌, ◌≤◌, ◌<◌, ◌↔◌, [], Some, IfOk, OnOk, IfSome, IfNone, IsTrue, All, filter, nat_eq, slice_get};
+ghost use Rattle.std.specs.Prelude.{◌≡◌, ◌≢◌, ◌+◌, ◌≤◌, ◌<◌, ◌↔◌, [], Some, IfOk, OnOk, IfSome, IfNone, IsTrue, All, drop, filter, nat_eq, slice_get};
 ghost use Rattle.scenarios.specs.Plan.{from_on};
 ghost use Rattle.scenarios.specs.PlanView.{plan_in};
 ghost use Rattle.cluster_state.specs.State.{IsSound};
@@ -66,6 +66,28 @@ fn first_at<A: Allocator + Copy>(row: &VecDeque<Job, A>, second: u64) -> Option<
         return Some(job);
     }
     None
+}
+
+// Whether the job behind the first of a row is submitted at this second, too.
+fn is_behind_at<A: Allocator + Copy>(row: &VecDeque<Job, A>, second: u64) -> bool
+    ensures { IsTrue result ↔ (first_submit (drop 1 row.now.items) ≡ Some second) }
+{
+    match row.get(1) {
+        None => false,
+        Some(job) => job.submit() == second,
+    }
+}
+
+// The first job of a row, where it is submitted at this second and the one behind it is not.
+pub(crate) fn only_at<A: Allocator + Copy>(row: &VecDeque<Job, A>, second: u64) -> Option<Job>
+    ensures job { IfSome result (λ job. (job.submit ≡ second) × (slice_get row.now.items 0 ≡ Some job)) }
+    ensures only { IfSome result (λ _. first_submit (drop 1 row.now.items) ≢ Some second) }
+{
+    let job = first_at(row, second)?;
+    if is_behind_at(row, second) {
+        return None;
+    }
+    Some(job)
 }
 
 // The jobs of a second leave the row and join the queue.

@@ -1,11 +1,11 @@
-ghost use Rattle.std.specs.Prelude.{◌≡◌, ◌<◌, ◌+◌, ◌↔◌, Some, OnOk, IfSome, IsTrue};
+ghost use Rattle.std.specs.Prelude.{◌≡◌, ◌<◌, ◌+◌, ◌↔◌, [], ◌∷◌, Some, OnOk, IfOk, IfSome, IsTrue};
 ghost use Rattle.scenarios.specs.PlanView.{plan_in};
 ghost use Rattle.cluster_state.specs.State.{IsSound};
 ghost use Rattle.easy_rule.specs.Simulation.{joined, submitted};
 ghost use Rattle.scenarios.specs.SoundPlan.{IsPlan};
 ghost use Rattle.event_loop.specs.Coming.{first_submit};
 
-use crate::arrivals::{arrive_all, fill, next_submit};
+use crate::arrivals::{arrive_all, fill, next_submit, only_at};
 use cluster_state::Cluster;
 use scenarios::{Job, PlanRef};
 use std::alloc::Allocator;
@@ -29,7 +29,7 @@ impl<A: Allocator + Copy> Model for Coming<A> {
 }
 
 impl<A: Allocator + Copy> Coming<A> {
-    ghost use Rattle.event_loop.specs.Coming.{IsComing, next_of};
+    ghost use Rattle.event_loop.specs.Coming.{IsComing, next_of, without_first};
 
     // The jobs from a second on, with none of them in the row.
     pub(crate) fn at(alloc: A, plan: &PlanRef<'_, A>, second: u64) -> Coming<A>
@@ -66,6 +66,29 @@ impl<A: Allocator + Copy> Coming<A> {
         self.take_up(plan, second)?;
         arrive_all(cluster, &mut self.row, second)?;
         Ok(())
+    }
+
+    // The job of a second, where it is the only one. Memory where a growth was refused.
+    pub(crate) fn only_at(
+        &mut self,
+        plan: &PlanRef<'_, A>,
+        second: u64,
+    ) -> Result<Option<Job>, Memory>
+        requires plan { IsPlan (plan_in plan.now) }
+        requires coming { IsComing self.old second (plan_in plan.now).jobs }
+        ensures coming { OnOk result (IsComing self.new second (plan_in plan.now).jobs) }
+        ensures only { IfOk result (λ o. IfSome o (λ job. submitted (plan_in plan.now) second ≡ job ∷ [])) }
+        ensures rest { IfOk result (λ o. IfSome o (λ job. IsComing (without_first self.new) (second + 1) (plan_in plan.now).jobs)) }
+    {
+        self.take_up(plan, second)?;
+        Ok(only_at(&self.row, second))
+    }
+
+    // The first job comes no more.
+    pub(crate) fn pass(&mut self)
+        ensures { self.new ≡ without_first self.old }
+    {
+        let _passed = self.row.pop_front();
     }
 
     // Takes jobs up, so that those of a second stand in the row and those behind it come later. Memory

@@ -2,6 +2,7 @@
 #![tactic(auto)]
 
 mod arrivals;
+mod arriving;
 mod coming;
 mod engine;
 mod fault;

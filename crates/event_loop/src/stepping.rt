@@ -1,9 +1,10 @@
 //! How an engine goes on: it works event seconds, one, or all before a second, or all that are left.
 ghost use Rattle.std.specs.Prelude.{◌≡◌, ◌+◌, ◌++◌, ◌≤◌, ◌<◌, [], Some, None, IfOk, OnOk, OnErr, IfSome, IfErr, IfNone, MatchOption, true, false};
 
+use crate::arriving::arrive_and_decide;
 use crate::engine::Engine;
 use crate::fault::EngineFault;
-use crate::known::{decide_knowing, standing_at};
+use crate::known::standing_at;
 use crate::stepped::Stepped;
 use easy_rule::{Start, add_starts};
 use scenarios::Job;
@@ -151,12 +152,16 @@ impl<A: Allocator + Copy> Engine<A> {
         ensures memory { IfErr result (λ f. f ≡ EngineFault.Memory) }
     {
         self.failed = true;
-        let settled = self.cluster.waiting_count();
         let known = standing_at(&self.cluster, self.known, second);
         self.cluster.finish_until(second);
-        self.coming
-            .arrive(&mut self.cluster, &self.plan.view(), second)?;
-        let left = decide_knowing(&mut self.cluster, started, known, settled, second)?;
+        let left = arrive_and_decide(
+            &mut self.cluster,
+            &mut self.coming,
+            &self.plan.view(),
+            started,
+            known,
+            second,
+        )?;
         self.failed = false;
         self.known = left;
         self.position = second + 1;

@@ -1,44 +1,48 @@
-use Rattle.std.proofs.Common.{◌≡◌, ◌∙◌, ap, sym, arith, subst, false}
+use Rattle.std.proofs.Common.{◌≡◌, ◌∙◌, ap, sym, arith, refl, length, subst, false}
 use Rattle.std.proofs.lemmas.Bool.{true≢false}
 use Rattle.scenarios.specs.Plan.{Plan}
 use Rattle.scenarios.specs.PlanView.{plan_in}
 use Rattle.cluster_state.specs.State.{State}
 use Rattle.easy_rule.specs.Rule.{state_after}
+use Rattle.easy_rule.specs.Simulation.{before, joined, ready, submitted}
 use Rattle.timeline.proofs.Lemmas.{second-is, before-more}
 use Rattle.event_loop.specs.Events.{Progress}
+use Rattle.event_loop.specs.Second.{IsDecided}
 use Rattle.event_loop.specs.Stepped.{StartIn}
 use Rattle.event_loop.proofs.Kept.{start-in}
 use Rattle.event_loop.proofs.EventLemmas.{midway-at, ready-at, sound-ready, known-front}
 use Rattle.event_loop.proofs.engine.Engine.work.Goals as goal
 
-pub arrive-requires-clause-coming : goal.arrive-requires-clause-coming
-arrive-requires-clause-coming g c =
-    let plan : Plan = plan_in c.self.inside.plan in
-    let r = ready-at c.args.self.now plan c.self.inside.cluster.state c.self.inside.coming c.self.inside.known c.self.inside.position c.self.inside.handled c.args.second c.self.inside.failed c.self.view_is c.self.invariant c.requires.going c.requires.next in
-    rw c.view.ensures.same r.next
-
-pub arrive-requires-clause-sound : goal.arrive-requires-clause-sound
-arrive-requires-clause-sound g c =
-    let plan : Plan = plan_in c.self.inside.plan in
-    let r = ready-at c.args.self.now plan c.self.inside.cluster.state c.self.inside.coming c.self.inside.known c.self.inside.position c.self.inside.handled c.args.second c.self.inside.failed c.self.view_is c.self.invariant c.requires.going c.requires.next in
-    rw c.view.ensures.same (sound-ready plan c.self.inside.cluster.state c.finish_until.new.self.state c.args.second c.self.invariant.is_plan r.small r.is c.finish_until.ensures.state)
-
-pub decide_knowing-requires-clause-now : goal.decide_knowing-requires-clause-now
-decide_knowing-requires-clause-now g c =
+pub arrive_and_decide-requires-clause-now : goal.arrive_and_decide-requires-clause-now
+arrive_and_decide-requires-clause-now g c =
     let plan : Plan = plan_in c.self.inside.plan in
     let r = ready-at c.args.self.now plan c.self.inside.cluster.state c.self.inside.coming c.self.inside.known c.self.inside.position c.self.inside.handled c.args.second c.self.inside.failed c.self.view_is c.self.invariant c.requires.going c.requires.next in
     let l = r.small in
     omega (arith, l)
 
-pub decide_knowing-requires-clause-known : goal.decide_knowing-requires-clause-known
-decide_knowing-requires-clause-known g c =
+pub arrive_and_decide-requires-clause-coming : goal.arrive_and_decide-requires-clause-coming
+arrive_and_decide-requires-clause-coming g c =
+    let plan : Plan = plan_in c.self.inside.plan in
+    let r = ready-at c.args.self.now plan c.self.inside.cluster.state c.self.inside.coming c.self.inside.known c.self.inside.position c.self.inside.handled c.args.second c.self.inside.failed c.self.view_is c.self.invariant c.requires.going c.requires.next in
+    rw c.view.ensures.same r.next
+
+pub arrive_and_decide-requires-clause-sound : goal.arrive_and_decide-requires-clause-sound
+arrive_and_decide-requires-clause-sound g c =
+    let plan : Plan = plan_in c.self.inside.plan in
+    let r = ready-at c.args.self.now plan c.self.inside.cluster.state c.self.inside.coming c.self.inside.known c.self.inside.position c.self.inside.handled c.args.second c.self.inside.failed c.self.view_is c.self.invariant c.requires.going c.requires.next in
+    rw c.view.ensures.same (sound-ready plan c.self.inside.cluster.state c.finish_until.new.self.state c.args.second c.self.invariant.is_plan r.small r.is c.finish_until.ensures.state)
+
+pub arrive_and_decide-requires-clause-known : goal.arrive_and_decide-requires-clause-known
+arrive_and_decide-requires-clause-known g c =
     let plan : Plan = plan_in c.self.inside.plan in
     let t = c.args.second in
+    let ended : State = c.finish_until.new.self.state in
     let r = ready-at c.args.self.now plan c.self.inside.cluster.state c.self.inside.coming c.self.inside.known c.self.inside.position c.self.inside.handled t c.self.inside.failed c.self.view_is c.self.invariant c.requires.going c.requires.next in
     let l = r.small in
-    let ready-is = second-is plan c.self.inside.cluster.state c.finish_until.new.self.state c.arrive.new.cluster.state t (omega (arith, l)) c.self.invariant.is_plan r.is c.finish_until.ensures.state (rw c.view.ensures.same at c.in_ok-arrive.ensures.state) in
+    let ready-is = second-is plan c.self.inside.cluster.state ended (joined ended (submitted plan t)) t (omega (arith, l)) c.self.invariant.is_plan r.is c.finish_until.ensures.state refl in
     let going : c.self.inside.failed ≡ false = ap (λ (p : Progress). p.failed) c.self.view_is ∙ c.requires.going in
-    known-front plan c.self.inside.cluster.state c.arrive.new.cluster.state t c.waiting_count-settled.result c.self.inside.known c.standing_at-known.result r.is ready-is c.waiting_count-settled.ensures.count (c.self.invariant.known_is going) c.standing_at-known.ensures.known c.standing_at-known.ensures.stands
+    rw c.view.ensures.same
+    (known-front plan c.self.inside.cluster.state (joined ended (submitted plan t)) t (length ended.waiting) c.self.inside.known c.standing_at-known.result r.is ready-is (ap (λ (z : State). length z.waiting) c.finish_until.ensures.state) (c.self.invariant.known_is going) c.standing_at-known.ensures.known c.standing_at-known.ensures.stands)
 
 pub invariant_of-self : goal.invariant_of-self
 invariant_of-self g c = record {
@@ -47,19 +51,8 @@ invariant_of-self g c = record {
   state_is = λ e. absurd (true≢false e);
   coming_is = λ e. absurd (true≢false e);
   known_is = λ e. absurd (true≢false e);
-  failed_is = λ _. midway-at c.args.self.now (plan_in c.self.inside.plan) c.self.inside.cluster.state c.finish_until.new.self.state c.arrive.new.cluster.state c.self.inside.coming c.self.inside.known c.self.inside.position c.self.inside.handled c.args.second c.self.inside.failed
-      c.self.view_is c.self.invariant c.requires.going c.requires.next c.finish_until.ensures.state c.arrive.ensures.running;
-}
-
-pub invariant_of-self-in_err-left : goal.invariant_of-self-in_err-left
-invariant_of-self-in_err-left g c = record {
-  is_plan = c.self.invariant.is_plan;
-  counted = c.self.invariant.counted;
-  state_is = λ e. absurd (true≢false e);
-  coming_is = λ e. absurd (true≢false e);
-  known_is = λ e. absurd (true≢false e);
-  failed_is = λ _. midway-at c.args.self.now (plan_in c.self.inside.plan) c.self.inside.cluster.state c.finish_until.new.self.state c.decide_knowing.new.cluster.state c.self.inside.coming c.self.inside.known c.self.inside.position c.self.inside.handled c.args.second c.self.inside.failed
-      c.self.view_is c.self.invariant c.requires.going c.requires.next c.finish_until.ensures.state (ap (λ (s : State). s.running) c.in_err-left.ensures.err.state ∙ c.arrive.ensures.running);
+  failed_is = λ _. midway-at c.args.self.now (plan_in c.self.inside.plan) c.self.inside.cluster.state c.finish_until.new.self.state c.arrive_and_decide.new.cluster.state c.self.inside.coming c.self.inside.known c.self.inside.position c.self.inside.handled c.args.second c.self.inside.failed
+      c.self.view_is c.self.invariant c.requires.going c.requires.next c.finish_until.ensures.state c.in_err-left.ensures.running;
 }
 
 pub overflow_add-self : goal.overflow_add-self
@@ -82,16 +75,18 @@ pub invariant_of-self-2 : goal.invariant_of-self-2
 invariant_of-self-2 g c =
     let plan : Plan = plan_in c.self.inside.plan in
     let t = c.args.second in
+    let ended : State = c.finish_until.new.self.state in
     let r = ready-at c.args.self.now plan c.self.inside.cluster.state c.self.inside.coming c.self.inside.known c.self.inside.position c.self.inside.handled t c.self.inside.failed c.self.view_is c.self.invariant c.requires.going c.requires.next in
     let l = r.small in
     let f = r.first in
     let k = c.self.invariant.counted in
-    let ready-is = second-is plan c.self.inside.cluster.state c.finish_until.new.self.state c.arrive.new.cluster.state t (omega (arith, l)) c.self.invariant.is_plan r.is c.finish_until.ensures.state (rw c.view.ensures.same at c.in_ok-arrive.ensures.state) in
+    let ready-is = second-is plan c.self.inside.cluster.state ended (joined ended (submitted plan t)) t (omega (arith, l)) c.self.invariant.is_plan r.is c.finish_until.ensures.state refl in
+    let decided : IsDecided (joined ended (submitted plan t)) t c.arrive_and_decide.new.started.items c.arrive_and_decide.new.cluster.state = rw c.view.ensures.same at c.in_ok-left.ensures.decided in
     record {
       is_plan = c.self.invariant.is_plan;
       counted = omega (arith, f, k);
-      state_is = λ _. c.in_ok-left.ensures.ok.state ∙ ap (λ (s : State). state_after s t) ready-is ∙ sym (before-more plan t);
-      coming_is = λ _. rw c.view.ensures.same at c.in_ok-arrive.ensures.coming;
+      state_is = λ _. decided.state ∙ ap (λ (s : State). state_after s t) ready-is ∙ sym (before-more plan t);
+      coming_is = λ _. rw c.view.ensures.same at c.in_ok-left.ensures.coming;
       known_is = λ _. c.in_ok-left.ensures.shadow;
       failed_is = λ e. absurd (true≢false (sym e));
     }
@@ -100,8 +95,10 @@ pub returns-clause-started : goal.returns-clause-started
 returns-clause-started g c =
     let plan : Plan = plan_in c.self.inside.plan in
     let t = c.args.second in
+    let ended : State = c.finish_until.new.self.state in
     let r = ready-at c.args.self.now plan c.self.inside.cluster.state c.self.inside.coming c.self.inside.known c.self.inside.position c.self.inside.handled t c.self.inside.failed c.self.view_is c.self.invariant c.requires.going c.requires.next in
     let l = r.small in
-    let ready-is = second-is plan c.self.inside.cluster.state c.finish_until.new.self.state c.arrive.new.cluster.state t (omega (arith, l)) c.self.invariant.is_plan r.is c.finish_until.ensures.state (rw c.view.ensures.same at c.in_ok-arrive.ensures.state) in
-    subst (λ (p : Progress). StartIn p.plan t c.decide_knowing.new.started.items) c.self.view_is
-    (start-in plan c.arrive.new.cluster.state _ t c.decide_knowing.new.started.items c.self.invariant.is_plan ready-is c.in_ok-left.ensures.ok.started c.in_ok-left.ensures.ok.starts)
+    let ready-is = second-is plan c.self.inside.cluster.state ended (joined ended (submitted plan t)) t (omega (arith, l)) c.self.invariant.is_plan r.is c.finish_until.ensures.state refl in
+    let decided : IsDecided (joined ended (submitted plan t)) t c.arrive_and_decide.new.started.items c.arrive_and_decide.new.cluster.state = rw c.view.ensures.same at c.in_ok-left.ensures.decided in
+    subst (λ (p : Progress). StartIn p.plan t c.arrive_and_decide.new.started.items) c.self.view_is
+    (start-in plan (joined ended (submitted plan t)) _ t c.arrive_and_decide.new.started.items c.self.invariant.is_plan ready-is decided.started decided.starts)

@@ -1,0 +1,54 @@
+ghost use Rattle.std.specs.Prelude.{◌≡◌, ◌<◌, ◌+◌, [], length, OnOk, OnErr, IfOk, IfSome};
+ghost use Rattle.scenarios.specs.Limits.{seconds_end};
+ghost use Rattle.scenarios.specs.PlanView.{plan_in};
+ghost use Rattle.scenarios.specs.SoundPlan.{IsPlan};
+ghost use Rattle.cluster_state.specs.State.{IsSound};
+ghost use Rattle.easy_rule.specs.Rule.{shadow_of};
+ghost use Rattle.easy_rule.specs.Decision.{IsSettledFront};
+ghost use Rattle.easy_rule.specs.Simulation.{joined, submitted};
+ghost use Rattle.event_loop.specs.Coming.{IsComing};
+ghost use Rattle.event_loop.specs.Second.{IsDecided};
+
+use crate::coming::Coming;
+use crate::known::decide_knowing;
+use cluster_state::Cluster;
+use easy_rule::{Shadow, start_at_once, starts_at_once};
+use scenarios::{Job, PlanRef};
+use std::alloc::Allocator;
+use swf_text::Memory;
+
+// The jobs of a second arrive, and those that start at it are left, in order, in a lent list. Returns the
+// shadow of the state that it leaves, where it is known.
+//
+// Where the shadow of the state is known, nobody who waits may start. A job that arrives alone and starts
+// doesn't join the queue before. Memory where a growth was refused; the running jobs are then as they
+// were.
+pub(crate) fn arrive_and_decide<A: Allocator + Copy>(
+    cluster: &mut Cluster<A>,
+    coming: &mut Coming<A>,
+    plan: &PlanRef<'_, A>,
+    started: &mut Vec<Job, A>,
+    known: Option<Shadow>,
+    second: u64,
+) -> Result<Option<Shadow>, Memory>
+    requires now { second < seconds_end }
+    requires plan { IsPlan (plan_in plan.now) }
+    requires coming { IsComing coming.old second (plan_in plan.now).jobs }
+    requires sound { IsSound (joined cluster.old.state (submitted (plan_in plan.now) second)) }
+    requires known { IfSome known (λ w. IsSettledFront (joined cluster.old.state (submitted (plan_in plan.now) second)) second (length cluster.old.state.waiting) w) }
+    ensures decided { OnOk result (IsDecided (joined cluster.old.state (submitted (plan_in plan.now) second)) second started.new.items cluster.new.state) }
+    ensures coming { OnOk result (IsComing coming.new (second + 1) (plan_in plan.now).jobs) }
+    ensures shadow { IfOk result (λ left. IfSome left (λ w. shadow_of cluster.new.state ≡ Some w)) }
+    ensures running { OnErr result (cluster.new.state.running ≡ cluster.old.state.running) }
+    ensures empty { OnErr result (started.old.items ≡ [] → started.new.items ≡ []) }
+{
+    if let Some(job) = coming.only_at(plan, second)? {
+        if starts_at_once(cluster, &job, known, second) {
+            coming.pass();
+            return start_at_once(cluster, started, job, known, second);
+        }
+    }
+    let settled = cluster.waiting_count();
+    coming.arrive(cluster, plan, second)?;
+    decide_knowing(cluster, started, known, settled, second)
+}
