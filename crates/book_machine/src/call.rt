@@ -6,7 +6,7 @@ ghost use Rattle.book_machine.specs.Noted.{call_of};
 ghost use Rattle.book_machine.specs.Same.{same_call};
 ghost use Rattle.book_machine.specs.Decided.{same_call-equiv};
 
-use crate::name::Name;
+use crate::name::NotedName;
 use crate::noted_edit::NotedEdit;
 use scenarios::{Scenario, ScenarioId};
 use std::alloc::Allocator;
@@ -19,19 +19,34 @@ pub enum Call<A: Allocator + Copy> {
     /// An edit of the log.
     Edit(NotedEdit<A>),
     /// A scenario is added under a name.
-    AddScenario { name: Name<A>, scenario: Scenario },
+    AddScenario {
+        name: NotedName<A>,
+        scenario: Scenario,
+    },
     /// The scenario with this name is dropped.
-    DropScenario { name: Name<A> },
+    DropScenario {
+        name: NotedName<A>,
+    },
     /// A scenario that was given up is to be tried again.
-    Retry { id: ScenarioId },
+    Retry {
+        id: ScenarioId,
+    },
     /// A worker asks for a task.
     Claim,
     /// A worker hands in a run for a ticket.
-    Finish { ticket: u64, fits: bool },
+    Finish {
+        ticket: u64,
+        fits: bool,
+    },
     /// A worker gives a ticket up.
-    GiveUp { ticket: u64 },
+    GiveUp {
+        ticket: u64,
+    },
     /// A session that has seen this version looks at a scenario.
-    View { id: ScenarioId, seen: u64 },
+    View {
+        id: ScenarioId,
+        seen: u64,
+    },
 }
 
 impl<A: Allocator + Copy> PartialEq for Call<A> {

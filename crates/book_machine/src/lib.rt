@@ -14,7 +14,7 @@ mod settle_state;
 
 pub use call::Call;
 pub use caller::Caller;
-pub use name::Name;
+pub use name::NotedName;
 pub use note::Note;
 pub use noted_edit::NotedEdit;
 pub use noted_entry::NotedEntry;

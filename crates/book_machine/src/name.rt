@@ -9,11 +9,11 @@ use swf_text::Memory;
 
 /// A scenario's name as a call gave it: any text, also one that no scenario may have.
 #[derive(Drop)]
-pub struct Name<A: Allocator + Copy> {
+pub struct NotedName<A: Allocator + Copy> {
     text: String<A>,
 }
 
-impl<A: Allocator + Copy> Model for Name<A> {
+impl<A: Allocator + Copy> Model for NotedName<A> {
     ghost use Rattle.std.specs.Prelude.{List, ℕ};
     ghost use Rattle.std.specs.String.{string_bytes};
 
@@ -22,26 +22,26 @@ impl<A: Allocator + Copy> Model for Name<A> {
     ghost view = { λ name. string_bytes name.text };
 }
 
-impl<A: Allocator + Copy> PartialEq for Name<A> {
+impl<A: Allocator + Copy> PartialEq for NotedName<A> {
     ghost eq = { pointwise ◌==◌ };
 
     ghost laws = { Prim.search (comparing, rules) };
 
-    fn eq(&self, other: &Name<A>) -> bool {
+    fn eq(&self, other: &NotedName<A>) -> bool {
         self.text.as_bytes() == other.text.as_bytes()
     }
 }
 
-impl<A: Allocator + Copy> Eq for Name<A> {
+impl<A: Allocator + Copy> Eq for NotedName<A> {
     ghost laws = { Prim.search (comparing, rules) };
 }
 
-impl<A: Allocator + Copy> Name<A> {
+impl<A: Allocator + Copy> NotedName<A> {
     /// The name of this text; Memory where the growth for it is refused.
-    pub fn new(alloc: A, text: &str) -> Result<Name<A>, Memory>
+    pub fn new(alloc: A, text: &str) -> Result<NotedName<A>, Memory>
         ensures { IfOk result (λ name. name ≡ text.now) }
     {
-        Ok(Name {
+        Ok(NotedName {
             text: String::from_str(alloc, text)?,
         })
     }
@@ -55,9 +55,9 @@ impl<A: Allocator + Copy> Name<A> {
 
     /// The same name once more, on the allocator that this one keeps; Memory where the growth for
     /// it is refused.
-    pub fn copy(&self) -> Result<Name<A>, Memory>
+    pub fn copy(&self) -> Result<NotedName<A>, Memory>
         ensures { IfOk result (λ name. name ≡ self.now) }
     {
-        Name::new(*self.text.allocator(), self.text.as_str())
+        NotedName::new(*self.text.allocator(), self.text.as_str())
     }
 }

@@ -1,8 +1,10 @@
 -- The words of a line, and names.
-use Rattle.std.proofs.Common.{◌≡◌, ℕ, zero, suc, ◌<◌, ◌≤◌, true, ◌&&◌, leb, List, [], ◌∷◌, ◌++◌, length, take, sym, ap, ◌∙◌, append_assoc, arith, rules}
+use Rattle.std.proofs.Common.{◌≡◌, ℕ, zero, suc, ◌<◌, ◌≤◌, true, ◌&&◌, leb, List, [], ◌∷◌, ◌++◌, length, take, map, find, Bor, inl, inr, refl, sym, ap, ◌∙◌, append_assoc, arith, rules}
 use Rattle.std.specs.List.{list_all}
-use Rattle.std.specs.Prelude.{Result, Ok, Err, MatchResult, IsOk}
-use Rattle.std.specs.Str.{IsAscii, IsUtf8}
+use Rattle.std.specs.Prelude.{Result, Ok, Err, MatchResult, IsOk, Option}
+use Rattle.std.specs.Option.{option_map}
+use Rattle.std.specs.Str.{IsAscii, IsUtf8, bytes_eq}
+use Rattle.std.proofs.lemmas.Bool.{cases_Bool}
 use Rattle.std.proofs.lemmas.Grind.{common_steps}
 use Rattle.std.proofs.lemmas.List.{append-nil, take_all, take_at}
 use Rattle.std.proofs.lemmas.Str.{IsUtf8-from_ascii}
@@ -29,6 +31,23 @@ words_end xs rest word line sofar is none few =
 
 pub words_full : (xs : List (List ℕ)) (rest line : List ℕ) → xs ++ fields rest ≡ fields line → length xs ≡ 20 → xs ≡ take 20 (fields line)
 words_full xs rest line sofar full = sym (take_at xs (fields rest) 20 full) ∙ ap (take 20) sofar
+
+-- ---- a table of words
+
+module _ {X : Type 0} (word : List ℕ) where
+  -- what stands beside the word, where the table has its words by reference, and where it has them
+  abbrev at_reference : List (Bor (List ℕ) × X) → Option X
+  at_reference entries = option_map (λ (e : Bor (List ℕ) × X). e.1) (find (λ (e : Bor (List ℕ) × X). bytes_eq e.0.now word) entries)
+
+  abbrev at_word : List (Bor (List ℕ) × X) → Option X
+  at_word entries = option_map (λ (e : List ℕ × X). e.1) (find (λ (e : List ℕ × X). bytes_eq e.0 word) (map (λ (e : Bor (List ℕ) × X). (e.0.now, e.1)) entries))
+
+  both : (entries : List (Bor (List ℕ) × X)) → at_reference entries ≡ at_word entries
+  both [] = refl
+  both (e ∷ es) = elim (cases_Bool (bytes_eq e.0.now word)) [ inl is ↦ rw is refl | inr other ↦ rw other (both es) ]
+
+  pub found_beside : (entries table : List (Bor (List ℕ) × X)) {r : Option X} → entries ≡ table → r ≡ at_reference entries → r ≡ at_word table
+  found_beside entries table is e = e ∙ both entries ∙ ap at_word is
 
 -- ---- names are text
 

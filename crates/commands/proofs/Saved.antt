@@ -15,8 +15,8 @@ use Rattle.scenarios.specs.declared.order.Order.TheVariants.{Arrival, Shortest}
 use Rattle.scenarios.specs.Name.{is_name, is_name_byte}
 use Rattle.scenarios.specs.Scenario.{Setting, IsSetting}
 use Rattle.commands.specs.declared.comment.ScenarioLine.{ScenarioLine}
-use Rattle.commands.specs.Words.{order_of}
-use Rattle.commands.specs.ScenarioLine.{short_number, line_of_words, scenario_line, order_text, scenario_comment}
+use Rattle.scenarios.specs.Order.{order_of, order_word}
+use Rattle.commands.specs.ScenarioLine.{short_number, line_of_words, scenario_line, scenario_comment}
 use Rattle.commands.proofs.LineWords.{name_bytes}
 
 -- ---- words without blanks
@@ -39,9 +39,9 @@ short_decimal n lt =
 
 -- ---- the comment of a scenario is read as it
 
-order_word : (o : Order) → (list_all is_name_byte (order_text o) ≡ true) × (0 < length (order_text o)) × (order_of (order_text o) ≡ Some o)
-order_word Arrival = (refl, omega arith, refl)
-order_word Shortest = (refl, omega arith, refl)
+named_order : (o : Order) → (list_all is_name_byte (order_word o) ≡ true) × (0 < length (order_word o)) × (order_of (order_word o) ≡ Some o)
+named_order Arrival = (refl, omega arith, refl)
+named_order Shortest = (refl, omega arith, refl)
 
 some_name : (name : List ℕ) → is_name name ≡ true → 0 < length name
 some_name name h =
@@ -51,14 +51,14 @@ some_name name h =
     le-leb : (a b : ℕ) → leb a b ≡ true → a ≤ b
     le-leb a b e = grind (arith, common_steps)
 
-comment_fields : (name : List ℕ) (setting : Setting) → is_name name ≡ true → IsSetting setting → fields (32 ∷ (name ++ 32 ∷ (decimal_text setting.procs ++ 32 ∷ (decimal_text setting.factor ++ 32 ∷ order_text setting.order)))) ≡ name ∷ decimal_text setting.procs ∷ decimal_text setting.factor ∷ order_text setting.order ∷ []
+comment_fields : (name : List ℕ) (setting : Setting) → is_name name ≡ true → IsSetting setting → fields (32 ∷ (name ++ 32 ∷ (decimal_text setting.procs ++ 32 ∷ (decimal_text setting.factor ++ 32 ∷ order_word setting.order)))) ≡ name ∷ decimal_text setting.procs ∷ decimal_text setting.factor ∷ order_word setting.order ∷ []
 comment_fields name setting called set =
     let procs = decimal_text setting.procs in
     let factor = decimal_text setting.factor in
-    let order = order_text setting.order in
+    let order = order_word setting.order in
     let p = set.procs_fit in
     let f = set.factor_fits in
-    let last : fields order ≡ order ∷ [] = ap fields (sym (append-nil order)) ∙ solid_fields is_name_byte name_solid order [] (order_word setting.order).0 (order_word setting.order).1 refl in
+    let last : fields order ≡ order ∷ [] = ap fields (sym (append-nil order)) ∙ solid_fields is_name_byte name_solid order [] (named_order setting.order).0 (named_order setting.order).1 refl in
     let third : fields (factor ++ 32 ∷ order) ≡ factor ∷ order ∷ [] = solid_fields is_ascii_digit digit_solid factor (32 ∷ order) (spelled setting.factor (omega arith)).0 (decimal_nonempty setting.factor (omega arith)) refl ∙ ap (λ (l : List (List ℕ)). factor ∷ l) (fields-blank 32 order refl ∙ last) in
     let second : fields (procs ++ 32 ∷ (factor ++ 32 ∷ order)) ≡ procs ∷ factor ∷ order ∷ [] = solid_fields is_ascii_digit digit_solid procs (32 ∷ (factor ++ 32 ∷ order)) (spelled setting.procs (omega arith)).0 (decimal_nonempty setting.procs (omega arith)) refl ∙ ap (λ (l : List (List ℕ)). procs ∷ l) (fields-blank 32 (factor ++ 32 ∷ order) refl ∙ third) in
     fields-blank 32 (name ++ 32 ∷ (procs ++ 32 ∷ (factor ++ 32 ∷ order))) refl
@@ -75,6 +75,6 @@ scenario_line-comment name setting called set =
     let f = set.factor_fits in
     let procs = short_decimal setting.procs (omega arith) in
     let factor = short_decimal setting.factor (omega arith) in
-    let order = (order_word setting.order).2 in
+    let order = (named_order setting.order).2 in
     let words = comment_fields name setting called set in
     ap line_of_words words ∙ rw (called, procs, factor, order) refl

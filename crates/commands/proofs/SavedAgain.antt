@@ -21,7 +21,8 @@ use Rattle.scenarios.specs.Name.{is_name, is_name_byte}
 use Rattle.scenarios.specs.Scenario.{Setting, IsSetting, setting_of}
 use Rattle.scenarios.specs.ScenarioList.{Listed, Listing, empty, named, AreApart, IsListed, add_fault, with_scenario}
 use Rattle.scenarios.proofs.Lemmas.{bytes_eq-swap, named-append, named-first}
-use Rattle.commands.specs.ScenarioLine.{scenario_line, order_text, scenario_comment}
+use Rattle.scenarios.specs.Order.{order_word}
+use Rattle.commands.specs.ScenarioLine.{scenario_line, scenario_comment}
 use Rattle.commands.specs.Opening.{kept, with_setting, with_order, with_line, told, comment_of}
 use Rattle.commands.specs.Laws.{SavesSoundComments, SavesTheSame}
 use Rattle.commands.proofs.LineWords.{name_bytes, length-name}
@@ -50,7 +51,7 @@ visible_all p all (b ∷ bs) h = rw (all b (and_first _ _ h), visible_all p all 
 both_visible : (xs ys : List ℕ) → list_all is_visible xs ≡ true → list_all is_visible ys ≡ true → list_all is_visible (xs ++ ys) ≡ true
 both_visible xs ys p q = list_all-append is_visible xs ys ∙ rw (p, q) refl
 
-visible_order : (o : Order) → (list_all is_visible (order_text o) ≡ true) × (length (order_text o) ≤ 8)
+visible_order : (o : Order) → (list_all is_visible (order_word o) ≡ true) × (length (order_word o) ≤ 8)
 visible_order Arrival = (refl, omega arith)
 visible_order Shortest = (refl, omega arith)
 
@@ -77,7 +78,7 @@ comment_sound name setting called set =
     let f = set.factor_fits in
     let procs = decimal_text setting.procs in
     let factor = decimal_text setting.factor in
-    let order = order_text setting.order in
+    let order = order_word setting.order in
     let last = visible_order setting.order in
     let third = both_visible factor (32 ∷ order) (visible_all is_ascii_digit visible_digit factor (spelled setting.factor (omega arith)).0) last.0 in
     let second = both_visible procs (32 ∷ (factor ++ 32 ∷ order)) (visible_all is_ascii_digit visible_digit procs (spelled setting.procs (omega arith)).0) third in

@@ -1,39 +1,45 @@
 -- The commands of a script: one a line, its words between blanks.
-use Rattle.std.specs.Prelude.{ℕ, List, [], ◌∷◌, length, ◌==◌, nat_lt, if◌then◌else◌, Option, Some, None, Result, Ok, Err, ℤ, codes, slice_index_or}
+use Rattle.std.specs.Prelude.{ℕ, List, [], ◌∷◌, length, ◌==◌, nat_lt, if◌then◌else◌, Option, Some, None, Result, Ok, Err, ℤ, codes, find, slice_index_or}
+use Rattle.std.specs.Option.{option_map}
 use Rattle.std.specs.Str.{bytes_eq}
 use Rattle.swf_text.specs.Limits.{line_limit}
 use Rattle.swf_text.specs.Number.{number_of}
 use Rattle.swf_text.specs.Line.{without_returns, fields}
 use Rattle.scenarios.specs.declared.order.Order.{Order}
 use Rattle.scenarios.specs.declared.order.Order.TheVariants.{Arrival}
+use Rattle.scenarios.specs.Order.{order_of}
 use Rattle.commands.specs.declared.keyword.Keyword.{Keyword}
 use Rattle.commands.specs.declared.keyword.Keyword.TheVariants as keys
 use Rattle.commands.specs.declared.command.Command.{Command}
 use Rattle.commands.specs.declared.command.Command.TheVariants as commands
 use Rattle.commands.specs.declared.fault.CommandFault.{CommandFault}
 use Rattle.commands.specs.declared.fault.CommandFault.TheVariants.{TooLong, Unknown, Words, BadWord}
-use Rattle.commands.specs.Words.{name_of, job_number, field_number, machine, factor, order_of, entry_values}
+use Rattle.commands.specs.Words.{name_of, job_number, field_number, machine, factor, entry_values}
+
+-- the commands by their words
+abbrev pub keywords : List (List ℕ × Keyword)
+keywords =
+    (codes "insert", keys.Insert)
+    ∷ (codes "remove", keys.Remove)
+    ∷ (codes "change", keys.Change)
+    ∷ (codes "scenario", keys.Scenario)
+    ∷ (codes "drop", keys.Drop)
+    ∷ (codes "retry", keys.Retry)
+    ∷ (codes "settle", keys.Settle)
+    ∷ (codes "schedule", keys.Schedule)
+    ∷ (codes "table", keys.Table)
+    ∷ (codes "users", keys.Users)
+    ∷ (codes "days", keys.Days)
+    ∷ (codes "side", keys.Side)
+    ∷ (codes "log", keys.Log)
+    ∷ (codes "save", keys.Save)
+    ∷ (codes "version", keys.Version)
+    ∷ (codes "quit", keys.Quit)
+    ∷ []
 
 -- the command that a word begins, if any
 abbrev pub keyword_of : List ℕ → Option Keyword
-keyword_of word =
-    if bytes_eq word (codes "insert") then Some keys.Insert
-    else (if bytes_eq word (codes "remove") then Some keys.Remove
-    else (if bytes_eq word (codes "change") then Some keys.Change
-    else (if bytes_eq word (codes "scenario") then Some keys.Scenario
-    else (if bytes_eq word (codes "drop") then Some keys.Drop
-    else (if bytes_eq word (codes "retry") then Some keys.Retry
-    else (if bytes_eq word (codes "settle") then Some keys.Settle
-    else (if bytes_eq word (codes "schedule") then Some keys.Schedule
-    else (if bytes_eq word (codes "table") then Some keys.Table
-    else (if bytes_eq word (codes "users") then Some keys.Users
-    else (if bytes_eq word (codes "days") then Some keys.Days
-    else (if bytes_eq word (codes "side") then Some keys.Side
-    else (if bytes_eq word (codes "log") then Some keys.Log
-    else (if bytes_eq word (codes "save") then Some keys.Save
-    else (if bytes_eq word (codes "version") then Some keys.Version
-    else (if bytes_eq word (codes "quit") then Some keys.Quit
-    else None)))))))))))))))
+keyword_of word = option_map (λ entry. entry.1) (find (λ entry. bytes_eq entry.0 word) keywords)
 
 -- a word's value, and what follows from it; a word without one is bad at its place
 abbrev pub word_then : {T U : Type 0} → ℕ → Option T → (T → Result U CommandFault) → Result U CommandFault

@@ -5,10 +5,11 @@ use Rattle.std.specs.Fmt.{decimal as decimal_text}
 use Rattle.swf_text.specs.Number.{are_digits, digits_value}
 use Rattle.swf_text.specs.Line.{from_first, fields}
 use Rattle.scenarios.specs.declared.order.Order.{Order}
-use Rattle.scenarios.specs.declared.order.Order.TheVariants.{Arrival, Shortest}
+use Rattle.scenarios.specs.declared.order.Order.TheVariants.{Arrival}
 use Rattle.scenarios.specs.Scenario.{Setting}
 use Rattle.commands.specs.declared.comment.ScenarioLine.{ScenarioLine}
-use Rattle.commands.specs.Words.{name_of, order_of}
+use Rattle.scenarios.specs.Order.{order_of, order_word}
+use Rattle.commands.specs.Words.{name_of}
 
 -- ---- reading
 
@@ -42,11 +43,7 @@ scenario_line (byte ∷ bytes) = if byte == 59 then after_mark (from_first bytes
 
 -- ---- writing
 
-abbrev pub order_text : Order → List ℕ
-order_text Arrival = codes "arrival"
-order_text Shortest = codes "shortest"
-
 -- the comment that tells of a scenario, all four words with one space between
 abbrev pub scenario_comment : List ℕ → Setting → List ℕ
 scenario_comment name setting =
-    codes "; Scenario: " ++ (name ++ 32 ∷ (decimal_text setting.procs ++ 32 ∷ (decimal_text setting.factor ++ 32 ∷ order_text setting.order)))
+    codes "; Scenario: " ++ (name ++ 32 ∷ (decimal_text setting.procs ++ 32 ∷ (decimal_text setting.factor ++ 32 ∷ order_word setting.order)))

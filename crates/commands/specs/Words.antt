@@ -1,13 +1,10 @@
 -- What the words of a command stand for.
-use Rattle.std.specs.Prelude.{ℕ, ◌+◌, ◌*◌, List, [], ◌∷◌, Bool, ◌&&◌, ◌||◌, ◌==◌, not, nat_le, if◌then◌else◌, Option, Some, None, Result, Ok, ℤ, pos, codes}
+use Rattle.std.specs.Prelude.{ℕ, ◌+◌, ◌*◌, List, [], ◌∷◌, Bool, ◌&&◌, ◌||◌, ◌==◌, not, nat_le, if◌then◌else◌, Option, Some, None, Result, Ok, ℤ, pos}
 use Rattle.std.specs.Option.{option_map}
-use Rattle.std.specs.Str.{bytes_eq}
 use Rattle.swf_text.specs.Number.{are_digits, digits_value, number_of, is_below_zero}
 use Rattle.swf_text.specs.Entry.{is_partial}
 use Rattle.swf_text.specs.Line.{value_then}
 use Rattle.scenarios.specs.Limits.{procs_limit, factor_limit}
-use Rattle.scenarios.specs.declared.order.Order.{Order}
-use Rattle.scenarios.specs.declared.order.Order.TheVariants.{Arrival, Shortest}
 use Rattle.scenarios.specs.Name.{is_name}
 
 -- the word, where it is a scenario's name
@@ -19,9 +16,13 @@ abbrev pub number_between : ℕ → ℕ → List ℕ → Option ℕ
 number_between least most word =
     if are_digits word && nat_le least (digits_value word) && nat_le (digits_value word) most then Some (digits_value word) else None
 
+-- the greatest job number
+abbrev pub job_limit : ℕ
+job_limit = 1000000000000
+
 -- a job number is at most a trillion
 abbrev pub job_number : List ℕ → Option ℕ
-job_number word = number_between 0 1000000000000 word
+job_number word = number_between 0 job_limit word
 
 -- a field is at most 255; which fields can be changed is tested later
 abbrev pub field_number : List ℕ → Option ℕ
@@ -34,10 +35,6 @@ machine word = number_between 1 procs_limit word
 -- a factor on estimates is 1 to 100,000 thousandths
 abbrev pub factor : List ℕ → Option ℕ
 factor word = number_between 1 factor_limit word
-
--- the order that a word names
-abbrev pub order_of : List ℕ → Option Order
-order_of word = if bytes_eq word (codes "arrival") then Some Arrival else (if bytes_eq word (codes "shortest") then Some Shortest else None)
 
 -- ---- the eighteen words of an entry
 

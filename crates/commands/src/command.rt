@@ -1,4 +1,4 @@
-use crate::name::Name;
+use crate::name::ScenarioName;
 use scenarios::Scenario;
 use std::alloc::Allocator;
 use swf_text::{Entry, Value};
@@ -18,27 +18,27 @@ pub enum Command<A: Allocator + Copy> {
     },
     /// `scenario`, a name, processors, a factor in thousandths, and optionally an order.
     Scenario {
-        name: Name,
+        name: ScenarioName,
         scenario: Scenario,
     },
     /// `drop` and a name: this scenario goes.
-    Drop(Name),
+    Drop(ScenarioName),
     /// `retry` and a name: this scenario is worked again.
-    Retry(Name),
+    Retry(ScenarioName),
     /// `settle`: wait until each scenario is worked.
     Settle,
     /// `schedule` and a name: the start and the end of each job.
-    Schedule(Name),
+    Schedule(ScenarioName),
     /// `table` and a name: the sums and means of the run.
-    Table(Name),
+    Table(ScenarioName),
     /// `users` and a name: the same by user.
-    Users(Name),
+    Users(ScenarioName),
     /// `days` and a name: the same by day.
-    Days(Name),
+    Days(ScenarioName),
     /// `side`: the scenarios side by side.
     Side,
     /// `log` and a name: the jobs of the log under this scenario.
-    Log(Name),
+    Log(ScenarioName),
     /// `save`: the log with its scenarios.
     Save,
     /// `version`: the number of the log's version.

@@ -1,8 +1,7 @@
 ghost use Rattle.std.specs.Prelude.{◌≡◌, map};
 ghost use Rattle.commands.specs.ScenarioLine.{short_number, line_made, line_of_words, after_mark, scenario_line};
 
-use crate::name::Name;
-use crate::values::order_of;
+use crate::name::ScenarioName;
 use crate::words::words_of;
 use scenarios::Order;
 use swf_text::{are_digits, digits_value, from_first};
@@ -17,7 +16,7 @@ const DIGIT_LIMIT: usize = 18;
 /// may lie outside the limits of a scenario.
 #[derive(Drop)]
 pub struct ScenarioLine {
-    pub name: Name,
+    pub name: ScenarioName,
     pub procs: u64,
     pub factor: u64,
     pub order: Order,
@@ -38,7 +37,7 @@ fn short_number(word: &[u8]) -> Option<u64>
 fn line_made(name: &[u8], procs: &[u8], factor: &[u8], order: Option<Order>) -> Option<ScenarioLine>
     ensures { result ≡ line_made name.now procs.now factor.now order }
 {
-    let name = Name::new(name)?;
+    let name = ScenarioName::new(name)?;
     let procs = short_number(procs)?;
     let factor = short_number(factor)?;
     let order = order?;
@@ -58,7 +57,7 @@ fn line_of_words(words: &[&[u8]]) -> Option<ScenarioLine>
         return line_made(words[0], words[1], words[2], Some(Order::Arrival));
     }
     if words.len() == 4 {
-        return line_made(words[0], words[1], words[2], order_of(words[3]));
+        return line_made(words[0], words[1], words[2], Order::of_word(words[3]));
     }
     None
 }

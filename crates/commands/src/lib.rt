@@ -18,7 +18,7 @@ pub use command::Command;
 pub use comment::{ScenarioLine, scenario_line};
 pub use fault::CommandFault;
 pub use laws::saved_again_law;
-pub use name::Name;
+pub use name::ScenarioName;
 pub use opening::{Opening, open_text};
 pub use opening_fault::OpenTextFault;
 pub use parse::parse_command;

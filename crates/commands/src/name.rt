@@ -12,11 +12,11 @@ const NAME_ROOM: usize = 16;
 
 /// A scenario's name: 1 to 16 bytes of `a` to `z`, `0` to `9`, `-` and `_`.
 #[derive(Drop)]
-pub struct Name {
+pub struct ScenarioName {
     text: ArrayString<NAME_ROOM>,
 }
 
-impl Model for Name {
+impl Model for ScenarioName {
     ghost use Rattle.std.specs.Prelude.{◌≡◌, ℕ, List, true};
     ghost use Rattle.scenarios.specs.Name.{is_name};
 
@@ -27,9 +27,9 @@ impl Model for Name {
     ghost invariant = { λ n. is_name n.text.bytes ≡ true };
 }
 
-impl Name {
+impl ScenarioName {
     /// The name of these bytes; None where they are none. Takes no memory.
-    pub fn new(bytes: &[u8]) -> Option<Name>
+    pub fn new(bytes: &[u8]) -> Option<ScenarioName>
         ensures { result ≡ name_of bytes.now }
     {
         if !is_name(bytes) {
@@ -37,7 +37,7 @@ impl Name {
         }
         let mut text = ArrayString::new();
         text.push_str(str::from_utf8(bytes).unwrap());
-        Some(Name { text })
+        Some(ScenarioName { text })
     }
 
     /// The name's text.

@@ -5,8 +5,8 @@ ghost use Rattle.commands.specs.Commands.{insert_of, remove_of, change_of, scena
 use crate::command::Command;
 use crate::fault::CommandFault;
 use crate::keyword::{Keyword, keyword_of};
-use crate::name::Name;
-use crate::values::{JOB_LIMIT, entry_values, number_between, order_of, value_of};
+use crate::name::ScenarioName;
+use crate::values::{JOB_LIMIT, entry_values, number_between, value_of};
 use crate::words::words_of;
 use scenarios::{MAX_FACTOR, MAX_PROCS, Order, Scenario};
 use std::alloc::Allocator;
@@ -68,7 +68,7 @@ fn scenario_made<A: Allocator + Copy>(
 ) -> Result<Command<A>, CommandFault>
     ensures { result ≡ scenario_made name.now procs.now factor.now order }
 {
-    let name = Name::new(name).ok_or(CommandFault::BadWord(1))?;
+    let name = ScenarioName::new(name).ok_or(CommandFault::BadWord(1))?;
     let procs = number_between(procs, 1, MAX_PROCS).ok_or(CommandFault::BadWord(2))?;
     let factor = number_between(factor, 1, MAX_FACTOR).ok_or(CommandFault::BadWord(3))?;
     let order = order.ok_or(CommandFault::BadWord(4))?;
@@ -84,19 +84,19 @@ fn scenario<A: Allocator + Copy>(words: &[&[u8]]) -> Result<Command<A>, CommandF
         return scenario_made(words[0], words[1], words[2], Some(Order::Arrival));
     }
     if words.len() == 4 {
-        return scenario_made(words[0], words[1], words[2], order_of(words[3]));
+        return scenario_made(words[0], words[1], words[2], Order::of_word(words[3]));
     }
     Err(CommandFault::Words)
 }
 
 // The only word, a name.
-fn only_name(words: &[&[u8]]) -> Result<Name, CommandFault>
+fn only_name(words: &[&[u8]]) -> Result<ScenarioName, CommandFault>
     ensures { result ≡ only_name (map (λ w. w.now) words.now) }
 {
     if words.len() != 1 {
         return Err(CommandFault::Words);
     }
-    Name::new(words[0]).ok_or(CommandFault::BadWord(1))
+    ScenarioName::new(words[0]).ok_or(CommandFault::BadWord(1))
 }
 
 // That there are no words.

@@ -1,22 +1,12 @@
 ghost use Rattle.std.specs.Prelude.{◌≡◌, ◌<◌, length, map, slice_get, Some, IfOk};
-ghost use Rattle.commands.specs.ScenarioLine.{order_text, scenario_comment};
+ghost use Rattle.commands.specs.ScenarioLine.{scenario_comment};
 ghost use Rattle.commands.specs.Opening.{comment_of, saved};
 
 use itoa::Buffer;
 use job_table::JobTable;
-use scenarios::{Order, Scenario, ScenarioList};
+use scenarios::{Scenario, ScenarioList};
 use std::alloc::Allocator;
 use swf_text::{Memory, SwfText};
-
-// The word of an order.
-fn order_text(order: Order) -> &'static [u8]
-    ensures { result.now ≡ order_text order }
-{
-    match order {
-        Order::Arrival => b"arrival",
-        Order::Shortest => b"shortest",
-    }
-}
 
 // The comment that tells of a scenario.
 fn scenario_comment<A: Allocator + Copy>(
@@ -34,7 +24,7 @@ fn scenario_comment<A: Allocator + Copy>(
     comment.push(b' ')?;
     comment.extend_from_slice(buffer.format(scenario.factor()).as_bytes())?;
     comment.push(b' ')?;
-    comment.extend_from_slice(order_text(scenario.order()))?;
+    comment.extend_from_slice(scenario.order().word())?;
     Ok(comment)
 }
 

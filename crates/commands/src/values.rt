@@ -1,8 +1,7 @@
 ghost use Rattle.std.specs.Prelude.{◌≡◌, ◌≤◌, IfOk, map, length};
 ghost use Rattle.swf_text.specs.Number.{number_of};
-ghost use Rattle.commands.specs.Words.{number_between, order_of, entry_value, may_stand, entry_values, job_value};
+ghost use Rattle.commands.specs.Words.{job_limit, number_between, entry_value, may_stand, entry_values, job_value};
 
-use scenarios::Order;
 use swf_text::{Value, read_digits};
 
 /// The greatest job number.
@@ -10,7 +9,7 @@ pub(crate) const JOB_LIMIT: u64 = 1_000_000_000_000;
 
 // The number that the digits of a word spell, where it is within these limits.
 pub(crate) fn number_between(word: &[u8], least: u64, most: u64) -> Option<u64>
-    requires { most ≤ 1000000000000 }
+    requires { most ≤ job_limit }
     ensures { result ≡ number_between least most word.now }
 {
     let number = read_digits(word)?;
@@ -18,19 +17,6 @@ pub(crate) fn number_between(word: &[u8], least: u64, most: u64) -> Option<u64>
         return None;
     }
     Some(number)
-}
-
-// The order that a word names.
-pub(crate) fn order_of(word: &[u8]) -> Option<Order>
-    ensures { result ≡ order_of word.now }
-{
-    if word == b"arrival".as_slice() {
-        return Some(Order::Arrival);
-    }
-    if word == b"shortest".as_slice() {
-        return Some(Order::Shortest);
-    }
-    None
 }
 
 // The value of a number of a log.

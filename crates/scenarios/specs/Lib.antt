@@ -1,4 +1,5 @@
 pub mod Limits
+pub mod Order
 pub mod Job
 pub mod Scenario
 pub mod Effective
