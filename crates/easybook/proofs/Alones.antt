@@ -1,4 +1,4 @@
--- What is answered of a log or a script that is read up to one byte past its limit.
+-- The results for a log or a script that is read up to one byte past its limit.
 use Rattle.std.proofs.Common.{◌≡◌, ℕ, ◌+◌, ◌<◌, List, length, take, Option, Some, IfSome, Result, Ok, Err, inl, inr, subst, arith}
 use Rattle.std.proofs.lemmas.Bool.{cases_lt}
 use Rattle.easybook.specs.Alone.{IsAnswered, IsWorked, RunsAlone, script_limit}
@@ -7,7 +7,7 @@ use Rattle.easybook.specs.declared.fault.ProgramFault.{ProgramFault}
 use Rattle.easybook.specs.declared.fault.ProgramFault.TheVariants as faults
 use Rattle.easybook.proofs.Inputs.{all_of_front, known_all, known_more, more_of_front}
 
--- beyond the limit nothing but the length is told
+-- beyond the limit only the length is reported
 past : {X : Type 0} (A : Type 0) (front all : List ℕ) (procs : Option ℕ) (known old new : Option (List ℕ)) (result : Result X ProgramFault) → log_limit < length front → log_limit < length all → RunsAlone A front procs known old new result → RunsAlone A all procs known old new result
 past A front all procs known old new (Ok x) many more h = let within = h.1.2.is_opened.within in absurd (omega arith)
 past A front all procs known old new (Err faults.Write) many more h = let within = h.1.2.is_opened.within in absurd (omega arith)

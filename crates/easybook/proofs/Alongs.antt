@@ -1,5 +1,5 @@
--- What a session at a desk is answered, it is answered along the history of the desk, once that has all its calls.
-use Rattle.std.proofs.Common.{◌≡◌, ◌⊎◌, ℕ, ◌+◌, ◌≤◌, true, List, [], ◌++◌, length, Option, Some, Result, Ok, Err, IfOk, refl, sym, ap, subst, ◌∙◌, arith, inl, inr}
+-- The responses to a session at a desk are responses along the history of the desk, once that has all its calls.
+use Rattle.std.proofs.Common.{◌≡◌, ℕ, ◌+◌, ◌≤◌, true, List, length, Result, Err, refl, sym, ap, subst, ◌∙◌, arith, inl, inr}
 use mathlib.Core.List.{IsPrefix}
 use Rattle.scenarios.specs.ScenarioList.{id_of}
 use Rattle.book_machine.specs.declared.caller.Caller.TheVariants as caller
@@ -13,7 +13,7 @@ use Rattle.version_book.specs.declared.faults.ViewFault.TheVariants as view
 use Rattle.version_book.specs.declared.refusal.Refusal.{Refusal}
 use Rattle.version_book.specs.declared.refusal.Refusal.TheVariants as why
 use Rattle.version_book.specs.Answers.{view_answer}
-use Rattle.version_book.specs.Book.{BookView, PublishedView, machine_of}
+use Rattle.version_book.specs.Book.{PublishedView, machine_of}
 use Rattle.version_book.specs.Steps.{Answer}
 use Rattle.workers.specs.Callers.{SessionView}
 use Rattle.workers.specs.History.{CalledAt, IsShownAt, Settles}
@@ -21,9 +21,8 @@ use Rattle.workers.specs.declared.settled.Settled.{Settled}
 use Rattle.scripts.specs.Analysts.{IsViewed}
 use Rattle.scripts.specs.BookRules.{IsPresent, IsTrueOf}
 use Rattle.scripts.specs.Lifting.{Leads, Lifts}
-use Rattle.scripts.specs.Rules.{Moment}
 use Rattle.scripts.proofs.Lemmas.{shown-true}
-use Rattle.easybook.specs.Along.{Goes, Looks, Makes, Place, Shows, Waits, ended_by, rules_along}
+use Rattle.easybook.specs.Along.{Goes, Looks, Makes, Place, Waits, ended_by, rules_along}
 use Rattle.easybook.specs.DeskRules.{IsListed, IsRead, desk_rules}
 use Rattle.easybook.proofs.Own.{goes_by_others, list_noted, noted, own, own_grows, own_noted}
 
@@ -41,7 +40,7 @@ IsWhole who s = (s.front.kept ≡ true) × (length s.list ≡ length (own who s.
 
 -- ---- calls
 
--- what a kept call tells, with the session's number
+-- what a listed call says, with the session's number
 called : (opening : Machine) (who : ℕ) (old new : SessionView) (call : BookCall) (answer : Answer) → IsListed opening old call answer new → old.number ≡ who → new.front.kept ≡ true
     → (old.front.kept ≡ true) × ((before : List Happened) × IsPrefix old.front.events before × CalledAt opening before (caller.Session who) call answer new.front.events)
 called opening who old new call answer l is kept =
@@ -155,7 +154,7 @@ settles_leads opening who old new told r fits = (
       (so.0, record { goes = so.1; settled = h.2; seen = ap (λ (s : SessionView). s.seen) r.1 }),
 )
 
--- how a wait ended is told by the state
+-- how a wait ended, by the state
 pub told_by : (opening : Machine) (mine old new : SessionView) (ended : Settled) (told : SettleState) → mine ≡ old → ended ≡ ended_by told
     → Settles opening mine.front mine.seen ended new.front → new ≡ record mine { front = new.front } → (desk_rules opening).settles old told new
 told_by opening mine old new ended told is so s same = subst (λ (v : SessionView). (desk_rules opening).settles v told new) is (subst (λ (e : Settled). Settles opening mine.front mine.seen e new.front) so s, same)

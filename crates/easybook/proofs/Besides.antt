@@ -1,12 +1,11 @@
 -- What the program does with scripts that are named, by what is written of them side by side.
-use Rattle.std.proofs.Common.{◌≡◌, ℕ, ◌+◌, ◌++◌, ◌≤◌, ◌<◌, Bor, Global, get_or, arith, Bool, true, ◌&&◌, nat_le, List, [], ◌∷◌, length, map, take, Option, Some, None, IfSome, Result, Ok, Err, ◌⊎◌, inl, inr, refl, sym, ap, subst, ◌∙◌}
-use Rattle.std.specs.List.{list_all}
+use Rattle.std.proofs.Common.{◌≡◌, ℕ, ◌+◌, ◌++◌, ◌≤◌, ◌<◌, Bor, Global, get_or, arith, true, ◌&&◌, nat_le, List, [], ◌∷◌, length, map, take, Option, Some, None, IfSome, Result, Ok, Err, inl, inr, refl, sym, ap, subst, ◌∙◌}
 use Rattle.std.proofs.lemmas.Bool.{leb-true}
 use Rattle.std.proofs.lemmas.List.{get_or-map, length-map, take_more}
 use Rattle.clap.specs.Walk.{Text}
 use Rattle.easybook.specs.Alone.{script_limit}
 use Rattle.easybook.specs.Plain.{log_limit}
-use Rattle.easybook.specs.Program.{AreFronts, AreOf, EndsOnScripts, IsFront, OfAll, Sources}
+use Rattle.easybook.specs.Program.{AreFronts, AreOf, EndsOnScripts, IsFront, Sources}
 use Rattle.easybook.specs.Shared.{AreWithin, RunsShared, are_within}
 use Rattle.easybook.specs.declared.fault.ProgramFault.{ProgramFault}
 use Rattle.easybook.specs.declared.fault.ProgramFault.TheVariants as faults

@@ -10,7 +10,7 @@ use Rattle.version_book.specs.Book.{BookView, machine_of}
 use Rattle.scripts.specs.Transcript.{with_scenarios}
 use Rattle.scripts.proofs.Lemmas.{with-one}
 
--- the first so many of the scenarios were added to a book
+-- the first this many of the scenarios were added to a book
 pub record Added (old new : BookView) (scenarios : List Listed) (place : ℕ) : Type 0 where
   pub machine : machine_of new ≡ with_scenarios (machine_of old) (take place scenarios)
   pub spacing : new.state.spacing ≡ old.state.spacing

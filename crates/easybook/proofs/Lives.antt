@@ -1,5 +1,5 @@
 -- What a conversation leaves written, and what the program does with it.
-use Rattle.std.proofs.Common.{◌≡◌, ℕ, ◌+◌, ◌<◌, false, eqb, List, [], length, take, Option, IfSome, Result, Ok, Err, inl, inr, sym, ap, subst, ◌∙◌, arith}
+use Rattle.std.proofs.Common.{◌≡◌, ℕ, ◌+◌, ◌<◌, false, eqb, List, [], length, take, Option, Some, None, IfSome, Result, Ok, Err, inl, inr, sym, ap, subst, ◌∙◌, arith}
 use Rattle.std.proofs.lemmas.Bool.{cases_lt, ne_eqb}
 use Rattle.std.specs.Io.Buffered.{reader_buffer, reader_capacity, reader_inner, reader_remaining}
 use Rattle.std.proofs.KnownBytes.{prepend_known-nil}
@@ -13,7 +13,7 @@ use Rattle.easybook.specs.Book.{IsBookOf}
 use Rattle.easybook.specs.Fault.{fault_of_talk}
 use Rattle.easybook.specs.Live.{IsHeld, RunsLive}
 use Rattle.easybook.specs.Plain.{log_limit}
-use Rattle.easybook.specs.Program.{EndsOnTalk}
+use Rattle.easybook.specs.Program.{EndsOnTalk, OfAll}
 use Rattle.easybook.specs.declared.fault.ProgramFault.{ProgramFault}
 use Rattle.easybook.specs.declared.fault.ProgramFault.TheVariants as faults
 use Rattle.easybook.proofs.Inputs.{all_of_front, more_of_front}
@@ -49,13 +49,13 @@ ended_so {X} A log procs known old new fault told is h = subst (λ (r : Result X
   go live.Write h = h
   go live.Memory h = (tt, h.talks.1)
 
--- no conversation began for want of memory
+-- no conversation began for lack of memory
 pub no_room : {X : Type 0} (A : Type 0) (log : List ℕ) (procs : Option ℕ) (known old : Option (List ℕ)) (told : Result X ProgramFault) → told ≡ Err faults.Memory → RunsLive A log procs known old old told
 no_room {X} A log procs known old told is =
     let short : RunsLive {X = X} A log procs known old old (Err faults.Memory) = (tt, keeps old) in
     subst (λ (r : Result X ProgramFault). RunsLive A log procs known old old r) (sym is) short
 
--- of a log beyond its limit nothing but the length is told
+-- of a log beyond its limit only the length is reported
 past : {X : Type 0} (A : Type 0) (front all : List ℕ) (procs : Option ℕ) (known old new : Option (List ℕ)) (result : Result X ProgramFault) → log_limit < length front → log_limit < length all → RunsLive A front procs known old new result → RunsLive A all procs known old new result
 past A front all procs known old new (Ok x) many more h = let within = h.is_opened.within in absurd (omega arith)
 past A front all procs known old new (Err faults.Write) many more h = let within = h.is_opened.within in absurd (omega arith)
@@ -83,3 +83,22 @@ talk_ends {X} A file procs known old new log (Err (faults.Log f)) is h = of_all 
 talk_ends {X} A file procs known old new log (Err faults.NoMachine) is h = of_all file log (λ l. RunsLive {X = X} A l procs known old new (Err faults.NoMachine)) (λ all. of_log {X = X} A procs known old new (Err faults.NoMachine) log all) is h
 talk_ends {X} A file procs known old new log (Err faults.BadMachine) is h = of_all file log (λ l. RunsLive {X = X} A l procs known old new (Err faults.BadMachine)) (λ all. of_log {X = X} A procs known old new (Err faults.BadMachine) log all) is h
 talk_ends {X} A file procs known old new log (Err (faults.Close f)) is h = of_all file log (λ l. RunsLive {X = X} A l procs known old new (Err (faults.Close f))) (λ all. of_log {X = X} A procs known old new (Err (faults.Close f)) log all) is h
+
+-- what is said of all that a source has, once it is opened, is said of the bytes that are known under its name
+of_source : (file named : Option (List ℕ)) (P : List ℕ → Type 0) → IfSome named (λ bytes. file ≡ Some bytes) → OfAll file P → OfAll named P
+of_source file None P is o = (o.0, tt, o.2)
+of_source file (Some bytes) P is o = (o.0, subst (λ (f : Option (List ℕ)). IfSome f (λ b. o.0 ≡ b)) is o.1, o.2)
+
+pub talk_from : {X : Type 0} (A : Type 0) (file named : Option (List ℕ)) (procs : Option ℕ) (known old new : Option (List ℕ)) (result : Result X ProgramFault) → IfSome named (λ bytes. file ≡ Some bytes) → EndsOnTalk A file procs known old new result → EndsOnTalk A named procs known old new result
+talk_from {X} A file named procs known old new (Ok x) is h = of_source file named (λ l. RunsLive A l procs known old new (Ok x)) is h
+talk_from {X} A file named procs known old new (Err faults.Read) is h = elim h [
+  | inl kept ↦ inl kept
+  | inr o ↦ inr (of_source file named (λ l. RunsLive {X = X} A l procs known old new (Err faults.Read)) is o)
+]
+talk_from {X} A file named procs known old new (Err faults.Memory) is h = h
+talk_from {X} A file named procs known old new (Err faults.Write) is h = of_source file named (λ l. RunsLive {X = X} A l procs known old new (Err faults.Write)) is h
+talk_from {X} A file named procs known old new (Err faults.TooLong) is h = of_source file named (λ l. RunsLive {X = X} A l procs known old new (Err faults.TooLong)) is h
+talk_from {X} A file named procs known old new (Err (faults.Log f)) is h = of_source file named (λ l. RunsLive {X = X} A l procs known old new (Err (faults.Log f))) is h
+talk_from {X} A file named procs known old new (Err faults.NoMachine) is h = of_source file named (λ l. RunsLive {X = X} A l procs known old new (Err faults.NoMachine)) is h
+talk_from {X} A file named procs known old new (Err faults.BadMachine) is h = of_source file named (λ l. RunsLive {X = X} A l procs known old new (Err faults.BadMachine)) is h
+talk_from {X} A file named procs known old new (Err (faults.Close f)) is h = of_source file named (λ l. RunsLive {X = X} A l procs known old new (Err (faults.Close f))) is h

@@ -59,7 +59,7 @@ pub lines-of-plan : {text : List ℕ} {log table : List LogEntry} {setting scena
 lines-of-plan {text} {log} {table} {setting} {scenario} name has same_log same_scenario =
     subst (λ (s : Setting). HasALineForEachJob name 0 (plan_of table s) text) same_scenario (subst (λ (es : List LogEntry). HasALineForEachJob name 0 (plan_of es setting) text) same_log has)
 
--- the schedule of the first scenario of a log, or why it is not written, is what the log is answered
+-- the schedule of the first scenario of a log, or why it is not written, is the result for the log
 pub printed : {X : Type 0} (log : List ℕ) (procs : Option ℕ) (comments : List (List ℕ)) (table : List LogEntry) (scenarios : Listing) (first : Listed) (old new : Option (List ℕ)) (result : Result X ProgramFault) → IsOpened log procs comments table scenarios → slice_get scenarios.scenarios 0 ≡ Some first → Prints first.name (plan_of table first.setting) old new result → Answers log procs old new result
 printed log procs comments table scenarios first old new (Ok x) is is_first p = (p.0, schedule-is log procs p.0 comments table scenarios first is is_first p.1.schedule p.1.lines_of_jobs, p.2)
 printed log procs comments table scenarios first old new (Err faults.Write) is is_first p = (p.0, schedule-is log procs p.0 comments table scenarios first is is_first p.1.schedule p.1.lines_of_jobs, p.2)

@@ -1,4 +1,4 @@
--- What the program does with a log in a file, by what the session answers.
+-- What the program does with a log in a file, by the session's result.
 use Rattle.std.proofs.Common.{◌≡◌, ℕ, ◌+◌, List, take, Option, Some, None, IfSome, Result, Ok, Err, refl}
 use Rattle.easybook.specs.Alone.{RunsAlone, script_limit}
 use Rattle.easybook.specs.Plain.{log_limit}

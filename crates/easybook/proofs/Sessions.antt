@@ -1,4 +1,4 @@
--- What a session answers where its script is not had, or its writer fails.
+-- The result of a session where its script cannot be read, or its writer fails.
 use Rattle.std.proofs.Common.{◌≡◌, ℕ, ◌≤◌, List, length, take, Option, Some, None, IfSome, Result, Err, refl, inr, subst, sym}
 use Rattle.std.specs.Io.KnownBytes.{Appends, Keeps}
 use Rattle.book_machine.specs.Machine.{Machine}
@@ -30,7 +30,7 @@ unread {X} A log procs spacing comments book known old fault told b h is = subst
   go faults.NoMachine h = absurd h
   go faults.BadMachine h = absurd h
 
--- a transcript of the script that was read, from the book on, answers the log and the script
+-- a transcript of the script that was read, from the book on, is one of the log and the script
 answered : (A : Type 0) (log : List ℕ) (procs : Option ℕ) (spacing : ℕ) (comments : List (List ℕ)) (book : BookView) (script text : List ℕ) → IsBookOf log procs spacing comments book → length script ≤ script_limit → IsTranscriptOf A comments (record { machine = machine_of book; seen = 0 }) script text → IsAnswered A log procs script text
 answered A log procs spacing comments book script text b few t = record {
   comments = comments;

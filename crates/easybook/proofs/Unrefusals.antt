@@ -1,4 +1,4 @@
--- What a script is answered on a log where no memory is refused.
+-- The transcript of a script on a log where no memory is refused.
 use Rattle.std.proofs.Common.{◌≡◌, ℕ, List, ◌++◌, Option, Result, Ok, refl, sym, ◌∙◌, ap, subst}
 use Rattle.swf_text.specs.Entry.{LogEntry}
 use Rattle.swf_text.specs.Log.{log_of}

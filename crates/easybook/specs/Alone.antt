@@ -9,7 +9,7 @@ use Rattle.easybook.specs.Plain.{IsFaultOf, log_limit}
 use Rattle.easybook.specs.declared.fault.ProgramFault.{ProgramFault}
 use Rattle.easybook.specs.declared.fault.ProgramFault.TheVariants as faults
 
--- a script has at most so many bytes
+-- a script has at most this many bytes
 abbrev pub script_limit : ℕ
 script_limit = 16777216
 
@@ -34,8 +34,8 @@ IsWorked A log procs known text = (script : List ℕ) × IfSome known (λ all. s
 abbrev pub IsTooLong : List ℕ → Option ℕ → Option (List ℕ) → Type 0
 IsTooLong log procs known = (log_limit < length log) ⊎ (CanBeOpened log procs × IfSome known (λ all. script_limit < length all))
 
--- What was written, by what is answered: a transcript of the log and the script, or where the writer failed a beginning of
--- one, or nothing. A fault of the log comes before those of the script; want of memory says nothing of either.
+-- What was written, by the result: a transcript of the log and the script, or where the writer failed a beginning of
+-- one, or nothing. A fault of the log comes before those of the script; out of memory says nothing of either.
 abbrev pub RunsAlone : {X : Type 0} → Type 0 → List ℕ → Option ℕ → Option (List ℕ) → Option (List ℕ) → Option (List ℕ) → Result X ProgramFault → Type 0
 RunsAlone A log procs known old new (Ok x) = (text : List ℕ) × IsWorked A log procs known text × Appends old new text
 RunsAlone A log procs known old new (Err faults.Write) = (text : List ℕ) × IsWorked A log procs known text × ((n : ℕ) × Appends old new (take n text))

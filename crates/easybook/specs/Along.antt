@@ -1,4 +1,4 @@
--- What an analyst is answered along one history of the book machine, to which others add calls too. Each of its calls and
+-- The responses to an analyst along one history of the book machine, to which others add calls too. Each of its calls and
 -- readings has a place in it, in the order in which they are made.
 use Rattle.std.specs.Prelude.{◌≡◌, ℕ, List, [], ◌++◌, length, slice_get, Some, Result}
 use Rattle.swf_text.specs.Text.{lines}
@@ -24,7 +24,7 @@ use Rattle.scripts.specs.Rules.{Rules}
 use Rattle.scripts.specs.Session.{seen_of}
 use Rattle.scripts.specs.Transcript.{looked_at}
 
--- where an analyst stands: the history up to what it was answered last, and the greatest version that an edit or a view told it
+-- the state of an analyst: the history up to its last response, and the greatest version that an edit or a view returned
 pub record Place : Type 0 where
   pub events : List Happened
   pub seen : ℕ
@@ -33,14 +33,14 @@ pub record Place : Type 0 where
 abbrev pub Goes : ℕ → List Happened → List Happened → Type 0
 Goes who old new = (others : List Happened) × (new ≡ old ++ others) × (part_of (caller.Session who) (notes_of others) ≡ [])
 
--- how a wait for the runs ended, by what is answered
+-- how a wait for the runs ended, by the state that is returned
 abbrev pub ended_by : SettleState → Settled
 ended_by state.Done = settled_as.Done
 ended_by (state.Failed n) = settled_as.Failed n
 ended_by state.Waiting = settled_as.Stopped
 
 module _ (opening : Machine) (who : ℕ) where
-  -- The history goes on, and then the session calls: the machine answers as it does there.
+  -- The history goes on, and then the session calls: the reply is the machine's there.
   pub record Makes (old : Place) (call : BookCall) (answer : Answer) (new : Place) : Type 0 where
     pub before : List Happened
     pub goes : Goes who old.events before

@@ -7,7 +7,7 @@ use Rattle.scripts.specs.Transcript.{begun}
 use Rattle.easybook.specs.Opened.{IsOpened}
 
 -- The book is of the log's jobs. Its scenarios were added in their order, each by a call of its own: where one were refused
--- there, that is noted and the next is added. Runs are to be made in segments of at most so many event seconds.
+-- there, that is noted and the next is added. Runs are to be made in segments of at most this many event seconds.
 pub record IsBookOf (log : List ℕ) (procs : Option ℕ) (spacing : ℕ) (comments : List (List ℕ)) (book : BookView) : Type 0 where
   pub table : List LogEntry
   pub scenarios : Listing

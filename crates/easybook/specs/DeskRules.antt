@@ -1,5 +1,5 @@
--- What an analyst at a desk may be told: its list gains each call, and each call and reading has a place in the history of the
--- desk, behind all that it was told before.
+-- The rules of a session at a desk: its list gains each call, and each call and reading has a place in the history of the
+-- desk, behind all earlier responses.
 use Rattle.std.specs.Prelude.{◌≡◌, ℕ, List, ◌++◌, length, Some, slice_get}
 use Rattle.swf_text.specs.Text.{lines}
 use Rattle.scenarios.specs.ScenarioList.{id_of}
@@ -17,7 +17,7 @@ use Rattle.scripts.specs.Session.{seen_of}
 use Rattle.scripts.specs.Transcript.{looked_at}
 use Rattle.easybook.specs.Along.{ended_by}
 
--- a call: the list gains it with the reply of its answer, the session has seen what an edit or a view gave it, and the call
+-- a call: the list gains it with its reply, the session has seen what an edit or a view returned, and the call
 -- has its place in the history
 pub record IsListed (opening : Machine) (old : SessionView) (call : BookCall) (answer : Answer) (new : SessionView) : Type 0 where
   pub list : Gains old.list new.list call answer
@@ -45,12 +45,12 @@ abbrev pub IsWorkedAtDesk : Type 0 → Machine → List (List ℕ) → SessionVi
 IsWorkedAtDesk A opening comments old script new before after =
     (out : List ℕ) × LinesBy (desk_rules opening) A comments old (looked_at A (lines script)) 1 out new × (after ≡ before ++ out)
 
--- a session with the text that it was answered
+-- a session with the text that its script produced
 pub record AnsweredView : Type 0 where
   pub session : SessionView
   pub text : List ℕ
 
--- the text is what a new session was answered to the script of its number, and that is how the session stands then
+-- the text is what a new session produced for the script of its number, and this is the session's state then
 pub record IsAnsweredAtDesk (A : Type 0) (opening : Machine) (comments scripts : List (List ℕ)) (a : AnsweredView) : Type 0 where
   pub first : SessionView
   pub new : IsNewSession first
@@ -58,7 +58,7 @@ pub record IsAnsweredAtDesk (A : Type 0) (opening : Machine) (comments scripts :
   pub is_script : slice_get scripts first.number ≡ Some script
   pub answered : LinesBy (desk_rules opening) A comments first (looked_at A (lines script)) 1 a.text a.session
 
--- each of the sessions has the number of its place, and its text is what it was answered
+-- each of the sessions has the number of its place, and its text is what its script produced
 pub record AreAtDesk (A : Type 0) (opening : Machine) (comments scripts : List (List ℕ)) (sessions : List SessionView) (texts : List (List ℕ)) : Type 0 where
   pub as_many : length sessions ≡ length texts
   pub each : (k : ℕ) (session : SessionView) (text : List ℕ) → slice_get sessions k ≡ Some session → slice_get texts k ≡ Some text

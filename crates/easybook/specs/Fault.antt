@@ -15,7 +15,7 @@ abbrev pub fault_of_kind : SwfFault → FaultKind → ProgramFault
 fault_of_kind fault kinds.Memory = faults.Memory
 fault_of_kind fault kind = faults.Log fault
 
--- the log's fault, unless memory was short
+-- the log's fault, unless memory ran out
 abbrev pub fault_of : SwfFault → ProgramFault
 fault_of fault = fault_of_kind fault fault.kind
 
@@ -25,7 +25,7 @@ fault_of_opening openings.NoMachine = faults.NoMachine
 fault_of_opening openings.BadMachine = faults.BadMachine
 fault_of_opening openings.Memory = faults.Memory
 
--- why scripts side by side have no answer
+-- why scripts side by side end without their texts
 abbrev pub fault_of_scripts : SharedFault → ProgramFault
 fault_of_scripts (shared.Close fault) = faults.Close fault
 fault_of_scripts shared.Memory = faults.Memory

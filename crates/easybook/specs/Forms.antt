@@ -14,7 +14,7 @@ on_machine procs = record { log = None; procs = Some procs; spacing = 256; worke
 abbrev pub with_spacing : ℕ → Choice
 with_spacing spacing = record { log = None; procs = None; spacing = spacing; workers = 2; scripts = []; live = false }
 
--- with so many workers, where nothing else is named
+-- with this many workers, where nothing else is named
 abbrev pub with_workers : ℕ → Choice
 with_workers workers = record { log = None; procs = None; spacing = 256; workers = workers; scripts = []; live = false }
 

@@ -3,20 +3,20 @@ use Rattle.std.specs.Prelude.{ℕ, ◌<◌, List, length, Option, IfSome}
 use Rattle.easybook.specs.declared.fault.ProgramFault.{ProgramFault}
 use Rattle.easybook.specs.declared.fault.ProgramFault.TheVariants.{TooLong, Read, Memory}
 
--- it has more bytes than the limit, or the reader answered an error, or memory was short; these two say nothing of it
+-- it has more bytes than the limit, or the reader returned an error, or memory ran out; these two say nothing of it
 abbrev pub IsInputFault : Option (List ℕ) → ℕ → ProgramFault → Type 0
 IsInputFault known limit TooLong = IfSome known (λ all. limit < length all)
 IsInputFault known limit Read = Unit {0}
 IsInputFault known limit Memory = Unit {0}
 IsInputFault known limit fault = ⊥
 
--- the reader answered an error, or memory was short
+-- the reader returned an error, or memory ran out
 abbrev pub IsReadFault : ProgramFault → Type 0
 IsReadFault Read = Unit {0}
 IsReadFault Memory = Unit {0}
 IsReadFault fault = ⊥
 
--- it has too many bytes, or the reader answered an error, or memory was short
+-- it has too many bytes, or the reader returned an error, or memory ran out
 abbrev pub IsNotHad : ProgramFault → Type 0
 IsNotHad TooLong = Unit {0}
 IsNotHad fault = IsReadFault fault

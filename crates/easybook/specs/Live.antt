@@ -22,9 +22,9 @@ pub record IsHeld {X : Type 0} (A : Type 0) (log : List ℕ) (procs : Option ℕ
   pub left : Option (List ℕ)
   pub talks : Talks A comments (begun table scenarios.scenarios) known left old new result
 
--- What was written, by what is answered: a transcript of all lines up to the first `quit`; where the reader failed, one of all
--- lines that were read by then; where the writer failed, the answers to all lines but the one that was read last, and a
--- beginning of its answer. Other faults come before the first line.
+-- What was written, by the result: a transcript of all lines up to the first `quit`; where the reader failed, one of all
+-- lines that were read by then; where the writer failed, the responses to all lines except the one that was read last, and a
+-- beginning of its response. Other faults come before the first line.
 abbrev pub RunsLive : {X : Type 0} → Type 0 → List ℕ → Option ℕ → Option (List ℕ) → Option (List ℕ) → Option (List ℕ) → Result X ProgramFault → Type 0
 RunsLive A log procs known old new (Ok x) = IsHeld A log procs known old new (Ok x)
 RunsLive {X = X} A log procs known old new (Err faults.Read) = IsHeld {X = X} A log procs known old new (Err live.Read)

@@ -8,7 +8,7 @@ use Rattle.scenarios.specs.ScenarioList.{Listing}
 use Rattle.commands.specs.Opening.{kept, opened}
 use Rattle.easybook.specs.Plain.{log_limit}
 
--- The log is a text. Its comments and the machine that is named beside it tell these scenarios; the other comments are kept,
+-- The log is a text. Its comments and the machine that is named beside it name these scenarios; the other comments are kept,
 -- and its entries are in the order of a log.
 pub record IsOpened (log : List ℕ) (procs : Option ℕ) (comments : List (List ℕ)) (table : List LogEntry) (scenarios : Listing) : Type 0 where
   pub within : length log ≤ log_limit

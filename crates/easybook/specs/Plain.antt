@@ -1,4 +1,4 @@
--- What the plain run answers: the schedule of a log, or why there is none.
+-- What the plain run returns: the schedule of a log, or why there is none.
 use Rattle.std.specs.Prelude.{◌≡◌, ℕ, ◌<◌, ◌≤◌, List, length, take, slice_get, Option, Some, Result, Ok, Err}
 use Rattle.std.specs.Io.KnownBytes.{Appends, Keeps}
 use Rattle.swf_text.specs.Text.{LogText, lines}
@@ -13,7 +13,7 @@ use Rattle.easybook.specs.declared.fault.ProgramFault.{ProgramFault}
 use Rattle.easybook.specs.declared.fault.ProgramFault.TheVariants as faults
 use Rattle.report.specs.Schedule.{schedule_text, HasALineForEachJob}
 
--- a log has at most so many bytes
+-- a log has at most this many bytes
 abbrev pub log_limit : ℕ
 log_limit = 1073741824
 
@@ -37,7 +37,7 @@ pub record IsNotOpened (log : List ℕ) (procs : Option ℕ) (fault : OpenTextFa
   pub is_text : IsText (lines log) read
   pub refused : opened procs read.comments ≡ Err fault
 
--- the first fault that applies; want of memory says nothing of the log
+-- the first fault that applies; out of memory says nothing of the log
 abbrev pub IsFaultOf : List ℕ → Option ℕ → ProgramFault → Type 0
 IsFaultOf log procs faults.TooLong = log_limit < length log
 IsFaultOf log procs (faults.Log fault) = (length log ≤ log_limit) × FirstFault (lines log) fault
@@ -61,7 +61,7 @@ Prints name plan old new (Err faults.Write) = (text : List ℕ) × IsPrinted nam
 Prints name plan old new (Err faults.Memory) = Keeps old new
 Prints name plan old new (Err fault) = ⊥
 
--- what the plain run wrote, by what it answers: the whole schedule, or where the writer failed a beginning of it, or
+-- what the plain run wrote, by its result: the whole schedule, or where the writer failed a beginning of it, or
 -- where there is none nothing
 abbrev pub Answers : {X : Type 0} → List ℕ → Option ℕ → Option (List ℕ) → Option (List ℕ) → Result X ProgramFault → Type 0
 Answers log procs old new (Ok x) = (text : List ℕ) × IsScheduleOf log procs text × Appends old new text

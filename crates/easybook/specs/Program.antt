@@ -18,7 +18,7 @@ use Rattle.easybook.specs.declared.stop.Stop.TheVariants.{Words, Fault}
 abbrev pub Sources : Type 0
 Sources = Text → Option (List ℕ)
 
--- standard input has at most so many bytes where it holds the log
+-- standard input has at most this many bytes where it holds the log
 abbrev pub input_limit : ℕ
 input_limit = 1200000000
 
@@ -28,7 +28,7 @@ OfAll known says = (all : List ℕ) × IfSome known (λ bytes. all ≡ bytes) ×
 
 -- ---- the log in a file, the script on standard input
 
--- The script is worked on the log. Where one of them cannot be read, or memory is short for them, nothing is said of either
+-- The script is worked on the log. Where one of them cannot be read, or memory runs out for them, nothing is said of either
 -- and nothing is written.
 abbrev pub EndsOnFile : {X : Type 0} → Type 0 → Option (List ℕ) → Option ℕ → Option (List ℕ) → Option (List ℕ) → Option (List ℕ) → Result X ProgramFault → Type 0
 EndsOnFile A file procs known old new (Err faults.Read) = Keeps old new
@@ -37,7 +37,7 @@ EndsOnFile A file procs known old new result = OfAll file (λ log. RunsAlone A l
 
 -- ---- the log in a file, a conversation on standard input
 
--- The conversation is held on the log. Where that cannot be read, or memory is short, nothing is written.
+-- The conversation is held on the log. Where that cannot be read, or memory runs out, nothing is written.
 abbrev pub EndsOnTalk : {X : Type 0} → Type 0 → Option (List ℕ) → Option ℕ → Option (List ℕ) → Option (List ℕ) → Option (List ℕ) → Result X ProgramFault → Type 0
 EndsOnTalk {X = X} A file procs known old new (Err faults.Read) = Keeps old new ⊎ OfAll file (λ log. RunsLive {X = X} A log procs known old new (Err faults.Read))
 EndsOnTalk A file procs known old new (Err faults.Memory) = Keeps old new
@@ -57,7 +57,7 @@ pub record RunsInput {X : Type 0} (A : Type 0) (input : List ℕ) (procs : Optio
   pub is_cut : IsCut input log script
   pub runs : RunsParts A log script procs old new result
 
--- Where the input cannot be read, or memory is short for it, nothing is said of it and nothing is written; so too where it
+-- Where the input cannot be read, or memory runs out for it, nothing is said of it and nothing is written; so too where it
 -- has over 1,200,000,000 bytes.
 abbrev pub EndsOnInput : {X : Type 0} → Type 0 → Option ℕ → Option (List ℕ) → Option (List ℕ) → Option (List ℕ) → Result X ProgramFault → Type 0
 EndsOnInput A procs known old new (Err faults.Read) = Keeps old new
@@ -84,7 +84,7 @@ AreFronts sources (name ∷ names) fronts =
 abbrev pub IsFront : List ℕ → List ℕ → Type 0
 IsFront front all = (front ≡ all) ⊎ (front ≡ take (log_limit + 1) all)
 
--- The scripts are worked on the log. Where the log or one of them cannot be read, or memory is short for them, nothing is said
+-- The scripts are worked on the log. Where the log or one of them cannot be read, or memory runs out for them, nothing is said
 -- of them and nothing is written; so too where one has too many bytes.
 abbrev pub EndsOnScripts : {X : Type 0} → Sources → List Text → Option ℕ → Option (List ℕ) → Option (List ℕ) → Option (List ℕ) → Result X ProgramFault → Type 0
 EndsOnScripts sources names procs known old new (Err faults.Read) = Keeps old new

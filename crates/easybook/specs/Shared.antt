@@ -13,11 +13,11 @@ use Rattle.easybook.specs.Plain.{IsFaultOf, log_limit}
 use Rattle.easybook.specs.declared.fault.ProgramFault.{ProgramFault}
 use Rattle.easybook.specs.declared.fault.ProgramFault.TheVariants as faults
 
--- the line before what the script with this number was answered
+-- the line before the text of the script with this number
 abbrev pub head_line : ℕ → List ℕ
 head_line number = codes "== " ++ decimal number ++ codes "\n"
 
--- what scripts were answered, one after another, the first of which has this number
+-- the texts of scripts, one after another, the first of which has this number
 abbrev pub headed : ℕ → List (List ℕ) → List ℕ
 headed number [] = []
 headed number (text ∷ texts) = head_line number ++ text ++ headed (number + 1) texts
@@ -37,8 +37,8 @@ pub record AreAnswered (A : Type 0) (log : List ℕ) (procs : Option ℕ) (scrip
   pub is_opened : IsOpened log procs comments table scenarios
   pub along : AreAnsweredAlong A comments (begun table scenarios.scenarios).machine scripts texts
 
--- What was written, by what is answered: a text for each script, or where the writer failed a beginning of that, or nothing.
--- The lengths are judged before the log; want of memory, and a history that is not the callers', say nothing of either.
+-- What was written, by the result: a text for each script, or where the writer failed a beginning of that, or nothing.
+-- The lengths are judged before the log; out of memory, and a history that is not the callers', say nothing of either.
 abbrev pub RunsShared : {X : Type 0} → Type 0 → List ℕ → Option ℕ → List (List ℕ) → Option (List ℕ) → Option (List ℕ) → Result X ProgramFault → Type 0
 RunsShared A log procs scripts old new (Ok x) = AreWithin scripts × ((texts : List (List ℕ)) × AreAnswered A log procs scripts texts × Appends old new (headed 1 texts))
 RunsShared A log procs scripts old new (Err faults.Write) =

@@ -1,4 +1,4 @@
--- Why the program ends without its answer, and with which status.
+-- Why the program ends without its output, and with which status.
 use Rattle.std.specs.Prelude.{ℕ}
 use Rattle.std.specs.declared.io.ErrorKind.{ErrorKind}
 use Rattle.std.specs.declared.io.ErrorKind.TheVariants as kinds
@@ -7,7 +7,7 @@ use Rattle.easybook.specs.declared.words.WordsFault.TheVariants as words
 use Rattle.easybook.specs.declared.stop.Stop.{Stop}
 use Rattle.easybook.specs.declared.stop.Stop.TheVariants.{Words, Fault}
 
--- the words could not be had: memory was short, or one is no UTF-8
+-- the words could not be read: memory ran out, or one is no UTF-8
 abbrev pub stop_of_kind : ErrorKind → Stop
 stop_of_kind kinds.OutOfMemory = Fault faults.Memory
 stop_of_kind kind = Words words.BadWords

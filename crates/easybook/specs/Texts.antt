@@ -1,4 +1,4 @@
--- What is told of a program that ends without its answer.
+-- The line that is written of a program that ends without its output.
 use Rattle.std.specs.Prelude.{ℕ, List, codes}
 use Rattle.swf_text.specs.Names.{fault_text}
 use Rattle.easybook.specs.declared.fault.ProgramFault.{ProgramFault}

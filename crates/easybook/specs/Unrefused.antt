@@ -1,4 +1,4 @@
--- What a script is answered on a log where no memory is refused.
+-- The transcript of a script on a log where no memory is refused.
 use Rattle.std.specs.Prelude.{◌≡◌, ℕ, ◌≤◌, List, ◌++◌, length, Option}
 use Rattle.swf_text.specs.Entry.{LogEntry}
 use Rattle.swf_text.specs.Text.{lines}
@@ -25,13 +25,13 @@ ThereIsOneAnswer A =
     (log : List ℕ) (procs : Option ℕ) (script text other : List ℕ)
     → IsUnrefusedAnswer A log procs script text → IsUnrefusedAnswer A log procs script other → text ≡ other
 
--- and it is one of those that a script within its limit may be answered
+-- and it is one of those that a script within its limit may have
 abbrev pub ItIsAnAnswer : Type 0 → Type 0
 ItIsAnAnswer A =
     (log : List ℕ) (procs : Option ℕ) (script text : List ℕ)
     → length script ≤ script_limit → IsUnrefusedAnswer A log procs script text → IsAnswered A log procs script text
 
--- The plain run's schedule of a log is what the lines `settle` and `schedule NAME` are answered, with the name of the log's
+-- The plain run's schedule of a log is what the lines `settle` and `schedule NAME` yield, with the name of the log's
 -- first scenario, behind the line `settled 0`.
 abbrev pub PlainRunsAreScripts : Type 0 → Type 0
 PlainRunsAreScripts A =

@@ -14,7 +14,7 @@ use Rattle.easybook.specs.declared.words.Words.{Words}
 use Rattle.easybook.specs.declared.words.WordsFault.{WordsFault}
 use Rattle.easybook.specs.declared.words.WordsFault.TheVariants.{BadWords, Memory}
 
--- what the words choose: the file that holds the log, if any, the machine's processors, if they tell them, the most event
+-- what the words choose: the file that holds the log, if any, the machine's processors, if they name them, the most event
 -- seconds of a segment, how many workers there are, the files that hold the scripts, and whether a conversation is held
 pub record Choice : Type 0 where
   pub log : Option Text
@@ -108,7 +108,7 @@ chosen words =
     (workers_of (value_of (codes "workers") words)) (scripts_of (values_of (codes "script") words)) (is_live (value_of (codes "live") words))
     else None
 
--- why words choose nothing: they are bad, or memory was short, which says nothing of them
+-- why words choose nothing: they are bad, or memory ran out, which says nothing of them
 abbrev pub IsWordsFault : List Text → WordsFault → Type 0
 IsWordsFault words BadWords = chosen words ≡ None
 IsWordsFault words Memory = Unit {0}

@@ -13,16 +13,16 @@ use std::thread::Threads;
 /// The most bytes of a script.
 pub(crate) const SCRIPT_LIMIT: u64 = 16_777_216;
 
-/// Works a script on a log, as one session with one worker, and writes what each command is
-/// answered. The log's scenarios are those of its comments, as `commands::open_text` opens it with
+/// Works a script on a log, as one session with one worker, and writes the response to each command.
+/// The log's scenarios are those of its comments, as `commands::open_text` opens it with
 /// `options.procs`; each is added to the book in its order, as session 0.
 ///
 /// The faults in their order: TooLong where the log has over 1,073,741,824 bytes; Log with its
 /// first faulty line; NoMachine where nothing names a scenario or the machine's processors;
-/// BadMachine where it has not 1 to 16,777,216; Read where the script's reader answers an error;
+/// BadMachine where it has not 1 to 16,777,216; Read where the script's reader returns an error;
 /// TooLong where the script has over 16,777,216 bytes, of which one more at most is read; Memory
-/// where a growth is refused before the first command, while one refused later is an answer of
-/// the command; Write where the writer answers an error or takes no byte. Each but Write comes
+/// where a growth is refused before the first command, while one refused later is the response to
+/// the command; Write where the writer returns an error or takes no byte. Each except Write comes
 /// before the first byte is written, and on Write what was written is a beginning of a transcript.
 pub fn run_alone<R: Read + Drop, W: Write, T: Threads + Sync, A: Allocator + Copy>(
     rt: &T,
@@ -40,7 +40,7 @@ pub fn run_alone<R: Read + Drop, W: Write, T: Threads + Sync, A: Allocator + Cop
     Ok(())
 }
 
-// As `run_alone`, where the log's bytes are let go once it is opened.
+// As `run_alone`; the log's bytes are dropped once it is opened.
 pub(crate) fn run_on_log<R: Read + Drop, W: Write, T: Threads + Sync, A: Allocator + Copy>(
     rt: &T,
     alloc: A,

@@ -6,8 +6,8 @@ use std::alloc::Allocator;
 use std::marker::Model;
 use workers::Session;
 
-/// What the script of a session's number was answered, worked by the session from when it was new to
-/// the script's end.
+/// The text that the script of a session's number produced, worked by the session from when it was new
+/// to the script's end.
 #[derive(Drop)]
 pub(crate) struct Answered<A: Allocator + Copy, J: Naming + Works> {
     pub(crate) session: Session<A, J>,

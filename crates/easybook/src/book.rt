@@ -19,7 +19,7 @@ use std::thread::Threads;
 use swf_text::Memory;
 use version_book::{AddRefusal, Book, BookFault};
 
-/// A book over an opened log, and the log's comments that tell of no scenario.
+/// A book over an opened log, and the log's comments that name no scenario.
 #[derive(Drop)]
 pub(crate) struct OpenedBook<A: Allocator + Copy> {
     pub(crate) book: Book<A>,
@@ -77,7 +77,7 @@ fn add_all<A: Allocator + Copy>(
     Ok(())
 }
 
-// The book of a log. Memory comes too where a scenario cannot be noted.
+// The book of a log. Memory also where a scenario cannot be noted.
 pub(crate) fn opened_book<T: Threads + Sync, A: Allocator + Copy>(
     rt: &T,
     alloc: A,
@@ -97,7 +97,7 @@ pub(crate) fn opened_book<T: Threads + Sync, A: Allocator + Copy>(
     Ok(OpenedBook { book, comments })
 }
 
-// The book of a log, whose bytes are let go.
+// The book of a log, whose bytes are dropped.
 pub(crate) fn book_of<T: Threads + Sync, A: Allocator + Copy>(
     rt: &T,
     alloc: A,

@@ -1,4 +1,4 @@
-// An analyst at a desk.
+// An analyst's session at a desk.
 ghost use Rattle.std.specs.Prelude.{◌≡◌};
 ghost use Rattle.easybook.specs.Along.{ended_by};
 
@@ -14,7 +14,7 @@ use swf_text::Memory;
 use version_book::{AddRefusal, DropRefusal, EditRefusal, Published, RetryRefusal, ViewRefusal};
 use workers::{Desk, Session, Settled};
 
-/// A session, the desk that opened it, and how a thread waits for the desk.
+/// A session, the desk that opened it, and the handle by which its thread waits for the desk.
 #[derive(Drop)]
 pub(crate) struct DeskSession<'d, A: Allocator + Copy, J: Naming, R: Wait> {
     pub(crate) rt: &'d R,

@@ -10,7 +10,7 @@ use swf_text::{FaultKind, Memory, SwfFault, WriteFault};
 use thiserror::Error;
 use workers::CloseFault;
 
-/// Why the program ends without its answer. It displays as the line that the program writes.
+/// Why the program ends without its output. It displays as the line that the program writes.
 #[derive(Clone, Copy, Debug, PartialEq, Eq, Error)]
 pub enum ProgramFault {
     /// The log's first faulty line.
@@ -21,9 +21,9 @@ pub enum ProgramFault {
     BadMachine,
     /// The input has more bytes than its limit.
     TooLong,
-    /// A reader answered an error, or a file cannot be opened.
+    /// A reader returned an error, or a file cannot be opened.
     Read,
-    /// A writer answered an error, or took no byte.
+    /// A writer returned an error, or took no byte.
     Write,
     /// The lists of the sessions and workers are not the book's history.
     Close(CloseFault),

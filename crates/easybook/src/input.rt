@@ -5,7 +5,7 @@ use crate::fault::ProgramFault;
 use std::alloc::Allocator;
 use std::io::{ErrorKind, Read};
 
-// Reads what a reader has, up to one byte past a limit.
+// Reads all of a reader, up to one byte past a limit.
 pub(crate) fn read_front<R: Read + Drop, A: Allocator + Copy>(
     alloc: A,
     reader: R,
@@ -26,7 +26,7 @@ pub(crate) fn read_front<R: Read + Drop, A: Allocator + Copy>(
 /// Reads all that a reader has, at most `limit` bytes.
 ///
 /// TooLong where there are more; at most one byte past the limit is read. Read where the reader
-/// answers an error. Memory where a growth is refused.
+/// returns an error. Memory where a growth is refused.
 pub fn read_input<R: Read + Drop, A: Allocator + Copy>(
     alloc: A,
     reader: R,

@@ -19,16 +19,16 @@ pub fn words_law()
     ensures live { LiveIsChosen }
 {}
 
-/// Where no memory is refused, what a script is answered on a log follows from the bytes of both and the
-/// machine that is named: there is one such answer, and it is one of those that `run_alone` may write.
+/// Where no memory is refused, the transcript of a script on a log follows from the bytes of both and the
+/// machine that is named: there is exactly one, and it is one of those that `run_alone` may write.
 pub fn script_law<A: Allocator>()
     ensures one { ThereIsOneAnswer A }
     ensures answer { ItIsAnAnswer A }
 {}
 
 /// Where no memory is refused, what `run_plain` writes of a log is what a script of the two lines
-/// `settle` and `schedule NAME`, with the name of the log's first scenario, is answered behind its first
-/// line, `settled 0`.
+/// `settle` and `schedule NAME`, with the name of the log's first scenario, yields behind its first line,
+/// `settled 0`.
 pub fn plain_run_law<A: Allocator>()
     ensures { PlainRunsAreScripts A }
 {}

@@ -6,7 +6,6 @@
 mod alone;
 mod answered;
 mod book;
-mod crew;
 mod desk_session;
 mod fault;
 mod input;
@@ -14,6 +13,7 @@ mod laws;
 mod live;
 mod opened;
 mod options;
+mod part;
 mod plain;
 mod program;
 mod script_list;
@@ -22,6 +22,7 @@ mod shared_fault;
 mod sources;
 mod split;
 mod stop;
+mod threads;
 mod words;
 mod works;
 

@@ -14,7 +14,7 @@ use std::marker::Sync;
 use std::thread::Threads;
 use swf_text::Memory;
 
-// A reader whose bytes come through a buffer as it has them.
+// A reader with a buffer, which passes its bytes on as they come.
 fn buffered<R: Read + Drop, A: Allocator + Copy>(
     alloc: A,
     reader: R,
@@ -28,16 +28,16 @@ fn buffered<R: Read + Drop, A: Allocator + Copy>(
 }
 
 /// Holds a conversation on a log, as one session with one worker: reads a command as it comes, and
-/// answers it before it reads on. The log's scenarios are those of its comments, as
+/// writes its response before it reads on. The log's scenarios are those of its comments, as
 /// `commands::open_text` opens it with `options.procs`; each is added to the book in its order, as
-/// session 0. The log's bytes are let go once it is opened.
+/// session 0. The log's bytes are dropped once it is opened.
 ///
 /// The faults in their order: TooLong where the log has over 1,073,741,824 bytes; Log with its
 /// first faulty line; NoMachine where nothing names a scenario or the machine's processors;
 /// BadMachine where it has not 1 to 16,777,216; Memory where a growth is refused before the first
-/// command, while one refused later is an answer of the command. Nothing is written before them.
-/// Then Read where the reader answers an error, behind the answers to all lines read by then, and
-/// Write where the writer answers one or takes no byte, within the answer to the line read last.
+/// command, while one refused later is the response to the command. Nothing is written before them.
+/// Then Read where the reader returns an error, behind the responses to all lines read by then, and
+/// Write where the writer returns one or takes no byte, within the response to the line read last.
 pub fn run_live<R: Read + Drop, W: Write, T: Threads + Sync, A: Allocator + Copy>(
     rt: &T,
     alloc: A,

@@ -8,7 +8,7 @@ ghost use Rattle.easybook.specs.Plain.{Prints, Answers};
 use crate::fault::ProgramFault;
 use crate::opened::opening_of;
 use crate::options::Options;
-use checkpoints::{Run, RunFault, simulate};
+use checkpoints::{MAX_SPACING, Run, RunFault, simulate};
 use commands::Opening;
 use job_table::JobTable;
 use report::schedule_report;
@@ -19,11 +19,8 @@ use std::marker::Sync;
 use std::sync::Arc;
 use std::thread::Threads;
 
-/// The most event seconds of a segment. Nobody edits the log of a plain run, so its run is cut as
-/// seldom as a run may be.
-const SPACING: u32 = 65_536;
-
-// The run of a table under a scenario.
+// The run of a table under a scenario. Nobody edits the log of a plain run, so its segments are as long
+// as they may be.
 fn run_of<A: Allocator + Copy>(
     alloc: A,
     table: JobTable<A>,
@@ -34,7 +31,7 @@ fn run_of<A: Allocator + Copy>(
     ensures cut { IfOk result (λ run. IsShortCut (plan_of table scenario) spacing_limit run.segments) }
     ensures memory { IfErr result (λ fault. fault ≡ ProgramFault.Memory) }
 {
-    match simulate(alloc, Arc::new(alloc, table)?, scenario, SPACING) {
+    match simulate(alloc, Arc::new(alloc, table)?, scenario, MAX_SPACING) {
         Ok(run) => Ok(run),
         Err(RunFault::Memory) => Err(ProgramFault::Memory),
         Err(RunFault::BadSpacing) => unreachable!(),
@@ -80,13 +77,13 @@ pub(crate) fn write_first<W: Write, A: Allocator + Copy>(
 
 /// Writes the schedule of a log's first scenario: the start and the end that EASY backfilling gives
 /// each of its jobs. The scenarios are those of the log's comments, as `commands::open_text` opens
-/// it; where they tell of none it is `base`, on a machine of `options.procs` processors, or of as
+/// it; where they name none it is `base`, on a machine of `options.procs` processors, or of as
 /// many as the comments say, with estimates as they are and backfills in order of arrival.
 ///
 /// The faults in their order: TooLong where the log has over 1,073,741,824 bytes; Log with its
 /// first faulty line; NoMachine where nothing names a scenario or the machine's processors;
 /// BadMachine where it has not 1 to 16,777,216; Memory where a growth is refused; Write where the
-/// writer answers an error or takes no byte. Each but Write comes before the first byte is written,
+/// writer returns an error or takes no byte. Each except Write comes before the first byte is written,
 /// and on Write what was written is a beginning of the schedule.
 pub fn run_plain<W: Write, T: Threads + Sync, A: Allocator + Copy>(
     rt: &T,

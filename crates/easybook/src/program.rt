@@ -27,7 +27,7 @@ use std::thread::Threads;
 const INPUT_LIMIT: u64 = 1_200_000_000;
 
 // Reads a log, at most one byte past its limit, then a script likewise, and works the script on the
-// log, whose bytes are let go once it is opened. Read where either cannot be read, whatever the other
+// log, whose bytes are dropped once it is opened. Read where either cannot be read, whatever the other
 // holds.
 fn run_file<L: Read + Drop, R: Read + Drop, W: Write, T: Threads + Sync, A: Allocator + Copy>(
     rt: &T,
@@ -44,7 +44,7 @@ fn run_file<L: Read + Drop, R: Read + Drop, W: Write, T: Threads + Sync, A: Allo
     run_on_log(rt, alloc, script.as_slice(), writer, log, options)
 }
 
-// Runs a log alone, whose bytes are let go once it is opened.
+// Runs a log alone, whose bytes are dropped once it is opened.
 fn run_log<W: Write, T: Threads + Sync, A: Allocator + Copy>(
     rt: &T,
     alloc: A,
@@ -160,7 +160,7 @@ fn open<S: Sources>(sources: &S, name: &str) -> Result<S::Source, ProgramFault>
     }
 }
 
-// Opens the log with this name, and holds a conversation on it, or works the script that the reader holds.
+// Opens the log with this name, and holds a conversation on it, or works the script that the reader has.
 fn run_on_named<S: Sources, T: Threads + Sync, R: Read + Drop, W: Write>(
     alloc: Global,
     rt: &T,
@@ -184,14 +184,14 @@ fn run_on_named<S: Sources, T: Threads + Sync, R: Read + Drop, W: Write>(
 /// Where the words name scripts, these are worked side by side by `run_shared` on the log, which is the
 /// named file or all of the reader's bytes. Where they name none but a log, the reader's bytes are the
 /// script, which `run_alone` works, or with `--live` a conversation, which `run_live` holds. Where they
-/// don't, the reader's bytes are cut by `split_input`: a script in them is worked by `run_alone` on the log
+/// name neither, the reader's bytes are cut by `split_input`: a script in them is worked by `run_alone` on the log
 /// before it, and a log alone is run as by `run_plain`.
 ///
 /// The faults in their order: those of `read_words`; Read where the file cannot be opened or read;
 /// without a file TooLong where the reader has over 1,200,000,000 bytes; Read where the reader
-/// answers an error; those of the called function. A log in a file is read to at most one byte past
-/// 1,073,741,824, a script beside it to one past 16,777,216. Memory is told where a growth is
-/// refused. Where the words are bad or the input is not had, nothing is written.
+/// returns an error; those of the called function. A log in a file is read to at most one byte past
+/// 1,073,741,824, a script beside it to one past 16,777,216. Memory where a growth is refused. Where
+/// the words are bad or the input cannot be read, nothing is written.
 pub fn run_words<F: Files + Threads + Wait + Sync, R: Read + Drop, W: Write>(
     alloc: Global,
     files: &F,

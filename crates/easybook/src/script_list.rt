@@ -4,8 +4,8 @@ use crate::works::Works;
 use std::alloc::Allocator;
 use std::marker::PhantomData;
 
-/// The scripts that a crew works, under the name that was picked for them, and their log's comments,
-/// which `save` writes.
+/// The scripts that are worked side by side, under the name that was picked for them, and their log's
+/// comments, which `save` writes.
 #[derive(Drop)]
 pub(crate) struct ScriptList<'s, A: Allocator + Copy, J: Works> {
     comments: &'s [Vec<u8, A>],

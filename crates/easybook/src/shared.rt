@@ -6,10 +6,10 @@ ghost use Rattle.easybook.specs.Shared.{RunsShared, head_line, headed};
 
 use crate::alone::SCRIPT_LIMIT;
 use crate::book::{OpenedBook, opened_book};
-use crate::crew::run_scripts;
 use crate::fault::ProgramFault;
 use crate::opened::LOG_LIMIT;
 use crate::options::Options;
+use crate::threads::run_scripts;
 use chronicle::Unnamed;
 use itoa::Buffer;
 use std::alloc::Allocator;
@@ -34,7 +34,7 @@ fn are_within<A: Allocator + Copy>(scripts: &[Vec<u8, A>]) -> bool
     scripts.iter().all(|script| is_within(script))
 }
 
-// Writes the line before what the script with this number was answered.
+// Writes the line before the text of the script with this number.
 fn write_head<W: Write>(writer: &mut W, number: u64) -> Result<(), WriteFault>
     ensures { Writes result (W.contents writer.old) (W.contents writer.new) (head_line number) }
 {
@@ -44,7 +44,7 @@ fn write_head<W: Write>(writer: &mut W, number: u64) -> Result<(), WriteFault>
     write_bytes(writer, b"\n")
 }
 
-// Writes what the script with this number was answered.
+// Writes the text of the script with this number.
 fn write_one<W: Write>(writer: &mut W, number: u64, text: &[u8]) -> Result<(), WriteFault>
     ensures { Writes result (W.contents writer.old) (W.contents writer.new) (head_line number ++ text.now) }
 {
@@ -52,7 +52,7 @@ fn write_one<W: Write>(writer: &mut W, number: u64, text: &[u8]) -> Result<(), W
     write_bytes(writer, text)
 }
 
-// Writes what the scripts were answered, one after another, the first of which has this number.
+// Writes the texts of the scripts, one after another, the first of which has this number.
 fn write_all<W: Write, A: Allocator + Copy>(
     writer: &mut W,
     number: u64,
@@ -69,21 +69,21 @@ fn write_all<W: Write, A: Allocator + Copy>(
 }
 
 /// Works scripts on one log side by side: each as a session of its own, on a thread of its own, while
-/// `options.workers` threads simulate. What each script is answered is written once all have ended,
+/// `options.workers` threads simulate. The responses to each script are written once all have ended,
 /// in the scripts' order, each after a line `== k`, k from 1. The scripts are 1 to 64.
 ///
-/// There is one legal history of the log's book along which each script is answered: each of its calls
-/// is answered as the book's machine does at the call's place, each report is that of the log of the
-/// version that the view tells there, and each reading is that of a place between those of the lines
-/// before and behind. The history's calls of session k, k from 0, are those of script k + 1, in their
+/// There is one legal history of the log's book along which each script is answered: the reply to each
+/// of its calls is that of the book's machine at the call's place, each report is that of the log of
+/// the version that the view shows there, and each reading is that of a place between those of the
+/// lines before and behind. The history's calls of session k, k from 0, are those of script k + 1, in their
 /// order.
 ///
 /// The log is opened as by `run_alone`. The faults in their order: TooLong where the log has over
 /// 1,073,741,824 bytes, or a script over 16,777,216; Log with its first faulty line; NoMachine where
 /// nothing names a scenario or the machine's processors; BadMachine where it has not 1 to 16,777,216;
-/// Memory where a growth, or the start of a thread, is refused, but for one that answers a command;
-/// Close where the callers' lists are not the book's history; Write where the writer answers an error
-/// or takes no byte. Each but Write comes before the first byte is written.
+/// Memory where a growth, or the start of a thread, is refused, except one that is the response to a
+/// command; Close where the callers' lists are not the book's history; Write where the writer returns
+/// an error or takes no byte. Each except Write comes before the first byte is written.
 pub fn run_shared<W: Write, A: Allocator + Copy + Send + Sync, R: Threads + Wait + Sync>(
     rt: &R,
     alloc: A,
@@ -97,7 +97,7 @@ pub fn run_shared<W: Write, A: Allocator + Copy + Send + Sync, R: Threads + Wait
     run_shared_gated(rt, alloc, scripts, writer, log, options, &NoGate)
 }
 
-/// As `run_shared`; the gate is called around each piece of the workers' work.
+/// As `run_shared`; the gate is called before and after each simulation of a worker.
 pub fn run_shared_gated<
     W: Write,
     A: Allocator + Copy + Send + Sync,

@@ -7,7 +7,7 @@ use swf_text::Memory;
 use thiserror::Error;
 use workers::CloseFault;
 
-/// Why scripts side by side have no answer.
+/// Why scripts side by side end without their texts.
 #[derive(Clone, Copy, Debug, PartialEq, Eq, Error)]
 pub(crate) enum SharedFault {
     /// The callers' lists are not the book's history.

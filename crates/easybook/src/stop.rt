@@ -10,12 +10,12 @@ use std::io::ErrorKind;
 use std::{fmt, io};
 use thiserror::Error;
 
-/// Why the program ends without its answer. It displays as the line that the program writes.
+/// Why the program ends without its output. It displays as the line that the program writes.
 #[derive(Clone, Copy, Debug, PartialEq, Eq, Error)]
 pub enum Stop {
-    /// The words are bad, or memory was short for them.
+    /// The words are bad, or memory ran out while they were read.
     Words(WordsFault),
-    /// The words are taken, and this fault came.
+    /// The words are good, and this fault came later.
     Fault(ProgramFault),
 }
 
@@ -64,7 +64,7 @@ impl From<ProgramFault> for Stop {
     }
 }
 
-/// The words could not be had: one is no UTF-8, or memory is short.
+/// The words could not be read: one is not UTF-8, or memory ran out.
 impl From<io::Error> for Stop {
     ghost use Rattle.std.specs.Prelude.{◌≡◌};
     ghost use Rattle.easybook.specs.Stop.{stop_of_kind};

@@ -17,15 +17,13 @@ use std::alloc::{AllocError, Global};
 use std::fmt;
 use swf_text::read_digits;
 use thiserror::Error;
+use workers::MAX_CALLERS;
 
 /// The spacing where the words give none.
 const SPACING: u32 = 256;
 
 /// The workers where the words give none.
 const WORKERS: u32 = 2;
-
-/// The most workers, and the most scripts.
-const CALLERS: u64 = 64;
 
 /// Why the program's words choose nothing.
 #[derive(Clone, Copy, Debug, PartialEq, Eq, Error)]
@@ -73,7 +71,7 @@ pub struct Words<'a> {
     pub live: bool,
 }
 
-// Why words are refused: want of memory is told as such.
+// Why words are refused: out of memory is no bad word.
 fn refused(error: clap::Error) -> WordsFault
     ensures { result ≡ BadWords → kind_of error ≡ OutOfMemory → ⊥ }
 {
@@ -198,7 +196,7 @@ fn workers(matches: &ArgMatches<'_>) -> Option<u32>
     let Some(text) = matches.get_str("workers") else {
         return Some(WORKERS);
     };
-    let workers = number(text, CALLERS)?;
+    let workers = number(text, MAX_CALLERS)?;
     Some(workers as u32)
 }
 
@@ -237,7 +235,7 @@ fn is_allowed(live: bool, log: Option<&str>, scripts: usize) -> bool
 /// `--workers N` gives the workers, digits from 1 to 64; they are 2 where none is given. Each
 /// `--script FILE` names a file that holds a script; they are at most 64. `--live` asks for a
 /// conversation, on a LOG and with no script. Any other word is a bad argument, as is one given twice.
-/// Want of memory is never told as bad words.
+/// Out of memory is never reported as bad words.
 pub fn read_words<'a>(alloc: Global, words: &'a [&'a str]) -> Result<Words<'a>, WordsFault>
     ensures chosen { IfOk result (λ w. chosen (map (λ w. w.now) words.now) ≡ Some (choice_of w)) }
     ensures refused { IfErr result (IsWordsFault (map (λ w. w.now) words.now)) }
@@ -256,7 +254,7 @@ pub fn read_words<'a>(alloc: Global, words: &'a [&'a str]) -> Result<Words<'a>, 
         return Err(WordsFault::BadWords);
     };
     let scripts = scripts(alloc, &matches)?;
-    if scripts.len() as u64 > CALLERS {
+    if scripts.len() as u64 > MAX_CALLERS {
         return Err(WordsFault::BadWords);
     }
     let log = matches.get_str("LOG");

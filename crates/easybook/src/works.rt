@@ -1,6 +1,6 @@
 use std::marker::Brand;
 
-// Which scripts a crew works, and which comments their log has. Each call of a program picks both.
+// Which scripts are worked side by side, and which comments their log has. Each call picks both.
 pub(crate) trait Works {
     ghost use Rattle.std.specs.Prelude.{ℕ, List};
 

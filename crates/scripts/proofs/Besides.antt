@@ -1,5 +1,5 @@
 -- Views of scenarios that stand side by side, one after another.
-use Rattle.std.proofs.Common.{◌≡◌, ℕ, ◌+◌, List, [], ◌∷◌, ◌++◌, take, drop, suc, zero, append-nil, append_assoc, refl, sym, ◌∙◌, ap, subst, inl, inr}
+use Rattle.std.proofs.Common.{◌≡◌, ℕ, ◌+◌, List, [], ◌∷◌, ◌++◌, take, drop, suc, zero, append-nil, append_assoc, refl, sym, ◌∙◌, ap, subst, inr}
 use Rattle.std.specs.Prelude.{Option, Some, Ok, Err, slice_get}
 use Rattle.std.proofs.lemmas.List.{take-append-drop}
 use Rattle.scenarios.specs.ScenarioList.{Listed}
@@ -47,7 +47,3 @@ pub refused-next : {S : Type 0} (rules : Rules S) (A : Type 0) (old mid new : S)
     → slice_get scenarios k ≡ Some s → AreBeside rules A old (take k scenarios) lines mid → StandsSo rules A mid s.id (Err refusal) new → NotBeside rules A old scenarios refusal new
 refused-next rules A old mid new scenarios k lines s refusal is h one =
     (take k scenarios, drop k scenarios, lines, mid, sym (take-append-drop k scenarios), h, inr (s, drop (suc k) scenarios, drop-next scenarios k s is, one))
-
--- there is no memory before the first
-pub refused-first : {S : Type 0} (rules : Rules S) (A : Type 0) (old : S) (scenarios : List Listed) → NotBeside rules A old scenarios why.Memory old
-refused-first rules A old scenarios = ([], scenarios, [], old, refl, (refl, refl), inl (refl, refl))

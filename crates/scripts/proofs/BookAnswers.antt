@@ -1,4 +1,4 @@
--- What an analyst with a book of its own is answered, as steps of the book machine.
+-- The responses of a session with a book of its own, as steps of the book machine.
 use Rattle.std.proofs.Common.{◌≡◌, ℕ, ◌+◌, ◌<◌, List, [], ◌∷◌, ◌++◌, length, suc, zero, refl, sym, ◌∙◌, ap, ap₂, subst, inl, inr, append_assoc, append-nil, true, arith}
 use Rattle.std.specs.Prelude.{codes, slice_get, Option, None, Some, Result, Ok, Err}
 use Rattle.swf_text.specs.Text.{lines}
@@ -95,7 +95,7 @@ still-listed m k [] same h = tt
 still-listed m k (s ∷ scenarios) same h =
     (record { place = h.0.place; listed = ap (λ l. slice_get l.scenarios h.0.place) same ∙ h.0.listed; id = refl }, still-listed m k scenarios same h.1)
 
--- what one view tells
+-- what one view returns
 abbrev SeenAs : {A : Type 0} → Session → Listed → Option (Beside A) → Session → Type 0
 SeenAs old s found new = (line : List ℕ) × (lines_of s.name found ≡ line ∷ []) × IsSeen old s line new
 

@@ -45,7 +45,7 @@ lines_last line none some =
 too_long : {A : Type 0} (line : List ℕ) → line_limit < length line → command_of_line {A = A} line ≡ Err TooLong
 too_long line long = let test : ltb line_limit (length line) ≡ true = lt-ltb line_limit (length line) long in rw test refl
 
--- what is told of a line that was begun
+-- the response to a line that was begun
 answered_none : (part : List ℕ) → length part ≤ line_limit → answered_of part ≡ []
 answered_none part short = let test : ltb line_limit (length part) ≡ false = le-ltb line_limit (length part) short in rw test refl
 
@@ -88,7 +88,7 @@ whole_last (Some x) (Some y) to read line p q = sym (p ∙ ap (λ l. read ++ l) 
 
 module _ (A : Type 0) (comments : List (List ℕ)) (first now next : Session) (number : ℕ) (read written text : List ℕ)
     (goes : (rest later : List ℕ) → IsTranscript A comments now (looked_at A (lines rest)) number later → IsTranscriptOf A comments first (read ++ rest) (written ++ later)) where
-  -- the line is answered so
+  -- the line has this response
   abbrev IsSo : List ℕ → Type 0
   IsSo line = IsLine comments now number (command_of_line {A = A} line) text next
 
@@ -153,7 +153,7 @@ module _ (A : Type 0) (comments : List (List ℕ)) (first : Session) (from mid o
       )
 
   module _ (next : Session) (to new : Option (List ℕ)) (text line : List ℕ) (end : LineEnd) (heard : IsHeard mid to line end) (answers : IsLine comments now number (command_of_line {A = A} line) text next) where
-    -- the writer failed in the answer
+    -- the writer failed in the response
     pub cut_off : (result : Result Bool LiveFault) → result ≡ Err faults.Write → (n : ℕ) × Appends out new (take n text) → Turns A comments first from to old new next number result
     cut_off result told (n, part) =
         rw told (
@@ -169,7 +169,7 @@ module _ (A : Type 0) (comments : List (List ℕ)) (first : Session) (from mid o
           (n, Appends-trans old out new said.written (take n text) said.are_written part),
         )
 
-    -- a line that is too long is answered so, whatever else is read of it
+    -- a line that is too long has this response, whatever else is read of it
     module _ (rest : List ℕ) (over : line_limit < length line) where
       over_too : line_limit < length (line ++ rest)
       over_too = omega (arith, length-append line rest, over)
@@ -177,7 +177,7 @@ module _ (A : Type 0) (comments : List (List ℕ)) (first : Session) (from mid o
       so_too : IsLine comments now number (command_of_line {A = A} (line ++ rest)) text next
       so_too = subst (λ (k : Result (Option (Command A)) CommandFault). IsLine comments now number k text next) (too_long {A = A} line over ∙ sym (too_long {A = A} (line ++ rest) over_too)) answers
 
-    -- the reader failed behind the answer
+    -- the reader failed behind the response
     pub unread : (result : Result Bool LiveFault) (later : Option (List ℕ)) (fault : ReadFault) → result ≡ Err faults.Read → Appends out new text → MayFollow {E = ReadFault} to later end (Err fault) → Turns A comments first from later old new next number result
     unread result later fault told all follows = rw told (go end heard follows) where
       go : (e : LineEnd) → IsHeard mid to line e → MayFollow {E = ReadFault} to later e (Err fault) → Turns A comments first from later old new next number (Err faults.Read)

@@ -1,4 +1,4 @@
--- What a script is answered that settles a log and asks for the schedule of its first scenario.
+-- The transcript of a script that settles a log and asks for the schedule of its first scenario.
 use Rattle.std.proofs.Common.{◌≡◌, ℕ, ◌<◌, List, [], ◌∷◌, ◌++◌, cond, Bool, true, false, Option, None, Some, Result, refl, sym, ◌∙◌, ap, subst, inl, inr, append-nil}
 use Rattle.std.specs.Prelude.{codes, slice_get}
 use Rattle.std.specs.Str.{bytes_eq}
@@ -58,7 +58,7 @@ two-lines A comments old mid new one two text later goes ends first second =
     subst (λ (ls : List (List ℕ)). IsTranscriptIf A false comments old ls 1 (text ++ later)) (sym looked)
     (text, mid, later, first, (later, new, [], second, refl, sym (append-nil later)), refl)
 
--- ---- what they are answered
+-- ---- their transcript
 
 -- the book is settled
 is-settled : (log : List LogEntry) (list : Listing) (new : Machine) → IsFirstWork log list new → IsSettled false (record { machine = start log list; seen = 0 }) (settled_line 0) (record { machine = new; seen = 0 })

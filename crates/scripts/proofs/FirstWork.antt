@@ -158,7 +158,7 @@ module _ (log : List LogEntry) (list : Listing) where
         },
       )
 
-  -- ---- what is told then
+  -- ---- the response then
 
   none-waits : (progress : List Progress) (next notes : ℕ) (xs : List Listed) → list_any (is_waiting 0 (state log list progress next notes)) (shown_of xs) ≡ false
   none-waits progress next notes [] = refl

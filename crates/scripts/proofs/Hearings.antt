@@ -1,9 +1,8 @@
 -- Lines that are read part after part.
-use Rattle.std.proofs.Common.{◌≡◌, ℕ, ◌≤◌, false, List, [], ◌∷◌, ◌++◌, length, Option, Some, None, sym, ap, subst, ◌∙◌, append_assoc}
-use Rattle.std.specs.Io.KnownBytes.{Consumes, Keeps}
-use Rattle.std.proofs.KnownBytes.{Consumes-kept, Consumes-trans}
+use Rattle.std.proofs.Common.{◌≡◌, ℕ, false, List, [], ◌∷◌, ◌++◌, Option, Some, None, sym, ap, subst, ◌∙◌, append_assoc}
+use Rattle.std.specs.Io.KnownBytes.{Consumes}
+use Rattle.std.proofs.KnownBytes.{Consumes-trans}
 use Rattle.std.proofs.lemmas.List.Elements.{All-append, All-nil}
-use Rattle.swf_text.specs.Limits.{line_limit}
 use Rattle.swf_text.specs.Text.{is_feed}
 use Rattle.scripts.specs.Hearing.{Grows, HasNoFeed, IsBegun, IsHeard, IsPassed, Reads}
 use Rattle.scripts.specs.declared.hearing.LineEnd.{LineEnd}
@@ -30,14 +29,6 @@ grown from mid to old new end p none g = record {
   one_line = subst HasNoFeed (sym g.3) (joined old g.0 none g.1);
   is_read = subst (λ (bytes : List ℕ). Reads from to bytes end) (sym g.3) (reads_behind from mid to old g.0 end p g.2);
 }
-
--- nothing more was read of it
-pub begun_so : (from mid to : Option (List ℕ)) (old new : List ℕ) → Consumes from mid old → HasNoFeed old → length old ≤ line_limit → Keeps mid to × (new ≡ old) → IsBegun from to new
-begun_so from mid to old new p none short (kept, same) = subst (IsBegun from to) (sym same) (record {
-  one_line = none;
-  is_read = Consumes-kept from mid to old p kept;
-  short = short;
-})
 
 -- the rest of a line, behind what was passed over
 pub passed_more : (from mid to : Option (List ℕ)) (done bytes : List ℕ) (end : LineEnd) → HasNoFeed done → Consumes from mid done → IsHeard mid to bytes end → IsPassed from to end

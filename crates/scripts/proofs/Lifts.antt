@@ -1,4 +1,4 @@
--- Rules that lead to others lead to what the others let a script be answered.
+-- Rules that lead to others lead to the transcripts that those allow.
 use Rattle.std.specs.Prelude.{◌≡◌, ℕ, ◌+◌, List, [], ◌∷◌, Option, None, Some, Result, Ok, Err}
 use Rattle.std.proofs.Common.{sym, ◌∙◌, ap, subst, inl, inr}
 use Rattle.scenarios.specs.ScenarioList.{Listed}

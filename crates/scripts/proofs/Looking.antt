@@ -67,7 +67,7 @@ not-missing b id seen s book listed is =
     let found : progress_of id (map progress_of_shown b.state.shown) ≡ Some (progress_of_shown shown.0) = progress-shown id b.state.shown ∙ ap (option_map progress_of_shown) at in
     not-missing-at seen (progress_of_shown shown.0).published (is ∙ ap (λ (o : Option Progress). elim o [ None ↦ reply.NoSuchScenario | Some p ↦ view_reply_at seen p.published ]) found)
 
--- what a view tells is true of the book
+-- what a view returns is true of the book
 pub shown-true : ShownIsTrue
 shown-true b id seen (Ok p) book shown missing = looked b id seen p book shown
 shown-true b id seen (Err why.JournalFull) book shown missing = tt
@@ -76,7 +76,7 @@ shown-true b id seen (Err (why.Fault view.NotYet)) book shown missing = tt
 shown-true b id seen (Err (why.Fault (view.Behind x y))) book shown missing = tt
 shown-true b id seen (Err why.Memory) book shown missing = tt
 
--- what is told of a missing scenario is the machine's reply
+-- the reply on a missing scenario is the machine's
 missing-replied : (b new : BookView) (who : Caller) (id seen : ℕ) (result : Result PublishedView (Refusal ViewFault)) → Answered b new who (View id seen) (view_answer result)
     → result ≡ Err (why.Fault view.NoSuchScenario) → reply_to (View id seen) (machine_of b) ≡ reply.NoSuchScenario
 missing-replied b new who id seen result h is =

@@ -5,7 +5,6 @@ use Rattle.std.specs.Option.{option_map}
 use Rattle.std.proofs.Math.ListN.{drop_of_length-le}
 use Rattle.std.proofs.lemmas.Bool.{eq-eqb, ne_eqb}
 use Rattle.std.proofs.lemmas.Slice.Eq.{bytes_eq-Decides}
-use Rattle.scenarios.specs.Scenario.{Setting}
 use Rattle.scenarios.specs.ScenarioList.{Listed, IdsRise, has_name, named}
 use Rattle.version_book.specs.Book.{ShownView, BookView}
 use Rattle.version_book.specs.Lookups.{has_id}
@@ -20,10 +19,6 @@ id-none (Some s) is = cc
 pub id-some : (o : Option Listed) (id : ℕ) → Some id ≡ option_map (λ (s : Listed). s.id) o → (s : Listed) × (o ≡ Some s) × (id ≡ s.id)
 id-some None id is = cc
 id-some (Some s) id is = (s, refl, cc)
-
-pub setting-some : (o : Option Listed) (under : Setting) → Some under ≡ option_map (λ (s : Listed). s.setting) o → (s : Listed) × (o ≡ Some s) × (under ≡ s.setting)
-setting-some None under is = cc
-setting-some (Some s) under is = (s, refl, cc)
 
 -- who is found has the name
 name-here : (name : List ℕ) (s t : Listed) (ss : List Listed) (b : Bool) → has_name name s ≡ b → (named name ss ≡ Some t → t.name ≡ name) → cond b (Some s) (named name ss) ≡ Some t → t.name ≡ name
@@ -84,9 +79,6 @@ place-here name s t ss false later is = let more = later is in (suc more.0, more
 pub place-of : (name : List ℕ) (t : Listed) (ss : List Listed) → named name ss ≡ Some t → (k : ℕ) × (slice_get ss k ≡ Some t)
 place-of name t [] is = cc
 place-of name t (s ∷ ss) is = place-here name s t ss (has_name name s) (place-of name t ss) is
-
-pub shown-named : (b : BookView) (name : List ℕ) (s : Listed) → IsBook b → named name b.state.listing.scenarios ≡ Some s → IsShown b.state.shown s
-shown-named b name s h is = let p = place-of name s b.state.listing.scenarios is in shown-at b p.0 s h p.1
 
 -- ---- one after another
 

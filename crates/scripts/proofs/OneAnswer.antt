@@ -1,4 +1,4 @@
--- Where memory isn't short, a command has one answer.
+-- Where memory doesn't run out, a command has one response.
 use Rattle.std.proofs.Common.{◌≡◌, ℕ, ◌<◌, List, [], ◌∷◌, ◌++◌, length, sym, ◌∙◌, ap, ap₂, subst, true, false, inl, inr, ◌⊎◌, arith}
 use Rattle.std.specs.Prelude.{None, Some, IsTrue, is_some, codes}
 use Rattle.swf_text.specs.Entry.{LogEntry}
@@ -207,7 +207,7 @@ one-views old (s ∷ front) back (t ∷ head) rest lines others new next is f g 
       left = later.left;
     }
 
--- how the command ends after so many views
+-- how the command ends after this many views
 abbrev EndsWith : List Listed → List (List ℕ) → List ℕ → Session → Type 0
 EndsWith back lines text new =
     ((back ≡ []) × (text ≡ side_of lines)) ⊎ (((new.machine.notes ≡ note_limit) × (0 < length back) × (text ≡ refused (codes "JournalFull"))) ⊎ ⊥)

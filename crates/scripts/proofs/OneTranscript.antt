@@ -1,4 +1,4 @@
--- Where memory isn't short, a script has one transcript, and it is one of those where memory may be short.
+-- Where memory doesn't run out, a script has one transcript, and it is one of those where memory may run out.
 use Rattle.std.proofs.Common.{◌≡◌, ℕ, ◌+◌, List, [], ◌∷◌, ◌++◌, true, false, Option, Some, None, Result, Ok, Err, inl, inr, sym, ◌∙◌, ap₂, subst}
 use Rattle.commands.specs.declared.command.Command.{Command}
 use Rattle.commands.specs.declared.command.Command.TheVariants as asks
@@ -30,7 +30,7 @@ one-transcript A comments old (line ∷ ls) number out other (text, new, later, 
 pub one-unrefused : (A : Type 0) (comments : List (List ℕ)) (first : Session) (script out other : List ℕ) → IsUnrefused A comments first script out → IsUnrefused A comments first script other → out ≡ other
 one-unrefused A comments first script out other f g = one-transcript A comments first (looked_at A (lines script)) 1 out other f g
 
--- ---- it is one of those where memory may be short
+-- ---- it is one of those where memory may run out
 
 call-too : (old : Session) (call : BookCall) (says : Reply → List ℕ) (text : List ℕ) (new : Session) → IsCallIf false old call says text new → IsCallIf true old call says text new
 call-too old call says text new (inl f) = inl f

@@ -24,7 +24,7 @@ lines-more rules A comments old now next (l ∷ front) line first number done te
     let n : number ≡ (first + 1) + length front = omega (arith, is) in
     (h.0, h.1, h.2 ++ text, h.3, lines-more rules A comments h.1 now next front line (first + 1) number h.2 text n h.4 one, ap (λ (d : List ℕ). d ++ text) h.5 ∙ append_assoc h.0 h.2 text)
 
--- So far the first lines of the script are answered, and this was written. The others stand behind them.
+-- So far the responses to the first lines of the script were written. The others stand behind them.
 pub record HaveAnswered {S : Type 0} (rules : Rules S) (A : Type 0) (comments : List (List ℕ)) (first : S) (script : List ℕ) (now : S) (rest : List ℕ) (number : ℕ) (old new : Option (List ℕ)) : Type 0 where
   pub front : List (List ℕ)
   pub done : List ℕ

@@ -1,5 +1,5 @@
 -- The work of what is due, task after task.
-use Rattle.std.proofs.Common.{◌≡◌, ℕ, ◌+◌, ◌<◌, ◌≤◌, ◌==◌, List, [], ◌∷◌, ◌++◌, refl, sym, ◌∙◌, ap, subst, Bool, true, false, cond, inl, inr, ◌⊎◌, arith}
+use Rattle.std.proofs.Common.{◌≡◌, ℕ, ◌+◌, ◌<◌, ◌==◌, List, [], ◌∷◌, ◌++◌, refl, sym, ◌∙◌, ap, subst, Bool, true, false, cond, inl, inr, ◌⊎◌, arith}
 use Rattle.std.specs.Prelude.{Option, None, Some, Ok, find, is_some}
 use Rattle.std.specs.Option.{option_map}
 use Rattle.book_machine.specs.declared.caller.Caller.{Caller}
@@ -7,7 +7,7 @@ use Rattle.version_book.specs.Answers.{claim_answer}
 use Rattle.version_book.specs.Steps.{Answers as Answered}
 use Rattle.book_machine.specs.declared.reply.Reply.TheVariants as reply
 use Rattle.book_machine.specs.Call.{Claim}
-use Rattle.book_machine.specs.Machine.{Machine, Progress, Ticket, version, due, are_all_out, is_due, after, ticket_of, changed, closed, publish, marked, claim_reply, note_limit}
+use Rattle.book_machine.specs.Machine.{Machine, Progress, Ticket, version, due, are_all_out, is_due, after, changed, closed, publish, note_limit}
 use Rattle.checkpoints.specs.RunView.{RunView}
 use Rattle.version_book.specs.Book.{BookView, StateView, ShownView, TicketView, machine_of, progress_of_shown}
 use Rattle.version_book.specs.Tasks.{TaskView, Fits, HasThoseOf, IsOut, due_shown, free_due, task_for, ticket_for}
@@ -56,16 +56,6 @@ is-free b is =
 pub can-claim : (b : BookView) → is_some (free_due b.state) ≡ true → CanClaim (machine_of b)
 can-claim b is = let h = is-free b is in record { some_due = ap is_some h.due; free = h.tickets }
 
--- then a claim isn't refused
-pub not-all-out : (b : BookView) → IsFree b → reply.TooManyTickets ≡ claim_reply (machine_of b) → ⊥
-not-all-out b h is =
-    let one = is ∙ ap (λ (o : Option Progress). elim o [ None ↦ reply.NoneDue | Some p ↦ cond (are_all_out (machine_of b)) reply.TooManyTickets (reply.Claimed (machine_of b).next_ticket p.id (version (machine_of b)) p.published) ]) h.due in
-    go (are_all_out (machine_of b)) h.tickets one
-  where
-    go : (out : Bool) → out ≡ false → reply.TooManyTickets ≡ cond out reply.TooManyTickets (reply.Claimed (machine_of b).next_ticket (progress_of_shown h.scenario).id (version (machine_of b)) (progress_of_shown h.scenario).published) → ⊥
-    go true e same = cc
-    go false e same = cc
-
 -- ---- a task
 
 -- a run of the task's log and setting fits its ticket
@@ -92,26 +82,6 @@ claim-notes m (Some p) = kept (are_all_out m) m (record m { tickets = m.tickets 
 
 abbrev finished_by : ℕ → Machine → Option Ticket → Machine
 finished_by n m o = elim o [ None ↦ m | Some t ↦ record m { progress = changed t.id (publish t.version) m.progress; tickets = closed n m.tickets } ]
-
-finish-notes : (n : ℕ) (m : Machine) (o : Option Ticket) → (finished_by n m o).notes ≡ m.notes
-finish-notes n m None = refl
-finish-notes n m (Some t) = refl
-
-abbrev given_up_by : ℕ → Machine → Option Ticket → Machine
-given_up_by n m o = elim o [ None ↦ m | Some t ↦ record m { progress = marked t m; tickets = closed n m.tickets } ]
-
-give_up-notes : (n : ℕ) (m : Machine) (o : Option Ticket) → (given_up_by n m o).notes ≡ m.notes
-give_up-notes n m None = refl
-give_up-notes n m (Some t) = refl
-
-task-notes : (ticket : ℕ) (ended : Ended) (m : Machine) → m.notes ≤ (after_task ticket ended m).notes
-task-notes ticket Published m = omega (arith, finish-notes ticket m (ticket_of ticket m.tickets))
-task-notes ticket GivenUp m = omega (arith, give_up-notes ticket m (ticket_of ticket m.tickets))
-
-pub noted-more : (short : Bool) (old : Machine) (ended : Ended) (new : Machine) → IsWorked short old ended new → old.notes < new.notes
-noted-more short old ended new h =
-    let is : new.notes ≡ (after_task old.next_ticket ended (after Claim old)).notes = ap (λ (m : Machine). m.notes) h.made in
-    omega (arith, is, task-notes old.next_ticket ended (after Claim old), claim-notes old (due old))
 
 -- ---- turns
 
@@ -188,11 +158,11 @@ halted short old new (inr (inr h)) = inr (inr (h.0, h.1, unnoted short (after Cl
 pub all-ended : (short : Bool) (old mid new : Machine) → HaveWorked short old mid → Halts false mid new → Settles short old new
 all-ended short old mid new h last = (h.0, mid, h.1, halted short mid new last)
 
--- the work ends for want of memory
+-- the work ends for lack of memory
 pub all-short : (short : Bool) (old mid new : Machine) → HaveWorked short old mid → Halts true mid new → Settles true old new
 all-short short old mid new h last = (h.0, mid, are-short short old mid h.0 h.1, last)
 
--- the work may end at once for want of memory
+-- the work may end at once for lack of memory
 pub stops : (m : Machine) → Settles true m m
 stops m = go (due m) refl (are_all_out m) refl
   where

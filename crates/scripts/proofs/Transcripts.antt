@@ -10,9 +10,9 @@ use Rattle.scripts.specs.Steps.{Answers, IsNamed}
 use Rattle.scripts.specs.Transcript.{IsLine, IsTranscript}
 use Rattle.scripts.proofs.Settlings.{stops}
 
--- ---- each command has an answer
+-- ---- each command has a response
 
--- what may be answered, and the state after it
+-- a response that may be, and the state after it
 abbrev Some_of : (List ℕ → Session → Type 0) → Type 0
 Some_of answers = (text : List ℕ) × ((new : Session) × answers text new)
 

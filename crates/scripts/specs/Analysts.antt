@@ -1,4 +1,4 @@
--- What each command is answered to one who edits and views a log, by the rules of what that one may be told.
+-- The response to each command, by the rules of the analyst's calls.
 use Rattle.std.specs.Prelude.{◌≡◌, ◌⊎◌, ℕ, ◌+◌, List, [], ◌∷◌, ◌++◌, Option, None, Some, Result, Ok, Err, codes}
 use Rattle.job_table.specs.Edit.{Insert, Remove, Change}
 use Rattle.scenarios.specs.Names.{no_such_scenario_name}
@@ -31,7 +31,7 @@ use Rattle.scripts.specs.Reports.{report_text}
 use Rattle.scripts.specs.Rules.{Moment, Rules}
 use Rattle.scripts.specs.Steps.{saved_text, settle_line, side_of}
 
--- ---- what is told, as text
+-- ---- responses, as text
 
 -- a report, or no memory for it; or why nothing is shown
 abbrev pub IsViewText : Report → List ℕ → Result PublishedView (Refusal ViewFault) → List ℕ → Type 0
@@ -52,7 +52,7 @@ abbrev pub IsSavedOf : List (List ℕ) → Option Moment → List ℕ → Type 0
 IsSavedOf comments None text = text ≡ refused (codes "Memory")
 IsSavedOf comments (Some m) text = (text ≡ saved_text (saved comments m.log m.listing)) ⊎ (text ≡ refused (codes "Memory"))
 
--- A scenario stands beside others as its view was told, and one that was dropped since doesn't; where no call was noted there
+-- A scenario stands beside others by the result of its view, and one that was dropped since doesn't; where no call was noted there
 -- is no report.
 abbrev pub beside_of : {A : Type 0} → Result PublishedView (Refusal ViewFault) → Result (Option (Beside A)) (Refusal ViewFault)
 beside_of (Ok p) = Ok (Some (beside.Shown p))
@@ -70,7 +70,7 @@ lines_of name (Some shown) = beside_line name shown ∷ []
 module _ {S : Type 0} (rules : Rules S) where
   -- ---- calls
 
-  -- a command that is one call: the text says what was answered
+  -- a command that is one call: the text says what it returned
   abbrev pub CallBy : S → BookCall → (Reply → List ℕ) → List ℕ → S → Type 0
   CallBy old call says text new = (answer : Answer) × rules.does old call answer new × (text ≡ says_of says answer)
 
@@ -93,7 +93,7 @@ module _ {S : Type 0} (rules : Rules S) where
   -- ---- scenarios side by side
 
   module _ (A : Type 0) where
-    -- the scenario with this id stands beside others as a view of it was told
+    -- the scenario with this id stands beside others by the result of its view
     abbrev pub StandsSo : S → ℕ → Result (Option (Beside A)) (Refusal ViewFault) → S → Type 0
     StandsSo old id found new = (told : Result PublishedView (Refusal ViewFault)) × IsViewed old id told new × (found ≡ beside_of told)
 
@@ -131,13 +131,13 @@ module _ {S : Type 0} (rules : Rules S) where
   abbrev pub VersionBy : S → List ℕ → S → Type 0
   VersionBy old text new = (version : ℕ) × rules.counts old version new × (text ≡ version_line version)
 
-  -- it is told how far the scenarios are
+  -- the response says how far the scenarios are
   abbrev pub SettledBy : S → List ℕ → S → Type 0
   SettledBy old text new = (state : SettleState) × rules.settles old state new × (text ≡ settle_line (rules.seen new) state)
 
   -- ---- the commands
 
-  -- From the old state, with these kept comments, the command may be answered by this text, and leave the new state.
+  -- From the old state, with these kept comments, the response to the command may be this text, and the new state follow.
   abbrev pub AnswersBy : {A : Type 0} → List (List ℕ) → S → Command A → List ℕ → S → Type 0
   AnswersBy comments old (asks.Insert entry) text new = CallBy old (Edit (Insert entry)) edit_says text new
   AnswersBy comments old (asks.Remove number) text new = CallBy old (Edit (Remove number)) edit_says text new
@@ -156,7 +156,7 @@ module _ {S : Type 0} (rules : Rules S) where
   AnswersBy comments old asks.Version text new = VersionBy old text new
   AnswersBy comments old asks.Quit text new = (text ≡ bye_line) × (new ≡ old)
 
-  -- a line of a script: a command that is answered, a line that holds none and gets nothing, or a fault with the line's number
+  -- a line of a script: a command and its response, a line that holds none and gets nothing, or a fault with the line's number
   abbrev pub LineBy : {A : Type 0} → List (List ℕ) → S → ℕ → Result (Option (Command A)) CommandFault → List ℕ → S → Type 0
   LineBy comments old number (Ok None) text new = (text ≡ []) × (new ≡ old)
   LineBy comments old number (Ok (Some command)) text new = AnswersBy comments old command text new

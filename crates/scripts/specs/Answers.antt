@@ -1,4 +1,4 @@
--- What a reply of the book is answered.
+-- The line for each reply of the book.
 use Rattle.std.specs.Prelude.{ℕ, List, [], codes}
 use Rattle.job_table.specs.Names.{edit_fault_name}
 use Rattle.scenarios.specs.Names.{add_fault_name, no_such_scenario_name}
@@ -29,7 +29,7 @@ view_says reply.NotYet = refused (codes "NotYet")
 view_says (reply.Behind seen found) = behind_line seen found
 view_says other = []
 
--- what an answer says, where a reply says this
+-- the line for a result of a call, given that for its reply
 abbrev pub says_of : (Reply → List ℕ) → Answer → List ℕ
 says_of says full = refused (codes "JournalFull")
 says_of says memory = refused (codes "Memory")

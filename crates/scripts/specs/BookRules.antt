@@ -1,4 +1,4 @@
--- What an analyst with a book of its own may be told: each call is a step of the book machine, and what is read is its state.
+-- The rules of a session with a book of its own: each call is a step of the book machine, and what is read is its state.
 use Rattle.std.specs.Prelude.{◌≡◌, ℕ, Option, None, Some, Result, Ok, Err, Bool}
 use Rattle.scenarios.specs.ScenarioList.{Listed, id_of}
 use Rattle.book_machine.specs.Call.{BookCall}

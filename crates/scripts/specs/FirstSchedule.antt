@@ -1,4 +1,4 @@
--- What a script is answered that settles a log and asks for the schedule of its first scenario.
+-- The transcript of a script that settles a log and asks for the schedule of its first scenario.
 use Rattle.std.specs.Prelude.{◌≡◌, ℕ, List, [], ◌∷◌, ◌++◌, Option, Some, Ok, slice_get, codes}
 use Rattle.swf_text.specs.Entry.{LogEntry}
 use Rattle.swf_text.specs.Text.{lines}
@@ -13,7 +13,7 @@ use Rattle.scripts.specs.Transcript.{IsUnrefused, begun}
 abbrev pub settle_and_schedule : List ℕ → List (List ℕ)
 settle_and_schedule name = codes "settle" ∷ (codes "schedule " ++ name) ∷ []
 
--- Where no memory is refused, these two lines, on the book of a log with the scenarios that it is opened with, are answered
+-- Where no memory is refused, these two lines, on the book of a log with the scenarios that it is opened with, yield
 -- `settled 0` and the schedule of the first scenario.
 abbrev pub SchedulesTheFirst : Type 0 → Type 0
 SchedulesTheFirst A =

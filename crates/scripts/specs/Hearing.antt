@@ -36,7 +36,7 @@ pub record IsBegun (from to : Option (List ℕ)) (bytes : List ℕ) : Type 0 whe
   pub is_read : Reads from to bytes Open
   pub short : length bytes ≤ line_limit
 
--- what was read of a line, by what is answered: where the reader failed, a part of one that is not too long by then
+-- what was read of a line, by the result: where the reader failed, a part of one that is not too long by then
 abbrev pub Hears : {E : Type 0} → Option (List ℕ) → Option (List ℕ) → List ℕ → Result LineEnd E → Type 0
 Hears from to bytes (Ok end) = IsHeard from to bytes end
 Hears from to bytes (Err fault) = IsBegun from to bytes
@@ -69,13 +69,13 @@ abbrev pub GrowsBy : {E : Type 0} → Option (List ℕ) → Option (List ℕ) �
 GrowsBy from to old new (Ok end) = Grows from to old new end
 GrowsBy from to old new (Err fault) = Keeps from to × (new ≡ old)
 
--- so many bytes are used: those of the line and its feed, or those of the line alone; none is there at the end of the input
+-- this many bytes are used: those of the line and its feed, or those of the line alone; none is there at the end of the input
 abbrev pub IsUsed : List ℕ → List ℕ → ℕ → LineEnd → Type 0
 IsUsed shown bytes used Feed = take used shown ≡ bytes ++ 10 ∷ []
 IsUsed shown bytes used Input = (shown ≡ []) × (bytes ≡ [])
 IsUsed shown bytes used Open = take used shown ≡ bytes
 
--- what of the bytes that a reader shows belongs to the line, for which there is so much room
+-- which of the bytes that a reader shows belong to the line, of which at most this many are stored
 pub record IsFront (shown : List ℕ) (room : ℕ) (bytes : List ℕ) (used : ℕ) (end : LineEnd) : Type 0 where
   pub one_line : HasNoFeed bytes
   pub fits : length bytes ≤ room

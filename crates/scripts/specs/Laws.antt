@@ -16,7 +16,7 @@ use Rattle.scripts.specs.BookRules.{IsTrueOf}
 use Rattle.scripts.specs.Session.{Session}
 use Rattle.scripts.specs.Transcript.{IsLineIf, IsTranscriptOf, IsUnrefused}
 
--- a line has one answer, and leads to one state
+-- a line has one response, and leads to one state
 abbrev pub LinesAreOne : Type 0 → Type 0
 LinesAreOne A =
     (comments : List (List ℕ)) (old : Session) (number : ℕ) (asked : Result (Option (Command A)) CommandFault) (text other : List ℕ) (new next : Session)

@@ -1,4 +1,4 @@
--- How what one analyst may be told, by the rules of a session, is what another may be told, by rules of the session's history.
+-- How the results that one analyst may get, by the rules of a session, are those of another, by rules of the session's history.
 use Rattle.std.specs.Prelude.{◌≡◌, ℕ, List, Option, Result}
 use Rattle.book_machine.specs.declared.settle_state.SettleState.{SettleState}
 use Rattle.book_machine.specs.Call.{BookCall}
@@ -25,7 +25,7 @@ module _ {S T : Type 0} (from : Rules S) (to : Rules T) (at : S → T) (Inv Good
     pub settles : (old new : S) (state : SettleState) → from.settles old state new → Leads Inv Good old new (to.settles (at old) state (at new))
     pub seen : (s : S) → from.seen s ≡ to.seen (at s)
 
-  -- What a script is answered by the rules of the one it is answered by those of the other: from where the invariant holds, if
+  -- A transcript of a script by the rules of the one is one by those of the other: from where the invariant holds, if
   -- the state in the end is good.
   abbrev pub LinesLift : Type 0 → Type 0
   LinesLift A =

@@ -1,4 +1,4 @@
--- The lines that answer a command.
+-- The lines that respond to a command.
 use Rattle.std.specs.Prelude.{ℕ, List, ◌++◌, codes}
 use Rattle.std.specs.Fmt.{decimal}
 use Rattle.commands.specs.declared.fault.CommandFault.{CommandFault}
@@ -28,7 +28,7 @@ fault_line line fault = codes "fault line " ++ decimal line ++ codes " " ++ comm
 abbrev pub settled_line : ℕ → List ℕ
 settled_line seen = codes "settled " ++ decimal seen ++ codes "\n"
 
--- so many scenarios don't, and are given up
+-- this many scenarios don't, and are given up
 abbrev pub failed_line : ℕ → List ℕ
 failed_line count = codes "failed " ++ decimal count ++ codes "\n"
 

@@ -1,4 +1,4 @@
--- A conversation: each line is answered before the next is read.
+-- A conversation: the response to each line is written before the next is read.
 use Rattle.std.specs.Prelude.{◌≡◌, ℕ, ◌+◌, nat_lt, Bool, true, false, if◌then◌else◌, List, [], ◌++◌, length, take, Option, IfSome, Result, Ok, Err}
 use Rattle.std.specs.List.{All}
 use Rattle.std.specs.Io.KnownBytes.{Appends, Consumes, Keeps}
@@ -19,7 +19,7 @@ use Rattle.scripts.specs.declared.live.LiveFault.TheVariants as faults
 abbrev pub AreWholeLines : List ℕ → Type 0
 AreWholeLines bytes = (rest : List ℕ) → lines (bytes ++ rest) ≡ lines bytes ++ lines rest
 
--- of a line that was begun, what is answered: all of it once it is too long, and before that nothing
+-- the response to a line that was begun: all of it once it is too long, and before that nothing
 abbrev pub answered_of : List ℕ → List ℕ
 answered_of part = if nat_lt line_limit (length part) then part else []
 
@@ -49,7 +49,7 @@ module _ (A : Type 0) where
 
 module _ (A : Type 0) (comments : List (List ℕ)) (first : Session) where
   -- So far these bytes were read, whole lines of which none is `quit`, and these were written. Whatever lines stand behind
-  -- them, and whatever those are answered from the present state on, makes one transcript with them.
+  -- them, and any transcript of those from the present state on makes one transcript with them.
   pub record IsSaid (from to old new : Option (List ℕ)) (now : Session) (number : ℕ) : Type 0 where
     pub read : List ℕ
     pub written : List ℕ
@@ -63,8 +63,8 @@ module _ (A : Type 0) (comments : List (List ℕ)) (first : Session) where
     pub transcript : IsTranscriptOf A comments first read written
 
   -- What was read and what was written when a conversation ended. At its end, a transcript of all lines up to the first
-  -- `quit`. Where the reader failed, all lines that were read are answered, and one that was begun if it is too long already.
-  -- Where the writer failed, one line more was read, and behind the answers to the others a beginning of its answer was
+  -- `quit`. Where the reader failed, all lines that were read have their responses, and one that was begun if it is too long already.
+  -- Where the writer failed, one line more was read, and behind the responses to the others a beginning of its own was
   -- written. Where memory was refused at the start, nothing was read or written.
   abbrev pub Talks : {X : Type 0} → Option (List ℕ) → Option (List ℕ) → Option (List ℕ) → Option (List ℕ) → Result X LiveFault → Type 0
   Talks from to old new (Ok x) =
@@ -77,7 +77,7 @@ module _ (A : Type 0) (comments : List (List ℕ)) (first : Session) where
       × ((n : ℕ) × Appends old new (before ++ take n text))
   Talks from to old new (Err faults.Memory) = Keeps from to × Keeps old new
 
-  -- A turn, with what was said before it: one line more was read, and what it is answered was written; or the conversation
+  -- A turn, with what was said before it: one line more was read, and its response was written; or the conversation
   -- ended. At `quit` it ends whatever stands behind.
   abbrev pub Turns : Option (List ℕ) → Option (List ℕ) → Option (List ℕ) → Option (List ℕ) → Session → ℕ → Result Bool LiveFault → Type 0
   Turns from to old new next number (Ok true) = IsSaid from to old new next (number + 1)

@@ -1,4 +1,4 @@
--- What one who edits and views a log may be told, whoever that is.
+-- What the calls of any analyst may return.
 use Rattle.std.specs.Prelude.{ℕ, List, Option, None, Some, Result, Ok, Err}
 use Rattle.std.specs.Arc.{arc_value}
 use Rattle.swf_text.specs.Entry.{LogEntry}
@@ -25,11 +25,11 @@ abbrev pub read_of : {A E : Type 0} → Result (Reading A) E → Option Moment
 read_of (Ok reading) = Some (moment_of reading)
 read_of (Err fault) = None
 
--- Each rule relates how one stands, what is told, and how one stands then.
+-- Each rule relates the state before a call, its result, and the state after it.
 pub record Rules (S : Type 0) : Type 1 where
-  -- a call is answered so
+  -- a call has this result
   pub does : S → BookCall → Answer → S → Type 0
-  -- a view of the scenario with this id tells this
+  -- a view of the scenario with this id returns this
   pub sees : S → ℕ → Result PublishedView (Refusal ViewFault) → S → Type 0
   -- the scenario with this name has this id
   pub finds : S → List ℕ → Option ℕ → S → Type 0
@@ -39,5 +39,5 @@ pub record Rules (S : Type 0) : Type 1 where
   pub reads : S → Option Moment → S → Type 0
   -- the scenarios are so far, once no work is waited for
   pub settles : S → SettleState → S → Type 0
-  -- the greatest version that an edit or a view told
+  -- the greatest version that an edit or a view returned
   pub seen : S → ℕ

@@ -1,4 +1,4 @@
--- What is written of a script, by the rules of what its analyst may be told.
+-- What is written for a script, by the rules of its analyst.
 use Rattle.std.specs.Prelude.{◌≡◌, ℕ, List, ◌++◌, take, Option, Result, Ok, Err}
 use Rattle.std.specs.Io.KnownBytes.{Appends}
 use Rattle.swf_text.specs.Text.{lines}
@@ -6,7 +6,7 @@ use Rattle.scripts.specs.Analysts.{LinesBy}
 use Rattle.scripts.specs.Rules.{Rules}
 use Rattle.scripts.specs.Transcript.{looked_at}
 
--- What was written answers all lines up to the first `quit`; or where the writer failed, it is a beginning of what answers
+-- What was written responds to all lines up to the first `quit`; or where the writer failed, it is a beginning of what responds
 -- some first lines.
 abbrev pub TellsBy : {S X E : Type 0} → Rules S → Type 0 → List (List ℕ) → S → List ℕ → Option (List ℕ) → Option (List ℕ) → Result X E → S → Type 0
 TellsBy rules A comments first script old new (Ok x) last =

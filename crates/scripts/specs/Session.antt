@@ -7,7 +7,7 @@ use Rattle.book_machine.specs.Machine.{Machine, reply_to, after, note_limit}
 use Rattle.version_book.specs.Steps.{Answer, full, memory, told}
 use Rattle.scripts.specs.Lines.{refused}
 
--- the book's state, and the greatest version that an edit or a view told the session
+-- the book's state, and the greatest version that an edit or a view returned to the session
 pub record Session : Type 0 where
   pub machine : Machine
   pub seen : ℕ
@@ -18,7 +18,7 @@ seen_by seen (reply.Edited version) = max seen version
 seen_by seen (reply.Shown version) = max seen version
 seen_by seen other = seen
 
--- and after an answer
+-- and after a result
 abbrev pub seen_of : ℕ → Answer → ℕ
 seen_of seen full = seen
 seen_of seen memory = seen
@@ -39,12 +39,12 @@ IsRefused old why text new = (text ≡ refused why) × (new ≡ old)
 abbrev pub IsFull : Session → List ℕ → Session → Type 0
 IsFull old text new = (old.machine.notes ≡ note_limit) × IsRefused old (codes "JournalFull") text new
 
--- what may be where memory is short, and not otherwise
+-- what may happen where memory runs out, and not otherwise
 abbrev pub IfShort : Bool → Type 0 → Type 0
 IfShort true fact = fact
 IfShort false fact = ⊥
 
--- want of memory, which may come at any command that makes something
+-- out of memory, which may be the response to any command that allocates
 abbrev pub WantsMemory : Bool → Session → List ℕ → Session → Type 0
 WantsMemory short old text new = IfShort short (IsRefused old (codes "Memory") text new)
 
@@ -53,6 +53,6 @@ abbrev pub IsCallIf : Bool → Session → BookCall → (Reply → List ℕ) →
 IsCallIf short old call says text new =
     IsFull old text new ⊎ (WantsMemory short old text new ⊎ ((told : Reply) × IsStep old call told new × (text ≡ says told)))
 
--- the same, where memory may be short
+-- the same, where memory may run out
 abbrev pub IsCall : Session → BookCall → (Reply → List ℕ) → List ℕ → Session → Type 0
 IsCall old call says text new = IsCallIf true old call says text new

@@ -1,4 +1,4 @@
--- What each command is answered, and the state after it. Where `short` is true, want of memory is one more case of each;
+-- The response to each command, and the state after it. Where `short` is true, out of memory is one more case of each;
 -- where it is false, no memory is refused. What lacks this mark has that case.
 use Rattle.std.specs.Prelude.{◌≡◌, ℕ, ◌<◌, List, [], ◌∷◌, ◌++◌, length, count_by, None, Some, ◌⊎◌, codes, Bool, true, false}
 use Rattle.std.specs.List.{flat_map}
@@ -64,7 +64,7 @@ IsUsers m s v text = (tables : TableRows) × AreTables m s v tables × (text ≡
 abbrev pub IsDays : Machine → Listed → ℕ → List ℕ → Type 0
 IsDays m s v text = (tables : TableRows) × AreTables m s v tables × (text ≡ days_text s.name v tables.days)
 
--- what is shown is told by a report, or finds no memory; otherwise why nothing is shown
+-- what is shown is a report, unless memory runs out for it; otherwise why nothing is shown
 abbrev pub IsTold : Bool → (ℕ → List ℕ → Type 0) → Reply → List ℕ → Type 0
 IsTold short report (reply.Shown v) text = report v text ⊎ IfShort short (text ≡ refused (codes "Memory"))
 IsTold short report other text = text ≡ view_says other
@@ -81,7 +81,7 @@ IsView old report text new s = IsViewIf true old report text new s
 
 -- ---- scenarios side by side
 
--- the line of a scenario, by what its view was told
+-- the line of a scenario, by the result of its view
 abbrev pub IsSideLine : Machine → Listed → Reply → List ℕ → Type 0
 IsSideLine m s (reply.Shown v) line = (tables : TableRows) × AreTables m s v tables × (line ≡ shown_line s.name v tables.overall)
 IsSideLine m s reply.NotYet line = line ≡ left 16 s.name ++ codes " not yet\n"
@@ -115,18 +115,18 @@ IsSide old text new = IsSideIf true old text new
 
 -- ---- settling
 
--- what is told of how far the scenarios are
+-- the response that says how far the scenarios are
 abbrev pub settle_line : ℕ → SettleState → List ℕ
 settle_line seen settle.Done = settled_line seen
 settle_line seen (settle.Failed count) = failed_line count
 settle_line seen settle.Waiting = stopped_line
 
--- all that is due is worked, and it is told how far the scenarios are then
+-- all that is due is worked, and the response says how far the scenarios are then
 abbrev pub IsSettled : Bool → Session → List ℕ → Session → Type 0
 IsSettled short old text new =
     Settles short old.machine new.machine × (new.seen ≡ old.seen) × (text ≡ settle_line old.seen (settled old.seen new.machine))
 
--- where memory may be short, it was or it wasn't
+-- where memory may run out, it was or it wasn't
 abbrev pub IsSettledIf : Bool → Session → List ℕ → Session → Type 0
 IsSettledIf true old text new = (short : Bool) × IsSettled short old text new
 IsSettledIf false old text new = IsSettled false old text new
@@ -149,7 +149,7 @@ saved_text text = with_count (text_bytes text)
 
 -- ---- the commands
 
--- From the old state, with these kept comments, the command may be answered by this text, and leave the new state.
+-- From the old state, with these kept comments, the response to the command may be this text, and the new state follow.
 abbrev pub AnswersIf : {A : Type 0} → Bool → List (List ℕ) → Session → Command A → List ℕ → Session → Type 0
 AnswersIf short comments old (asks.Insert entry) text new = IsCallIf short old (Edit (Insert entry)) edit_says text new
 AnswersIf short comments old (asks.Remove number) text new = IsCallIf short old (Edit (Remove number)) edit_says text new

@@ -1,4 +1,4 @@
--- The lines of answers.
+-- The line of each result.
 use Rattle.std.specs.Prelude.{ℕ, List, Result, Ok, Err, codes}
 use Rattle.version_book.specs.Names.{refusal_name}
 use Rattle.version_book.specs.declared.refusal.Refusal.{Refusal}
@@ -25,7 +25,7 @@ answer_line says.Stopped = stopped_line
 answer_line (says.Saved lines) = saved_line lines
 answer_line says.Bye = bye_line
 
--- what is told of a call on the scenario with this name, by what the book answered
+-- the line for a call on the scenario with this name, by the book's result
 abbrev pub scenario_told : {T F : Type 0} → List ℕ → Became → (F → List ℕ) → Result T (Refusal F) → List ℕ
 scenario_told name what fault_name (Ok value) = scenario_line name (became_word what)
 scenario_told name what fault_name (Err refusal) = refused (refusal_name fault_name refusal)

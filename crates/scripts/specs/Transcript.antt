@@ -22,7 +22,7 @@ with_scenarios m (s ∷ scenarios) = with_scenarios (after (AddScenario s.name s
 abbrev pub begun : List LogEntry → List Listed → Session
 begun log scenarios = record { machine = with_scenarios (opened log) scenarios; seen = 0 }
 
--- A line of a script: a command that is answered, a line that holds none and gets nothing, or a fault with the line's number.
+-- A line of a script: a command and its response, a line that holds none and gets nothing, or a fault with the line's number.
 abbrev pub IsLineIf : {A : Type 0} → Bool → List (List ℕ) → Session → ℕ → Result (Option (Command A)) CommandFault → List ℕ → Session → Type 0
 IsLineIf short comments old number (Ok None) text new = (text ≡ []) × (new ≡ old)
 IsLineIf short comments old number (Ok (Some command)) text new = AnswersIf short comments old command text new

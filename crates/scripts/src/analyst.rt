@@ -12,7 +12,7 @@ use std::sync::Arc;
 use swf_text::Memory;
 use version_book::{AddRefusal, DropRefusal, EditRefusal, Published, RetryRefusal, ViewRefusal};
 
-/// What is read of a log and its scenarios at one moment.
+/// A log and its scenarios, as read at one moment.
 #[derive(Drop)]
 pub struct Reading<A: Allocator + Copy> {
     /// The version.
@@ -23,21 +23,21 @@ pub struct Reading<A: Allocator + Copy> {
     pub scenarios: ScenarioList<A>,
 }
 
-/// One who edits a log and views its simulations, as a session of a book or of a desk does. What the
-/// commands of a script are answered is built of these calls alone.
+/// Edits a log and views its simulations, as a session of a book or of a desk does. The responses to the
+/// commands of a script are built of these calls alone.
 pub trait Analyst<A: Allocator + Copy> {
-    /// What such a one may be told, and how it stands then.
+    /// The results that each call may have, and the state after it.
     ghost rules: { Rules Self };
 
-    /// Edits the log, and answers the new version. The refusals are those of `Book::edit`.
+    /// Edits the log, and returns the new version. The refusals are those of `Book::edit`.
     fn edit(&mut self, edit: &Edit<A>) -> Result<u64, EditRefusal>
         ensures { rules.does self.old (Edits (edit_of edit.now)) (edit_answer result) self.new };
 
-    /// Adds a scenario, and answers its id. The refusals are those of `Book::add_scenario`.
+    /// Adds a scenario, and returns its id. The refusals are those of `Book::add_scenario`.
     fn add_scenario(&mut self, name: &str, scenario: Scenario) -> Result<ScenarioId, AddRefusal>
         ensures { rules.does self.old (AddScenario name.now scenario) (add_answer result) self.new };
 
-    /// Drops the scenario with this name, and answers its id. The refusals are those of
+    /// Drops the scenario with this name, and returns its id. The refusals are those of
     /// `Book::drop_scenario`.
     fn drop_scenario(&mut self, name: &str) -> Result<ScenarioId, DropRefusal>
         ensures { rules.does self.old (DropScenario name.now) (drop_answer result) self.new };
@@ -46,8 +46,8 @@ pub trait Analyst<A: Allocator + Copy> {
     fn retry(&mut self, id: ScenarioId) -> Result<(), RetryRefusal>
         ensures { rules.does self.old (Retry id) (retry_answer result) self.new };
 
-    /// What is published for the scenario with this id, not older than what an edit or a view told by
-    /// now. The refusals are those of `Book::view`.
+    /// What is published for the scenario with this id, not older than the version that an edit or a view
+    /// has returned. The refusals are those of `Book::view`.
     fn view(&mut self, id: ScenarioId) -> Result<Published<A>, ViewRefusal>
         ensures answer { rules.does self.old (View id (rules.seen self.old)) (view_answer result) self.new }
         ensures told { rules.sees self.old id result self.new };
@@ -68,7 +68,7 @@ pub trait Analyst<A: Allocator + Copy> {
     fn settle(&mut self) -> SettleState
         ensures { rules.settles self.old result self.new };
 
-    /// The greatest version that an edit or a view told; 0 at first.
+    /// The greatest version that an edit or a view returned; 0 at first.
     fn seen(&self) -> u64
         ensures { result ≡ rules.seen self.now };
 }

@@ -1,16 +1,16 @@
-ghost use Rattle.std.specs.Prelude.{◌≡◌, ◌+◌, ◌++◌, ◌≤◌, length, codes};
+ghost use Rattle.std.specs.Prelude.{◌≡◌, ◌+◌, ◌++◌, ◌≤◌, length};
 ghost use Rattle.std.specs.Fmt.{decimal};
 ghost use Rattle.scripts.specs.Lines.{scenario_line, behind_line, fault_line, refused};
 ghost use Rattle.scripts.specs.Told.{became_word, answer_line, scenario_told};
 
 use crate::refusal_name::RefusalName;
 use arrayvec::ArrayVec;
-use commands::{CommandFault, Name};
+use commands::{CommandFault, ScenarioName};
 use itoa::Buffer;
 use version_book::{Named, Refusal};
 
-/// Room for the longest line that answers a command.
-const ROOM: usize = 96;
+/// As many bytes as the longest line that responds to a command.
+const CAPACITY: usize = 96;
 
 /// What became of a scenario.
 #[derive(Clone, Copy, Debug, PartialEq, Eq)]
@@ -20,13 +20,13 @@ pub(crate) enum Became {
     Retried,
 }
 
-/// A line that answers a command. It takes no memory.
+/// A line that responds to a command. It allocates nothing.
 #[derive(Drop)]
 pub(crate) enum Answer {
     /// The log's version.
     Version(u64),
     /// What became of the scenario with this name.
-    Scenario { name: Name, became: Became },
+    Scenario { name: ScenarioName, became: Became },
     /// The command was refused, with this name.
     Refused(RefusalName),
     /// A scenario shows an older version than the session has seen.
@@ -35,11 +35,11 @@ pub(crate) enum Answer {
     Fault { line: u64, fault: CommandFault },
     /// Every scenario shows the version that the session has seen, or a newer one.
     Settled { seen: u64 },
-    /// So many scenarios don't, and are given up.
+    /// This many scenarios don't, and are given up.
     Failed { count: u64 },
     /// Some don't, and the work was stopped.
     Stopped,
-    /// So many lines of a saved log follow.
+    /// This many lines of a saved log follow.
     Saved { lines: u64 },
     /// The session ends.
     Bye,
@@ -59,8 +59,8 @@ impl Became {
     }
 }
 
-// Adds all of the bytes.
-fn push_all(text: &mut ArrayVec<u8, ROOM>, bytes: &[u8])
+// Appends the bytes.
+fn push_all(text: &mut ArrayVec<u8, CAPACITY>, bytes: &[u8])
     requires { length text.old.items + length bytes.now ≤ 96 }
     ensures { text.new.items ≡ text.old.items ++ bytes.now }
 {
@@ -69,8 +69,8 @@ fn push_all(text: &mut ArrayVec<u8, ROOM>, bytes: &[u8])
     }
 }
 
-// Adds a number.
-fn push_number(text: &mut ArrayVec<u8, ROOM>, number: u64)
+// Appends a number.
+fn push_number(text: &mut ArrayVec<u8, CAPACITY>, number: u64)
     requires { length text.old.items + 20 ≤ 96 }
     ensures added { text.new.items ≡ text.old.items ++ decimal number }
     ensures most { length text.new.items ≤ length text.old.items + 20 }
@@ -80,7 +80,7 @@ fn push_number(text: &mut ArrayVec<u8, ROOM>, number: u64)
 }
 
 // The line with these words around a number.
-fn numbered(front: &[u8], number: u64, back: &[u8]) -> ArrayVec<u8, ROOM>
+fn numbered(front: &[u8], number: u64, back: &[u8]) -> ArrayVec<u8, CAPACITY>
     requires front { length front.now ≤ 24 }
     requires back { length back.now ≤ 8 }
     ensures line { result.items ≡ front.now ++ decimal number ++ back.now }
@@ -94,7 +94,7 @@ fn numbered(front: &[u8], number: u64, back: &[u8]) -> ArrayVec<u8, ROOM>
 }
 
 // The line with this word between others.
-fn worded(front: &[u8], word: &str, back: &[u8]) -> ArrayVec<u8, ROOM>
+fn worded(front: &[u8], word: &str, back: &[u8]) -> ArrayVec<u8, CAPACITY>
     requires front { length front.now ≤ 16 }
     requires word { length word.now ≤ 16 }
     requires back { length back.now ≤ 16 }
@@ -108,7 +108,7 @@ fn worded(front: &[u8], word: &str, back: &[u8]) -> ArrayVec<u8, ROOM>
 }
 
 // The line of what became of a scenario.
-fn scenario_text(name: &Name, became: Became) -> ArrayVec<u8, ROOM>
+fn scenario_text(name: &ScenarioName, became: Became) -> ArrayVec<u8, CAPACITY>
     ensures { result.items ≡ scenario_line name.now (became_word became) }
 {
     let mut text = worded(b"scenario ", name.as_str(), b" ");
@@ -118,7 +118,7 @@ fn scenario_text(name: &Name, became: Became) -> ArrayVec<u8, ROOM>
 }
 
 // The line of a version that is older than the one seen.
-fn behind_text(seen: u64, found: u64) -> ArrayVec<u8, ROOM>
+fn behind_text(seen: u64, found: u64) -> ArrayVec<u8, CAPACITY>
     ensures { result.items ≡ behind_line seen found }
 {
     let mut text = numbered(b"refused Behind seen ", seen, b" found ");
@@ -128,7 +128,7 @@ fn behind_text(seen: u64, found: u64) -> ArrayVec<u8, ROOM>
 }
 
 // The line of a fault.
-fn fault_text(line: u64, fault: CommandFault) -> ArrayVec<u8, ROOM>
+fn fault_text(line: u64, fault: CommandFault) -> ArrayVec<u8, CAPACITY>
     ensures { result.items ≡ fault_line line fault }
 {
     let mut text = numbered(b"fault line ", line, b" ");
@@ -142,16 +142,16 @@ fn fault_text(line: u64, fault: CommandFault) -> ArrayVec<u8, ROOM>
 }
 
 impl Answer {
-    /// That a command is refused for this, a refusal or a fault.
+    /// The line that a command is refused for this refusal or fault.
     pub(crate) fn refused<N: Named>(why: &N) -> Answer
         ensures { answer_line result ≡ refused (N.name why.now) }
     {
         Answer::Refused(RefusalName::of(why))
     }
 
-    // What is told of a call on the scenario with this name, by what the book answered.
+    // The line for a call on the scenario with this name, by the book's result.
     pub(crate) fn of_scenario<T: Copy, F: Named + Copy>(
-        name: Name,
+        name: ScenarioName,
         became: Became,
         told: Result<T, Refusal<F>>,
     ) -> Answer
@@ -164,7 +164,7 @@ impl Answer {
     }
 
     /// The line, with its line feed.
-    pub(crate) fn line(&self) -> ArrayVec<u8, ROOM>
+    pub(crate) fn line(&self) -> ArrayVec<u8, CAPACITY>
         ensures { result.items ≡ answer_line self.now }
     {
         match self {

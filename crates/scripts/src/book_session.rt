@@ -1,4 +1,4 @@
-// An analyst with a book of its own, who works what is due when it settles.
+// A session with a book of its own, which works what is due when it settles.
 ghost use Rattle.std.specs.Prelude.{◌≡◌, map};
 ghost use Rattle.version_book.specs.Book.{machine_of};
 ghost use Rattle.scripts.specs.Replies.{reply_text};
@@ -18,7 +18,7 @@ use version_book::{
     AddRefusal, Book, DropRefusal, EditRefusal, Published, RetryRefusal, ViewRefusal,
 };
 
-/// The number of the session whose calls such an analyst makes.
+/// The number of the session in the book's notes.
 const SESSION: u64 = 0;
 
 /// One analyst's session with a book.
@@ -26,7 +26,7 @@ const SESSION: u64 = 0;
 pub(crate) struct BookSession<A: Allocator + Copy> {
     pub(crate) alloc: A,
     pub(crate) book: Book<A>,
-    // the greatest version that an edit or a view told
+    // the greatest version that an edit or a view returned
     pub(crate) seen: u64,
 }
 

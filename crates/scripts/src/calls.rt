@@ -1,4 +1,4 @@
-// Commands that are one call, and those that read no more than a number.
+// Commands that are one call, and those that only read a number.
 ghost use Rattle.job_table.specs.Edit.{edit_of};
 ghost use Rattle.book_machine.specs.Call.{AddScenario, DropScenario, Edit as Edits, Retry};
 ghost use Rattle.scripts.specs.Analysts.{CallBy, NamedBy, SettledBy, VersionBy};
@@ -8,7 +8,7 @@ ghost use Rattle.scripts.specs.Told.{answer_line};
 use crate::analyst::Analyst;
 use crate::answer::{Answer, Became};
 use book_machine::SettleState;
-use commands::Name;
+use commands::ScenarioName;
 use job_table::Edit;
 use scenarios::{NoSuchScenario, Scenario};
 use std::alloc::Allocator;
@@ -26,7 +26,7 @@ pub(crate) fn edit<S: Analyst<A>, A: Allocator + Copy>(analyst: &mut S, edit: &E
 // Adds a scenario.
 pub(crate) fn add<S: Analyst<A>, A: Allocator + Copy>(
     analyst: &mut S,
-    name: Name,
+    name: ScenarioName,
     scenario: Scenario,
 ) -> Answer
     ensures { CallBy S.rules analyst.old (AddScenario name scenario) (scenario_says name) (answer_line result) analyst.new }
@@ -36,7 +36,10 @@ pub(crate) fn add<S: Analyst<A>, A: Allocator + Copy>(
 }
 
 // Drops the scenario with this name.
-pub(crate) fn drop_named<S: Analyst<A>, A: Allocator + Copy>(analyst: &mut S, name: Name) -> Answer
+pub(crate) fn drop_named<S: Analyst<A>, A: Allocator + Copy>(
+    analyst: &mut S,
+    name: ScenarioName,
+) -> Answer
     ensures { CallBy S.rules analyst.old (DropScenario name) (scenario_says name) (answer_line result) analyst.new }
 {
     let told = analyst.drop_scenario(name.as_str());
@@ -44,7 +47,10 @@ pub(crate) fn drop_named<S: Analyst<A>, A: Allocator + Copy>(analyst: &mut S, na
 }
 
 // Has the scenario with this name worked again.
-pub(crate) fn retry<S: Analyst<A>, A: Allocator + Copy>(analyst: &mut S, name: Name) -> Answer
+pub(crate) fn retry<S: Analyst<A>, A: Allocator + Copy>(
+    analyst: &mut S,
+    name: ScenarioName,
+) -> Answer
     ensures { NamedBy S.rules analyst.old name (λ id mid. CallBy S.rules mid (Retry id) (scenario_says name) (answer_line result) analyst.new) (answer_line result) analyst.new }
 {
     let Some(id) = analyst.find(name.as_str()) else {
@@ -54,7 +60,7 @@ pub(crate) fn retry<S: Analyst<A>, A: Allocator + Copy>(analyst: &mut S, name: N
     Answer::of_scenario(name, Became::Retried, told)
 }
 
-// Settles, and tells how far the scenarios are.
+// Settles, and returns the line on how far the scenarios are.
 pub(crate) fn settle<S: Analyst<A>, A: Allocator + Copy>(analyst: &mut S) -> Answer
     ensures { SettledBy S.rules analyst.old (answer_line result) analyst.new }
 {

@@ -8,14 +8,15 @@ use std::io;
 use std::io::{BufRead, ErrorKind};
 use swf_text::LINE_LIMIT;
 
-/// The bytes of a line that are kept: one more than a line may have tells that it is too long.
-const KEPT: usize = LINE_LIMIT + 1;
+/// The most bytes that are stored of a line: one more than a line may have, which shows that it is too
+/// long.
+const CAPACITY: usize = LINE_LIMIT + 1;
 
-/// A reader answered an error.
+/// A reader returned an error.
 #[derive(Clone, Copy)]
 pub(crate) struct ReadFault;
 
-/// Where the reading of a line stands.
+/// How far a line is read.
 #[derive(Clone, Copy)]
 pub(crate) enum LineEnd {
     // Its line feed was read.
@@ -26,7 +27,7 @@ pub(crate) enum LineEnd {
     Open,
 }
 
-/// A line that is being read, in a room of its own.
+/// A line that is being read, in a buffer that never grows.
 #[derive(Drop)]
 pub(crate) struct Line<A: Allocator> {
     bytes: Vec<u8, A>,
@@ -37,7 +38,7 @@ pub(crate) struct Line<A: Allocator> {
 impl<A: Allocator> Line<A> {
     // A line without bytes.
     pub(crate) fn new(alloc: A) -> Result<Line<A>, AllocError> {
-        let bytes = Vec::with_capacity(alloc, KEPT)?;
+        let bytes = Vec::with_capacity(alloc, CAPACITY)?;
         Ok(Line { bytes })
     }
 
@@ -53,11 +54,11 @@ impl<A: Allocator> Line<A> {
         self.bytes.clear();
     }
 
-    // How many bytes more are kept.
-    fn room(&self) -> usize
+    // How many further bytes are stored.
+    fn spare(&self) -> usize
         ensures { result + length self.now.bytes.items ≡ 65537 }
     {
-        KEPT - self.bytes.len()
+        CAPACITY - self.bytes.len()
     }
 
     fn add(&mut self, part: &[u8])
@@ -71,15 +72,15 @@ impl<A: Allocator> Line<A> {
     }
 }
 
-// What of the bytes that a reader shows belongs to the line, how many of them that uses, and where
-// the line stands then.
-fn front_of(shown: &[u8], room: usize) -> (&[u8], usize, LineEnd)
-    ensures { IsFront shown.now room result.0.now result.1 result.2 }
+// Which of the bytes that a reader shows belong to the line, of which at most `spare` are stored; how
+// many it uses; and how far the line is read then.
+fn front_of(shown: &[u8], spare: usize) -> (&[u8], usize, LineEnd)
+    ensures { IsFront shown.now spare result.0.now result.1 result.2 }
 {
     if shown.is_empty() {
         return (shown, 0, LineEnd::Input);
     }
-    let part = &shown[..shown.len().min(room)];
+    let part = &shown[..shown.len().min(spare)];
     match memchr(b'\n', part) {
         Some(at) => (&part[..at], at + 1, LineEnd::Feed),
         None => (part, part.len(), LineEnd::Open),
@@ -96,7 +97,7 @@ fn unless_interrupted(error: io::Error) -> Result<LineEnd, ReadFault>
     }
 }
 
-// Reads a part of the line: what the reader shows of it, as far as there is room.
+// Reads a part of the line: what the reader shows of it, as far as it is stored.
 fn read_part<R: BufRead, A: Allocator>(
     reader: &mut R,
     line: &mut Line<A>,
@@ -107,13 +108,13 @@ fn read_part<R: BufRead, A: Allocator>(
         Ok(shown) => shown,
         Err(error) => return unless_interrupted(error),
     };
-    let (bytes, used, end) = front_of(shown, line.room());
+    let (bytes, used, end) = front_of(shown, line.spare());
     line.add(bytes);
     reader.consume(used);
     Ok(end)
 }
 
-/// Reads the next line, or of one that is too long the first bytes.
+/// Reads the next line, or the first bytes of one that is too long.
 pub(crate) fn next_line<R: BufRead, A: Allocator>(
     reader: &mut R,
     line: &mut Line<A>,
@@ -124,7 +125,7 @@ pub(crate) fn next_line<R: BufRead, A: Allocator>(
     for _ in 0..u64::MAX {
         match read_part(reader, line)? {
             LineEnd::Open => {
-                if line.room() == 0 {
+                if line.spare() == 0 {
                     return Ok(LineEnd::Open);
                 }
             }
@@ -134,7 +135,7 @@ pub(crate) fn next_line<R: BufRead, A: Allocator>(
     Err(ReadFault)
 }
 
-/// Passes over the rest of a line; whether it had a line feed.
+/// Skips the rest of a line, and returns whether it had a line feed.
 pub(crate) fn pass_line<R: BufRead, A: Allocator>(
     reader: &mut R,
     line: &mut Line<A>,

@@ -5,8 +5,8 @@ ghost use Rattle.scripts.specs.Lifting.{LinesLift};
 use crate::lifting::Lifting;
 use std::alloc::Allocator;
 
-/// Where no memory is refused, what a script is answered follows from the state of the book that it
-/// begins with, the comments and its bytes: a line has one answer and leads to one state, and a script
+/// Where no memory is refused, the transcript of a script follows from the state of the book that it
+/// begins with, the comments and its bytes: a line has one response and leads to one state, and a script
 /// has one transcript. That is one of those that `run_lines` and `run_live` may write.
 pub fn unrefused_transcripts_are_one<A: Allocator>()
     ensures line { LinesAreOne A }
@@ -15,20 +15,20 @@ pub fn unrefused_transcripts_are_one<A: Allocator>()
 {}
 
 /// Where no memory is refused, a script of the two lines `settle` and `schedule NAME`, with the name of
-/// the first scenario, on the book of a log that was opened, is answered `settled 0` and the schedule of
-/// the log under that scenario.
+/// the first scenario, on the book of a log that was opened, yields `settled 0` and the schedule of the
+/// log under that scenario.
 pub fn the_first_schedule<A: Allocator>()
     ensures { SchedulesTheFirst A }
 {}
 
 /// What a view of a book shows is true of the book: a run is that of the log of its version under the
-/// scenario, and a scenario of which the book replies that there is none is not listed.
+/// scenario, and a scenario is not listed where the book replies that there is none.
 pub fn what_is_shown_is_true()
     ensures { ShownIsTrue }
 {}
 
-/// Where the rules of one analyst lead to those of another, what a script is answered by the one it is
-/// answered by the other.
+/// Where the rules of one analyst lead to those of another, a transcript of a script by the first is one
+/// by the second.
 pub fn transcripts_lift<L: Lifting, A: Allocator>()
     ensures { LinesLift L.told L.known L.at L.Inv L.Good A }
 {}

@@ -1,6 +1,6 @@
-//! Scripts: an analyst's commands on a log, one after another, and what each is answered. One
-//! interpreter serves whoever edits and views a log: a session with a book of its own, and a session
-//! at a desk.
+//! Scripts: an analyst's commands on a log, one after another, and the response to each. One
+//! interpreter serves all that edit and view a log: a session with a book of its own, and a session at
+//! a desk.
 #![tactic(auto)]
 
 mod analyst;

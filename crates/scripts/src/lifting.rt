@@ -1,26 +1,26 @@
-/// Two analysts, one of whom is told more of how a state came about than of what it is. A law speaks of
-/// all such pairs; no value is one.
+/// Two sets of rules for analysts, and the map from the states of the first to those of the second. A law
+/// speaks of all such pairs; no value is one.
 pub trait Lifting {
     ghost use Rattle.scripts.specs.Rules.{Rules};
 
-    /// How the first stands.
+    /// The state of the first.
     ghost State: { Type 0 };
 
-    /// How the second stands.
+    /// The state of the second.
     ghost Place: { Type 0 };
 
-    /// What the first may be told.
+    /// The rules of the first.
     ghost told: { Rules State };
 
-    /// What the second may be told.
+    /// The rules of the second.
     ghost known: { Rules Place };
 
-    /// Where the second stands when the first does so.
+    /// The state of the second that belongs to one of the first.
     ghost at: { State → Place };
 
-    /// What holds of each state that the first comes to.
+    /// The invariant of the states that the first reaches.
     ghost Inv: { State → Type 0 };
 
-    /// What is known of a state at the end alone.
+    /// What is known of a state only at the end.
     ghost Good: { State → Type 0 };
 }

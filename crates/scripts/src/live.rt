@@ -1,5 +1,4 @@
 ghost use Rattle.std.specs.Prelude.{◌≡◌, ℕ, Option, List, IfOk, map};
-ghost use Rattle.std.specs.Io.KnownBytes.{Keeps};
 ghost use Rattle.commands.specs.Commands.{command_of_line};
 ghost use Rattle.swf_text.specs.Writing.{Writes};
 ghost use Rattle.version_book.specs.Book.{machine_of};
@@ -24,9 +23,9 @@ use version_book::Book;
 /// Why a conversation ended before its input did.
 #[derive(Clone, Copy, Debug, PartialEq, Eq, Error)]
 pub enum LiveFault {
-    /// The reader answered an error.
+    /// The reader returned an error.
     Read,
-    /// The writer answered an error, or took no byte.
+    /// The writer returned an error, or took no byte.
     Write,
     /// A growth was refused before the first line was read.
     Memory,
@@ -75,7 +74,7 @@ impl From<AllocError> for LiveFault {
     }
 }
 
-// Writes what is answered, and sees that the writer keeps nothing of it back.
+// Writes a response, and flushes the writer.
 fn say<W: Write, A: Allocator + Copy>(reply: &Reply<A>, writer: &mut W) -> Result<(), WriteFault>
     ensures { Writes result (W.contents writer.old) (W.contents writer.new) (reply_text reply.now) }
 {
@@ -86,7 +85,7 @@ fn say<W: Write, A: Allocator + Copy>(reply: &Reply<A>, writer: &mut W) -> Resul
     }
 }
 
-// Works a line, and writes what it is answered; whether it is `quit`.
+// Works a line, writes its response, and returns whether it is `quit`.
 fn answer<W: Write, A: Allocator + Copy>(
     analyst: &mut BookSession<A>,
     comments: &[Vec<u8, A>],
@@ -103,7 +102,7 @@ fn answer<W: Write, A: Allocator + Copy>(
     Ok(quits)
 }
 
-// Whether a line may follow: behind a line that is too long, its rest is passed over first.
+// Whether a line may follow. The rest of a line that is too long is skipped first.
 fn may_follow<R: BufRead, A: Allocator>(
     reader: &mut R,
     line: &mut Line<A>,
@@ -118,7 +117,8 @@ fn may_follow<R: BufRead, A: Allocator>(
     }
 }
 
-// Works one turn: reads a line, and answers it before another is read; whether one may follow.
+// Works one turn: reads a line, writes its response before another is read, and returns whether one
+// may follow.
 fn turn<R: BufRead, W: Write, A: Allocator + Copy>(
     analyst: &mut BookSession<A>,
     comments: &[Vec<u8, A>],
@@ -140,20 +140,20 @@ fn turn<R: BufRead, W: Write, A: Allocator + Copy>(
     Ok(follows)
 }
 
-/// Holds a conversation on a book: reads line after line as they come, and answers each, the answer
-/// flushed, before it reads on, as `run_lines` answers a script's. It ends behind `quit` or at the
-/// end of the input, whose last line may lack its line feed. The comments are those of the log,
-/// which `save` writes.
+/// Holds a conversation on a book: reads line after line as they come, and writes and flushes the
+/// response to each before it reads on. The responses are those of `run_lines`. It ends behind `quit`
+/// or at the end of the input, whose last line may lack its line feed. The comments are those of the
+/// log, which `save` writes.
 ///
-/// A line of over 65,536 bytes is told TooLong when so many are read, and the rest of it is passed
-/// over. Of a conversation no more is kept than the book keeps, and the line that is being read.
+/// The response to a line of over 65,536 bytes is TooLong as soon as that many are read, and the rest of
+/// it is skipped. Besides the book only the line that is being read is in memory.
 ///
 /// Where it ends with `quit`, what stands behind that line is left unread. Read where the reader
-/// answers an error: what was written is a transcript of all lines that were read by then; a line
+/// returns an error: what was written is a transcript of all lines that were read by then; a line
 /// that was only begun is not among them, unless it is too long already. Write where the writer
-/// answers an error or takes no byte: of the answer to the line that was read last a beginning is
-/// out, and those before it are out whole. Memory where there is no room for a line, before the
-/// first is read.
+/// returns an error or takes no byte: the response to the line that was read last is written in part,
+/// and those before it in full. Memory where the buffer for a line is refused, before the first is
+/// read.
 pub fn run_live<R: BufRead, W: Write, A: Allocator + Copy>(
     alloc: A,
     book: Book<A>,

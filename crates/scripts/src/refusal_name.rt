@@ -3,7 +3,7 @@ ghost use Rattle.std.specs.Prelude.{◌≡◌, ◌≤◌, length};
 use std::marker::Model;
 use version_book::Named;
 
-/// The name of a refusal, which is what is written of it.
+/// The name of a refusal, as it is written.
 #[derive(Drop)]
 pub(crate) struct RefusalName {
     name: &'static str,

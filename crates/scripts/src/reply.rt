@@ -11,7 +11,7 @@ use std::io::Write;
 use swf_text::{WriteFault, write_bytes};
 use version_book::Named;
 
-/// What a line of a script is answered: nothing, a line, which takes no memory, a report, or a log.
+/// The response to a line of a script: nothing, a line, which allocates nothing, a report, or a log.
 #[derive(Drop)]
 pub(crate) enum Reply<A: Allocator + Copy> {
     /// Nothing is written.
@@ -31,7 +31,7 @@ fn feeds(bytes: &[u8]) -> u64
     bytes.iter().filter(|byte| **byte == b'\n').count() as u64
 }
 
-// A log, with how many lines it has before it.
+// A log, behind the number of its lines.
 fn write_saved<W: Write>(writer: &mut W, text: &[u8]) -> Result<(), WriteFault>
     ensures { Writes result (W.contents writer.old) (W.contents writer.new) (with_count text.now) }
 {
@@ -41,14 +41,14 @@ fn write_saved<W: Write>(writer: &mut W, text: &[u8]) -> Result<(), WriteFault>
 }
 
 impl<A: Allocator + Copy> Reply<A> {
-    /// That the command is refused for this, a refusal or a fault.
+    /// The response that the command is refused for this refusal or fault.
     pub(crate) fn refused<N: Named>(why: &N) -> Reply<A>
         ensures { reply_text result ≡ refused (N.name why.now) }
     {
         Reply::Line(Answer::refused(why))
     }
 
-    /// Writes what is answered. Device where the writer answers an error or takes no byte.
+    /// Writes the response. Device where the writer returns an error or takes no byte.
     pub(crate) fn write<W: Write>(&self, writer: &mut W) -> Result<(), WriteFault>
         ensures { Writes result (W.contents writer.old) (W.contents writer.new) (reply_text self.now) }
     {

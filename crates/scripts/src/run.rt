@@ -85,11 +85,11 @@ pub(crate) fn is_quit<A: Allocator + Copy>(asked: &Result<Option<Command<A>>, Co
     matches!(asked, Ok(Some(Command::Quit)))
 }
 
-/// Works a script line after line, up to the first `quit`, and writes what each line is answered. The
+/// Works a script line after line, up to the first `quit`, and writes the response to each line. The
 /// comments are those of the log, which `save` writes.
 ///
-/// Device where the writer answers an error or takes no byte; what was written then is a beginning
-/// of what the first lines are answered.
+/// Device where the writer returns an error or takes no byte; what was written then is a beginning of
+/// the responses to the first lines.
 pub fn work_lines<S: Analyst<A>, W: Write, A: Allocator + Copy>(
     analyst: &mut S,
     alloc: A,
@@ -115,11 +115,11 @@ pub fn work_lines<S: Analyst<A>, W: Write, A: Allocator + Copy>(
     Ok(())
 }
 
-/// Works a script on a book, line after line, and writes what each is answered, as one session with
-/// one worker, who works at `settle`. The comments are those of the log, which `save` writes.
+/// Works a script on a book, line after line, and writes the response to each, as one session with one
+/// worker, which works at `settle`. The comments are those of the log, which `save` writes.
 ///
-/// Device where the writer answers an error or takes no byte; what was written then is a beginning
-/// of what the script may be answered.
+/// Device where the writer returns an error or takes no byte; what was written then is a beginning of a
+/// transcript of the script.
 pub fn run_lines<W: Write, A: Allocator + Copy>(
     alloc: A,
     book: Book<A>,

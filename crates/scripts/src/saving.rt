@@ -1,4 +1,4 @@
-// The log, as a report and as it is saved.
+// The report on a log, and a log as it is saved.
 ghost use Rattle.std.specs.Prelude.{◌≡◌, map, Some, IfOk};
 ghost use Rattle.std.specs.Arc.{arc_value};
 ghost use Rattle.std.specs.Option.{option_map};
@@ -11,13 +11,13 @@ ghost use Rattle.scripts.specs.Rules.{moment_of};
 
 use crate::analyst::{Analyst, Reading};
 use crate::reply::Reply;
-use commands::{Name, save_text};
+use commands::{ScenarioName, save_text};
 use report::log_text;
 use scenarios::{NoSuchScenario, Scenario, ScenarioList};
 use std::alloc::Allocator;
 use swf_text::{Memory, SwfText, write_swf};
 
-// What a log is simulated under in the scenario with this name; None where none has it.
+// The scenario with this name, under which a log is simulated; None where none has it.
 fn scenario_of<A: Allocator + Copy>(list: &ScenarioList<A>, name: &str) -> Option<Scenario>
     ensures { result ≡ option_map (λ s. s.setting) (named name.now list.now.scenarios) }
 {
@@ -44,7 +44,7 @@ pub fn bytes_of<A: Allocator + Copy>(alloc: A, text: &SwfText<A>) -> Result<Vec<
 }
 
 // The report on a log under the scenario with this name.
-fn log_of<A: Allocator + Copy>(alloc: A, reading: &Reading<A>, name: &Name) -> Reply<A>
+fn log_of<A: Allocator + Copy>(alloc: A, reading: &Reading<A>, name: &ScenarioName) -> Reply<A>
     ensures { IsLogOf name.now (Some (moment_of reading.now)) (reply_text result) }
 {
     let Some(scenario) = scenario_of(&reading.scenarios, name.as_str()) else {
@@ -66,7 +66,7 @@ fn log_of<A: Allocator + Copy>(alloc: A, reading: &Reading<A>, name: &Name) -> R
 pub(crate) fn log<S: Analyst<A>, A: Allocator + Copy>(
     analyst: &mut S,
     alloc: A,
-    name: &Name,
+    name: &ScenarioName,
 ) -> Reply<A>
     ensures { NamedBy S.rules analyst.old name.now (λ id mid. LogBy S.rules mid name.now (reply_text result) analyst.new) (reply_text result) analyst.new }
 {

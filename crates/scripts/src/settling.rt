@@ -1,4 +1,4 @@
-// How an analyst alone works what is due.
+// How a session with a book of its own works what is due.
 ghost use Rattle.std.specs.Prelude.{◌≡◌, IfOk};
 ghost use Rattle.std.specs.Arc.{arc_value};
 ghost use Rattle.book_machine.specs.Machine.{settled};
@@ -16,7 +16,7 @@ use version_book::{
     TooManyTickets, UnknownTicket,
 };
 
-/// The number of the worker whose calls an analyst makes.
+/// The number of the worker in the book's notes.
 const WORKER: u64 = 0;
 
 /// How a turn of the work ends.
@@ -28,7 +28,7 @@ pub(crate) enum Turn {
     GivenUp,
     /// Nothing is due, no more tickets can be taken, or the journal is full.
     Ended,
-    /// A claim, or the end of a task, found no memory.
+    /// A claim, or the end of a task, was refused memory.
     Short,
 }
 
@@ -88,7 +88,7 @@ fn work_next<A: Allocator + Copy>(book: &mut Book<A>) -> Turn
 }
 
 // Works task after task, until there is no other, the journal is full, or memory is refused for a
-// call. It tells whether memory was refused, for a run or a call.
+// call. Returns whether memory was refused, for a run or a call.
 fn work_all<A: Allocator + Copy>(book: &mut Book<A>) -> bool
     ensures { Settles result (machine_of book.old) (machine_of book.new) }
 {
@@ -104,7 +104,7 @@ fn work_all<A: Allocator + Copy>(book: &mut Book<A>) -> bool
 }
 
 impl<A: Allocator + Copy> BookSession<A> {
-    // Works all that is due, and tells how far the scenarios are, and whether memory was refused.
+    // Works all that is due, and returns how far the scenarios are, and whether memory was refused.
     pub(crate) fn settle_all(&mut self) -> (SettleState, bool)
         ensures settles { Settles result.1 self.old.machine self.new.machine }
         ensures seen { self.new.seen ≡ self.old.seen }

@@ -13,7 +13,7 @@ use std::alloc::Allocator;
 use swf_text::Memory;
 use version_book::{Published, Refusal, ViewFault, ViewRefusal};
 
-// What stands beside others by what its view was told; None where the scenario was dropped since.
+// What stands beside others, by the result of its view; None where the scenario was dropped since.
 fn beside_of<A: Allocator + Copy>(
     told: Result<Published<A>, ViewRefusal>,
 ) -> Result<Option<Beside<A>>, ViewRefusal>

@@ -6,7 +6,7 @@ use report::{days_text, schedule_text, table_text, users_text};
 use std::alloc::Allocator;
 use swf_text::Memory;
 
-/// What a report tells of a run.
+/// The kinds of reports on a run.
 #[derive(Clone, Copy, Debug, PartialEq, Eq)]
 pub(crate) enum Report {
     /// The start and the end of each job.

@@ -1,4 +1,4 @@
-// What an analyst is shown.
+// The views of an analyst.
 ghost use Rattle.std.specs.Prelude.{◌≡◌};
 ghost use Rattle.report.specs.Side.{side_line};
 ghost use Rattle.scripts.specs.Analysts.{NamedBy, ViewBy};
@@ -10,7 +10,7 @@ use crate::analyst::Analyst;
 use crate::answer::Answer;
 use crate::reply::Reply;
 use crate::view_report::Report;
-use commands::Name;
+use commands::ScenarioName;
 use report::SideLine;
 use scenarios::NoSuchScenario;
 use std::alloc::Allocator;
@@ -59,7 +59,7 @@ fn unseen(refusal: ViewRefusal) -> Answer
 pub(crate) fn view<S: Analyst<A>, A: Allocator + Copy>(
     analyst: &mut S,
     alloc: A,
-    name: &Name,
+    name: &ScenarioName,
     report: Report,
 ) -> Reply<A>
     ensures { NamedBy S.rules analyst.old name.now (λ id mid. ViewBy S.rules mid id name.now report (reply_text result) analyst.new) (reply_text result) analyst.new }

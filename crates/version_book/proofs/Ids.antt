@@ -48,9 +48,6 @@ apart : (first : ℕ) (xs : List ShownView) (next : ℕ) → Rises first xs next
 apart first [] next h = λ i j d lt in_xs. absurd (omega arith)
 apart first (x ∷ xs) next h = AllPairs-cons (λ (a b : ShownView). a.id < b.id) x xs (All-weaker (λ (b : ShownView). x.id + 1 ≤ b.id) (λ (b : ShownView). x.id < b.id) (λ b le. omega arith) xs (at-least (x.id + 1) (x.id + 1) xs next (omega arith) h.1)) (apart (x.id + 1) xs next h.1)
 
-same-at : (x y : ShownView) → x ≡ y → x.id ≡ y.id → x.setting ≡ y.setting
-same-at x y e _ = ap (λ (z : ShownView). z.setting) e
-
 -- all with the id of one that is found are alike
 alike-later : (p : ShownView → Bool) (x : ShownView) (xs : List ShownView) (next : ℕ) (y : ShownView) → Rises (x.id + 1) xs next → find p xs ≡ Some y → x.id < y.id
 alike-later p x xs next y h is = find-All (λ (z : ShownView). x.id < z.id) p xs y (All-weaker (λ (z : ShownView). x.id + 1 ≤ z.id) (λ (z : ShownView). x.id < z.id) (λ z le. omega arith) xs (at-least (x.id + 1) (x.id + 1) xs next (omega arith) h)) is

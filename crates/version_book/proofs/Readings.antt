@@ -4,7 +4,7 @@ use Rattle.std.specs.Prelude.{Option, None, Some, Ok, Err, IfSome, find, count_b
 use Rattle.std.specs.List.{list_any}
 use Rattle.std.specs.Option.{option_map}
 use Rattle.std.proofs.lemmas.List.{length-map}
-use Rattle.std.proofs.lemmas.Bool.{le-leb, lt-leb}
+use Rattle.std.proofs.lemmas.Bool.{lt-leb}
 use Rattle.std.proofs.lemmas.List.Sums.{sum_by-cons}
 use Rattle.swf_text.specs.Entry.{LogEntry}
 use Rattle.job_table.specs.Edit.{LogEdit, log_after}
@@ -74,12 +74,6 @@ settled-with {s} {w} seen v xs r is v_is xs_is r_is n =
     subst (λ (u : StateView). r ≡ settled seen (machine_at n u)) is (r_is ∙ (ap₂ (settled_at seen) v_is xs_is ∙ settled-is s seen n))
 
 -- ---- what is due
-
-pub free-none : (s : StateView) → 256 ≤ length s.tickets → None ≡ free_due s
-free-none s le =
-    let count = length-map s.tickets ticket_of_view in
-    let test : nat_le 256 (length (map ticket_of_view s.tickets)) ≡ true = le-leb 256 (length (map ticket_of_view s.tickets)) (omega arith) in
-    sym (ap (λ (b : Bool). cond b None (option_map (λ (x : ShownView). x.id) (due_shown s))) test)
 
 pub free-due : (s : StateView) (o : Option ShownView) → length s.tickets < 256 → find (is_due_at (length s.edits) s.tickets) s.shown ≡ o → option_map (λ (x : ShownView). x.id) o ≡ free_due s
 free-due s o lt is =

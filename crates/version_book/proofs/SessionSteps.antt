@@ -40,11 +40,6 @@ edit_changed e m o = cond (is_some o) m (record m { edits = m.edits ++ e ∷ [] 
 fault-now : (s : StateView) (e : LogEdit) (o : Option EditFault) → IsSound s → fault_of e s.current ≡ o → fault_of e (log_after s.opening s.edits) ≡ o
 fault-now s e o h is = ap (fault_of e) (sym h.current) ∙ is
 
-pub edit-refused : (s : StateView) (e : LogEdit) (fault : EditFault) → IsSound s → fault_of e s.current ≡ Some fault → IsStep s s (Edit e) (reply.EditRefused fault)
-edit-refused s e fault h is =
-    let now = fault-now s e (Some fault) h is in
-    still s (Edit e) (reply.EditRefused fault) h (λ n. sym (ap (edit_replied (length s.edits)) now)) (λ n. sym (ap (edit_changed e (machine_at n s)) now))
-
 published-stays : (s : StateView) (e : LogEdit) (under : Setting) (o : Option PublishedView) → IfSome o (IsOfItsVersion s.opening s.edits under) → IfSome o (IsOfItsVersion s.opening (s.edits ++ e ∷ []) under)
 published-stays s e under None h = h
 published-stays s e under (Some p) h = record { made = omega (arith, h.made, length-append s.edits (e ∷ [])); log = h.log ∙ sym (log_at-stays s.opening s.edits e p.version h.made); setting = h.setting; run = h.run }

@@ -171,7 +171,7 @@ first-false false b is = refl
 below-of : (n : ℕ) → nat_le 64 n ≡ false → n < 64
 below-of n is = grind (arith, nat_tests)
 
--- a list to which one can be added has fewer than 64, and so many are shown
+-- a list to which one can be added has fewer than 64, and as many are shown
 pub shown-room : (xs : List ShownView) (name : List ℕ) (list : Listing) → AreListed xs list → add_fault name list ≡ None → length xs < 64
 shown-room xs name list listed none =
     let full = fault-of (is_name name) (is_some (id_of name list)) (nat_le 64 (length list.scenarios) || nat_lt 4294967295 list.next) none in

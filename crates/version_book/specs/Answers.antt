@@ -22,7 +22,7 @@ use Rattle.version_book.specs.Book.{PublishedView, BookView}
 use Rattle.version_book.specs.Steps.{Answer, Answers, full, memory, told}
 use Rattle.version_book.specs.Tasks.{TaskView}
 
--- what a call answers, by what is replied of its value and of its fault
+-- what a call returns, by the replies for its value and for its fault
 abbrev pub answer_of : {T F : Type 0} → (T → Reply) → (F → Reply) → Result T (Refusal F) → Answer
 answer_of replied refused (Ok value) = told (replied value)
 answer_of replied refused (Err why.JournalFull) = full
@@ -53,11 +53,11 @@ view_refused view.NoSuchScenario = reply.NoSuchScenario
 view_refused view.NotYet = reply.NotYet
 view_refused (view.Behind seen found) = reply.Behind seen found
 
--- a run is told by its version
+-- a run is shown by its version
 abbrev pub view_answer : Result PublishedView (Refusal ViewFault) → Answer
 view_answer result = answer_of (λ (p : PublishedView). reply.Shown p.version) view_refused result
 
--- a task is told by its ticket, scenario and version, and the version of its base
+-- a task is replied as its ticket, scenario and version, and the version of its base
 abbrev pub claim_replied : Option TaskView → Reply
 claim_replied None = reply.NoneDue
 claim_replied (Some t) = reply.Claimed t.ticket t.id t.version (option_map (λ b. b.version) t.base)
@@ -73,7 +73,7 @@ finish_refused (finish.Stale published) = reply.Stale published
 abbrev pub finish_answer : Result ℕ (Refusal FinishFault) → Answer
 finish_answer result = answer_of reply.Finished finish_refused result
 
--- whether the run fitted its ticket, as the answer tells
+-- whether the run fitted its ticket, by the result
 abbrev pub fitted : Result ℕ (Refusal FinishFault) → Bool
 fitted (Ok version) = true
 fitted (Err why.JournalFull) = false
@@ -82,7 +82,7 @@ fitted (Err (why.Fault finish.Stranger)) = false
 fitted (Err (why.Fault (finish.Stale published))) = true
 fitted (Err why.Memory) = false
 
--- the run fitted exactly where the answer tells so; of a call that is not noted nothing is said
+-- the run fitted exactly where the result says so; of a call that is not noted nothing is said
 abbrev pub TellsFit : Type 0 → Result ℕ (Refusal FinishFault) → Type 0
 TellsFit Fits (Ok version) = Fits
 TellsFit Fits (Err why.JournalFull) = Unit {0}
@@ -100,7 +100,7 @@ TakesWhatFits Fits (Err (why.Fault finish.Stranger)) = Fits → ⊥
 TakesWhatFits Fits (Err (why.Fault (finish.Stale published))) = Unit {0}
 TakesWhatFits Fits (Err why.Memory) = Unit {0}
 
--- what is told of the run that a ticket's task has left, if it has left one
+-- the result for the run that a ticket's task has left, if it has left one
 abbrev pub told_of_run : Result (Option ℕ) (Refusal FinishFault) → Option (Result ℕ (Refusal FinishFault))
 told_of_run (Ok None) = None
 told_of_run (Ok (Some version)) = Some (Ok version)
@@ -111,7 +111,7 @@ abbrev pub AnswersOfRun : BookView → BookView → Caller → ℕ → Option (R
 AnswersOfRun old new who ticket None = (length old.journal < note_limit) × (new ≡ old)
 AnswersOfRun old new who ticket (Some answer) = Answers old new who (Finish ticket (fitted answer)) (finish_answer answer)
 
--- The ticket stood exactly where the answer tells so; of a call that is not noted nothing is said. What a task has left is
+-- The ticket stood exactly where the result says so; of a call that is not noted nothing is said. What a task has left is
 -- no stranger's.
 abbrev pub TellsStanding : Type 0 → Option (Result ℕ (Refusal FinishFault)) → Type 0
 TellsStanding Stands None = Stands

@@ -57,7 +57,7 @@ progress_of_shown s = record { id = s.id; published = published_version s; mark 
 abbrev pub ticket_of_view : TicketView → Ticket
 ticket_of_view t = record { number = t.number; id = t.id; version = t.version }
 
--- after so many calls
+-- after this many calls
 abbrev pub machine_at : ℕ → StateView → Machine
 machine_at notes s = record {
   opening = s.opening;

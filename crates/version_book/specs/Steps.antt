@@ -13,7 +13,7 @@ use Rattle.version_book.specs.Book.{PublishedView, TicketView, StateView, BookVi
 use Rattle.version_book.specs.Lookups.{has_number, published_for, publishing, with_change}
 use Rattle.version_book.specs.Sound.{IsSound}
 
--- what a call answers: the journal is full, a growth was refused, or the reply that is noted
+-- what a call returns: the journal is full, a growth was refused, or the reply that is noted
 pub data Answer : Type 0 where
   full : Answer
   memory : Answer
@@ -33,7 +33,7 @@ abbrev pub notes_of : Caller → BookCall → Option Reply → List Noted
 notes_of who call None = []
 notes_of who call (Some reply) = note_of who call reply ∷ []
 
--- Each run that is published was published for its scenario before, but for one of the version that is told to be finished.
+-- Each run that is published was published for its scenario before, except one of the version that is replied as finished.
 abbrev pub KeepsRuns : StateView → StateView → Reply → Type 0
 KeepsRuns old new answer =
     (id : ℕ) (p : PublishedView) → published_for id new.shown ≡ Some p → (published_for id old.shown ≡ Some p) ⊎ (answer ≡ replies.Finished p.version)

@@ -27,7 +27,7 @@ pub record BaseView : Type 0 where
   pub run : RunView
   pub edits : List LogEdit
 
--- A run of this log under this setting is wanted, in segments of this spacing.
+-- A run of this log under this setting is requested, in segments of this spacing.
 pub record TaskView : Type 0 where
   pub ticket : ℕ
   pub id : ℕ
@@ -49,7 +49,7 @@ pub record IsTask (t : TaskView) : Type 0 where
   pub base : IfSome t.base (LeadsTo t.log t.setting)
 
 -- How the run of a task was made: without a base from nothing, in segments of at most its spacing; and with one out of
--- the base's run, of which the kept segments were taken over and no more was worked than the work set.
+-- the base's run, of which the kept segments were reused and no more was worked than the work set.
 abbrev pub IsMade : TaskView → Option BaseView → RunView → Option Work → Type 0
 IsMade t None run None = IsShortCut (plan_of t.log t.setting) t.spacing run.segments
 IsMade t None run (Some work) = ⊥
@@ -116,7 +116,7 @@ IsOut s t = find (λ (it : TicketView). it.number == t.ticket) s.tickets ≡ Som
 abbrev pub free_due : StateView → Option ℕ
 free_due s = if are_all_out (machine_at 0 s) then None else option_map (λ (x : ShownView). x.id) (due_shown s)
 
--- what a claim is told, or the task that it is given
+-- why a claim is refused, or the task that it returns
 abbrev pub IsNext : StateView → Result (Option TaskView) (Refusal TooManyTickets) → Type 0
 IsNext s (Ok None) = due_shown s ≡ None
 IsNext s (Ok (Some task)) = (x : ShownView) × (due_shown s ≡ Some x) × (length s.tickets < 256) × (task ≡ task_for s x)

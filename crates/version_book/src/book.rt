@@ -1,5 +1,4 @@
-ghost use Rattle.std.specs.Prelude.{◌≡◌, ◌&&◌, not, nat_lt, length, IfOk, IfErr, OnOk, Some};
-ghost use Rattle.std.specs.Option.{option_map};
+ghost use Rattle.std.specs.Prelude.{◌≡◌, not, length, IfOk, IfErr, OnOk};
 ghost use Rattle.std.specs.Arc.{arc_value};
 ghost use Rattle.book_machine.specs.Noted.{noted_of};
 ghost use Rattle.checkpoints.specs.Spacing.{IsRefusal, IsSpacing};
@@ -102,14 +101,14 @@ impl<A: Allocator + Copy> Book<A> {
         self.state.spacing()
     }
 
-    /// The scenario for which a claim would give a task; none too while 256 tickets stand.
+    /// The scenario for which a claim would return a task; also none while 256 tickets stand.
     pub fn due(&self) -> Option<ScenarioId>
         ensures { result ≡ free_due self.now.state }
     {
         self.state.due()
     }
 
-    /// How far all scenarios are, beside a version that was seen.
+    /// How far all scenarios are, compared with a version that was seen.
     pub fn settled(&self, seen: u64) -> SettleState
         ensures { result ≡ settled seen (machine_of self.now) }
     {

@@ -1,5 +1,5 @@
-// The calls of a book. Each makes room for its note first; then it takes its step; and then it notes
-// what was told.
+// The calls of a book. Each first reserves capacity for its note, then takes its step, and then notes
+// its reply.
 ghost use Rattle.std.specs.Prelude.{◌≡◌, IfOk, IfSome, Some};
 ghost use Rattle.std.specs.Option.{option_map};
 ghost use Rattle.std.specs.Arc.{arc_value};
@@ -12,7 +12,7 @@ ghost use Rattle.version_book.specs.Steps.{Answers, Publishes};
 ghost use Rattle.version_book.specs.Tasks.{Fits, IsOut, IsShownFor, PublishesFitting, Stands, due_shown, task_for};
 
 use crate::book::Book;
-use crate::journal::{is_full, make_room, note};
+use crate::journal::{is_full, note, reserve_note};
 use crate::published::Published;
 use crate::refusal::{
     AddRefusal, ClaimRefusal, DropRefusal, EditRefusal, FinishRefusal, GiveUpRefusal, RetryRefusal,
@@ -20,14 +20,14 @@ use crate::refusal::{
 };
 use crate::replies;
 use crate::task::Task;
-use book_machine::{Call, Caller, Name, NotedEdit};
+use book_machine::{Call, Caller, NotedEdit, NotedName};
 use checkpoints::Run;
 use job_table::Edit;
 use scenarios::{Scenario, ScenarioId};
 use std::alloc::Allocator;
 use std::sync::Arc;
 
-// What a call answers that finished a run which was left.
+// The result of a call that finished a run which its task had left.
 fn of_left(told: Result<u64, FinishRefusal>) -> Result<Option<u64>, FinishRefusal>
     ensures { told_of_run result ≡ Some told }
 {
@@ -38,10 +38,10 @@ fn of_left(told: Result<u64, FinishRefusal>) -> Result<Option<u64>, FinishRefusa
 }
 
 impl<A: Allocator + Copy> Book<A> {
-    /// Edits the log, and answers the new version, one more than before.
+    /// Edits the log, and returns the new version, one more than before.
     ///
     /// JournalFull where there are 1,000,000 notes; the fault of the edit; Memory where a growth is
-    /// refused. The log is not copied, but for the chunks of entries that the edit touches; runs
+    /// refused. The log is not copied, except the chunks of entries that the edit touches; runs
     /// that are published keep their tables.
     pub fn edit(&mut self, session: u64, edit: &Edit<A>) -> Result<u64, EditRefusal>
         ensures { Answers self.old self.new (caller.Session session) (Edits (edit_of edit.now)) (edit_answer result) }
@@ -49,7 +49,7 @@ impl<A: Allocator + Copy> Book<A> {
         if is_full(&self.journal) {
             return Err(EditRefusal::JournalFull);
         }
-        make_room(&mut self.journal)?;
+        reserve_note(&mut self.journal)?;
         let call = Call::Edit(NotedEdit::new(self.alloc, edit)?);
         let told = self.state.edit(edit);
         let reply = replies::edit_reply(&told);
@@ -57,7 +57,7 @@ impl<A: Allocator + Copy> Book<A> {
         told
     }
 
-    /// Adds a scenario behind the others, and answers its id, which no scenario had before.
+    /// Adds a scenario behind the others, and returns its id, which no scenario had before.
     ///
     /// JournalFull where there are 1,000,000 notes; the fault of the name or of the number of
     /// scenarios; Memory where a growth is refused.
@@ -72,9 +72,9 @@ impl<A: Allocator + Copy> Book<A> {
         if is_full(&self.journal) {
             return Err(AddRefusal::JournalFull);
         }
-        make_room(&mut self.journal)?;
+        reserve_note(&mut self.journal)?;
         let call = Call::AddScenario {
-            name: Name::new(self.alloc, name)?,
+            name: NotedName::new(self.alloc, name)?,
             scenario,
         };
         let told = self.state.add(name, scenario);
@@ -83,8 +83,8 @@ impl<A: Allocator + Copy> Book<A> {
         told
     }
 
-    /// Drops the scenario with this name and closes its tickets, and answers its id, which is not
-    /// given again.
+    /// Drops the scenario with this name and closes its tickets, and returns its id, which is not
+    /// used again.
     ///
     /// JournalFull where there are 1,000,000 notes; NoSuchScenario where none has the name; Memory
     /// where a growth is refused.
@@ -94,9 +94,9 @@ impl<A: Allocator + Copy> Book<A> {
         if is_full(&self.journal) {
             return Err(DropRefusal::JournalFull);
         }
-        make_room(&mut self.journal)?;
+        reserve_note(&mut self.journal)?;
         let call = Call::DropScenario {
-            name: Name::new(self.alloc, name)?,
+            name: NotedName::new(self.alloc, name)?,
         };
         let told = self.state.drop_named(name);
         let reply = replies::drop_reply(&told);
@@ -104,7 +104,7 @@ impl<A: Allocator + Copy> Book<A> {
         told
     }
 
-    /// Takes the mark of a scenario that was given up away, so that it is tried again.
+    /// Removes the mark of a scenario that was given up, so that it is tried again.
     ///
     /// JournalFull where there are 1,000,000 notes; NoSuchScenario where none has the id; Memory
     /// where a growth is refused.
@@ -114,7 +114,7 @@ impl<A: Allocator + Copy> Book<A> {
         if is_full(&self.journal) {
             return Err(RetryRefusal::JournalFull);
         }
-        make_room(&mut self.journal)?;
+        reserve_note(&mut self.journal)?;
         let told = self.state.retry(id);
         let reply = replies::retry_reply(&told);
         note(
@@ -145,7 +145,7 @@ impl<A: Allocator + Copy> Book<A> {
         if is_full(&self.journal) {
             return Err(ViewRefusal::JournalFull);
         }
-        make_room(&mut self.journal)?;
+        reserve_note(&mut self.journal)?;
         let told = self.state.view(id, seen);
         let reply = replies::view_reply(&told);
         note(
@@ -157,7 +157,7 @@ impl<A: Allocator + Copy> Book<A> {
         told
     }
 
-    /// Takes a ticket for the first scenario that is due, and gives its task; None where none is.
+    /// Takes a ticket for the first scenario that is due, and returns its task; None where none is.
     ///
     /// A scenario is due where the current version is neither published for it, nor given up, nor
     /// claimed by a standing ticket. JournalFull where there are 1,000,000 notes; TooManyTickets
@@ -170,7 +170,7 @@ impl<A: Allocator + Copy> Book<A> {
         if is_full(&self.journal) {
             return Err(ClaimRefusal::JournalFull);
         }
-        make_room(&mut self.journal)?;
+        reserve_note(&mut self.journal)?;
         let told = self.state.claim();
         let reply = replies::claim_reply(&told);
         note(
@@ -182,11 +182,11 @@ impl<A: Allocator + Copy> Book<A> {
         told
     }
 
-    /// Hands in a run for a ticket, publishes it, and answers the version at which it is published. No
+    /// Hands in a run for a ticket, publishes it, and returns the version at which it is published. No
     /// other published run changes.
     ///
     /// JournalFull where there are 1,000,000 notes; UnknownTicket where no such ticket stands,
-    /// whoever asks; Stranger where the run's log or scenario is not the ticket's, which then
+    /// whoever calls; Stranger where the run's log or scenario is not the ticket's, which then
     /// stands; Stale where a run of this version or a newer one is published, and the ticket is
     /// closed; Memory where a growth is refused. A run that is refused is dropped.
     pub fn finish(
@@ -202,7 +202,7 @@ impl<A: Allocator + Copy> Book<A> {
         if is_full(&self.journal) {
             return Err(FinishRefusal::JournalFull);
         }
-        make_room(&mut self.journal)?;
+        reserve_note(&mut self.journal)?;
         let told = self.state.finish(ticket, run);
         let reply = replies::finish_reply(&told);
         let fits = replies::fitted(&told);
@@ -215,7 +215,7 @@ impl<A: Allocator + Copy> Book<A> {
         told
     }
 
-    /// Hands in the run that the ticket's task has left there by `Task::deliver`, publishes it, and answers
+    /// Hands in the run that the ticket's task has left there by `Task::deliver`, publishes it, and returns
     /// the version at which it is published; None where the task has left none, and then nothing changes. No
     /// other published run changes.
     ///
@@ -234,7 +234,7 @@ impl<A: Allocator + Copy> Book<A> {
         if is_full(&self.journal) {
             return Err(FinishRefusal::JournalFull);
         }
-        make_room(&mut self.journal)?;
+        reserve_note(&mut self.journal)?;
         let Some(told) = self.state.finish_delivered(ticket) else {
             return Ok(None);
         };
@@ -250,7 +250,7 @@ impl<A: Allocator + Copy> Book<A> {
     }
 
     /// Hands in the run that the ticket's task has left, as `finish_delivered` does, or this one, as
-    /// `finish` does, where it has left none; and answers the version at which it is published.
+    /// `finish` does, where it has left none; and returns the version at which it is published.
     ///
     /// It is refused as these are, so a run that fits its ticket is never a Stranger.
     pub fn hand_in(
@@ -281,7 +281,7 @@ impl<A: Allocator + Copy> Book<A> {
         if is_full(&self.journal) {
             return Err(GiveUpRefusal::JournalFull);
         }
-        make_room(&mut self.journal)?;
+        reserve_note(&mut self.journal)?;
         let told = self.state.give_up(ticket);
         let reply = replies::give_up_reply(&told);
         note(

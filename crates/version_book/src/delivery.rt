@@ -1,4 +1,4 @@
-//! What goes from a task to its ticket: a run that needs no comparison with what the ticket asks for.
+//! How a task delivers its run to its ticket. The run needs no comparison with what the ticket asks for.
 
 use checkpoints::Run;
 use handover::{Answer, Giver, Taker};
@@ -51,5 +51,5 @@ impl<A: Allocator + Copy> Answer<Plan<A>> for MadeRun<A> {
 // Where a task leaves its run.
 pub(crate) type RunGiver<A> = Giver<Plan<A>, MadeRun<A>, A>;
 
-// Where a ticket finds it; its question is the plan that a run is wanted of.
+// Where a ticket finds it; its question is the plan of which a run is requested.
 pub(crate) type RunTaker<A> = Taker<Plan<A>, MadeRun<A>, A>;

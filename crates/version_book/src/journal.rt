@@ -1,4 +1,4 @@
-ghost use Rattle.std.specs.Prelude.{◌≡◌, ◌<◌, ◌++◌, map, length, nat_le, IfOk, OnOk, vec_len, vec_capacity};
+ghost use Rattle.std.specs.Prelude.{◌≡◌, ◌<◌, ◌++◌, map, length, nat_le, OnOk, vec_len, vec_capacity};
 ghost use Rattle.book_machine.specs.Machine.{note_limit};
 ghost use Rattle.book_machine.specs.Noted.{call_of, noted_of};
 ghost use Rattle.version_book.specs.Steps.{notes_of};
@@ -10,15 +10,15 @@ use swf_text::Memory;
 // The most notes of a journal.
 const NOTE_LIMIT: usize = 1_000_000;
 
-// Whether there is no note more.
+// Whether no further note is allowed.
 pub(crate) fn is_full<A: Allocator + Copy>(journal: &Vec<Note<A>, A>) -> bool
     ensures { result ≡ nat_le note_limit (length journal.now.items) }
 {
     journal.len() >= NOTE_LIMIT
 }
 
-// Makes room for a note.
-pub(crate) fn make_room<A: Allocator + Copy>(journal: &mut Vec<Note<A>, A>) -> Result<(), Memory>
+// Reserves capacity for a note.
+pub(crate) fn reserve_note<A: Allocator + Copy>(journal: &mut Vec<Note<A>, A>) -> Result<(), Memory>
     ensures items { journal.new.items ≡ journal.old.items }
     ensures room { OnOk result (vec_len journal.new < vec_capacity journal.new) }
 {

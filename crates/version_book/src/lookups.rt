@@ -1,13 +1,12 @@
 // Look-ups among the scenarios and tickets of a book, of which there are at most 64 and 256.
-ghost use Rattle.std.specs.Prelude.{◌≡◌, ◌==◌, ◌≤◌, ◌&&◌, length, find, filter, count_by, not, IfSome, None, Some, option_copied, vec_capacity};
+ghost use Rattle.std.specs.Prelude.{◌≡◌, ◌==◌, ◌&&◌, find, filter, count_by, not, IfSome, None, Some, option_copied, vec_capacity};
 ghost use Rattle.std.specs.Arc.{arc_value};
 ghost use Rattle.std.specs.List.{list_any, position};
-ghost use Rattle.version_book.specs.Book.{ShownView, TicketView};
 ghost use Rattle.version_book.specs.Lookups.{AreApart, has_id, has_number, is_awaited, is_behind, is_due_at, is_out, marking, publishing, settled_at, unmarking, version_shown, with_change};
 ghost use Rattle.version_book.specs.Tasks.{HasThoseOf};
 
 use crate::published::Published;
-use crate::shown::{Shown, is_below};
+use crate::shown::Shown;
 use crate::ticket::Ticket;
 use book_machine::SettleState;
 use checkpoints::Run;

@@ -15,7 +15,7 @@ use thiserror::Error;
 pub enum Refusal<F> {
     /// The journal has 1,000,000 notes.
     JournalFull,
-    /// The call has this fault, which is never want of memory.
+    /// The call has this fault, which is never out of memory.
     Fault(F),
     /// A growth was refused.
     Memory,
@@ -36,7 +36,7 @@ pub type RetryRefusal = Refusal<NoSuchScenario>;
 /// Why no run is shown.
 pub type ViewRefusal = Refusal<ViewFault>;
 
-/// Why there is no answer to a claim.
+/// Why a claim is refused.
 pub type ClaimRefusal = Refusal<TooManyTickets>;
 
 /// Why a run is not published.

@@ -1,5 +1,5 @@
-// What the sessions' calls change of where a book stands, and what they are told.
-ghost use Rattle.std.specs.Prelude.{◌≡◌, ◌<◌, ◌++◌, ◌∷◌, [], find, map, None, Some, IfOk, OnOk, OnErr, vec_len, vec_capacity};
+// What the sessions' calls change in the state of a book, and what they return.
+ghost use Rattle.std.specs.Prelude.{◌≡◌, ◌<◌, Some, IfOk, OnOk, OnErr, vec_len, vec_capacity};
 ghost use Rattle.std.specs.Arc.{arc_value};
 ghost use Rattle.job_table.specs.Accepted.{IsEdit};
 ghost use Rattle.job_table.specs.Edit.{applied, edit_of};
@@ -55,7 +55,7 @@ fn put_edit<A: Allocator + Copy>(
     Ok(())
 }
 
-// Room for an edit more, and the edit once more.
+// Reserves capacity for one more edit, and returns a copy of the edit.
 fn kept_edit<A: Allocator + Copy>(
     edits: &mut Vec<Edit<A>, A>,
     edit: &Edit<A>,

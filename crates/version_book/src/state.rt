@@ -1,8 +1,6 @@
-ghost use Rattle.std.specs.Prelude.{◌≡◌, ◌≤◌, length, map, find, IfOk, IfErr, OnOk, option_copied};
-ghost use Rattle.std.specs.Option.{option_map};
+ghost use Rattle.std.specs.Prelude.{◌≡◌, ◌≤◌, length, map, IfOk, IfErr, OnOk};
 ghost use Rattle.std.specs.Arc.{arc_value};
 ghost use Rattle.job_table.specs.Edit.{edit_of};
-ghost use Rattle.scenarios.specs.ScenarioList.{id_of};
 ghost use Rattle.checkpoints.specs.Spacing.{IsSpacing, IsRefusal};
 ghost use Rattle.version_book.specs.Book.{StateView, machine_at};
 ghost use Rattle.version_book.specs.Sound.{IsSound};
@@ -13,19 +11,16 @@ use crate::ticket::Ticket;
 use book_machine::SettleState;
 use checkpoints::{MAX_SPACING, RunFault};
 use job_table::{Edit, JobTable};
-use scenarios::{ScenarioId, ScenarioList};
+use scenarios::{MAX_SCENARIOS, ScenarioId, ScenarioList};
 use std::alloc::Allocator;
 use std::marker::Model;
 use std::sync::Arc;
 use swf_text::ENTRY_LIMIT;
 
-/// The most scenarios of a book.
-const SCENARIO_LIMIT: usize = 64;
-
 /// The most tickets that stand at once.
 pub(crate) const TICKET_LIMIT: usize = 256;
 
-/// Where a book stands: all that its calls change but the journal.
+/// The state of a book: all that its calls change except the journal.
 #[derive(Drop)]
 pub(crate) struct State<A: Allocator + Copy> {
     pub(crate) alloc: A,
@@ -76,13 +71,13 @@ impl<A: Allocator + Copy> State<A> {
             current,
             edits: Vec::new(alloc),
             scenarios: ScenarioList::new(alloc),
-            shown: Vec::with_capacity(alloc, SCENARIO_LIMIT)?,
+            shown: Vec::with_capacity(alloc, MAX_SCENARIOS)?,
             tickets: Vec::with_capacity(alloc, TICKET_LIMIT)?,
             next_ticket: 1,
         })
     }
 
-    // The current version, and that the state is sound.
+    // The current version. The state is sound.
     pub(crate) fn version(&self) -> u64
         ensures version { result ≡ length self.now.edits }
         ensures sound { IsSound self.now }
@@ -117,7 +112,7 @@ impl<A: Allocator + Copy> State<A> {
         self.spacing
     }
 
-    // The scenario for which there is a ticket.
+    // The scenario for which a claim would return a task.
     pub(crate) fn due(&self) -> Option<ScenarioId>
         ensures { result ≡ free_due self.now }
     {
@@ -131,7 +126,7 @@ impl<A: Allocator + Copy> State<A> {
         }
     }
 
-    // How far all scenarios are, beside a version that was seen.
+    // How far all scenarios are, compared with a version that was seen.
     pub(crate) fn settled(&self, seen: u64) -> SettleState
         ensures { (n : ℕ) → result ≡ settled seen (machine_at n self.now) }
     {

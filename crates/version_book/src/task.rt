@@ -73,7 +73,7 @@ impl<A: Allocator + Copy> Base<A> {
     }
 }
 
-// A run of this log, made of the base's run.
+// A run of this log, made from the base's run.
 fn made_again<A: Allocator + Copy>(
     alloc: A,
     base: &Base<A>,
@@ -111,7 +111,7 @@ fn made_anew<A: Allocator + Copy>(
     Ok(Arc::new(alloc, run)?)
 }
 
-/// What a claim gives to a worker: a run of this log under this scenario is wanted.
+/// What a claim returns to a worker: the request for a run of this log under this scenario.
 #[derive(Drop)]
 pub struct Task<A: Allocator + Copy> {
     alloc: A,
@@ -180,7 +180,7 @@ impl<A: Allocator + Copy> Task<A> {
         Ok(Ticket::new(number, self.id, self.version, taker))
     }
 
-    /// The ticket, from 1 on; none is given twice.
+    /// The ticket's number, from 1 on; none is used twice.
     pub fn ticket(&self) -> u64
         ensures value { result ≡ self.now.ticket }
         ensures task { IsTask self.now }
@@ -195,7 +195,7 @@ impl<A: Allocator + Copy> Task<A> {
         self.id
     }
 
-    /// The version of whose log a run is wanted.
+    /// The version of whose log a run is requested.
     pub fn version(&self) -> u64
         ensures { result ≡ self.now.version }
     {
@@ -240,9 +240,9 @@ impl<A: Allocator + Copy> Task<A> {
         }
     }
 
-    /// The run that is wanted, and what it took where it was made of the base: by `rerun` where there
-    /// is a base, and by `simulate` otherwise. It takes nothing from the book, and can be asked
-    /// again. Memory where a growth was refused.
+    /// The run that is requested, and the work of making it from the base: by `rerun` where there is a
+    /// base, and by `simulate` otherwise. It changes nothing of the book, and can be called again.
+    /// Memory where a growth was refused.
     pub fn work(&self) -> Result<(Arc<Run<A>, A>, Option<Work>), Memory>
         ensures log { IfOk result (λ (run, work). (arc_value run).log ≡ self.now.log) }
         ensures setting { IfOk result (λ (run, work). (arc_value run).setting ≡ self.now.setting) }
@@ -263,7 +263,7 @@ impl<A: Allocator + Copy> Task<A> {
         }
     }
 
-    /// As `work`, and leaves the run with the ticket, where `Book::finish_delivered` takes it.
+    /// As `work`, and leaves the run at the ticket, from which `Book::finish_delivered` takes it.
     pub fn deliver(&mut self) -> Result<(Arc<Run<A>, A>, Option<Work>), Memory>
         ensures task { self.new ≡ self.old }
         ensures log { IfOk result (λ (run, work). (arc_value run).log ≡ self.old.log) }

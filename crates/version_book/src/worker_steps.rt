@@ -1,5 +1,5 @@
-// What the workers' calls change of where a book stands, and what they are told.
-ghost use Rattle.std.specs.Prelude.{◌≡◌, ◌≤◌, ◌<◌, [], ◌∷◌, ◌++◌, drop, length, map, option_copied, IfNone, IfOk, IfSome, Some, None, true};
+// What the workers' calls change in the state of a book, and what they return.
+ghost use Rattle.std.specs.Prelude.{◌≡◌, ◌≤◌, ◌<◌, [], ◌∷◌, ◌++◌, length, map, option_copied, IfNone, IfOk, IfSome, Some, None, true};
 ghost use Rattle.std.specs.Option.{option_map};
 ghost use Rattle.std.specs.Arc.{arc_value};
 ghost use Rattle.job_table.specs.Edit.{edit_of};
@@ -23,7 +23,7 @@ use std::alloc::Allocator;
 use std::sync::Arc;
 use swf_text::Memory;
 
-// The same edits once more.
+// A copy of these edits.
 fn copies<A: Allocator + Copy>(alloc: A, edits: &[Edit<A>]) -> Result<Vec<Edit<A>, A>, Memory>
     ensures { IfOk result (λ copies. map edit_of copies.items ≡ map edit_of edits.now) }
 {

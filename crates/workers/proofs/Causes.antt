@@ -1,4 +1,4 @@
--- Why a worker ends for want of memory.
+-- Why a worker ends for lack of memory.
 use Rattle.std.proofs.Common.{◌≡◌, ℕ, false, refl}
 use Rattle.std.specs.Prelude.{Some, Result, Ok, Err}
 use Rattle.book_machine.specs.declared.caller.Caller.{Caller}
@@ -17,7 +17,7 @@ use Rattle.workers.specs.Readings.{WasRefused}
 use Rattle.workers.specs.Work.{end_of}
 use Rattle.workers.specs.declared.worker.WorkerEnd.TheVariants as ends
 
--- a book answered so
+-- a book refused it
 pub refused : (old new : BookView) (who : Caller) (call : BookCall) → IsBook old → Answers old new who call memory → WasRefused who
 refused old new who call book h = (old, call, book, (h.0, refl))
 

@@ -1,6 +1,5 @@
 mod Gaining
 mod Tying
-mod Settling
 mod Closed
 mod Causes
 mod Works

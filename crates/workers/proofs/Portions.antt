@@ -10,7 +10,7 @@ use Rattle.book_machine.specs.declared.caller.Caller.{Caller}
 use Rattle.book_machine.specs.declared.note.Note.{Note}
 use Rattle.book_machine.specs.History.{Noted}
 use Rattle.book_machine.specs.Noted.{noted_of}
-use Rattle.workers.specs.declared.exchange.Exchange.{Exchange}
+use Rattle.workers.specs.declared.listed_call.ListedCall.{ListedCall}
 use Rattle.workers.specs.Lists.{Exchanged, exchanged_by, exchanged_of, part_of, same_caller}
 
 -- ---- tests that fail
@@ -57,7 +57,7 @@ others who n ns is =
     ap (λ (b : Bool). map exchanged_by (cond b (n ∷ rest) rest)) is
 
 -- the list is the caller's part of these notes
-abbrev pub IsPart : {A : Type 0} → Caller → List (Exchange A) → List (Note A) → Type 0
+abbrev pub IsPart : {A : Type 0} → Caller → List (ListedCall A) → List (Note A) → Type 0
 IsPart who list notes = map exchanged_of list ≡ part_of who (map noted_of notes)
 
 from-here : {A : Type 0} (who : Caller) (notes : List (Note A)) (i : ℕ) (x : Note A) → i < length notes → x ≡ get_or notes i x
@@ -69,7 +69,7 @@ from-mine : {A : Type 0} (who : Caller) (notes : List (Note A)) (i : ℕ) (x : N
 from-mine who notes i x lt is by = from-here who notes i x lt is ∙ mine who (noted_of x) (map noted_of (drop (i + 1) notes)) by
 
 -- the note's call is listed next, and both go on
-pub goes-on : {A : Type 0} (P : Type 0) (who : Caller) (left : List (Exchange A)) (first : Exchange A) (rest : List (Exchange A)) (notes : List (Note A)) (i : ℕ) (x : Note A)
+pub goes-on : {A : Type 0} (P : Type 0) (who : Caller) (left : List (ListedCall A)) (first : ListedCall A) (rest : List (ListedCall A)) (notes : List (Note A)) (i : ℕ) (x : Note A)
     → (P ↔ IsPart who left (drop i notes)) → i < length notes → x ≡ get_or notes i x → same_caller x.caller who ≡ true → left ≡ first ∷ rest → exchanged_of first ≡ exchanged_by (noted_of x)
     → P ↔ IsPart who rest (drop (i + 1) notes)
 goes-on P who left first rest notes i x inv lt is by split same =
@@ -80,7 +80,7 @@ goes-on P who left first rest notes i x inv lt is by split same =
     )
 
 -- the note is someone else's
-pub passes : {A : Type 0} (P : Type 0) (who : Caller) (left : List (Exchange A)) (notes : List (Note A)) (i : ℕ) (x : Note A)
+pub passes : {A : Type 0} (P : Type 0) (who : Caller) (left : List (ListedCall A)) (notes : List (Note A)) (i : ℕ) (x : Note A)
     → (P ↔ IsPart who left (drop i notes)) → i < length notes → x ≡ get_or notes i x → same_caller x.caller who ≡ false
     → P ↔ IsPart who left (drop (i + 1) notes)
 passes P who left notes i x inv lt is by =
@@ -88,14 +88,14 @@ passes P who left notes i x inv lt is by =
     ((λ p. inv.0 p ∙ e), (λ q. inv.1 (q ∙ sym e)))
 
 -- the list ends before the note
-pub runs-out : {A : Type 0} (P : Type 0) (who : Caller) (left : List (Exchange A)) (notes : List (Note A)) (i : ℕ) (x : Note A)
+pub runs-out : {A : Type 0} (P : Type 0) (who : Caller) (left : List (ListedCall A)) (notes : List (Note A)) (i : ℕ) (x : Note A)
     → (P ↔ IsPart who left (drop i notes)) → i < length notes → x ≡ get_or notes i x → same_caller x.caller who ≡ true → length left ≡ 0 → IsTrue false ↔ P
 runs-out P who left notes i x inv lt is by empty =
     let e = from-mine who notes i x lt is by in
     ((λ f. cc), (λ p. let heads : [] ≡ exchanged_by (noted_of x) ∷ part_of who (map noted_of (drop (i + 1) notes)) = sym (ap (map exchanged_of) (nil_from_length left empty)) ∙ (inv.0 p ∙ e) in cc))
 
 -- another call is listed next
-pub differs : {A : Type 0} (P : Type 0) (who : Caller) (left : List (Exchange A)) (first : Exchange A) (rest : List (Exchange A)) (notes : List (Note A)) (i : ℕ) (x : Note A) (b : Bool)
+pub differs : {A : Type 0} (P : Type 0) (who : Caller) (left : List (ListedCall A)) (first : ListedCall A) (rest : List (ListedCall A)) (notes : List (Note A)) (i : ℕ) (x : Note A) (b : Bool)
     → (P ↔ IsPart who left (drop i notes)) → i < length notes → x ≡ get_or notes i x → same_caller x.caller who ≡ true → left ≡ first ∷ rest → (IsTrue b ↔ (exchanged_of first ≡ exchanged_by (noted_of x))) → b ≡ false
     → IsTrue false ↔ P
 differs P who left first rest notes i x b inv lt is by split decides fails =
@@ -104,7 +104,7 @@ differs P who left first rest notes i x b inv lt is by split decides fails =
     refuses b (exchanged_of first ≡ exchanged_by (noted_of x)) P decides fails (λ p. let heads : exchanged_of first ∷ map exchanged_of rest ≡ exchanged_by (noted_of x) ∷ part_of who (map noted_of (drop (i + 1) notes)) = sym l ∙ (inv.0 p ∙ e) in cc)
 
 -- no note is left
-empty-part : {A : Type 0} (P : Type 0) (who : Caller) (left : List (Exchange A)) (notes : List (Note A)) (i : ℕ) (b : Bool)
+empty-part : {A : Type 0} (P : Type 0) (who : Caller) (left : List (ListedCall A)) (notes : List (Note A)) (i : ℕ) (b : Bool)
     → (P ↔ IsPart who left (drop i notes)) → drop i notes ≡ [] → (IsTrue b ↔ (left ≡ [])) → IsTrue b ↔ P
 empty-part P who [] notes i b inv none decides = ((λ t. inv.1 (sym (ap (λ (ns : List (Note _)). part_of who (map noted_of ns)) none))), (λ p. decides.1 refl))
 empty-part P who (e ∷ left) notes i b inv none decides =
@@ -114,6 +114,6 @@ is-nil : {X : Type 0} (xs : List X) (b : Bool) → b ≡ (length xs == 0) → Is
 is-nil xs b is =
     ((λ t. let e : (length xs == 0) ≡ true = sym is ∙ t in nil_from_length xs (grind (arith, nat_tests))), (λ e. is ∙ ap (λ (l : List _). length l == 0) e))
 
-pub at-end : {A : Type 0} (P : Type 0) (who : Caller) (left : List (Exchange A)) (notes : List (Note A)) (i : ℕ) (b : Bool)
+pub at-end : {A : Type 0} (P : Type 0) (who : Caller) (left : List (ListedCall A)) (notes : List (Note A)) (i : ℕ) (b : Bool)
     → (P ↔ IsPart who left (drop i notes)) → length notes ≤ i → b ≡ (length left == 0) → IsTrue b ↔ P
 at-end P who left notes i b inv over is = empty-part P who left notes i b inv (drop_of_length-le notes over) (is-nil left b is)

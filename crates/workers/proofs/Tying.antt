@@ -15,7 +15,7 @@ use Rattle.book_machine.specs.declared.reply.Reply.{Reply}
 use Rattle.book_machine.specs.Call.{BookCall, View}
 use Rattle.book_machine.specs.History.{Noted, after_all}
 use Rattle.book_machine.specs.Machine.{Machine, after}
-use Rattle.chronicle.specs.Events.{Happened, Called, Opened, IsAccepted, note_in, notes_of, state_after}
+use Rattle.chronicle.specs.Events.{Happened, Called, IsAccepted, note_in, notes_of, state_after}
 use Rattle.chronicle.specs.Fronts.{Seen, Adds, Follows, nothing_yet}
 use Rattle.version_book.specs.declared.faults.ViewFault.{ViewFault}
 use Rattle.version_book.specs.declared.refusal.Refusal.{Refusal}
@@ -26,7 +26,7 @@ use Rattle.version_book.specs.Sound.{IsBook}
 use Rattle.version_book.specs.Steps.{Answer, Answers, full, memory, told, note_of}
 use Rattle.version_book.specs.Tasks.{IsShownFor}
 use Rattle.workers.specs.Callers.{most, next_caller}
-use Rattle.workers.specs.History.{Calls, CalledAt, EndsOpened, Reads, Views}
+use Rattle.workers.specs.History.{Calls, CalledAt, Views}
 use Rattle.workers.specs.Settling.{has_stopped, is_stop}
 use Rattle.workers.specs.Tied.{AreOne, Hears, IsTied, SharedView, opened_sessions, opened_workers, opens_session, opens_worker}
 
@@ -202,19 +202,9 @@ viewed opening old new history later sessions workers stopped who id seen shown 
     let here = called_at opening old new history later front' who (View id seen) (view_answer shown) at_book h (hears_by old new history later who (View id seen) (view_answer shown) notes h from hears) two.0.1 two.1 in
     (one.0.0, (history.events, one.0.2, here, inr (old, book, sym at_book, is)))
 
--- a call for which memory was short before the lock
+-- a call for which memory ran out before the lock
 pub calls_nothing : (opening : Machine) (front : Seen) (who : Caller) (call : BookCall) → Calls opening front who call memory front
 calls_nothing opening front who call = λ kept. (kept, (front.events, prefix_self front.events, refl))
 
 pub views_nothing : (opening : Machine) (front : Seen) (who : Caller) (id seen : ℕ) → Views opening front who id seen (Err why.Memory) front
 views_nothing opening front who id seen = λ kept. (kept, (front.events, prefix_self front.events, refl, inl refl))
-
--- what is read of the book is read there
-pub read : (opening : Machine) (book : BookView) (history : Seen) (sessions workers : ℕ) (stopped : Bool) (front front' : Seen) (Holds : Machine → Type 0)
-    → IsTied opening (lain book history sessions workers stopped) → Follows front history front' → Holds (machine_of book) → Reads opening front Holds front'
-read opening book history sessions workers stopped front front' Holds before follows holds = λ kept.
-    let one = follows.0 kept in
-    (one.0.0, subst (IsPrefix front.events) (sym one.1) one.0.2, subst Holds (sym (ap (state_after opening) one.1 ∙ (before one.0.1).machine)) holds)
-
-pub ends_opened : (old new : Seen) (who : Caller) → Adds old (Opened who) new → EndsOpened who new
-ends_opened old new who adds = λ kept. (old.events, (adds.0 kept).1)

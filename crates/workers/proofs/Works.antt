@@ -49,13 +49,6 @@ Held old mid t = (added : List Exchanged) × (mid ≡ old ++ added) × (held_aft
 pub held_claimed : (old mid : List Exchanged) (t id v : ℕ) (base : Option ℕ) → mid ≡ old ++ exchanged Claim (reply.Claimed t id v base) ∷ [] → Held old mid t
 held_claimed old mid t id v base is = (exchanged Claim (reply.Claimed t id v base) ∷ [], is, refl)
 
--- a claim that gave no ticket
-pub through_none_due : (old new : List Exchanged) → new ≡ old ++ exchanged Claim reply.NoneDue ∷ [] → WorksThrough old new
-through_none_due old new is = (exchanged Claim reply.NoneDue ∷ [], is, refl)
-
-pub through_too_many : (old new : List Exchanged) → new ≡ old ++ exchanged Claim reply.TooManyTickets ∷ [] → WorksThrough old new
-through_too_many old new is = (exchanged Claim reply.TooManyTickets ∷ [], is, refl)
-
 on_held : (old mid new : List Exchanged) (t : ℕ) → Held old mid t → new ≡ mid → WorksOn old new
 on_held old mid new t h is = (h.0, Some t, is ∙ h.1, h.2)
 

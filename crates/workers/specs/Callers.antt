@@ -3,25 +3,25 @@ use Rattle.std.specs.Prelude.{ℕ, ◌+◌, ◌≡◌, ◌<◌, nat_lt, if◌the
 use Rattle.chronicle.specs.Fronts.{Seen}
 use Rattle.workers.specs.Lists.{Exchanged}
 
--- a session: its number, the calls that it made with their replies, the greatest version that an edit or a view gave it, and
--- the history of the desk up to what it was answered last
+-- a session: its number, the calls that it made with their replies, the greatest version that an edit or a view returned, and
+-- the history of the desk up to its last response
 pub record SessionView : Type 0 where
   pub number : ℕ
   pub list : List Exchanged
   pub seen : ℕ
   pub front : Seen
 
--- a worker: its number, the calls that it made with their replies, and for how many more its list has room
+-- a worker: its number, the calls that it made with their replies, and for how many more its list has capacity
 pub record WorkerView : Type 0 where
   pub number : ℕ
   pub list : List Exchanged
   pub room : ℕ
 
--- of each kind a desk opens at most so many
+-- the most sessions that a desk opens, and the most workers
 abbrev pub most : ℕ
 most = 64
 
--- the number of the next caller of a kind, where so many were opened
+-- the number of the next caller of a kind, where this many were opened
 abbrev pub next_caller : ℕ → Option ℕ
 next_caller opened = if nat_lt opened most then Some opened else None
 
@@ -29,14 +29,14 @@ next_caller opened = if nat_lt opened most then Some opened else None
 abbrev pub opened_after : ℕ → ℕ
 opened_after opened = if nat_lt opened most then opened + 1 else opened
 
--- a caller who has called nothing
+-- a caller that has made no call
 abbrev pub new_session : ℕ → Seen → SessionView
 new_session number front = record { number = number; list = []; seen = 0; front = front }
 
 abbrev pub new_worker : ℕ → WorkerView
 new_worker number = record { number = number; list = []; room = 0 }
 
--- one who was just opened, under a number below 64
+-- one that was just opened, under a number below 64
 abbrev pub IsNewSession : SessionView → Type 0
 IsNewSession s = (s ≡ new_session s.number s.front) × (s.number < most)
 

@@ -38,7 +38,7 @@ has_session sessions k = list_any (λ (s : SessionView). s.number == k) sessions
 abbrev pub has_worker : List WorkerView → ℕ → Bool
 has_worker workers k = list_any (λ (w : WorkerView). w.number == k) workers
 
--- The callers are so many sessions and so many workers, numbered from 0 on. So none that a desk opened is missing where it opened
+-- The callers are this many sessions and this many workers, numbered from 0 on. So none that a desk opened is missing where it opened
 -- as many.
 pub record AreAll (opened_sessions opened_workers : ℕ) (sessions : List SessionView) (workers : List WorkerView) : Type 0 where
   pub as_many_sessions : length sessions ≡ opened_sessions

@@ -1,4 +1,4 @@
--- Where in the history of a desk a caller is answered. The history begins in the machine's state `opening`; what is said of a
+-- Where in the history of a desk the response to a caller stands. The history begins in the machine's state `opening`; what is said of a
 -- front holds where it is kept.
 use Rattle.std.specs.Prelude.{◌≡◌, ◌<◌, ◌⊎◌, ℕ, true, List, [], ◌∷◌, ◌++◌, Result, Err, IfOk}
 use Rattle.std.specs.Arc.{arc_value}
@@ -28,7 +28,7 @@ EndsOpened who front = front.kept ≡ true → (before : List Happened) × (fron
 
 -- ---- calls
 
--- The call was made at this place of the history, and answered as the machine does there; one that is noted stands behind it.
+-- The call was made at this place of the history, and its reply is the machine's there; one that is noted stands behind it.
 abbrev pub CalledAt : Machine → List Happened → Caller → BookCall → Answer → List Happened → Type 0
 CalledAt opening before who call full after = ((state_after opening before).notes ≡ note_limit) × (after ≡ before)
 CalledAt opening before who call memory after = after ≡ before
@@ -62,13 +62,13 @@ pub record IsCurrentAt {A : Type 0} (m : Machine) (c : Current A) : Type 0 where
   pub table : arc_value c.table ≡ current m
   pub scenarios : c.scenarios ≡ m.listing
 
--- what a session that waits for its runs may be answered at this place: how far the scenarios are; or that one is waited for,
+-- what the wait of a session for its runs may return at this place: how far the scenarios are; or that one is waited for,
 -- behind a stop
 abbrev pub IsSettledAt : Machine → List Happened → ℕ → Settled → Type 0
 IsSettledAt opening events seen settled_as.Done = settled seen (state_after opening events) ≡ state.Done
 IsSettledAt opening events seen (settled_as.Failed n) = settled seen (state_after opening events) ≡ state.Failed n
 IsSettledAt opening events seen settled_as.Stopped = (settled seen (state_after opening events) ≡ state.Waiting) × (has_stopped events ≡ true)
 
--- the history went on, and at its end the session was answered so
+-- the history went on, and at its end the wait returned this
 abbrev pub Settles : Machine → Seen → ℕ → Settled → Seen → Type 0
 Settles opening old seen answer new = new.kept ≡ true → (old.kept ≡ true) × IsPrefix old.events new.events × IsSettledAt opening new.events seen answer

@@ -9,7 +9,7 @@ use Rattle.book_machine.specs.Call.{BookCall}
 use Rattle.book_machine.specs.History.{Noted}
 use Rattle.book_machine.specs.Noted.{call_of}
 use Rattle.version_book.specs.Steps.{Answer, full, memory, told}
-use Rattle.workers.specs.declared.exchange.Exchange.{Exchange}
+use Rattle.workers.specs.declared.listed_call.ListedCall.{ListedCall}
 
 -- a call that its caller made, and the reply that it got
 pub record Exchanged : Type 0 where
@@ -20,7 +20,7 @@ abbrev pub exchanged : BookCall → Reply → Exchanged
 exchanged call reply = record { call = call; reply = reply }
 
 -- the same, without the memory that holds its arguments
-abbrev pub exchanged_of : {A : Type 0} → Exchange A → Exchanged
+abbrev pub exchanged_of : {A : Type 0} → ListedCall A → Exchanged
 exchanged_of e = exchanged (call_of e.call) e.reply
 
 -- what a note says, but for the caller
@@ -43,11 +43,11 @@ abbrev pub gained : BookCall → Option Reply → List Exchanged
 gained call None = []
 gained call (Some reply) = exchanged call reply ∷ []
 
--- the reply of the note behind so many notes, if there is one
+-- the reply of the note behind this many notes, if there is one
 abbrev pub reply_behind : ℕ → List Noted → Option Reply
 reply_behind n notes = option_map (λ (note : Noted). note.reply) (slice_get notes n)
 
--- The list gained exactly this call with the reply of its answer. At JournalFull and Memory it stays.
+-- The list gained exactly this call with its reply. At JournalFull and Memory it stays.
 abbrev pub Gains : List Exchanged → List Exchanged → BookCall → Answer → Type 0
 Gains old new call full = new ≡ old
 Gains old new call memory = new ≡ old

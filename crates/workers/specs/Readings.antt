@@ -27,7 +27,7 @@ pub record IsCurrentOf {A : Type 0} (b : BookView) (c : Current A) : Type 0 wher
 abbrev pub IsCurrentOnce : {A : Type 0} → Current A → Type 0
 IsCurrentOnce c = (b : BookView) × IsBook b × IsCurrentOf b c
 
--- At some moment a book had so many versions.
+-- At some moment a book had this many versions.
 abbrev pub IsVersionOnce : ℕ → Type 0
 IsVersionOnce v = (b : BookView) × IsBook b × (v ≡ length b.state.edits)
 
@@ -44,10 +44,10 @@ IsShownOnce id seen p = (b : BookView) × IsBook b × IsShownFor b.state id seen
 abbrev pub WasFull : Type 0
 WasFull = (b : BookView) × IsBook b × (length b.journal ≡ note_limit)
 
--- At some moment a book answered a call of this caller by want of memory.
+-- At some moment a book refused a call of this caller for lack of memory.
 abbrev pub WasRefused : Caller → Type 0
 WasRefused who = (b : BookView) × (call : BookCall) × IsBook b × Answers b b who call memory
 
--- Memory was wanting for a call of the worker: its list has no room for it, or a book answered so.
+-- Memory ran out for a call of the worker: its list has no capacity for it, or a book refused it.
 abbrev pub LackedMemory : WorkerView → Type 0
 LackedMemory w = (w.room ≡ 0) ⊎ WasRefused (caller.Worker w.number)

@@ -1,4 +1,4 @@
--- What a session that waits for its runs is told.
+-- What the wait of a session for its runs returns.
 use Rattle.std.specs.Prelude.{◌≡◌, ℕ, Bool, true, false, if◌then◌else◌, List, Option, None, Some}
 use Rattle.std.specs.List.{list_any}
 use Rattle.book_machine.specs.declared.settle_state.SettleState.{SettleState}
@@ -16,7 +16,7 @@ told_settled state.Waiting stopped = if stopped then Some settled_as.Stopped els
 told_settled (state.Failed n) stopped = Some (settled_as.Failed n)
 told_settled state.Done stopped = Some settled_as.Done
 
--- At some moment a book and its desk told a session that has seen this version so.
+-- At some moment the wait of a session that has seen this version returned this.
 abbrev pub IsSettledOnce : ℕ → Settled → Type 0
 IsSettledOnce seen answer = (b : BookView) × (stopped : Bool) × IsBook b × (told_settled (settled seen (machine_of b)) stopped ≡ Some answer)
 

@@ -35,7 +35,7 @@ opened_sessions events = count_by opens_session events
 abbrev pub opened_workers : List Happened → ℕ
 opened_workers events = count_by opens_worker events
 
--- The history's calls are the notes after the opening ones, and lead to where the book stands; so many callers were opened in
+-- The history's calls are the notes after the opening ones, and lead to where the book stands; this many callers were opened in
 -- it; and the desk is stopped where it has a stop.
 pub record AreOne (opening : Machine) (v : SharedView) : Type 0 where
   pub notes : notes_of v.history.events ≡ drop opening.notes v.book.journal

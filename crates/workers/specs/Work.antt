@@ -66,19 +66,19 @@ GainsClaim (Err end) old new = new ≡ old
 
 -- ---- how a ticket is handed in
 
--- a worker ends at a full journal and at want of memory; all else that it is told is passed over
+-- a worker ends at a full journal and at out of memory, and not at other results
 abbrev pub end_of : {T F : Type 0} → Result T (Refusal F) → Option WorkerEnd
 end_of (Ok value) = None
 end_of (Err why.JournalFull) = Some ends.Full
 end_of (Err (why.Fault fault)) = None
 end_of (Err why.Memory) = Some ends.Memory
 
--- the run for the ticket was handed in, the list has the answer, and the worker ends by it
+-- the run for the ticket was handed in, the list has the reply, and the worker ends by it
 abbrev pub Finishes : ℕ → List Exchanged → List Exchanged → Option WorkerEnd → Type 0
 Finishes ticket old new end =
     (answer : Result ℕ (Refusal FinishFault)) × Gains old new (Finish ticket (fitted answer)) (finish_answer answer) × (end ≡ end_of answer)
 
--- the ticket was given up, the list has the answer, and the worker ends by it
+-- the ticket was given up, the list has the reply, and the worker ends by it
 abbrev pub GivesUp : ℕ → List Exchanged → List Exchanged → Option WorkerEnd → Type 0
 GivesUp ticket old new end =
     (answer : Result (Unit {0}) (Refusal UnknownTicket)) × Gains old new (GiveUp ticket) (give_up_answer answer) × (end ≡ end_of answer)

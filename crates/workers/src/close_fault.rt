@@ -4,9 +4,9 @@ use thiserror::Error;
 /// Why a desk is not closed, in the order of checks.
 #[derive(Clone, Copy, Debug, PartialEq, Eq, Error)]
 pub enum CloseFault {
-    /// A session or worker that the desk opened was not handed in.
+    /// A session or worker that the desk opened is missing.
     StillOut,
-    /// A list is not what the journal has of its caller, or a note is of no caller that was handed in.
+    /// A list is not its caller's part of the journal, or a note is of none of these callers.
     Mismatch,
 }
 

@@ -3,7 +3,7 @@ use scenarios::ScenarioList;
 use std::alloc::Allocator;
 use std::sync::Arc;
 
-/// Where a book stood at one moment.
+/// The version, the log and the scenarios of a book at one moment.
 #[derive(Drop)]
 pub struct Current<A: Allocator + Copy> {
     /// The version.

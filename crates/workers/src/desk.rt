@@ -16,7 +16,7 @@ use std::alloc::Allocator;
 use std::sync::{Condvar, Mutex, MutexGuard, Wait};
 use version_book::Book;
 
-/// A book that sessions and workers share, each call of theirs under one lock.
+/// A book that sessions and workers share, under one lock for all their calls.
 ///
 /// The notes that the book had when the desk was made are the opening ones. The callers' lists, the
 /// desk's history and `close` speak of the later ones.
@@ -32,8 +32,8 @@ pub struct Desk<A: Allocator + Copy, J: Naming> {
 }
 
 impl<A: Allocator + Copy, J: Naming> Desk<A, J> {
-    /// A desk over a book, without callers; it takes no memory. Its callers keep their lists on this
-    /// allocator. Its history begins where the book stands.
+    /// A desk over a book, without callers; it takes no memory. Its callers' lists are allocated with
+    /// `alloc`. Its history begins at the book's state.
     pub fn new(alloc: A, book: Book<A>, unnamed: Unnamed) -> Desk<A, J>
         requires name { unnamed ≡ J.book }
         requires opening { J.opening ≡ machine_of book }
@@ -66,13 +66,13 @@ impl<A: Allocator + Copy, J: Naming> Desk<A, J> {
         Some(Worker::new(self.alloc, number))
     }
 
-    /// Stops the desk and wakes all who wait: workers end, and sessions wait for no run any more.
+    /// Stops the desk and wakes all that wait: workers end, and sessions no longer wait for runs.
     pub fn stop<R: Wait>(&self, rt: &R) {
         self.shared.lock(rt).stop();
         self.changed.notify_all();
     }
 
-    // The lock, got while a scenario is due or the desk is stopped; until then it sleeps.
+    // The lock, taken once a scenario is due or the desk is stopped; until then it sleeps.
     pub(crate) fn when_busy<R: Wait>(&self, rt: &R) -> MutexGuard<'_, Shared<A, J>>
         ensures { is_idle (mutex_guard_value result).stopped (mutex_guard_value result).book.state ≡ false }
     {
@@ -80,7 +80,7 @@ impl<A: Allocator + Copy, J: Naming> Desk<A, J> {
             .wait_while(rt, self.shared.lock(rt), |shared| shared.is_idle())
     }
 
-    // The lock, got while a session that has seen this version is to wait no longer; until then it
+    // The lock, taken once a session that has seen this version need not wait any longer; until then it
     // sleeps.
     pub(crate) fn when_settled<R: Wait>(&self, rt: &R, seen: u64) -> MutexGuard<'_, Shared<A, J>>
         ensures { is_none (told_settled (settled seen (machine_of (mutex_guard_value result).book)) (mutex_guard_value result).stopped) ≡ false }

@@ -1,9 +1,9 @@
-/// What a worker calls around its work, while it does not hold the lock.
+/// What a worker calls before and after its work, while it does not hold the lock.
 pub trait Gate {
-    /// The task of this ticket was claimed, and is to be worked now.
+    /// The task of this ticket was claimed, and its work begins now.
     fn before_work(&self, ticket: u64);
 
-    /// The run for this ticket was made, and is to be handed in now.
+    /// The run for this ticket was made, and is handed in now.
     fn before_finish(&self, ticket: u64);
 }
 

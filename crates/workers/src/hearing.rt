@@ -1,4 +1,4 @@
-// What the book noted of a call, told to the history.
+// How what the book noted of a call is recorded in the history.
 ghost use Rattle.std.specs.Prelude.{◌≡◌, true, IfSome, length, option_copied};
 ghost use Rattle.std.specs.List.{slice_get};
 ghost use Rattle.std.specs.Option.{option_map};
@@ -23,14 +23,14 @@ pub(crate) fn notes_in<A: Allocator + Copy>(book: &Book<A>) -> usize
     book.journal().len()
 }
 
-// The note behind so many, if there is one.
+// The note after the first `notes`, if there is one.
 fn note_behind<A: Allocator + Copy>(book: &Book<A>, notes: usize) -> Option<&Note<A>>
     ensures { option_map noted_of (option_copied result) ≡ slice_get book.now.journal notes }
 {
     book.journal().get(notes)
 }
 
-// Tells the history the note behind so many, if there is one, and answers the reply that was noted.
+// Records the note after the first `notes` in the history, if there is one, and returns its reply.
 pub(crate) fn heard<A: Allocator + Copy, J: Naming>(
     whole: &mut Whole<J>,
     book: &Book<A>,
@@ -45,7 +45,7 @@ pub(crate) fn heard<A: Allocator + Copy, J: Naming>(
     Some(note.reply)
 }
 
-// The same, and the front goes on to behind the note.
+// The same, and the front advances past the note.
 pub(crate) fn followed<A: Allocator + Copy, J: Naming>(
     whole: &mut Whole<J>,
     front: &mut Front<J>,

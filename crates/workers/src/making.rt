@@ -4,13 +4,13 @@ use std::sync::Arc;
 use swf_text::Memory;
 use version_book::Task;
 
-// What makes the run that a ticket is for.
+// Makes the run that a ticket is for.
 pub(crate) trait Making<A: Allocator + Copy> {
     ghost use Rattle.std.specs.Prelude.{Option, None, Some, IfOk, OnErr};
     ghost use Rattle.std.specs.Arc.{arc_value};
     ghost use Rattle.checkpoints.specs.RunView.{RunView};
 
-    // What may come of it: this run, or none.
+    // The results that it may have: this run, or none.
     ghost gives: { Self → Option RunView → Type 0 };
 
     // The run, or that a growth was refused.
@@ -24,7 +24,7 @@ impl<A: Allocator + Copy> Making<A> for Task<A> {
 
     ghost gives = { IsWanted };
 
-    // The run is left with its ticket too.
+    // The run is left at its ticket too.
     fn make(&mut self) -> Result<Arc<Run<A>, A>, Memory> {
         let (run, _work) = self.deliver()?;
         Ok(run)

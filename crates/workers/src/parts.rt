@@ -1,13 +1,13 @@
-// A caller's list beside the notes.
+// Whether a caller's list is its part of the notes.
 ghost use Rattle.std.specs.Prelude.{◌≡◌, ◌↔◌, IsTrue, drop, map};
 ghost use Rattle.book_machine.specs.Noted.{noted_of};
 ghost use Rattle.workers.specs.Lists.{exchanged_by, exchanged_of, part_of, same_caller};
 
-use crate::exchange::Exchange;
+use crate::listed_call::ListedCall;
 use book_machine::{Caller, Note};
 use std::alloc::Allocator;
 
-// Whether both are one caller.
+// Whether both are the same caller.
 pub(crate) fn is_same_caller(one: Caller, two: Caller) -> bool
     ensures { result ≡ same_caller one two }
 {
@@ -19,16 +19,16 @@ pub(crate) fn is_same_caller(one: Caller, two: Caller) -> bool
 }
 
 // Whether a listed call is that of a note, with its reply.
-fn is_noted<A: Allocator + Copy>(exchange: &Exchange<A>, note: &Note<A>) -> bool
-    ensures { IsTrue result ↔ (exchanged_of exchange.now ≡ exchanged_by (noted_of note.now)) }
+fn is_noted<A: Allocator + Copy>(listed: &ListedCall<A>, note: &Note<A>) -> bool
+    ensures { IsTrue result ↔ (exchanged_of listed.now ≡ exchanged_by (noted_of note.now)) }
 {
-    exchange.call.same(&note.call) && exchange.reply == note.reply
+    listed.call.same(&note.call) && listed.reply == note.reply
 }
 
 // Whether a list is the part of the notes with a caller's name.
 pub(crate) fn is_part<A: Allocator + Copy>(
     who: Caller,
-    list: &[Exchange<A>],
+    list: &[ListedCall<A>],
     notes: &[Note<A>],
 ) -> bool
     ensures { IsTrue result ↔ (map exchanged_of list.now ≡ part_of who (map noted_of notes.now)) }
@@ -48,7 +48,7 @@ pub(crate) fn is_part<A: Allocator + Copy>(
     left.is_empty()
 }
 
-// The notes after so many.
+// The notes after the opening ones.
 pub(crate) fn later_notes<A: Allocator + Copy>(journal: &[Note<A>], opening: usize) -> &[Note<A>]
     ensures { result.now ≡ drop opening journal.now }
 {

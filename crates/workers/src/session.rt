@@ -1,22 +1,17 @@
 ghost use Rattle.std.specs.Prelude.{◌≡◌, ◌↔◌, ◌≤◌, IfOk, IsTrue, OnErr};
 ghost use Rattle.job_table.specs.Edit.{edit_of};
-ghost use Rattle.scenarios.specs.ScenarioList.{id_of};
 ghost use Rattle.book_machine.specs.declared.caller.Caller.TheVariants as caller;
 ghost use Rattle.book_machine.specs.Call.{AddScenario, DropScenario, Edit as Edits, Retry, View};
-ghost use Rattle.book_machine.specs.Machine.{version};
 ghost use Rattle.chronicle.specs.Fronts.{Begins};
 ghost use Rattle.version_book.specs.Answers.{add_answer, drop_answer, edit_answer, retry_answer, view_answer};
 ghost use Rattle.workers.specs.Callers.{new_session, seen_after};
-ghost use Rattle.workers.specs.History.{Calls, IsCurrentAt, Reads, Settles, Views};
+ghost use Rattle.workers.specs.History.{Calls, Views};
 ghost use Rattle.workers.specs.Lists.{Gains};
-ghost use Rattle.workers.specs.Readings.{IsCurrentOnce, IsFoundOnce, IsShownOnce, IsVersionOnce};
-ghost use Rattle.workers.specs.Settling.{IsSettledOnce};
+ghost use Rattle.workers.specs.Readings.{IsShownOnce};
 
-use crate::current::Current;
 use crate::desk::Desk;
-use crate::exchange::{Exchange, make_room};
-use crate::settled::Settled;
-use book_machine::{Call, Name, NotedEdit};
+use crate::listed_call::{ListedCall, reserve_call};
+use book_machine::{Call, NotedEdit, NotedName};
 use chronicle::{Front, Naming, Whole};
 use job_table::Edit;
 use scenarios::{Scenario, ScenarioId};
@@ -26,19 +21,19 @@ use std::sync::Wait;
 use swf_text::Memory;
 use version_book::{AddRefusal, DropRefusal, EditRefusal, Published, RetryRefusal, ViewRefusal};
 
-/// An analyst at a desk: a number, a list of its own calls with their replies, the greatest version
-/// that an edit or a view gave it, and the desk's history up to what it was answered last.
+/// An analyst's session at a desk: its number, the list of its own calls with their replies, the greatest
+/// version that an edit or a view returned, and the desk's history up to its last response.
 ///
 /// Each call takes the desk that opened the session, and holds its lock for one call of the book. It
-/// stands in the history behind all that the session was answered before.
-/// JournalFull and Memory are not listed; Memory comes first where the list has no room.
+/// stands in the history behind all earlier responses to the session.
+/// JournalFull and Memory are not listed; Memory comes first where the list cannot grow.
 #[derive(Drop)]
 pub struct Session<A: Allocator + Copy, J: Naming> {
     alloc: A,
     number: u64,
-    list: Vec<Exchange<A>, A>,
-    seen: u64,
-    front: Front<J>,
+    list: Vec<ListedCall<A>, A>,
+    pub(crate) seen: u64,
+    pub(crate) front: Front<J>,
 }
 
 impl<A: Allocator + Copy, J: Naming> Model for Session<A, J> {
@@ -55,7 +50,7 @@ impl<A: Allocator + Copy, J: Naming> Session<A, J> {
     ghost use Rattle.std.specs.Prelude.{map};
     ghost use Rattle.workers.specs.Lists.{exchanged_of};
 
-    // A session that has called nothing.
+    // A session that has made no call.
     pub(crate) fn new(alloc: A, number: u64, front: Front<J>) -> Session<A, J>
         ensures { result ≡ new_session number front }
     {
@@ -76,27 +71,27 @@ impl<A: Allocator + Copy, J: Naming> Session<A, J> {
     }
 
     /// Its own calls and their replies, in their order.
-    pub fn list(&self) -> &[Exchange<A>]
+    pub fn list(&self) -> &[ListedCall<A>]
         ensures { map exchanged_of result.now ≡ self.now.list }
     {
         self.list.as_slice()
     }
 
-    /// The greatest version that an edit or a view gave it; 0 at first.
+    /// The greatest version that an edit or a view returned; 0 at first.
     pub fn seen(&self) -> u64
         ensures { result ≡ self.now.seen }
     {
         self.seen
     }
 
-    // Whether what it knows begins the history.
+    // Whether the part of the history that it has seen begins this one.
     pub(crate) fn begins(&self, whole: &Whole<J>) -> bool
         ensures { IsTrue result ↔ Begins self.now.front whole.now }
     {
         self.front.begins(whole)
     }
 
-    /// Edits the log, as `Book::edit` does, and has then seen the new version. Whoever waits is woken.
+    /// Edits the log, as `Book::edit` does, and has then seen the new version. All that wait are woken.
     pub fn edit<R: Wait>(
         &mut self,
         rt: &R,
@@ -109,7 +104,7 @@ impl<A: Allocator + Copy, J: Naming> Session<A, J> {
         ensures seen { self.new.seen ≡ seen_after self.old.seen result }
     {
         let call = Call::Edit(NotedEdit::new(self.alloc, edit)?);
-        make_room(&mut self.list)?;
+        reserve_call(&mut self.list)?;
         let told = desk
             .shared
             .lock(rt)
@@ -121,7 +116,7 @@ impl<A: Allocator + Copy, J: Naming> Session<A, J> {
         told
     }
 
-    /// Adds a scenario, as `Book::add_scenario` does. Whoever waits is woken.
+    /// Adds a scenario, as `Book::add_scenario` does. All that wait are woken.
     pub fn add_scenario<R: Wait>(
         &mut self,
         rt: &R,
@@ -135,10 +130,10 @@ impl<A: Allocator + Copy, J: Naming> Session<A, J> {
         ensures seen { self.new.seen ≡ self.old.seen }
     {
         let call = Call::AddScenario {
-            name: Name::new(self.alloc, name)?,
+            name: NotedName::new(self.alloc, name)?,
             scenario,
         };
-        make_room(&mut self.list)?;
+        reserve_call(&mut self.list)?;
         let told = desk.shared.lock(rt).add_for(
             self.number,
             &mut self.list,
@@ -153,7 +148,7 @@ impl<A: Allocator + Copy, J: Naming> Session<A, J> {
         told
     }
 
-    /// Drops the scenario with this name, as `Book::drop_scenario` does. Whoever waits is woken.
+    /// Drops the scenario with this name, as `Book::drop_scenario` does. All that wait are woken.
     pub fn drop_scenario<R: Wait>(
         &mut self,
         rt: &R,
@@ -166,9 +161,9 @@ impl<A: Allocator + Copy, J: Naming> Session<A, J> {
         ensures seen { self.new.seen ≡ self.old.seen }
     {
         let call = Call::DropScenario {
-            name: Name::new(self.alloc, name)?,
+            name: NotedName::new(self.alloc, name)?,
         };
-        make_room(&mut self.list)?;
+        reserve_call(&mut self.list)?;
         let told = desk
             .shared
             .lock(rt)
@@ -179,7 +174,7 @@ impl<A: Allocator + Copy, J: Naming> Session<A, J> {
         told
     }
 
-    /// Has a scenario that was given up tried again, as `Book::retry` does. Whoever waits is woken.
+    /// Has a scenario that was given up tried again, as `Book::retry` does. All that wait are woken.
     pub fn retry<R: Wait>(
         &mut self,
         rt: &R,
@@ -191,7 +186,7 @@ impl<A: Allocator + Copy, J: Naming> Session<A, J> {
         ensures number { self.new.number ≡ self.old.number }
         ensures seen { self.new.seen ≡ self.old.seen }
     {
-        make_room(&mut self.list)?;
+        reserve_call(&mut self.list)?;
         let told = desk
             .shared
             .lock(rt)
@@ -202,8 +197,8 @@ impl<A: Allocator + Copy, J: Naming> Session<A, J> {
         told
     }
 
-    /// What is published for a scenario, as `Book::view` tells: its version is not below what this
-    /// session has seen, and is then what it has seen.
+    /// What is published for a scenario, as `Book::view` returns it: its version is not below the one that
+    /// this session has seen, and is from then on the one that it has seen.
     pub fn view<R: Wait>(
         &mut self,
         rt: &R,
@@ -217,7 +212,7 @@ impl<A: Allocator + Copy, J: Naming> Session<A, J> {
         ensures err { OnErr result (self.new.seen ≡ self.old.seen) }
         ensures shown { IfOk result (IsShownOnce id self.old.seen) }
     {
-        make_room(&mut self.list)?;
+        reserve_call(&mut self.list)?;
         let told = desk.shared.lock(rt).view_for(
             self.number,
             &mut self.list,
@@ -229,81 +224,5 @@ impl<A: Allocator + Copy, J: Naming> Session<A, J> {
             self.seen = published.version();
         }
         told
-    }
-
-    /// The id of the scenario with this name. It is not listed.
-    pub fn find<R: Wait>(&self, rt: &R, desk: &Desk<A, J>, name: &str) -> Option<ScenarioId>
-        ensures { IsFoundOnce name.now result }
-    {
-        desk.shared.lock(rt).find(name)
-    }
-
-    /// The same, at a place of the history behind all that the session was answered before, to which
-    /// it then goes on.
-    pub fn find_along<R: Wait>(
-        &mut self,
-        rt: &R,
-        desk: &Desk<A, J>,
-        name: &str,
-    ) -> Option<ScenarioId>
-        ensures history { Reads J.opening self.old.front (λ m. result ≡ id_of name.now m.listing) self.new.front }
-        ensures same { self.new ≡ record self.old { front = self.new.front } }
-    {
-        desk.shared.lock(rt).find_along(name, &mut self.front)
-    }
-
-    /// The current version. It is not listed.
-    pub fn version<R: Wait>(&self, rt: &R, desk: &Desk<A, J>) -> u64
-        ensures { IsVersionOnce result }
-    {
-        desk.shared.lock(rt).version()
-    }
-
-    /// The same, at a place of the history behind all that the session was answered before, to which
-    /// it then goes on.
-    pub fn version_along<R: Wait>(&mut self, rt: &R, desk: &Desk<A, J>) -> u64
-        ensures history { Reads J.opening self.old.front (λ m. result ≡ version m) self.new.front }
-        ensures same { self.new ≡ record self.old { front = self.new.front } }
-    {
-        desk.shared.lock(rt).version_along(&mut self.front)
-    }
-
-    /// The current version with its log and the scenarios, all of one moment. It is not listed.
-    /// Memory where a growth is refused.
-    pub fn current<R: Wait>(&self, rt: &R, desk: &Desk<A, J>) -> Result<Current<A>, Memory>
-        ensures { IfOk result IsCurrentOnce }
-    {
-        desk.shared.lock(rt).current()
-    }
-
-    /// The same, at a place of the history behind all that the session was answered before, to which
-    /// it then goes on.
-    pub fn current_along<R: Wait>(
-        &mut self,
-        rt: &R,
-        desk: &Desk<A, J>,
-    ) -> Result<Current<A>, Memory>
-        ensures history { Reads J.opening self.old.front (λ m. IfOk result (IsCurrentAt m)) self.new.front }
-        ensures same { self.new ≡ record self.old { front = self.new.front } }
-    {
-        desk.shared.lock(rt).current_along(&mut self.front)
-    }
-
-    /// Waits until every scenario shows a version that this session has seen, or a newer one, or is
-    /// given up, or until the desk is stopped, and answers which. It sleeps while it waits.
-    pub fn settle<R: Wait>(&self, rt: &R, desk: &Desk<A, J>) -> Settled
-        ensures { IsSettledOnce self.now.seen result }
-    {
-        desk.when_settled(rt, self.seen).settle(self.seen)
-    }
-
-    /// The same, at a place of the history behind all that the session was answered before, to which
-    /// it then goes on.
-    pub fn settle_along<R: Wait>(&mut self, rt: &R, desk: &Desk<A, J>) -> Settled
-        ensures history { Settles J.opening self.old.front self.old.seen result self.new.front }
-        ensures same { self.new ≡ record self.old { front = self.new.front } }
-    {
-        desk.when_settled(rt, self.seen)
-            .settle_along(self.seen, &mut self.front)
     }
 }

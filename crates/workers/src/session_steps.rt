@@ -11,8 +11,8 @@ ghost use Rattle.version_book.specs.Tasks.{IsShownFor};
 ghost use Rattle.workers.specs.History.{Calls, Views};
 ghost use Rattle.workers.specs.Lists.{Gains, exchanged_of};
 
-use crate::exchange::{Exchange, keep};
 use crate::hearing::{followed, notes_in};
+use crate::listed_call::{ListedCall, keep};
 use crate::shared::Shared;
 use book_machine::Call;
 use chronicle::{Front, Naming};
@@ -26,7 +26,7 @@ impl<A: Allocator + Copy, J: Naming> Shared<A, J> {
     pub(crate) fn edit_for(
         &mut self,
         session: u64,
-        list: &mut Vec<Exchange<A>, A>,
+        list: &mut Vec<ListedCall<A>, A>,
         front: &mut Front<J>,
         call: Call<A>,
         edit: &Edit<A>,
@@ -49,7 +49,7 @@ impl<A: Allocator + Copy, J: Naming> Shared<A, J> {
     pub(crate) fn add_for(
         &mut self,
         session: u64,
-        list: &mut Vec<Exchange<A>, A>,
+        list: &mut Vec<ListedCall<A>, A>,
         front: &mut Front<J>,
         call: Call<A>,
         name: &str,
@@ -73,7 +73,7 @@ impl<A: Allocator + Copy, J: Naming> Shared<A, J> {
     pub(crate) fn drop_for(
         &mut self,
         session: u64,
-        list: &mut Vec<Exchange<A>, A>,
+        list: &mut Vec<ListedCall<A>, A>,
         front: &mut Front<J>,
         call: Call<A>,
         name: &str,
@@ -96,7 +96,7 @@ impl<A: Allocator + Copy, J: Naming> Shared<A, J> {
     pub(crate) fn retry_for(
         &mut self,
         session: u64,
-        list: &mut Vec<Exchange<A>, A>,
+        list: &mut Vec<ListedCall<A>, A>,
         front: &mut Front<J>,
         id: ScenarioId,
     ) -> Result<(), RetryRefusal>
@@ -117,7 +117,7 @@ impl<A: Allocator + Copy, J: Naming> Shared<A, J> {
     pub(crate) fn view_for(
         &mut self,
         session: u64,
-        list: &mut Vec<Exchange<A>, A>,
+        list: &mut Vec<ListedCall<A>, A>,
         front: &mut Front<J>,
         id: ScenarioId,
         seen: u64,

@@ -23,12 +23,12 @@ use std::marker::Model;
 use swf_text::Memory;
 use version_book::Book;
 
-// How many sessions, and how many workers, a desk opens at most.
-const MOST: u64 = 64;
+/// The most sessions that a desk opens, and the most workers.
+pub const MAX_CALLERS: u64 = 64;
 
 /// What lies under the lock: the book, the history of the desk, how many callers were opened, and
 /// whether the desk is stopped. The history's calls are those that the book noted since the desk was
-/// made, and lead to where the book stands.
+/// made, and lead to the book's state.
 #[derive(Drop)]
 pub struct Shared<A: Allocator + Copy, J: Naming> {
     pub(crate) book: Book<A>,
@@ -48,15 +48,19 @@ impl<A: Allocator + Copy, J: Naming> Model for Shared<A, J> {
     ghost invariant = { λ s. IsTied J.opening (record { book = s.book; history = s.whole; sessions = s.sessions; workers = s.workers; stopped = s.stopped }) };
 }
 
-// The number of the next caller of a kind, or none after 64.
+// The number of the next session or worker, where this many were opened; none after 64.
 fn next_caller(opened: u64) -> Option<u64>
     ensures { result ≡ next_caller opened }
 {
-    if opened < MOST { Some(opened) } else { None }
+    if opened < MAX_CALLERS {
+        Some(opened)
+    } else {
+        None
+    }
 }
 
 impl<A: Allocator + Copy, J: Naming> Shared<A, J> {
-    // A book of which no caller was opened yet, and a history that begins there.
+    // A book without callers, and a history that begins there.
     pub(crate) fn new(book: Book<A>, whole: Whole<J>) -> Shared<A, J>
         requires opening { J.opening ≡ machine_of book }
         requires whole { whole ≡ nothing_yet }
@@ -71,9 +75,9 @@ impl<A: Allocator + Copy, J: Naming> Shared<A, J> {
         }
     }
 
-    /// The book. It is one each time that the lock is got: each published run is the simulation,
+    /// The book. Its invariant holds each time that the lock is taken: each published run is the simulation,
     /// second by second, of the log of the version that it names, under its scenario, and the journal
-    /// is a legal history of all calls that leads to where the book stands.
+    /// is a legal history of all calls that leads to the book's state.
     pub fn book(&self) -> &Book<A>
         ensures value { result.now ≡ self.now.book }
         ensures book { IsBook self.now.book }
@@ -82,8 +86,8 @@ impl<A: Allocator + Copy, J: Naming> Shared<A, J> {
         &self.book
     }
 
-    /// What a session that has seen this version is told: how far the scenarios are, Stopped where
-    /// one is waited for and the desk is stopped, and None where it is to wait on.
+    /// What the wait of a session that has seen this version returns: how far the scenarios are, Stopped
+    /// where one is waited for and the desk is stopped, and None while the wait goes on.
     pub fn settled_for(&self, seen: u64) -> Option<Settled>
         ensures told { result ≡ told_settled (settled seen (machine_of self.now.book)) self.now.stopped }
         ensures book { IsBook self.now.book }
@@ -96,14 +100,14 @@ impl<A: Allocator + Copy, J: Naming> Shared<A, J> {
         }
     }
 
-    // Whether a worker has nothing to do and is not to end.
+    // Whether a worker has nothing to do and should not end.
     pub(crate) fn is_idle(&self) -> bool
         ensures { result ≡ is_idle self.now.stopped self.now.book.state }
     {
         !self.stopped && self.book.due().is_none()
     }
 
-    // Opens a session, and answers its number and the history up to there.
+    // Opens a session, and returns its number and the history up to there.
     pub(crate) fn next_session(&mut self) -> Option<(u64, Front<J>)>
         ensures number { option_map (λ it. it.0) result ≡ next_caller self.old.sessions }
         ensures front { IfSome result (λ it. EndsOpened (caller.Session it.0) it.1) }
@@ -115,7 +119,7 @@ impl<A: Allocator + Copy, J: Naming> Shared<A, J> {
         Some((number, self.whole.front()))
     }
 
-    // Opens a worker, and answers its number.
+    // Opens a worker, and returns its number.
     pub(crate) fn next_worker(&mut self) -> Option<u64>
         ensures number { result ≡ next_caller self.old.workers }
         ensures rest { self.new ≡ record self.old { workers = opened_after self.old.workers; history = self.new.history } }
@@ -160,7 +164,7 @@ impl<A: Allocator + Copy, J: Naming> Shared<A, J> {
         self.book.version()
     }
 
-    // The same, and the front goes on to where the book stands.
+    // The same, and the front advances to the end of the history.
     pub(crate) fn version_along(&self, front: &mut Front<J>) -> u64
         ensures { Reads J.opening front.old (λ m. result ≡ version m) front.new }
     {
@@ -177,7 +181,7 @@ impl<A: Allocator + Copy, J: Naming> Shared<A, J> {
         self.book.id_of(name)
     }
 
-    // The same, and the front goes on to where the book stands.
+    // The same, and the front advances to the end of the history.
     pub(crate) fn find_along(&self, name: &str, front: &mut Front<J>) -> Option<ScenarioId>
         ensures { Reads J.opening front.old (λ m. result ≡ id_of name.now m.listing) front.new }
     {
@@ -185,7 +189,7 @@ impl<A: Allocator + Copy, J: Naming> Shared<A, J> {
         self.find(name)
     }
 
-    // Where the book stands.
+    // The version, the log and the scenarios.
     pub(crate) fn current(&self) -> Result<Current<A>, Memory>
         ensures current { IfOk result (IsCurrentOf self.now.book) }
         ensures book { IsBook self.now.book }
@@ -197,7 +201,7 @@ impl<A: Allocator + Copy, J: Naming> Shared<A, J> {
         })
     }
 
-    // The same, and the front goes on to there.
+    // The same, and the front advances to the end of the history.
     pub(crate) fn current_along(&self, front: &mut Front<J>) -> Result<Current<A>, Memory>
         ensures { Reads J.opening front.old (λ m. IfOk result (IsCurrentAt m)) front.new }
     {
@@ -205,7 +209,7 @@ impl<A: Allocator + Copy, J: Naming> Shared<A, J> {
         self.current()
     }
 
-    // What a session is told that waits no longer.
+    // The result for a session that waits no longer.
     pub(crate) fn settle(&self, seen: u64) -> Settled
         requires { is_none (told_settled (settled seen (machine_of self.now.book)) self.now.stopped) ≡ false }
         ensures { IsSettledOnce seen result }
@@ -213,7 +217,7 @@ impl<A: Allocator + Copy, J: Naming> Shared<A, J> {
         self.settled_for(seen).unwrap()
     }
 
-    // The same, and the front goes on to where the book stands.
+    // The same, and the front advances to the end of the history.
     pub(crate) fn settle_along(&self, seen: u64, front: &mut Front<J>) -> Settled
         requires { is_none (told_settled (settled seen (machine_of self.now.book)) self.now.stopped) ≡ false }
         ensures { Settles J.opening front.old seen result front.new }

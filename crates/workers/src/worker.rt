@@ -5,8 +5,8 @@ ghost use Rattle.workers.specs.Readings.{LackedMemory, WasFull};
 ghost use Rattle.workers.specs.Work.{Finishes, GainsClaim, GivesUp, HandsInOnce, HandsInWhat, WorksOn, WorksThrough, end_of};
 
 use crate::desk::Desk;
-use crate::exchange::{Exchange, make_room};
 use crate::gate::Gate;
+use crate::listed_call::{ListedCall, reserve_call};
 use crate::making::Making;
 use checkpoints::Run;
 use chronicle::Naming;
@@ -35,11 +35,11 @@ impl From<Memory> for WorkerEnd {
     }
 }
 
-/// One who makes runs at a desk: a number, and a list of its own calls with their replies.
+/// A worker, which makes runs for a desk: its number, and the list of its own calls with their replies.
 #[derive(Drop)]
 pub struct Worker<A: Allocator + Copy> {
     number: u64,
-    list: Vec<Exchange<A>, A>,
+    list: Vec<ListedCall<A>, A>,
 }
 
 impl<A: Allocator + Copy> Model for Worker<A> {
@@ -52,7 +52,7 @@ impl<A: Allocator + Copy> Model for Worker<A> {
     ghost view = { λ w. record { number = w.number; list = map exchanged_of w.list.items; room = vec_capacity w.list - vec_len w.list } };
 }
 
-// Whether a worker ends by what it was told.
+// Whether a worker ends after this result of a call, and why.
 fn end_of<T: Copy, F: Copy>(told: Result<T, Refusal<F>>) -> Option<WorkerEnd>
     ensures { result ≡ end_of told }
 {
@@ -67,7 +67,7 @@ impl<A: Allocator + Copy> Worker<A> {
     ghost use Rattle.std.specs.Prelude.{map};
     ghost use Rattle.workers.specs.Lists.{exchanged_of};
 
-    // A worker that has called nothing.
+    // A worker that has made no call.
     pub(crate) fn new(alloc: A, number: u64) -> Worker<A>
         ensures { result ≡ new_worker number }
     {
@@ -85,7 +85,7 @@ impl<A: Allocator + Copy> Worker<A> {
     }
 
     /// Its own calls and their replies, in their order.
-    pub fn list(&self) -> &[Exchange<A>]
+    pub fn list(&self) -> &[ListedCall<A>]
         ensures { map exchanged_of result.now ≡ self.now.list }
     {
         self.list.as_slice()
@@ -98,11 +98,11 @@ impl<A: Allocator + Copy> Worker<A> {
         ensures memory { result ≡ Err ends.Memory → LackedMemory self.new }
         ensures number { self.new.number ≡ self.old.number }
     {
-        make_room(&mut self.list)?;
+        reserve_call(&mut self.list)?;
         desk.when_busy(rt).next_for(self.number, &mut self.list)
     }
 
-    // Hands in the run for a ticket, and wakes whoever waits.
+    // Hands in the run for a ticket, and wakes all that wait.
     fn finish<J: Naming, R: Wait>(
         &mut self,
         rt: &R,
@@ -115,7 +115,7 @@ impl<A: Allocator + Copy> Worker<A> {
         ensures memory { result ≡ Some ends.Memory → LackedMemory self.new }
         ensures number { self.new.number ≡ self.old.number }
     {
-        if make_room(&mut self.list).is_err() {
+        if reserve_call(&mut self.list).is_err() {
             return Some(WorkerEnd::Memory);
         }
         let told = desk
@@ -126,7 +126,7 @@ impl<A: Allocator + Copy> Worker<A> {
         end_of(told)
     }
 
-    // Gives a ticket up, and wakes whoever waits.
+    // Gives a ticket up, and wakes all that wait.
     fn give_up<J: Naming, R: Wait>(
         &mut self,
         rt: &R,
@@ -138,7 +138,7 @@ impl<A: Allocator + Copy> Worker<A> {
         ensures memory { result ≡ Some ends.Memory → LackedMemory self.new }
         ensures number { self.new.number ≡ self.old.number }
     {
-        if make_room(&mut self.list).is_err() {
+        if reserve_call(&mut self.list).is_err() {
             return Some(WorkerEnd::Memory);
         }
         let told = desk
@@ -174,7 +174,7 @@ impl<A: Allocator + Copy> Worker<A> {
         }
     }
 
-    // Works a task, and hands in what came of it.
+    // Works a task, and hands in its run or gives it up.
     fn work<J: Naming, R: Wait, G: Gate>(
         &mut self,
         rt: &R,
@@ -191,7 +191,7 @@ impl<A: Allocator + Copy> Worker<A> {
         self.make(rt, desk, gate, ticket, &mut task)
     }
 
-    // One round: waits, claims, works, hands in. None where another round is to come.
+    // One round: waits, claims, works, hands in. None where another round follows.
     fn round<J: Naming, R: Wait, G: Gate>(
         &mut self,
         rt: &R,

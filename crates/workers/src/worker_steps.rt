@@ -13,8 +13,8 @@ ghost use Rattle.workers.specs.Readings.{WasFull, WasRefused, is_idle};
 ghost use Rattle.workers.specs.Work.{Finds, GainsClaim, end_of};
 ghost use Rattle.workers.specs.declared.worker.WorkerEnd.TheVariants as ends;
 
-use crate::exchange::{Exchange, keep};
 use crate::hearing::{heard, notes_in};
+use crate::listed_call::{ListedCall, keep};
 use crate::shared::Shared;
 use crate::worker::WorkerEnd;
 use book_machine::Call;
@@ -24,7 +24,7 @@ use std::alloc::Allocator;
 use std::sync::Arc;
 use version_book::{ClaimRefusal, FinishFault, FinishRefusal, GiveUpRefusal, Task, TooManyTickets};
 
-// Whether the run fitted its ticket, as the answer tells.
+// Whether the run fitted its ticket, by the result.
 fn is_fitting(told: &Result<u64, FinishRefusal>) -> bool
     ensures { result ≡ fitted told.now }
 {
@@ -35,11 +35,11 @@ fn is_fitting(told: &Result<u64, FinishRefusal>) -> bool
 }
 
 impl<A: Allocator + Copy, J: Naming> Shared<A, J> {
-    // A ticket for the first scenario that is due.
+    // Claims a ticket for the first scenario that is due.
     pub(crate) fn claim_for(
         &mut self,
         worker: u64,
-        list: &mut Vec<Exchange<A>, A>,
+        list: &mut Vec<ListedCall<A>, A>,
     ) -> Result<Option<Task<A>>, ClaimRefusal>
         requires room { vec_len list.old < vec_capacity list.old }
         ensures book { Answers self.old.book self.new.book (caller.Worker worker) Claim (claim_answer result) }
@@ -54,11 +54,11 @@ impl<A: Allocator + Copy, J: Naming> Shared<A, J> {
         told
     }
 
-    // The next task of a worker that was woken, claimed where the desk isn't stopped; or why it ends.
+    // The next task of a worker that was woken, claimed unless the desk is stopped; or why it ends.
     pub(crate) fn next_for(
         &mut self,
         worker: u64,
-        list: &mut Vec<Exchange<A>, A>,
+        list: &mut Vec<ListedCall<A>, A>,
     ) -> Result<Task<A>, WorkerEnd>
         requires room { vec_len list.old < vec_capacity list.old }
         requires busy { is_idle self.old.stopped self.old.book.state ≡ false }
@@ -79,11 +79,11 @@ impl<A: Allocator + Copy, J: Naming> Shared<A, J> {
         }
     }
 
-    // The run that a ticket's task has left, or this one.
+    // Hands in the run that a ticket's task has left, or this one.
     pub(crate) fn finish_for(
         &mut self,
         worker: u64,
-        list: &mut Vec<Exchange<A>, A>,
+        list: &mut Vec<ListedCall<A>, A>,
         ticket: u64,
         run: Arc<Run<A>, A>,
     ) -> Result<u64, FinishRefusal>
@@ -102,11 +102,11 @@ impl<A: Allocator + Copy, J: Naming> Shared<A, J> {
         told
     }
 
-    // A ticket for which no run comes.
+    // Gives a ticket up.
     pub(crate) fn give_up_for(
         &mut self,
         worker: u64,
-        list: &mut Vec<Exchange<A>, A>,
+        list: &mut Vec<ListedCall<A>, A>,
         ticket: u64,
     ) -> Result<(), GiveUpRefusal>
         requires room { vec_len list.old < vec_capacity list.old }

@@ -1,4 +1,4 @@
-use Rattle.std.proofs.Common.{◌≡◌, ℕ, Bor, Global, List, IfSome, Vec, map, subst, sym}
+use Rattle.std.proofs.Common.{ℕ, Bor, Global, List, IfSome, Vec, map, subst, sym}
 use Rattle.std.specs.Option.{option_map}
 use Rattle.easybook.specs.Program.{AreFronts, IsFront, log_known}
 use Rattle.easybook.proofs.Besides.{beside_ends}

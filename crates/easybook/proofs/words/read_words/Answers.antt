@@ -21,18 +21,18 @@ returns-in_default-workers-clause-refused c =
     let found = chosen-found (map (λ w. w.now) c.args.words.now) (found_of c.in_ok-matches.matches) c.in_ok-matches.ensures.taken c.in_ok-matches.ensures.rows in
     search (rules, found)
 
-pub returns-then-len-gt-CALLERS-clause-refused : goal.returns-then-len-gt-CALLERS-clause-refused
-returns-then-len-gt-CALLERS-clause-refused c =
+pub returns-then-len-gt-MAX_CALLERS-clause-refused : goal.returns-then-len-gt-MAX_CALLERS-clause-refused
+returns-then-len-gt-MAX_CALLERS-clause-refused c =
     let found = chosen-found (map (λ w. w.now) c.args.words.now) (found_of c.in_ok-matches.matches) c.in_ok-matches.ensures.taken c.in_ok-matches.ensures.rows in
     let paths = map (λ p. p.now) c.in_ok-scripts.scripts.items in
-    let many : scripts_of (found_scripts (found_of c.in_ok-matches.matches)) ≡ None = ap scripts_of (sym c.in_ok-scripts.ensures) ∙ many-scripts paths (omega (arith, length-map c.in_ok-scripts.scripts.items (λ p. p.now), c.in_ok-scripts.scripts.ok.0, c.len.ensures, c.if-len-gt-CALLERS.true)) in
+    let many : scripts_of (found_scripts (found_of c.in_ok-matches.matches)) ≡ None = ap scripts_of (sym c.in_ok-scripts.ensures) ∙ many-scripts paths (omega (arith, length-map c.in_ok-scripts.scripts.items (λ p. p.now), c.in_ok-scripts.scripts.ok.0, c.len.ensures, c.if-len-gt-MAX_CALLERS.true)) in
     search (rules, found, many)
 
 pub returns-then-not-is_allowed-clause-refused : goal.returns-then-not-is_allowed-clause-refused
 returns-then-not-is_allowed-clause-refused c =
     let paths = map (λ p. p.now) c.in_ok-scripts.scripts.items in
     let len : length paths ≡ vec_len c.in_ok-scripts.scripts = omega (arith, length-map c.in_ok-scripts.scripts.items (λ p. p.now), c.in_ok-scripts.scripts.ok.0) in
-    let few : length paths ≤ 64 = omega (arith, len, c.len.ensures, c.if-len-gt-CALLERS.false) in
+    let few : length paths ≤ 64 = omega (arith, len, c.len.ensures, c.if-len-gt-MAX_CALLERS.false) in
     let all : Choice = record { log = option_map (λ t. t.now) c.get_str-log.result; procs = c.in-Some.procs; spacing = c.in-Some-spacing.spacing; workers = c.in-Some-workers.workers; scripts = paths; live = c.is_live-live.result } in
     none-taken (map (λ w. w.now) c.args.words.now) (found_of c.in_ok-matches.matches) all c.in_ok-matches.ensures.taken c.in_ok-matches.ensures.rows
     (search rules) (search rules) (search rules) (search rules) (sym c.in_ok-scripts.ensures) few (search rules) (search (rules, len))
@@ -41,7 +41,7 @@ pub returns-clause-chosen : goal.returns-clause-chosen
 returns-clause-chosen c =
     let paths = map (λ p. p.now) c.in_ok-scripts.scripts.items in
     let len : length paths ≡ vec_len c.in_ok-scripts.scripts = omega (arith, length-map c.in_ok-scripts.scripts.items (λ p. p.now), c.in_ok-scripts.scripts.ok.0) in
-    let few : length paths ≤ 64 = omega (arith, len, c.len.ensures, c.if-len-gt-CALLERS.false) in
+    let few : length paths ≤ 64 = omega (arith, len, c.len.ensures, c.if-len-gt-MAX_CALLERS.false) in
     let all : Choice = record { log = option_map (λ t. t.now) c.get_str-log.result; procs = c.in-Some.procs; spacing = c.in-Some-spacing.spacing; workers = c.in-Some-workers.workers; scripts = paths; live = c.is_live-live.result } in
     all-taken (map (λ w. w.now) c.args.words.now) (found_of c.in_ok-matches.matches) all c.in_ok-matches.ensures.taken c.in_ok-matches.ensures.rows
     (search rules) (search rules) (search rules) (search rules) (sym c.in_ok-scripts.ensures) few (search rules) (search (rules, len))

@@ -10,5 +10,5 @@ loop-preserved g c =
     record {
       read = subst (λ (end : LineEnd). Reads (g.R.Read.remaining c.args.reader.now) (g.R.Read.remaining c.read_part.new.reader) c.read_part.new.line.bytes.items end) c.in-Open.is more.is_read;
       one_line = more.one_line;
-      short = omega (arith, c.room.ensures, c.if-room-eq0.false);
+      short = omega (arith, c.spare.ensures, c.if-spare-eq0.false);
     }

@@ -16,17 +16,17 @@ returns-then-is_full-clause-answer g c =
     let test : nat_le note_limit (length c.self.inside.journal.items) ≡ true = search rules in
     is-full noted_of c.self.inside.journal.items (caller.Worker c.args.worker) (Claim) c.self.view_is c.self.invariant refl test
 
-pub returns-in_err-make_room-clause-answer : goal.returns-in_err-make_room-clause-answer
-returns-in_err-make_room-clause-answer g c =
+pub returns-in_err-reserve_note-clause-answer : goal.returns-in_err-reserve_note-clause-answer
+returns-in_err-reserve_note-clause-answer g c =
     let test : nat_le note_limit (length c.self.inside.journal.items) ≡ false = search rules in
     let told : c.from_residual.result ≡ Err refusals.Memory = search rules in
-    as-it-was noted_of c.self.inside.journal.items c.make_room.new.journal.items (caller.Worker c.args.worker) (Claim) _ c.self.view_is refl c.in_err-make_room.ensures.items test (ap claim_answer told)
+    as-it-was noted_of c.self.inside.journal.items c.reserve_note.new.journal.items (caller.Worker c.args.worker) (Claim) _ c.self.view_is refl c.in_err-reserve_note.ensures.items test (ap claim_answer told)
 
 pub invariant_of-self-2 : goal.invariant_of-self-2
 invariant_of-self-2 g c =
     let test : nat_le note_limit (length c.self.inside.journal.items) ≡ false = search rules in
     let new : BookView = record { state = c.claim-told.new.self; journal = map noted_of c.note.new.journal.items } in
-    let journal = journal-is noted_of c.self.inside.journal.items _ _ (caller.Worker c.args.worker) _ (Claim) _ _ c.note.ensures c.in_ok-make_room.ensures.items refl c.claim_reply-reply.ensures in
+    let journal = journal-is noted_of c.self.inside.journal.items _ _ (caller.Worker c.args.worker) _ (Claim) _ _ c.note.ensures c.in_ok-reserve_note.ensures.items refl c.claim_reply-reply.ensures in
     let room = has-room noted_of c.self.inside.journal.items test in
     (called _ new (caller.Worker c.args.worker) (Claim) _ c.self.invariant room c.claim-told.ensures.does journal).0
 
@@ -34,7 +34,7 @@ pub returns-clause-answer : goal.returns-clause-answer
 returns-clause-answer g c =
     let test : nat_le note_limit (length c.self.inside.journal.items) ≡ false = search rules in
     let new : BookView = record { state = c.claim-told.new.self; journal = map noted_of c.note.new.journal.items } in
-    let journal = journal-is noted_of c.self.inside.journal.items _ _ (caller.Worker c.args.worker) _ (Claim) _ _ c.note.ensures c.in_ok-make_room.ensures.items refl c.claim_reply-reply.ensures in
+    let journal = journal-is noted_of c.self.inside.journal.items _ _ (caller.Worker c.args.worker) _ (Claim) _ _ c.note.ensures c.in_ok-reserve_note.ensures.items refl c.claim_reply-reply.ensures in
     let room = has-room noted_of c.self.inside.journal.items test in
     answered new (caller.Worker c.args.worker) (Claim) _ c.self.view_is c.self.invariant room c.claim-told.ensures.does journal
 

@@ -17,17 +17,17 @@ returns-then-is_full-clause-answer g c =
     let test : nat_le note_limit (length c.self.inside.journal.items) ≡ true = search rules in
     is-full noted_of c.self.inside.journal.items (caller.Worker c.args.worker) (Finish c.args.ticket false) c.self.view_is c.self.invariant refl test
 
-pub returns-in_err-make_room-clause-answer : goal.returns-in_err-make_room-clause-answer
-returns-in_err-make_room-clause-answer g c =
+pub returns-in_err-reserve_note-clause-answer : goal.returns-in_err-reserve_note-clause-answer
+returns-in_err-reserve_note-clause-answer g c =
     let test : nat_le note_limit (length c.self.inside.journal.items) ≡ false = search rules in
     let told : c.from_residual.result ≡ Err refusals.Memory = search rules in
-    as-it-was noted_of c.self.inside.journal.items c.make_room.new.journal.items (caller.Worker c.args.worker) (Finish c.args.ticket (fitted c.from_residual.result)) _ c.self.view_is refl c.in_err-make_room.ensures.items test (ap finish_answer told)
+    as-it-was noted_of c.self.inside.journal.items c.reserve_note.new.journal.items (caller.Worker c.args.worker) (Finish c.args.ticket (fitted c.from_residual.result)) _ c.self.view_is refl c.in_err-reserve_note.ensures.items test (ap finish_answer told)
 
 pub invariant_of-self-2 : goal.invariant_of-self-2
 invariant_of-self-2 g c =
     let test : nat_le note_limit (length c.self.inside.journal.items) ≡ false = search rules in
     let new : BookView = record { state = c.finish-told.new.self; journal = map noted_of c.note.new.journal.items } in
-    let journal = journal-is noted_of c.self.inside.journal.items _ _ (caller.Worker c.args.worker) _ (Finish c.args.ticket (fitted c.finish-told.result)) _ _ c.note.ensures c.in_ok-make_room.ensures.items (ap (Finish c.args.ticket) c.fitted-fits.ensures) c.finish_reply-reply.ensures in
+    let journal = journal-is noted_of c.self.inside.journal.items _ _ (caller.Worker c.args.worker) _ (Finish c.args.ticket (fitted c.finish-told.result)) _ _ c.note.ensures c.in_ok-reserve_note.ensures.items (ap (Finish c.args.ticket) c.fitted-fits.ensures) c.finish_reply-reply.ensures in
     let room = has-room noted_of c.self.inside.journal.items test in
     (called _ new (caller.Worker c.args.worker) (Finish c.args.ticket (fitted c.finish-told.result)) _ c.self.invariant room c.finish-told.ensures.does journal).0
 
@@ -35,7 +35,7 @@ pub returns-clause-answer : goal.returns-clause-answer
 returns-clause-answer g c =
     let test : nat_le note_limit (length c.self.inside.journal.items) ≡ false = search rules in
     let new : BookView = record { state = c.finish-told.new.self; journal = map noted_of c.note.new.journal.items } in
-    let journal = journal-is noted_of c.self.inside.journal.items _ _ (caller.Worker c.args.worker) _ (Finish c.args.ticket (fitted c.finish-told.result)) _ _ c.note.ensures c.in_ok-make_room.ensures.items (ap (Finish c.args.ticket) c.fitted-fits.ensures) c.finish_reply-reply.ensures in
+    let journal = journal-is noted_of c.self.inside.journal.items _ _ (caller.Worker c.args.worker) _ (Finish c.args.ticket (fitted c.finish-told.result)) _ _ c.note.ensures c.in_ok-reserve_note.ensures.items (ap (Finish c.args.ticket) c.fitted-fits.ensures) c.finish_reply-reply.ensures in
     let room = has-room noted_of c.self.inside.journal.items test in
     answered new (caller.Worker c.args.worker) (Finish c.args.ticket (fitted c.finish-told.result)) _ c.self.view_is c.self.invariant room c.finish-told.ensures.does journal
 

@@ -20,24 +20,24 @@ returns-then-is_full-clause-answer g c =
     let test : nat_le note_limit (length c.self.inside.journal.items) ≡ true = search rules in
     is-full noted_of c.self.inside.journal.items (caller.Worker c.args.worker) (Finish c.args.ticket false) c.self.view_is c.self.invariant refl test
 
-pub returns-in_err-make_room-clause-answer : goal.returns-in_err-make_room-clause-answer
-returns-in_err-make_room-clause-answer g c =
+pub returns-in_err-reserve_note-clause-answer : goal.returns-in_err-reserve_note-clause-answer
+returns-in_err-reserve_note-clause-answer g c =
     let test : nat_le note_limit (length c.self.inside.journal.items) ≡ false = search rules in
     let told : c.from_residual.result ≡ Err refusals.Memory = search rules in
-    let new : BookView = record { state = c.self.inside.state; journal = map noted_of c.make_room.new.journal.items } in
-    subst (λ (r : Result (Option ℕ) (Refusal FinishFault)). AnswersOfRun c.args.self.now new (caller.Worker c.args.worker) c.args.ticket (told_of_run r)) (sym told) (as-it-was noted_of c.self.inside.journal.items c.make_room.new.journal.items (caller.Worker c.args.worker) (Finish c.args.ticket false) memory c.self.view_is refl c.in_err-make_room.ensures.items test refl)
+    let new : BookView = record { state = c.self.inside.state; journal = map noted_of c.reserve_note.new.journal.items } in
+    subst (λ (r : Result (Option ℕ) (Refusal FinishFault)). AnswersOfRun c.args.self.now new (caller.Worker c.args.worker) c.args.ticket (told_of_run r)) (sym told) (as-it-was noted_of c.self.inside.journal.items c.reserve_note.new.journal.items (caller.Worker c.args.worker) (Finish c.args.ticket false) memory c.self.view_is refl c.in_err-reserve_note.ensures.items test refl)
 
 pub returns-in_default-clause-answer : goal.returns-in_default-clause-answer
 returns-in_default-clause-answer g c =
     let test : nat_le note_limit (length c.self.inside.journal.items) ≡ false = search rules in
-    let still = as-it-was noted_of c.self.inside.journal.items c.make_room.new.journal.items (caller.Worker c.args.worker) (Finish c.args.ticket false) memory c.self.view_is refl c.in_ok-make_room.ensures.items test refl in
-    subst (λ (s : StateView). Answers c.args.self.now (record { state = s; journal = map noted_of c.make_room.new.journal.items }) (caller.Worker c.args.worker) (Finish c.args.ticket false) memory) (sym c.in_default.ensures.none) still
+    let still = as-it-was noted_of c.self.inside.journal.items c.reserve_note.new.journal.items (caller.Worker c.args.worker) (Finish c.args.ticket false) memory c.self.view_is refl c.in_ok-reserve_note.ensures.items test refl in
+    subst (λ (s : StateView). Answers c.args.self.now (record { state = s; journal = map noted_of c.reserve_note.new.journal.items }) (caller.Worker c.args.worker) (Finish c.args.ticket false) memory) (sym c.in_default.ensures.none) still
 
 pub invariant_of-self-2 : goal.invariant_of-self-2
 invariant_of-self-2 g c =
     let test : nat_le note_limit (length c.self.inside.journal.items) ≡ false = search rules in
     let new : BookView = record { state = c.finish_delivered.new.self; journal = map noted_of c.note.new.journal.items } in
-    let journal = journal-is noted_of c.self.inside.journal.items _ _ (caller.Worker c.args.worker) _ (Finish c.args.ticket (fitted c.in-Some.told)) _ _ c.note.ensures c.in_ok-make_room.ensures.items (ap (Finish c.args.ticket) c.fitted-fits.ensures) c.finish_reply-reply.ensures in
+    let journal = journal-is noted_of c.self.inside.journal.items _ _ (caller.Worker c.args.worker) _ (Finish c.args.ticket (fitted c.in-Some.told)) _ _ c.note.ensures c.in_ok-reserve_note.ensures.items (ap (Finish c.args.ticket) c.fitted-fits.ensures) c.finish_reply-reply.ensures in
     let room = has-room noted_of c.self.inside.journal.items test in
     (called _ new (caller.Worker c.args.worker) (Finish c.args.ticket (fitted c.in-Some.told)) _ c.self.invariant room c.in-Some.ensures.does journal).0
 
@@ -45,7 +45,7 @@ pub returns-clause-answer : goal.returns-clause-answer
 returns-clause-answer g c =
     let test : nat_le note_limit (length c.self.inside.journal.items) ≡ false = search rules in
     let new : BookView = record { state = c.finish_delivered.new.self; journal = map noted_of c.note.new.journal.items } in
-    let journal = journal-is noted_of c.self.inside.journal.items _ _ (caller.Worker c.args.worker) _ (Finish c.args.ticket (fitted c.in-Some.told)) _ _ c.note.ensures c.in_ok-make_room.ensures.items (ap (Finish c.args.ticket) c.fitted-fits.ensures) c.finish_reply-reply.ensures in
+    let journal = journal-is noted_of c.self.inside.journal.items _ _ (caller.Worker c.args.worker) _ (Finish c.args.ticket (fitted c.in-Some.told)) _ _ c.note.ensures c.in_ok-reserve_note.ensures.items (ap (Finish c.args.ticket) c.fitted-fits.ensures) c.finish_reply-reply.ensures in
     let room = has-room noted_of c.self.inside.journal.items test in
     subst (AnswersOfRun c.args.self.now new (caller.Worker c.args.worker) c.args.ticket) (sym c.of_left.ensures) (answered new (caller.Worker c.args.worker) (Finish c.args.ticket (fitted c.in-Some.told)) _ c.self.view_is c.self.invariant room c.in-Some.ensures.does journal)
 

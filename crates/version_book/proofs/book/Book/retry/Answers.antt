@@ -15,17 +15,17 @@ returns-then-is_full g c =
     let test : nat_le note_limit (length c.self.inside.journal.items) ≡ true = search rules in
     is-full noted_of c.self.inside.journal.items (caller.Session c.args.session) (Retry c.args.id) c.self.view_is c.self.invariant refl test
 
-pub returns-in_err-make_room : goal.returns-in_err-make_room
-returns-in_err-make_room g c =
+pub returns-in_err-reserve_note : goal.returns-in_err-reserve_note
+returns-in_err-reserve_note g c =
     let test : nat_le note_limit (length c.self.inside.journal.items) ≡ false = search rules in
     let told : c.from_residual.result ≡ Err refusals.Memory = search rules in
-    as-it-was noted_of c.self.inside.journal.items c.make_room.new.journal.items (caller.Session c.args.session) (Retry c.args.id) _ c.self.view_is refl c.in_err-make_room.ensures.items test (ap retry_answer told)
+    as-it-was noted_of c.self.inside.journal.items c.reserve_note.new.journal.items (caller.Session c.args.session) (Retry c.args.id) _ c.self.view_is refl c.in_err-reserve_note.ensures.items test (ap retry_answer told)
 
 pub invariant_of-self-2 : goal.invariant_of-self-2
 invariant_of-self-2 g c =
     let test : nat_le note_limit (length c.self.inside.journal.items) ≡ false = search rules in
     let new : BookView = record { state = c.retry-told.new.self; journal = map noted_of c.note.new.journal.items } in
-    let journal = journal-is noted_of c.self.inside.journal.items _ _ (caller.Session c.args.session) _ (Retry c.args.id) _ _ c.note.ensures c.in_ok-make_room.ensures.items refl c.retry_reply-reply.ensures in
+    let journal = journal-is noted_of c.self.inside.journal.items _ _ (caller.Session c.args.session) _ (Retry c.args.id) _ _ c.note.ensures c.in_ok-reserve_note.ensures.items refl c.retry_reply-reply.ensures in
     let room = has-room noted_of c.self.inside.journal.items test in
     (called _ new (caller.Session c.args.session) (Retry c.args.id) _ c.self.invariant room c.retry-told.ensures journal).0
 
@@ -33,6 +33,6 @@ pub returns : goal.returns
 returns g c =
     let test : nat_le note_limit (length c.self.inside.journal.items) ≡ false = search rules in
     let new : BookView = record { state = c.retry-told.new.self; journal = map noted_of c.note.new.journal.items } in
-    let journal = journal-is noted_of c.self.inside.journal.items _ _ (caller.Session c.args.session) _ (Retry c.args.id) _ _ c.note.ensures c.in_ok-make_room.ensures.items refl c.retry_reply-reply.ensures in
+    let journal = journal-is noted_of c.self.inside.journal.items _ _ (caller.Session c.args.session) _ (Retry c.args.id) _ _ c.note.ensures c.in_ok-reserve_note.ensures.items refl c.retry_reply-reply.ensures in
     let room = has-room noted_of c.self.inside.journal.items test in
     answered new (caller.Session c.args.session) (Retry c.args.id) _ c.self.view_is c.self.invariant room c.retry-told.ensures journal

@@ -11,7 +11,7 @@ returns-in_err-new-clause-history g c =
     let e : c.from_residual.result ≡ Err why.Memory = search rules in
     rw e (calls_nothing g.J.Naming.opening _ (caller.Session c.args.self.now.number) (DropScenario c.args.name.now))
 
-pub returns-in_err-make_room-clause-history : goal.returns-in_err-make_room-clause-history
-returns-in_err-make_room-clause-history g c =
-    let e : c.from_residual-in_err-make_room.result ≡ Err why.Memory = search rules in
+pub returns-in_err-reserve_call-clause-history : goal.returns-in_err-reserve_call-clause-history
+returns-in_err-reserve_call-clause-history g c =
+    let e : c.from_residual-in_err-reserve_call.result ≡ Err why.Memory = search rules in
     rw (← c.self.view_is, e) (calls_nothing g.J.Naming.opening _ (caller.Session c.self.inside.number) (DropScenario c.args.name.now))

@@ -5,8 +5,8 @@ use Rattle.version_book.specs.declared.refusal.Refusal.TheVariants as why
 use Rattle.workers.proofs.Tying.{views_nothing}
 use Rattle.workers.proofs.session.Session.view.Goals as goal
 
-pub returns-in_err-make_room-clause-history : goal.returns-in_err-make_room-clause-history
-returns-in_err-make_room-clause-history g c =
+pub returns-in_err-reserve_call-clause-history : goal.returns-in_err-reserve_call-clause-history
+returns-in_err-reserve_call-clause-history g c =
     let e : c.from_residual.result ≡ Err why.Memory = search rules in
     rw (← c.self.view_is, e) (views_nothing g.J.Naming.opening _ (caller.Session c.self.inside.number) c.args.id c.self.inside.seen)
 

@@ -1,7 +1,0 @@
-use denote.Param.Send.{sendable}
-use Rattle.easybook.proofs.crew.Part.TheSendSync as part
-use Rattle.easybook.proofs.crew.Place.TheSendSync as place
-use Rattle.easybook.proofs.crew.fn.run_crew.scope.Goals as goal
-
-pub spawn-requires-in-loop-part-send-F : goal.spawn-requires-in-loop-part-send-F
-spawn-requires-in-loop-part-send-F g c = λ κs h. search (sendable, part.the_send, place.the_sync, c.requires) depth 12

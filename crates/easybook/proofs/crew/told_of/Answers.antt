@@ -1,8 +1,0 @@
-use Rattle.std.proofs.Common.{◌≡◌, List, [], map, sym, ap, subst}
-use Rattle.workers.specs.Callers.{SessionView}
-use Rattle.easybook.specs.DeskRules.{AreAtDesk}
-use Rattle.easybook.proofs.Crews.{no_parts_of}
-use Rattle.easybook.proofs.crew.told_of.Goals as goal
-
-pub loop-part-init : goal.loop-part-init
-loop-part-init g c = no_parts_of g.row.A.Denot g.J.Naming.opening g.J.Works.comments g.J.Works.scripts c.in_ok-sessions.sessions.items (map (λ t. t.items) c.in_ok-texts.texts.items) c.in_ok-sessions.ensures.items (ap (map (λ t. t.items)) c.in_ok-texts.ensures.items)

@@ -1,0 +1,196 @@
+// Scripts side by side: a thread for each, and one for each worker.
+ghost use Rattle.std.specs.Prelude.{◌≡◌, IfOk, OnOk, map, vec_len};
+ghost use Rattle.version_book.specs.Book.{machine_of};
+ghost use Rattle.easybook.specs.Along.{AreAnsweredAlong};
+ghost use Rattle.easybook.specs.DeskRules.{AreAtDesk};
+
+use crate::part::{Part, Place};
+use crate::script_list::ScriptList;
+use crate::shared_fault::SharedFault;
+use crate::works::Works;
+use chronicle::{Naming, Unnamed};
+use std::alloc::Allocator;
+use std::sync::Wait;
+use std::thread;
+use std::thread::Threads;
+use swf_text::Memory;
+use version_book::Book;
+use workers::{CloseFault, Desk, Gate, Session, Worker, close};
+
+// This many parts, each with a new session.
+fn parts_of<A: Allocator + Copy, J: Naming + Works, R: Wait>(
+    rt: &R,
+    alloc: A,
+    desk: &Desk<A, J>,
+    count: usize,
+) -> Result<Vec<Part<A, J>, A>, Memory>
+    ensures { IfOk result (λ parts. vec_len parts ≡ count) }
+{
+    let mut parts = Vec::with_capacity(alloc, count)?;
+    for _ in 0..count {
+        let Some(session) = desk.open_session(rt) else {
+            return Err(Memory);
+        };
+        parts.push(Part::new(session))?;
+    }
+    Ok(parts)
+}
+
+// This many workers. Memory also where the desk opens no further one.
+fn workers_of<A: Allocator + Copy, J: Naming, R: Wait>(
+    rt: &R,
+    alloc: A,
+    desk: &Desk<A, J>,
+    count: u32,
+) -> Result<Vec<Worker<A>, A>, Memory>
+    ensures { IfOk result (λ workers. vec_len workers ≡ count) }
+{
+    let mut workers = Vec::with_capacity(alloc, count as usize)?;
+    for _ in 0..count {
+        let Some(worker) = desk.open_worker(rt) else {
+            return Err(Memory);
+        };
+        workers.push(worker)?;
+    }
+    Ok(workers)
+}
+
+// Works all parts and runs the workers, each on a thread of its own; once all parts have ended the desk
+// is stopped, and the workers end. False where a thread could not be started, or memory ran out for
+// that: the desk is then stopped at once.
+fn run_threads<
+    A: Allocator + Copy + Send + Sync,
+    J: Naming + Works + Send + Sync,
+    R: Threads + Wait + Sync,
+    G: Gate + Sync,
+>(
+    rt: &R,
+    alloc: A,
+    place: &Place<'_, A, J, R>,
+    parts: &mut Vec<Part<A, J>, A>,
+    workers: &mut Vec<Worker<A>, A>,
+    gate: &G,
+) -> bool {
+    thread::scope(thread::scope_env(), rt, |scope| {
+        let mut all = true;
+        for worker in workers.iter_mut() {
+            if scope.spawn(move || place.run(worker, gate)).is_err() {
+                all = false;
+            }
+        }
+        let mut handles = Vec::new(alloc);
+        for part in parts.iter_mut() {
+            match scope.spawn(move || part.work(place)) {
+                Ok(handle) => {
+                    if handles.push(handle).is_err() {
+                        all = false;
+                    }
+                }
+                Err(_) => all = false,
+            }
+        }
+        if !all {
+            place.stop();
+        }
+        for handle in handles {
+            handle.join(rt);
+        }
+        place.stop();
+        all
+    })
+}
+
+// Takes the session and the text of the next part. Memory where it has none, or a list cannot grow;
+// Mismatch where the session does not have the number of its place, which does not happen.
+fn take_part<A: Allocator + Copy, J: Naming + Works>(
+    sessions: &mut Vec<Session<A, J>, A>,
+    texts: &mut Vec<Vec<u8, A>, A>,
+    part: Part<A, J>,
+) -> Result<(), SharedFault>
+    requires { AreAtDesk A J.opening J.comments J.scripts sessions.old.items (map (λ t. t.items) texts.old.items) }
+    ensures { OnOk result (AreAtDesk A J.opening J.comments J.scripts sessions.new.items (map (λ t. t.items) texts.new.items)) }
+{
+    let Some(answered) = part.into_answered() else {
+        return Err(SharedFault::Memory);
+    };
+    let (session, text) = answered.into_both();
+    if session.number() != texts.len() as u64 {
+        return Err(SharedFault::Close(CloseFault::Mismatch));
+    }
+    sessions.push(session)?;
+    texts.push(text)?;
+    Ok(())
+}
+
+/// The sessions, and the text that the script of each produced.
+#[derive(Drop)]
+struct Outputs<A: Allocator + Copy, J: Naming> {
+    sessions: Vec<Session<A, J>, A>,
+    texts: Vec<Vec<u8, A>, A>,
+}
+
+// The sessions and the texts of all parts, in their order.
+fn outputs_of<A: Allocator + Copy, J: Naming + Works>(
+    alloc: A,
+    parts: Vec<Part<A, J>, A>,
+) -> Result<Outputs<A, J>, SharedFault>
+    ensures { IfOk result (λ outputs. AreAtDesk A J.opening J.comments J.scripts outputs.sessions.items (map (λ t. t.items) outputs.texts.items)) }
+{
+    let mut sessions = Vec::with_capacity(alloc, parts.len())?;
+    let mut texts = Vec::with_capacity(alloc, parts.len())?;
+    for part in parts {
+        take_part(&mut sessions, &mut texts, part)?;
+    }
+    Ok(Outputs { sessions, texts })
+}
+
+// Works scripts side by side on a book, each with a session of its own, while this many workers
+// simulate, and returns the text that each script produced, in the scripts' order. There are at most 64
+// scripts and 64 workers; the comments are those of the log, which `save` writes. The gate is called
+// before and after each simulation.
+//
+// Memory where a growth for this, or the start of a thread, is refused, or where there are more than
+// 64 scripts or workers; every thread has then ended.
+// Close where the callers' lists are not the book's history, or a session does not have the number of
+// its script, which does not happen.
+pub(crate) fn run_scripts<
+    A: Allocator + Copy + Send + Sync,
+    J: Naming + Works + Send + Sync,
+    R: Threads + Wait + Sync,
+    G: Gate + Sync,
+>(
+    rt: &R,
+    alloc: A,
+    book: Book<A>,
+    unnamed: Unnamed,
+    comments: &[Vec<u8, A>],
+    scripts: &[Vec<u8, A>],
+    workers: u32,
+    gate: &G,
+) -> Result<Vec<Vec<u8, A>, A>, SharedFault>
+    requires name { unnamed ≡ J.book }
+    requires opening { J.opening ≡ machine_of book }
+    requires comments { J.comments ≡ map (λ c. c.items) comments.now }
+    requires scripts { J.scripts ≡ map (λ s. s.items) scripts.now }
+    ensures { IfOk result (λ texts. AreAnsweredAlong A (map (λ c. c.items) comments.now) (machine_of book) (map (λ s. s.items) scripts.now) (map (λ t. t.items) texts.items)) }
+{
+    let desk = Desk::<A, J>::new(alloc, book, unnamed);
+    let list = ScriptList::<A, J>::new(comments, scripts);
+    let mut parts = parts_of(rt, alloc, &desk, list.count())?;
+    let mut pool = workers_of(rt, alloc, &desk, workers)?;
+    let place = Place {
+        rt,
+        alloc,
+        desk: &desk,
+        scripts: &list,
+    };
+    let are_started = run_threads(rt, alloc, &place, &mut parts, &mut pool, gate);
+    let Outputs { sessions, texts } = outputs_of(alloc, parts)?;
+    if !are_started || texts.len() != list.count() {
+        return Err(SharedFault::Memory);
+    }
+    match close(desk, sessions, pool) {
+        Ok(_) => Ok(texts),
+        Err((fault, _, _, _)) => Err(SharedFault::Close(fault)),
+    }
+}
