@@ -1,5 +1,5 @@
-//! Tests of the book machine and its plain program, in a crate of their own so that these are proved
-//! once.
+//! Tests of the version book and of the plain program that judges it: histories that are worked by hand,
+//! each call of which goes on as it should where one growth after another is refused.
 #![tactic(auto)]
 
 #[cfg(test)]
@@ -7,6 +7,4 @@ mod histories;
 #[cfg(test)]
 mod player;
 #[cfg(test)]
-mod refused;
-#[cfg(test)]
-mod sizes;
+mod rows;

@@ -1,209 +1,245 @@
-use book_machine::{Call, Caller, Name, Note, NotedEdit, Reply};
-use job_table::{Edit, EditFault, JobTable};
-use plain_book::PlainBook;
-use scenarios::{AddFault, Scenario, ScenarioId};
-use std::alloc::Global;
-use swf_text::{Value, read_swf};
+use crate::rows::{LONG, Said, Told};
+use checking::{FOUR, Written, edit_of, shared_table, table_of};
+use checkpoints::{Run, simulate};
+use refusing::Outcome;
+use rejoin::Work;
+use scenarios::{Scenario, ScenarioId};
+use std::alloc::Allocator;
+use std::sync::Arc;
+use swf_text::Memory;
+use version_book::{Book, FinishRefusal, Named, Published, Refusal, Task};
 
-/// Jobs of sizes 6, 8, 4 and 2 at 0 to 3.
-const FOUR: &[u8] = b"1 0 -1 100 6 -1 -1 6 100 -1 1 7 -1 -1 -1 -1 -1 -1
-2 1 -1 50 8 -1 -1 8 50 -1 1 8 -1 -1 -1 -1 -1 -1
-3 2 -1 90 4 -1 -1 4 90 -1 1 7 -1 -1 -1 -1 -1 -1
-4 3 -1 500 2 -1 -1 2 500 -1 1 8 -1 -1 -1 -1 -1 -1
-";
+/// What is told where a growth is refused.
+const MEMORY: Told = Told::Refused("Memory");
 
-/// A fifth job.
-const FIFTH: &[u8] = b"5 4 -1 500 2 -1 -1 2 500 -1 1 8 -1 -1 -1 -1 -1 -1\n";
-
-/// What is called. Scenarios are named by how many were added before them.
-#[derive(Clone, Copy, Drop)]
-pub(crate) enum Said {
-    /// The fifth job joins the log.
-    Insert,
-    /// The job with this number leaves it.
-    Remove(u64),
-    /// The third field of job 1 gets this value.
-    Change(u64),
-    Add(&'static str),
-    DropNamed(&'static str),
-    Retry(usize),
-    Claim,
-    Finish(u64, bool),
-    GiveUp(u64),
-    View(usize, u64),
-}
-
-/// What is told, with ids by their numbers.
-#[derive(Clone, Copy, Debug, PartialEq, Eq)]
-pub(crate) enum Told {
-    Edited(u64),
-    EditRefused(EditFault),
-    Added(u32),
-    AddRefused(AddFault),
-    Dropped(u32),
-    NoSuchScenario,
-    Retried,
-    NoneDue,
-    /// Ticket, scenario, version and base.
-    Claimed(u64, u32, u64, Option<u64>),
-    TooManyTickets,
-    Finished(u64),
-    UnknownTicket,
-    Stranger,
-    Stale(u64),
-    GivenUp,
-    NotYet,
-    Behind(u64, u64),
-    Shown(u64),
-}
-
-// A reply with the numbers of its ids.
-fn answer(reply: &Reply) -> Told {
-    match reply {
-        Reply::Edited { version } => Told::Edited(*version),
-        Reply::EditRefused(fault) => Told::EditRefused(*fault),
-        Reply::Added { id } => Told::Added(id.number()),
-        Reply::AddRefused(fault) => Told::AddRefused(*fault),
-        Reply::Dropped { id } => Told::Dropped(id.number()),
-        Reply::NoSuchScenario => Told::NoSuchScenario,
-        Reply::Retried => Told::Retried,
-        Reply::NoneDue => Told::NoneDue,
-        Reply::Claimed {
-            ticket,
-            id,
-            version,
-            base,
-        } => Told::Claimed(*ticket, id.number(), *version, *base),
-        Reply::TooManyTickets => Told::TooManyTickets,
-        Reply::Finished { version } => Told::Finished(*version),
-        Reply::UnknownTicket => Told::UnknownTicket,
-        Reply::Stranger => Told::Stranger,
-        Reply::Stale { published } => Told::Stale(*published),
-        Reply::GivenUp => Told::GivenUp,
-        Reply::NotYet => Told::NotYet,
-        Reply::Behind { seen, found } => Told::Behind(*seen, *found),
-        Reply::Shown { version } => Told::Shown(*version),
-    }
-}
-
-/// The log of the four jobs.
-pub(crate) fn four_jobs(alloc: Global) -> Option<JobTable<Global>> {
-    let text = read_swf(alloc, FOUR).ok()?;
-    JobTable::from_text(alloc, &text).ok()
-}
-
-// The edit that inserts the fifth job.
-fn insertion(alloc: Global) -> Option<Edit<Global>> {
-    let text = read_swf(alloc, FIFTH).ok()?;
-    let entry = text.entries().first()?.copy().ok()?;
-    Some(Edit::Insert(entry))
-}
-
-// The value of this many seconds, at most 999.
-fn seconds(count: u64) -> Option<Value> {
-    let digits = [
-        b'0' + (count / 100 % 10) as u8,
-        b'0' + (count / 10 % 10) as u8,
-        b'0' + (count % 10) as u8,
-    ];
-    Value::from_bytes(&digits)
-}
-
-// The call of an edit.
-fn edit_call(alloc: Global, edit: &Edit<Global>) -> Option<Call<Global>> {
-    Some(Call::Edit(NotedEdit::new(alloc, edit).ok()?))
-}
-
-// The call of a scenario on ten processors.
-fn add_call(alloc: Global, name: &str) -> Option<Call<Global>> {
-    Some(Call::AddScenario {
-        name: Name::new(alloc, name).ok()?,
-        scenario: Scenario::new(10, 1000)?,
-    })
-}
-
-// The call that is said, where these ids were given so far.
-fn call_of(alloc: Global, said: Said, ids: &[ScenarioId]) -> Option<Call<Global>> {
-    match said {
-        Said::Insert => edit_call(alloc, &insertion(alloc)?),
-        Said::Remove(number) => edit_call(alloc, &Edit::Remove(number)),
-        Said::Change(count) => {
-            let value = seconds(count)?;
-            edit_call(
-                alloc,
-                &Edit::Change {
-                    number: 1,
-                    field: 3,
-                    value,
-                },
-            )
-        }
-        Said::Add(name) => add_call(alloc, name),
-        Said::DropNamed(name) => Some(Call::DropScenario {
-            name: Name::new(alloc, name).ok()?,
-        }),
-        Said::Retry(place) => Some(Call::Retry {
-            id: *ids.get(place)?,
-        }),
-        Said::Claim => Some(Call::Claim),
-        Said::Finish(ticket, fits) => Some(Call::Finish { ticket, fits }),
-        Said::GiveUp(ticket) => Some(Call::GiveUp { ticket }),
-        Said::View(place, seen) => Some(Call::View {
-            id: *ids.get(place)?,
-            seen,
-        }),
-    }
-}
-
-/// A plain book, the ids that it gave, and the notes of its calls.
+/// A book, the ids that it gave, and its tasks.
 #[derive(Drop)]
-pub(crate) struct Player {
-    pub(crate) book: PlainBook<Global>,
-    ids: Vec<ScenarioId>,
-    pub(crate) notes: Vec<Note<Global>>,
+pub(crate) struct Player<A: Allocator + Copy> {
+    pub(crate) alloc: A,
+    pub(crate) book: Book<A>,
+    ids: Vec<ScenarioId, A>,
+    tasks: Vec<Task<A>, A>,
 }
 
-impl Player {
-    /// A plain book of the four jobs.
-    pub(crate) fn new(alloc: Global) -> Option<Player> {
+// What is told of a call that is refused.
+fn refused<F: Named>(refusal: &Refusal<F>) -> Told {
+    Told::Refused(refusal.name())
+}
+
+// What a claim is told of a task: its ticket and version, and the base's version and edits.
+fn of_task<A: Allocator + Copy>(task: &Task<A>) -> Told {
+    let base = task.base().map(|base| (base.version(), base.edits().len()));
+    Told::Claimed(task.ticket(), task.version(), base)
+}
+
+// What a task makes.
+fn of_work<A: Allocator + Copy>(made: Result<(Arc<Run<A>, A>, Option<Work>), Memory>) -> Told {
+    match made {
+        Ok((_run, work)) => Told::Made(work.map(|work| (work.handled, work.reused))),
+        Err(Memory) => MEMORY,
+    }
+}
+
+// What is told of a run that is handed in.
+fn of_finish(finished: Result<u64, FinishRefusal>) -> Told {
+    match finished {
+        Ok(version) => Told::Number(version),
+        Err(refusal) => refused(&refusal),
+    }
+}
+
+// What is told of a run that is shown.
+fn of_view<A: Allocator + Copy>(published: &Published<A>) -> Told {
+    match published.copy() {
+        Ok(copy) => Told::Number(copy.version()),
+        Err(Memory) => MEMORY,
+    }
+}
+
+// The run of another log, shared; none where memory is short.
+fn other_run<A: Allocator + Copy>(alloc: A) -> Option<Arc<Run<A>, A>> {
+    let table = shared_table(alloc, FOUR)?;
+    Arc::new(
+        alloc,
+        simulate(alloc, table, Scenario::new(10, 1000)?, 1).ok()?,
+    )
+    .ok()
+}
+
+impl<A: Allocator + Copy> Player<A> {
+    /// A book of two jobs, a segment of which has one event second; none where memory is short.
+    pub(crate) fn new(alloc: A) -> Option<Player<A>> {
         Some(Player {
-            book: PlainBook::new(alloc, four_jobs(alloc)?),
-            ids: Vec::new(alloc),
-            notes: Vec::new(alloc),
+            alloc,
+            book: Book::new(alloc, table_of(alloc, LONG)?, 1).ok()?,
+            ids: Vec::with_capacity(alloc, 2).ok()?,
+            tasks: Vec::with_capacity(alloc, 4).ok()?,
         })
     }
 
-    /// Makes a call, and answers what it was told.
-    pub(crate) fn say(&mut self, alloc: Global, said: Said) -> Option<Told> {
-        let call = call_of(alloc, said, self.ids.as_slice())?;
-        let reply = self.book.step(&call).ok()?;
-        if let Reply::Added { id } = reply {
-            self.ids.push(id).ok()?;
+    fn edit(&mut self, written: Written) -> Told {
+        let Some(edit) = edit_of(self.alloc, written) else {
+            return MEMORY;
+        };
+        match self.book.edit(7, &edit) {
+            Ok(version) => Told::Number(version),
+            Err(refusal) => refused(&refusal),
         }
-        let caller = Caller::Session(0);
-        self.notes
-            .push(Note {
-                caller,
-                call,
-                reply,
-            })
-            .ok()?;
-        Some(answer(&reply))
     }
 
-    /// Makes these calls, and answers whether each is told what stands beside it.
-    pub(crate) fn plays(&mut self, alloc: Global, rows: &[(Said, Told)]) -> Option<bool> {
-        for (said, want) in rows {
-            if self.say(alloc, *said)? != *want {
-                return Some(false);
+    fn add(&mut self, name: &str) -> Told {
+        let Some(scenario) = Scenario::new(10, 1000) else {
+            return Told::Nothing;
+        };
+        match self.book.add_scenario(7, name, scenario) {
+            Ok(id) => self.keep_id(id),
+            Err(refusal) => refused(&refusal),
+        }
+    }
+
+    fn keep_id(&mut self, id: ScenarioId) -> Told {
+        match self.ids.push(id) {
+            Ok(()) => Told::Number(u64::from(id.number())),
+            Err(_) => Told::Nothing,
+        }
+    }
+
+    fn drop_named(&mut self, name: &str) -> Told {
+        match self.book.drop_scenario(7, name) {
+            Ok(id) => Told::Number(u64::from(id.number())),
+            Err(refusal) => refused(&refusal),
+        }
+    }
+
+    fn retry(&mut self, place: usize) -> Told {
+        let Some(id) = self.ids.get(place) else {
+            return Told::Nothing;
+        };
+        match self.book.retry(7, *id) {
+            Ok(()) => Told::Done,
+            Err(refusal) => refused(&refusal),
+        }
+    }
+
+    fn view(&mut self, place: usize, seen: u64) -> Told {
+        let Some(id) = self.ids.get(place) else {
+            return Told::Nothing;
+        };
+        match self.book.view(7, *id, seen) {
+            Ok(published) => of_view(&published),
+            Err(refusal) => refused(&refusal),
+        }
+    }
+
+    fn claim(&mut self) -> Told {
+        match self.book.claim(1) {
+            Ok(Some(task)) => self.keep(task),
+            Ok(None) => Told::Nothing,
+            Err(refusal) => refused(&refusal),
+        }
+    }
+
+    fn keep(&mut self, task: Task<A>) -> Told {
+        let told = of_task(&task);
+        match self.tasks.push(task) {
+            Ok(()) => told,
+            Err(_) => Told::Nothing,
+        }
+    }
+
+    // The task of a ticket, at its place.
+    fn task(&mut self, ticket: u64) -> Option<&mut Task<A>> {
+        self.tasks.get_mut(ticket.wrapping_sub(1) as usize)
+    }
+
+    fn deliver(&mut self, ticket: u64) -> Told {
+        match self.task(ticket) {
+            Some(task) => of_work(task.deliver()),
+            None => Told::Nothing,
+        }
+    }
+
+    // The run that a ticket's task makes; none where memory is short.
+    fn run(&mut self, ticket: u64) -> Option<Arc<Run<A>, A>> {
+        let (run, _work) = self.task(ticket)?.work().ok()?;
+        Some(run)
+    }
+
+    fn finish(&mut self, ticket: u64, run: Option<Arc<Run<A>, A>>) -> Told {
+        match run {
+            Some(run) => of_finish(self.book.finish(1, ticket, run)),
+            None => MEMORY,
+        }
+    }
+
+    fn finish_own(&mut self, ticket: u64) -> Told {
+        let run = self.run(ticket);
+        self.finish(ticket, run)
+    }
+
+    fn hand_in(&mut self, ticket: u64) -> Told {
+        match self.run(ticket) {
+            Some(run) => of_finish(self.book.hand_in(1, ticket, run)),
+            None => MEMORY,
+        }
+    }
+
+    fn finish_left(&mut self, ticket: u64) -> Told {
+        match self.book.finish_delivered(2, ticket) {
+            Ok(Some(version)) => Told::Number(version),
+            Ok(None) => Told::Nothing,
+            Err(refusal) => refused(&refusal),
+        }
+    }
+
+    fn give_up(&mut self, ticket: u64) -> Told {
+        match self.book.give_up(1, ticket) {
+            Ok(()) => Told::Done,
+            Err(refusal) => refused(&refusal),
+        }
+    }
+
+    fn told(&mut self, said: Said) -> Told {
+        match said {
+            Said::Edit(written) => self.edit(written),
+            Said::Add(name) => self.add(name),
+            Said::DropNamed(name) => self.drop_named(name),
+            Said::Retry(place) => self.retry(place),
+            Said::View(place, seen) => self.view(place, seen),
+            Said::Claim => self.claim(),
+            Said::Deliver(ticket) => self.deliver(ticket),
+            Said::Finish(ticket) => self.finish_own(ticket),
+            Said::HandIn(ticket) => self.hand_in(ticket),
+            Said::FinishOther(ticket) => self.finish(ticket, other_run(self.alloc)),
+            Said::FinishLeft(ticket) => self.finish_left(ticket),
+            Said::GiveUp(ticket) => self.give_up(ticket),
+            Said::Settled(seen) => Told::Settled(self.book.settled(seen)),
+        }
+    }
+
+    /// Whether so many calls leave as many notes.
+    pub(crate) fn has_notes(&mut self, notes: usize) -> bool {
+        for _ in 0..notes {
+            if self.drop_named("none") == MEMORY {
+                return false;
             }
         }
-        Some(true)
+        self.book.journal().len() == notes
     }
-}
 
-/// Whether a new plain book tells each of these calls what stands beside it.
-pub(crate) fn plays(alloc: Global, rows: &[(Said, Told)]) -> Option<bool> {
-    let mut player = Player::new(alloc)?;
-    player.plays(alloc, rows)
+    /// Says all this in turn, each once more where it is told want of memory.
+    pub(crate) fn plays(&mut self, rows: &[(Said, Told)]) -> Outcome {
+        let mut outcome = Outcome::Right;
+        for (said, want) in rows {
+            let mut told = self.told(*said);
+            if told == MEMORY {
+                outcome = Outcome::Memory;
+                told = self.told(*said);
+            }
+            if told != *want {
+                return Outcome::Wrong;
+            }
+        }
+        outcome
+    }
 }

@@ -1,142 +1,74 @@
 // The machine's state: who joins, starts and leaves, and what its readers answer.
-ghost use Rattle.std.specs.Prelude.{◌<◌, ◌^◌};
-
+use crate::decisions::decides_behind;
 use crate::engines::are;
-use crate::logs::{NOTED, four_jobs};
-use cluster_state::{Cluster, RunningByEnd, RunningNumber, Snapshot, Waiting};
-use easy_rule::decide;
+use crate::logs::{NOTED, four_jobs, told};
+use checking::table_of;
+use cluster_state::{Cluster, Offer, RunningByEnd, RunningNumber, Snapshot, Waiting};
+use easy_rule::{Shadow, decide, shadow, shadow_counted};
 use job_table::JobTable;
 use refusing::Outcome;
-use scenarios::{Job, Order, Placed, Scenario};
+use scenarios::{Job, Scenario};
 use std::alloc::Allocator;
-use swf_text::{Memory, SwfText, read_swf};
+use swf_text::Memory;
 
-/// What a cluster's readers answer, of at most four jobs.
-#[derive(Clone, Copy, PartialEq, Eq)]
-struct Looks {
-    free: u64,
-    order: Order,
-    next_end: Option<u64>,
-    count: usize,
-    waiting: [Option<Job>; 4],
-    first: Option<Job>,
-    later: [Option<Job>; 4],
-    running: [Option<(u64, u64)>; 4],
-    by_end: [Option<Placed>; 4],
+/// What is done with a log's four jobs.
+#[derive(Clone, Copy)]
+pub(crate) enum Deed {
+    DecideBehind,
+    Restore,
+    StartTwo,
 }
 
-// The first four of some waiting jobs.
-fn four_of(mut jobs: Waiting<'_>) -> [Option<Job>; 4] {
-    [
-        jobs.next().copied(),
-        jobs.next().copied(),
-        jobs.next().copied(),
-        jobs.next().copied(),
-    ]
-}
+/// Two jobs run until 100, for which a third waits, and what it leaves is enough for a fourth.
+const TWO_END: &[u8] = b"1 0 -1 100 4 -1 -1 4 100 -1 1 7 -1 -1 -1 -1 -1 -1
+2 0 -1 100 4 -1 -1 4 100 -1 1 7 -1 -1 -1 -1 -1 -1
+3 1 -1 10 5 -1 -1 5 10 -1 1 7 -1 -1 -1 -1 -1 -1
+4 2 -1 500 2 -1 -1 2 500 -1 1 7 -1 -1 -1 -1 -1 -1
+";
 
-// The first four of those that run.
-fn four_placed<A: Allocator + Copy>(mut placed: RunningByEnd<'_, A>) -> [Option<Placed>; 4] {
-    [
-        placed.next().copied(),
-        placed.next().copied(),
-        placed.next().copied(),
-        placed.next().copied(),
-    ]
-}
+/// On ten processors job 2 waits for job 1, until 100; jobs 3 and 4 come at 2.
+const BEHIND: &[u8] = b"1 0 -1 100 6 -1 -1 6 100 -1 1 7 -1 -1 -1 -1 -1 -1
+2 1 -1 50 8 -1 -1 8 50 -1 1 8 -1 -1 -1 -1 -1 -1
+3 2 -1 500 2 -1 -1 2 500 -1 1 7 -1 -1 -1 -1 -1 -1
+4 2 -1 98 2 -1 -1 2 98 -1 1 8 -1 -1 -1 -1 -1 -1
+";
 
-/// The number and the start of a running job, by its place.
-pub(crate) fn runs_at<A: Allocator + Copy>(
-    cluster: &Cluster<A>,
-    place: usize,
-) -> Option<(u64, u64)> {
-    match cluster.running_at(place) {
-        Some((job, start)) => Some((job.number(), start)),
-        None => None,
-    }
-}
-
-fn looks_of<A: Allocator + Copy>(cluster: &Cluster<A>) -> Looks {
-    Looks {
-        free: cluster.free(),
-        order: cluster.order(),
-        next_end: cluster.next_end(),
-        count: cluster.waiting_count(),
-        waiting: four_of(cluster.waiting()),
-        first: cluster.waiting_at(0).copied(),
-        later: four_of(cluster.arrived_since(1)),
-        running: [
-            runs_at(cluster, 0),
-            runs_at(cluster, 1),
-            runs_at(cluster, 2),
-            runs_at(cluster, 3),
-        ],
-        by_end: four_placed(cluster.running_by_end()),
-    }
-}
-
-// A job joins the queue; where memory is short, all readers answer what they did.
-fn joins<A: Allocator + Copy>(cluster: &mut Cluster<A>, job: Job) -> Outcome {
-    if !cluster.can_arrive(&job) {
-        return Outcome::Wrong;
-    }
-    let before = looks_of(cluster);
-    match cluster.arrive(job) {
-        Ok(()) => Outcome::Right,
-        Err(Memory) => Outcome::memory_if(looks_of(cluster) == before),
-    }
-}
-
-/// Jobs join the queue, one after another.
-pub(crate) fn all_join<A: Allocator + Copy>(cluster: &mut Cluster<A>, jobs: &[Job]) -> Outcome {
+/// Whether jobs may join the queue, which they then do.
+pub(crate) fn all_join<A: Allocator + Copy>(
+    cluster: &mut Cluster<A>,
+    jobs: &[Job],
+) -> Result<bool, Memory> {
     for job in jobs {
-        let told = joins(cluster, *job);
-        if told != Outcome::Right {
-            return told;
+        if !cluster.can_arrive(job) {
+            return Ok(false);
+        }
+        cluster.arrive(*job)?;
+    }
+    Ok(true)
+}
+
+// Whether these are the numbers of the waiting jobs.
+fn wait(mut jobs: Waiting<'_>, numbers: &[u64]) -> bool {
+    for number in numbers {
+        if jobs.next().map(|job| job.number()) != Some(*number) {
+            return false;
         }
     }
-    Outcome::Right
+    jobs.next().is_none()
 }
 
-// At second 3 the first and the third of four waiting jobs start; where memory is short, all readers
-// answer what they did.
-fn decides_once<A: Allocator + Copy>(alloc: A, cluster: &mut Cluster<A>) -> Outcome {
-    let before = looks_of(cluster);
-    match decide(alloc, cluster, 3) {
-        Ok(starts) => Outcome::right_if(are(&starts, &[(1, 3), (3, 3)])),
-        Err(Memory) => Outcome::memory_if(looks_of(cluster) == before),
+// Whether these are the numbers and the starts of the running jobs.
+fn run<A: Allocator + Copy>(mut jobs: RunningByEnd<'_, A>, wanted: &[(u64, u64)]) -> bool {
+    for want in wanted {
+        if jobs
+            .next()
+            .map(|placed| (placed.job.number(), placed.start))
+            != Some(*want)
+        {
+            return false;
+        }
     }
-}
-
-// All four jobs join, and then it is decided.
-fn all_join_and_start<A: Allocator + Copy>(
-    alloc: A,
-    jobs: &[Job; 4],
-    scenario: &Scenario,
-) -> Outcome {
-    let mut cluster = Cluster::for_scenario(alloc, scenario);
-    match all_join(&mut cluster, jobs) {
-        Outcome::Right => decides_once(alloc, &mut cluster),
-        told => told,
-    }
-}
-
-/// Of the log's jobs, which all wait, two start.
-pub(crate) fn decides<A: Allocator + Copy>(alloc: A, scenario: &Scenario) -> Outcome {
-    let Ok(text) = read_swf(alloc, NOTED) else {
-        return Outcome::Before;
-    };
-    match four_jobs(&text, scenario) {
-        Some(jobs) => all_join_and_start(alloc, &jobs, scenario),
-        None => Outcome::Wrong,
-    }
-}
-
-// Whether the waiting job of this number starts.
-fn begins<A: Allocator + Copy>(cluster: &mut Cluster<A>, number: u64, second: u64) -> bool
-    requires { second < 2 ^ 49 }
-{
-    cluster.can_start(number) && cluster.start(number, second).is_ok()
+    jobs.next().is_none()
 }
 
 // Whether a snapshot has job 1 running since second 0, and the other three waiting.
@@ -147,74 +79,140 @@ fn is_of_one<A: Allocator + Copy>(snapshot: &Snapshot<A>) -> bool {
     };
     snapshot.waiting().eq(&[2, 3, 4])
         && snapshot.running().eq(&[one])
-        && snapshot.holds(1)
-        && snapshot.holds(4)
-        && !snapshot.holds(5)
+        && (snapshot.holds(1), snapshot.holds(4), snapshot.holds(5)) == (true, true, false)
 }
 
-// Whether a snapshot gives the cluster back, with all that its readers answer.
+// Whether a snapshot gives the cluster back of which it is.
 fn gives_back<A: Allocator + Copy>(
     alloc: A,
-    cluster: &Cluster<A>,
     snapshot: &Snapshot<A>,
     table: &JobTable<A>,
-    scenario: &Scenario,
+    scenario: Scenario,
 ) -> Result<bool, Memory> {
-    if !is_of_one(snapshot) || !snapshot.fits(table, scenario) {
+    if !is_of_one(snapshot) || !snapshot.fits(table, &scenario) {
         return Ok(false);
     }
-    let again = Cluster::restore(alloc, snapshot, table, scenario)?;
-    Ok(looks_of(&again) == looks_of(cluster) && again.snapshot()?.same(snapshot))
+    let again = Cluster::restore(alloc, snapshot, table, &scenario)?;
+    let reads = wait(again.waiting(), &[2, 3, 4]) && run(again.running_by_end(), &[(1, 0)]);
+    Ok(reads && again.order() == scenario.order() && again.snapshot()?.same(snapshot))
 }
 
-// A copy of a cluster's snapshot.
-fn copied<A: Allocator + Copy>(cluster: &Cluster<A>) -> Result<Snapshot<A>, Memory> {
+// A copy of the snapshot of a cluster in which the first of these jobs runs, and the others wait.
+fn snapshot_of<A: Allocator + Copy>(
+    cluster: &mut Cluster<A>,
+    jobs: &[Job],
+) -> Result<Snapshot<A>, Memory> {
+    if all_join(cluster, jobs)? && cluster.can_start(1) {
+        cluster.start(1, 0)?;
+    }
     cluster.snapshot()?.copy()
 }
 
-// The cluster is restored from a copy of its snapshot.
-fn copies_and_restores<A: Allocator + Copy>(
-    alloc: A,
-    cluster: &Cluster<A>,
-    table: &JobTable<A>,
-    scenario: &Scenario,
-) -> Result<bool, Memory> {
-    gives_back(alloc, cluster, &copied(cluster)?, table, scenario)
+// Both waiting jobs start at second 0, one after the other, with room for both.
+fn both_start<A: Allocator + Copy>(cluster: &mut Cluster<A>) -> Result<bool, Memory> {
+    cluster.reserve_starts(2)?;
+    let first = cluster.start_head(0);
+    let second = cluster.start_head(0);
+    Ok(first.is_some() && second.is_some())
 }
 
-// The first of four jobs runs, and the others wait.
-fn restores_at_work<A: Allocator + Copy>(
-    alloc: A,
-    jobs: &[Job; 4],
-    table: &JobTable<A>,
-    scenario: &Scenario,
-) -> Outcome {
-    let mut cluster = Cluster::for_scenario(alloc, scenario);
-    if all_join(&mut cluster, jobs) != Outcome::Right || !begins(&mut cluster, 1, 0) {
-        return Outcome::Before;
-    }
-    match copies_and_restores(alloc, &cluster, table, scenario) {
-        Ok(is_back) => Outcome::right_if(is_back),
-        Err(Memory) => Outcome::Memory,
-    }
+// Whether jobs 1 and 2 run, and jobs 3 and 4 wait.
+fn has_two_and_two<A: Allocator + Copy>(cluster: &Cluster<A>) -> bool {
+    run(cluster.running_by_end(), &[(1, 0), (2, 0)])
+        && (
+            cluster.running_at(1).is_some(),
+            cluster.running_at(2).is_some(),
+        ) == (true, false)
+        && wait(cluster.waiting(), &[3, 4])
+        && wait(cluster.arrived_since(1), &[4])
+        && cluster.waiting_at(1).map(|job| job.number()) == Some(4)
+        && (cluster.waiting_count(), cluster.free(), cluster.next_end()) == (2, 2, Some(100))
 }
 
-// The same, with the jobs of a text.
-fn restores_of<A: Allocator + Copy>(alloc: A, text: &SwfText<A>, scenario: &Scenario) -> Outcome {
-    let Some(jobs) = four_jobs(text, scenario) else {
-        return Outcome::Wrong;
+// Whether job 3 may start at 100 and leaves 5 processors then, as each end tells that is read once.
+fn has_shadow<A: Allocator + Copy>(cluster: &Cluster<A>) -> bool {
+    let wanted = Some(Shadow {
+        time: 100,
+        extra: 5,
+    });
+    shadow(cluster) == wanted && shadow_counted(cluster) == (wanted, 2)
+}
+
+// The first job behind job 3 that fits into what is free now.
+fn first_fit<A: Allocator + Copy>(cluster: &mut Cluster<A>) -> Option<u64> {
+    if cluster.waiting_count() == 0 {
+        return None;
+    }
+    let offer = Offer {
+        free: 2,
+        extra: 2,
+        window: 98,
     };
-    match JobTable::from_text(alloc, text) {
-        Ok(table) => restores_at_work(alloc, &jobs, &table, scenario),
-        Err(Memory) => Outcome::Before,
+    let from = cluster.place_behind(1);
+    let place = cluster.next_fit(from, &offer)?;
+    Some(cluster.job_at(place)?.number())
+}
+
+// Job 4 starts at second 2, and runs on when the first two have ended.
+fn fourth_starts<A: Allocator + Copy>(alloc: A, cluster: &mut Cluster<A>) -> Result<bool, Memory> {
+    if !has_two_and_two(cluster) || !has_shadow(cluster) || first_fit(cluster) != Some(4) {
+        return Ok(false);
+    }
+    let starts = decide(alloc, cluster, 2)?;
+    cluster.finish_until(100);
+    Ok(are(&starts, &[(4, 2)]) && (cluster.free(), cluster.next_end()) == (8, Some(502)))
+}
+
+// Two jobs join and start, and then two more join, of which the last starts.
+fn starts_two<A: Allocator + Copy>(
+    alloc: A,
+    cluster: &mut Cluster<A>,
+    jobs: &[Job; 4],
+) -> Result<bool, Memory> {
+    let all = jobs.as_slice();
+    if !all_join(cluster, &all[..2])? || !both_start(cluster)? || !all_join(cluster, &all[2..])? {
+        return Ok(false);
+    }
+    fourth_starts(alloc, cluster)
+}
+
+// The log with which something is done.
+fn log_for(deed: Deed) -> &'static [u8] {
+    match deed {
+        Deed::Restore => NOTED,
+        Deed::StartTwo => TWO_END,
+        Deed::DecideBehind => BEHIND,
     }
 }
 
-/// The cluster in which the log's first job runs and the others wait is restored from a copy of its
-/// snapshot.
-pub(crate) fn restores<A: Allocator + Copy>(alloc: A, scenario: &Scenario) -> Outcome {
-    match read_swf(alloc, NOTED) {
-        Ok(text) => restores_of(alloc, &text, scenario),
-        Err(_) => Outcome::Before,
+// This is done with the first four jobs of a table.
+fn does<A: Allocator + Copy>(
+    alloc: A,
+    deed: Deed,
+    table: &JobTable<A>,
+    jobs: &[Job; 4],
+    scenario: Scenario,
+) -> Result<bool, Memory> {
+    let mut cluster = Cluster::for_scenario(alloc, &scenario);
+    match deed {
+        Deed::DecideBehind => decides_behind(
+            &mut cluster,
+            &mut Vec::new(alloc),
+            &mut Vec::new(alloc),
+            jobs,
+        ),
+        Deed::StartTwo => starts_two(alloc, &mut cluster, jobs),
+        Deed::Restore => { gives_back(alloc, &snapshot_of(&mut cluster, jobs)?, table, scenario) }
+    }
+}
+
+/// This is done with the jobs of its log.
+pub(crate) fn goes<A: Allocator + Copy>(alloc: A, deed: Deed, scenario: Scenario) -> Outcome {
+    let Some(table) = table_of(alloc, log_for(deed)) else {
+        return Outcome::Before;
+    };
+    match four_jobs(&table, scenario) {
+        Some(jobs) => told(does(alloc, deed, &table, &jobs, scenario).map_err(|_| true)),
+        None => Outcome::Wrong,
     }
 }

@@ -1,20 +1,11 @@
 // Decisions behind jobs that are known to wait.
 use crate::engines::are;
-use crate::logs::four_jobs;
 use cluster_state::Cluster;
 use easy_rule::laws::{arrivals_unsettle_nobody, easy_is_a_rule};
 use easy_rule::{Shadow, Start, add_starts, decide_behind, decide_into};
-use refusing::Outcome;
-use scenarios::{Job, Order, Scenario};
+use scenarios::{Job, Order};
 use std::alloc::Allocator;
-use swf_text::{Memory, read_swf};
-
-/// On ten processors job 2 waits for job 1, until 100; jobs 3 and 4 come at 2.
-const LOG: &[u8] = b"1 0 -1 100 6 -1 -1 6 100 -1 1 7 -1 -1 -1 -1 -1 -1
-2 1 -1 50 8 -1 -1 8 50 -1 1 8 -1 -1 -1 -1 -1 -1
-3 2 -1 500 2 -1 -1 2 500 -1 1 7 -1 -1 -1 -1 -1 -1
-4 2 -1 98 2 -1 -1 2 98 -1 1 8 -1 -1 -1 -1 -1 -1
-";
+use swf_text::Memory;
 
 /// What job 2 leaves at 100.
 const NOTHING_LEFT: Shadow = Shadow {
@@ -67,8 +58,8 @@ fn decide_two_seconds<A: Allocator + Copy>(
     Ok(Some(decide_behind(cluster, chosen, settled, shadow, 2)?))
 }
 
-// Whether all goes so, with the starts of second 2 added to a list.
-fn goes_so<A: Allocator + Copy>(
+/// The last two of four jobs start at second 2, in the order of backfills, behind the second one.
+pub(crate) fn decides_behind<A: Allocator + Copy>(
     cluster: &mut Cluster<A>,
     chosen: &mut Vec<Job, A>,
     starts: &mut Vec<Start, A>,
@@ -79,35 +70,9 @@ fn goes_so<A: Allocator + Copy>(
     }
     let left = decide_two_seconds(cluster, chosen, jobs[1], jobs[2], jobs[3])?;
     add_starts(starts, chosen, 2)?;
-    Ok(left == Some(NOTHING_LEFT))
-}
-
-// Whether these jobs start at second 2, in their order.
-fn start_at_two(starts: &[Start], order: Order) -> bool {
-    match order {
-        Order::Arrival => are(starts, &[(3, 2), (4, 2)]),
-        Order::Shortest => are(starts, &[(4, 2), (3, 2)]),
-    }
-}
-
-// What is told of the seconds 0 to 2 of four jobs.
-fn decided<A: Allocator + Copy>(alloc: A, jobs: &[Job; 4], scenario: &Scenario) -> Outcome {
-    let mut cluster = Cluster::for_scenario(alloc, scenario);
-    let mut chosen = Vec::new(alloc);
-    let mut starts = Vec::new(alloc);
-    match goes_so(&mut cluster, &mut chosen, &mut starts, jobs) {
-        Ok(goes) => Outcome::right_if(goes && start_at_two(&starts, scenario.order())),
-        Err(Memory) => Outcome::Memory,
-    }
-}
-
-/// The log's jobs 3 and 4 start behind job 2, in the order of backfills.
-pub(crate) fn decides_behind<A: Allocator + Copy>(alloc: A, scenario: &Scenario) -> Outcome {
-    let Ok(text) = read_swf(alloc, LOG) else {
-        return Outcome::Before;
+    let wanted = match cluster.order() {
+        Order::Arrival => [(3, 2), (4, 2)],
+        Order::Shortest => [(4, 2), (3, 2)],
     };
-    match four_jobs(&text, scenario) {
-        Some(jobs) => decided(alloc, &jobs, scenario),
-        None => Outcome::Wrong,
-    }
+    Ok(left == Some(NOTHING_LEFT) && are(starts, &wanted))
 }

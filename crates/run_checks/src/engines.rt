@@ -1,7 +1,8 @@
-// The event loop, step by step.
-use crate::logs::{NOTED, shared_table};
+// The event loop.
+use crate::logs::{NOTED, told};
+use checking::shared_table;
 use easy_rule::Start;
-use event_loop::{Engine, EngineFault};
+use event_loop::{Engine, EngineFault, Stepped};
 use job_table::JobTable;
 use refusing::Outcome;
 use scenarios::{Job, Scenario};
@@ -12,7 +13,10 @@ use std::sync::Arc;
 #[derive(Clone, Copy)]
 pub(crate) enum Way {
     Steps,
-    StepsIntoOneList,
+    /// Each step into the same list.
+    StepsInto,
+    /// From second 3 on, by a snapshot.
+    FromThree,
 }
 
 /// Whether these jobs start at these seconds, in this order.
@@ -24,33 +28,15 @@ pub(crate) fn are(starts: &[Start], wanted: &[(u64, u64)]) -> bool {
             .all(|(start, want)| (start.number, start.at) == *want)
 }
 
-/// Whether the engine stands there, after so many event seconds.
-pub(crate) fn stands<A: Allocator + Copy>(engine: &Engine<A>, position: u64, handled: u64) -> bool {
-    engine.position() == position && engine.handled() == handled
-}
-
-// Whether the engine stands one past this second, and has counted one more than so many.
-fn stands_behind<A: Allocator + Copy>(engine: &Engine<A>, second: u64, handled: u64) -> bool {
-    stands(engine, second.saturating_add(1), handled.saturating_add(1))
-}
-
-// Whether an engine answers Failed where it should advance.
-fn has_failed_to_advance<A: Allocator + Copy>(engine: &mut Engine<A>) -> bool {
-    let here = engine.position();
-    engine.advance_to(here).err() == Some(EngineFault::Failed)
-}
-
-/// Whether an engine answers Failed to all that goes on.
-pub(crate) fn has_failed<A: Allocator + Copy>(engine: &mut Engine<A>) -> bool {
-    has_failed_to_advance(engine)
-        && engine.snapshot().err() == Some(EngineFault::Failed)
-        && engine.step().err() == Some(EngineFault::Failed)
-        && engine.finish().err() == Some(EngineFault::Failed)
+// Whether the engine stands there, after so many event seconds, with nobody left.
+fn ends<A: Allocator + Copy>(engine: &Engine<A>, position: u64, handled: u64) -> bool {
+    (engine.position(), engine.handled()) == (position, handled)
+        && engine.standing() == 0
         && engine.next_event().is_none()
 }
 
 /// The event seconds of the four jobs, and how many jobs start there.
-pub(crate) const STEPS: [(u64, usize); 8] = [
+const STEPS: [(u64, usize); 8] = [
     (0, 1),
     (1, 0),
     (2, 1),
@@ -61,59 +47,47 @@ pub(crate) const STEPS: [(u64, usize); 8] = [
     (592, 0),
 ];
 
-// A step works this second, and so many jobs start; where memory is short the engine has failed, and
-// stands where it did, or behind that second where its starts alone found no room.
-fn steps_once<A: Allocator + Copy>(engine: &mut Engine<A>, second: u64, count: usize) -> Outcome {
-    let (position, handled) = (engine.position(), engine.handled());
-    if engine.next_event() != Some(second) {
-        return Outcome::Wrong;
-    }
-    match engine.step() {
-        Ok(Some(stepped)) => {
-            Outcome::right_if(stepped.second() == second && stepped.starts().len() == count)
-        }
-        Ok(None) => Outcome::Wrong,
-        Err(fault) => Outcome::memory_if(
-            fault == EngineFault::Memory
-                && (stands(engine, position, handled) || stands_behind(engine, second, handled))
-                && has_failed(engine),
-        ),
-    }
+// Whether a step worked this second, and so many jobs start.
+fn is_step<A: Allocator + Copy>(stepped: Option<Stepped<A>>, second: u64, count: usize) -> bool {
+    stepped.is_some_and(|stepped| stepped.second() == second && stepped.starts().len() == count)
 }
 
-// The event seconds are worked step by step.
-fn steps<A: Allocator + Copy>(engine: &mut Engine<A>) -> Outcome {
+fn steps<A: Allocator + Copy>(engine: &mut Engine<A>) -> Result<bool, EngineFault> {
     for (second, count) in &STEPS {
-        let told = steps_once(engine, *second, *count);
-        if told != Outcome::Right {
-            return told;
+        if !is_step(engine.step()?, *second, *count) {
+            return Ok(false);
         }
     }
-    Outcome::right_if(stands(engine, 593, 8) && matches!(engine.step(), Ok(None)))
+    Ok(engine.step()?.is_none() && ends(engine, 593, 8))
 }
 
-// The next step works this second, and leaves so many jobs in the list.
-fn leaves<A: Allocator + Copy>(
+fn steps_into<A: Allocator + Copy>(
     engine: &mut Engine<A>,
     started: &mut Vec<Job, A>,
-    second: Option<u64>,
-    count: usize,
-) -> Outcome {
-    match engine.step_into(started) {
-        Ok(worked) => Outcome::right_if(worked == second && started.len() == count),
-        Err(fault) => Outcome::memory_if(fault == EngineFault::Memory),
-    }
-}
-
-// The event seconds are worked step by step, each into the same list.
-fn steps_into<A: Allocator + Copy>(engine: &mut Engine<A>, started: &mut Vec<Job, A>) -> Outcome {
+) -> Result<bool, EngineFault> {
     for (second, count) in &STEPS {
-        let told = leaves(engine, started, Some(*second), *count);
-        if told != Outcome::Right {
-            return told;
+        if engine.step_into(started)? != Some(*second) || started.len() != *count {
+            return Ok(false);
         }
     }
-    leaves(engine, started, None, 0)
+    Ok(engine.step_into(started)?.is_none() && started.is_empty())
+}
+
+// Whether these are all starts that are left from second 3 on.
+fn finishes<A: Allocator + Copy>(engine: &mut Engine<A>) -> Result<bool, EngineFault> {
+    Ok(are(&engine.finish()?, &[(4, 92), (2, 100)]) && ends(engine, 593, 5))
+}
+
+// An engine that is resumed at second 3, to which another one of the table was advanced.
+fn resumed_at_three<A: Allocator + Copy>(
+    alloc: A,
+    table: Arc<JobTable<A>, A>,
+    scenario: Scenario,
+) -> Result<Engine<A>, EngineFault> {
+    let mut engine = Engine::new(alloc, table.clone()?, scenario);
+    engine.advance_to(3)?;
+    let snapshot = engine.snapshot()?;
+    Ok(Engine::resume(alloc, &snapshot, 3, table, scenario)?)
 }
 
 // The engine of a table goes on.
@@ -122,22 +96,23 @@ fn goes_on<A: Allocator + Copy>(
     way: Way,
     table: Arc<JobTable<A>, A>,
     scenario: Scenario,
-) -> Outcome {
+) -> Result<bool, EngineFault> {
+    let mut engine = match way {
+        Way::FromThree => resumed_at_three(alloc, table, scenario)?,
+        _ => Engine::new(alloc, table, scenario),
+    };
     match way {
-        Way::Steps => steps(&mut Engine::new(alloc, table, scenario)),
-        Way::StepsIntoOneList => {
-            steps_into(
-                &mut Engine::new(alloc, table, scenario),
-                &mut Vec::new(alloc),
-            )
-        }
+        Way::Steps => steps(&mut engine),
+        Way::StepsInto => steps_into(&mut engine, &mut Vec::new(alloc)),
+        Way::FromThree => finishes(&mut engine),
     }
 }
 
 /// The engine of the log goes on.
 pub(crate) fn goes<A: Allocator + Copy>(alloc: A, way: Way, scenario: Scenario) -> Outcome {
     match shared_table(alloc, NOTED) {
-        Some(table) => goes_on(alloc, way, table, scenario),
+        Some(table) => told(goes_on(alloc, way, table, scenario).map_err(|fault| fault
+            == EngineFault::Memory)),
         None => Outcome::Before,
     }
 }

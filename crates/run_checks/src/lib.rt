@@ -1,6 +1,7 @@
-//! Tests of what runs a log: the machine's state, the event loop, runs with their tables and texts, and
-//! the plain program; of runs after edits: what they work, what they take over and how they are cut; and
-//! what each call answers where one growth after another is refused.
+//! Tests of what runs a log: what each call of the machine's state, the event loop, runs with their tables
+//! and texts, runs after edits and the plain program answers where one growth after another is refused, and
+//! where none is; how runs are cut; what is worked of them after edits; and what is read of many jobs that
+//! end at once.
 #![tactic(auto)]
 
 #[cfg(test)]
@@ -28,12 +29,6 @@ mod reruns;
 #[cfg(test)]
 mod runs;
 #[cfg(test)]
-mod spans;
-#[cfg(test)]
-mod tables;
-#[cfg(test)]
 mod texts;
 #[cfg(test)]
 mod trials;
-#[cfg(test)]
-mod two_ends;

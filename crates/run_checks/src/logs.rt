@@ -1,11 +1,13 @@
+// Logs, and what tests begin with; none where memory is short.
+use checking::shared_table;
 use checkpoints::{Run, simulate};
 use job_table::JobTable;
-use scenarios::{Job, Scenario, effective};
+use refusing::Outcome;
+use scenarios::{Job, PlanRef, Scenario};
 use std::alloc::Allocator;
-use std::sync::Arc;
-use swf_text::{SwfText, read_swf};
 
-/// Four jobs, of two users, with a comment and a partial line.
+/// Four jobs, of two users, with a comment and a partial line. On ten processors they start at 0, 100, 2
+/// and 92.
 pub(crate) const NOTED: &[u8] = b"; four jobs
 1 0 -1 100 6 -1 -1 6 100 -1 1 7 -1 -1 -1 -1 -1 -1
 1 0 -1 40 6 -1 -1 6 100 -1 2 7 -1 -1 -1 -1 -1 -1
@@ -34,21 +36,12 @@ pub(crate) const SHORT: &[u8] = b"1 0 -1 50 10 -1 -1 10 100 -1 1 7 -1 -1 -1 -1 -
 2 10 -1 10 10 -1 -1 10 10 -1 1 7 -1 -1 -1 -1 -1 -1
 ";
 
-/// The table of a log; none where memory is short.
-pub(crate) fn table_of<A: Allocator + Copy>(alloc: A, log: &[u8]) -> Option<JobTable<A>> {
-    let text = read_swf(alloc, log).ok()?;
-    JobTable::from_text(alloc, &text).ok()
-}
+/// The same, where the one that waits has a long estimate too.
+pub(crate) const LONG: &[u8] = b"1 0 -1 50 10 -1 -1 10 100 -1 1 7 -1 -1 -1 -1 -1 -1
+2 10 -1 10 10 -1 -1 10 100 -1 1 7 -1 -1 -1 -1 -1 -1
+";
 
-/// The same, shared.
-pub(crate) fn shared_table<A: Allocator + Copy>(
-    alloc: A,
-    log: &[u8],
-) -> Option<Arc<JobTable<A>, A>> {
-    Arc::new(alloc, table_of(alloc, log)?).ok()
-}
-
-/// The run of a log under a scenario; none where memory is short.
+/// The run of a log under a scenario.
 pub(crate) fn run_of<A: Allocator + Copy>(
     alloc: A,
     log: &[u8],
@@ -58,24 +51,19 @@ pub(crate) fn run_of<A: Allocator + Copy>(
     simulate(alloc, shared_table(alloc, log)?, scenario, spacing).ok()
 }
 
-/// The job that the entry at a place of a text is.
-pub(crate) fn job_at<A: Allocator + Copy>(
-    text: &SwfText<A>,
-    place: usize,
-    scenario: &Scenario,
-) -> Option<Job> {
-    effective(text.entries().get(place)?, scenario).ok()
+/// The first four jobs of a table.
+pub(crate) fn four_jobs<A: Allocator + Copy>(
+    table: &JobTable<A>,
+    scenario: Scenario,
+) -> Option<[Job; 4]> {
+    let mut jobs = PlanRef::of(table, scenario).jobs();
+    Some([jobs.next()?, jobs.next()?, jobs.next()?, jobs.next()?])
 }
 
-/// The first four jobs of a text.
-pub(crate) fn four_jobs<A: Allocator + Copy>(
-    text: &SwfText<A>,
-    scenario: &Scenario,
-) -> Option<[Job; 4]> {
-    Some([
-        job_at(text, 0, scenario)?,
-        job_at(text, 1, scenario)?,
-        job_at(text, 2, scenario)?,
-        job_at(text, 3, scenario)?,
-    ])
+/// What came of a call that answers whether it went well, or whether it was told want of memory.
+pub(crate) fn told(answer: Result<bool, bool>) -> Outcome {
+    match answer {
+        Ok(is_right) => Outcome::right_if(is_right),
+        Err(is_memory) => Outcome::memory_if(is_memory),
+    }
 }

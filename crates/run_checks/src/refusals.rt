@@ -23,15 +23,11 @@ const MADE: [(u64, [bool; 5], bool); 5] = [
     (6, [true, true, true, true, true], false),
 ];
 
-// Whether a heap has had so many calls, with the one to refuse among them or not.
-fn stands(heap: &Refusing<Global>, calls: u64, refused: bool) -> bool {
-    heap.calls() == calls && heap.refused() == refused
-}
-
 // Whether the call is refused alone.
 fn refuses_alone(alloc: Global, nth: u64, made: [bool; 5], refused: bool) -> bool {
     let heap = Refusing::new(alloc, nth);
-    stands(&heap, 0, false) && boxes_made(&heap) == made && stands(&heap, 5, refused)
+    let is_new = heap.calls() == 0 && !heap.refused();
+    is_new && boxes_made(&heap) == made && heap.calls() == 5 && heap.refused() == refused
 }
 
 #[test]
@@ -87,7 +83,7 @@ fn boxes_refused<A: Allocator + Copy>(heap: A) -> usize {
 fn refuses_one_of_two<R: Threads>(rt: &R, alloc: Global, nth: u64) -> bool {
     let heap = Refusing::new(alloc, nth);
     let (left, right) = thread::join(rt, || boxes_refused(&heap), || boxes_refused(&heap));
-    (left.min(right), left.max(right)) == (0, 1) && stands(&heap, 200, true)
+    (left.min(right), left.max(right)) == (0, 1) && heap.calls() == 200 && heap.refused()
 }
 
 #[test]

@@ -1,13 +1,6 @@
 // What is made anew of runs after edits, worked by hand.
-use crate::logs::{NOTED, SHORT, SIX, THREE};
-use crate::tables::Written;
-use rejoin::Work;
-
-/// A job of the whole machine that runs for half its estimate, and one with a long estimate that waits
-/// for it.
-const LONG: &[u8] = b"1 0 -1 50 10 -1 -1 10 100 -1 1 7 -1 -1 -1 -1 -1 -1
-2 10 -1 10 10 -1 -1 10 100 -1 1 7 -1 -1 -1 -1 -1 -1
-";
+use crate::logs::{LONG, NOTED, SHORT, SIX, THREE};
+use checking::Written;
 
 /// An entry without processors, which is skipped.
 const SKIPPED: &[u8] = b"1 0 -1 5 -1 -1 -1 -1 5 -1 1 7 -1 -1 -1 -1 -1 -1\n";
@@ -23,15 +16,10 @@ pub(crate) struct Row {
     /// How many event seconds a segment of the old run has at most, and one that is made anew.
     pub(crate) spacings: (u32, u32),
     pub(crate) edits: &'static [Written],
-    /// The event seconds that are worked, and how many segments are taken over; None where the spacing is
-    /// refused.
-    pub(crate) work: Option<Work>,
+    /// The event seconds that are worked, and how many segments are taken over.
+    pub(crate) work: (u64, u64),
     /// The first seconds of the segments.
     pub(crate) firsts: &'static [u64],
-    /// The processor seconds of all jobs.
-    pub(crate) busy: u128,
-    /// The jobs' starts.
-    pub(crate) starts: &'static [(u64, u64)],
 }
 
 /// Job 2 runs for 20 seconds.
@@ -42,74 +30,44 @@ pub(crate) const GROWN: Row = Row {
     log: LONG,
     spacings: (1, 1),
     edits: &[Written::Change(2, 4, b"20")],
-    work: Some(Work {
-        handled: 3,
-        reused: 1,
-    }),
+    work: (3, 1),
     firsts: &[0, 1, 11, 51],
-    busy: 700,
-    starts: &[(1, 0), (2, 50)],
 };
-
-/// The starts of three jobs, also where job 2 runs for 20 seconds.
-const OF_THREE: &[(u64, u64)] = &[(1, 0), (2, 100), (3, 200)];
-
-/// The same of six.
-const OF_SIX: &[(u64, u64)] = &[(1, 0), (2, 100), (3, 200), (4, 300), (5, 400), (6, 500)];
 
 /// Worked by hand.
 pub(crate) const ROWS: &[Row] = &[
+    GROWN,
     // Job 3 is submitted later: 3, 100, 150, 300, 390 and 503 are worked.
     Row {
         log: NOTED,
         spacings: (1, 1),
         edits: &[Written::Change(3, 2, b"300")],
-        work: Some(Work {
-            handled: 6,
-            reused: 2,
-        }),
+        work: (6, 2),
         firsts: &[0, 1, 2, 4, 101, 151, 301, 391],
-        busy: 2360,
-        starts: &[(1, 0), (2, 100), (4, 3), (3, 300)],
     },
     // Job 2 runs longer: 100, 120 and 200, and the segments from 0, 1 and 201 are taken over.
     Row {
         log: THREE,
         spacings: (1, 1),
         edits: LONGER,
-        work: Some(Work {
-            handled: 3,
-            reused: 3,
-        }),
+        work: (3, 3),
         firsts: &[0, 1, 11, 101, 121, 201],
-        busy: 400,
-        starts: OF_THREE,
     },
     // Job 1 runs longer, and the same numbers wait and run at 1 and 11: 0, 10, 70 and 80.
     Row {
         log: SHORT,
         spacings: (1, 1),
         edits: &[Written::Change(1, 4, b"70")],
-        work: Some(Work {
-            handled: 4,
-            reused: 0,
-        }),
+        work: (4, 0),
         firsts: &[0, 1, 11, 71],
-        busy: 800,
-        starts: &[(1, 0), (2, 70)],
     },
     // A field that no job depends on: all is taken over.
     Row {
         log: NOTED,
         spacings: (1, 1),
         edits: &[Written::Change(1, 3, b"5")],
-        work: Some(Work {
-            handled: 0,
-            reused: 8,
-        }),
+        work: (0, 8),
         firsts: &[0, 1, 2, 3, 4, 93, 101, 151],
-        busy: 2360,
-        starts: &[(1, 0), (2, 100), (3, 2), (4, 92)],
     },
     // Jobs 2 and 5 run longer: 100, 120, 200, 400, 420 and 500, and the segments from 0, 1, 201, 211, 301
     // and 501 are taken over.
@@ -122,27 +80,16 @@ pub(crate) const ROWS: &[Row] = &[
             Written::Change(5, 4, b"20"),
             Written::Change(5, 9, b"20"),
         ],
-        work: Some(Work {
-            handled: 6,
-            reused: 6,
-        }),
+        work: (6, 6),
         firsts: &[0, 1, 11, 101, 121, 201, 211, 301, 311, 401, 421, 501],
-        busy: 800,
-        starts: OF_SIX,
     },
-    GROWN,
     // There was no job, and two come: 5, 8, 15 and 35.
     Row {
         log: SKIPPED,
         spacings: (1, 1),
         edits: &[Written::Insert(SECOND), Written::Insert(THIRD)],
-        work: Some(Work {
-            handled: 4,
-            reused: 0,
-        }),
+        work: (4, 0),
         firsts: &[0, 6, 9, 16],
-        busy: 300,
-        starts: &[(2, 5), (3, 15)],
     },
     // 120 is an event second then, and 110 is none: 100 is the last one before 111; 120 and 200 fill a
     // segment; 210 is the last of all.
@@ -150,68 +97,22 @@ pub(crate) const ROWS: &[Row] = &[
         log: THREE,
         spacings: (2, 2),
         edits: LONGER,
-        work: Some(Work {
-            handled: 4,
-            reused: 1,
-        }),
+        work: (4, 1),
         firsts: &[0, 11, 101, 201],
-        busy: 400,
-        starts: OF_THREE,
     },
     // 210 is the last one before 211, where the old segments are taken over again.
     Row {
         log: SIX,
         spacings: (2, 2),
         edits: LONGER,
-        work: Some(Work {
-            handled: 4,
-            reused: 4,
-        }),
+        work: (4, 4),
         firsts: &[0, 11, 101, 201, 211, 311, 411],
-        busy: 700,
-        starts: OF_SIX,
-    },
-    // The limits of a spacing.
-    Row {
-        log: THREE,
-        spacings: (2, 0),
-        edits: LONGER,
-        work: None,
-        firsts: &[],
-        busy: 0,
-        starts: &[],
     },
     Row {
         log: THREE,
         spacings: (2, 1),
         edits: LONGER,
-        work: Some(Work {
-            handled: 4,
-            reused: 1,
-        }),
+        work: (4, 1),
         firsts: &[0, 11, 101, 121, 201],
-        busy: 400,
-        starts: OF_THREE,
-    },
-    Row {
-        log: THREE,
-        spacings: (2, 65_536),
-        edits: LONGER,
-        work: Some(Work {
-            handled: 4,
-            reused: 1,
-        }),
-        firsts: &[0, 11, 101],
-        busy: 400,
-        starts: OF_THREE,
-    },
-    Row {
-        log: THREE,
-        spacings: (2, 65_537),
-        edits: LONGER,
-        work: None,
-        firsts: &[],
-        busy: 0,
-        starts: &[],
     },
 ];

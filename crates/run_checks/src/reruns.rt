@@ -4,11 +4,10 @@ ghost use Rattle.std.specs.Arc.{arc_value};
 ghost use Rattle.job_table.specs.Accepted.{AreAccepted};
 ghost use Rattle.job_table.specs.Edit.{edit_of, log_after};
 
-use crate::logs::run_of;
+use crate::logs::{run_of, told};
 use crate::rerun_rows::{ROWS, Row};
 use crate::runs::begin_at;
-use crate::tables;
-use crate::tables::Written;
+use checking::Written;
 use checkpoints::{Run, RunFault};
 use job_table::{Edit, JobTable};
 use refusing::Outcome;
@@ -22,7 +21,7 @@ use std::sync::Arc;
 fn edits_of<A: Allocator + Copy>(alloc: A, written: &[Written]) -> Option<Vec<Edit<A>, A>> {
     let mut edits = Vec::new(alloc);
     for each in written {
-        edits.push(tables::edit_of(alloc, *each)?).ok()?;
+        edits.push(checking::edit_of(alloc, *each)?).ok()?;
     }
     Some(edits)
 }
@@ -39,33 +38,7 @@ fn table_after<A: Allocator + Copy>(
     Arc::new(alloc, edited(run.table(), edits).ok()?).ok()
 }
 
-// Whether the jobs start at these seconds.
-fn has_starts<A: Allocator + Copy>(run: &Run<A>, starts: &[(u64, u64)]) -> bool {
-    for (number, start) in starts {
-        if run.start_of(*number) != Some(*start) {
-            return false;
-        }
-    }
-    true
-}
-
-// Whether this is the run of a row.
-fn is_right<A: Allocator + Copy>(run: &Run<A>, row: &Row) -> bool {
-    run.tables().overall().busy == row.busy
-        && begin_at(run, row.firsts)
-        && has_starts(run, row.starts)
-}
-
-// How a run reads: its segments, its processor seconds and the start of job 2.
-fn looks_of<A: Allocator + Copy>(run: &Run<A>) -> (usize, u128, Option<u64>) {
-    (
-        run.segments().len(),
-        run.tables().overall().busy,
-        run.start_of(2),
-    )
-}
-
-// Makes the run after edits; the old one reads as before where memory is short.
+// The run after edits, of which so many event seconds are worked, and so many segments taken over.
 fn reruns_after<A: Allocator + Copy>(
     alloc: A,
     run: &Run<A>,
@@ -75,27 +48,22 @@ fn reruns_after<A: Allocator + Copy>(
     let Some(table) = table_after(alloc, run, edits) else {
         return Outcome::Before;
     };
-    let before = looks_of(run);
     match rerun(alloc, run, edits, table, row.spacings.1) {
-        Ok((again, work)) => Outcome::right_if(Some(work) == row.work && is_right(&again, row)),
-        Err(RunFault::Memory) => Outcome::memory_if(looks_of(run) == before),
-        Err(fault) => Outcome::right_if(fault == RunFault::BadSpacing && row.work.is_none()),
+        Ok((again, work)) => Outcome::right_if(
+            (work.handled, work.reused) == row.work && begin_at(&again, row.firsts),
+        ),
+        Err(fault) => Outcome::memory_if(fault == RunFault::Memory),
     }
 }
 
-// Makes a run after the edits of a row.
-fn reruns_edited<A: Allocator + Copy>(alloc: A, run: &Run<A>, row: &Row) -> Outcome {
-    match edits_of(alloc, row.edits) {
-        Some(edits) => reruns_after(alloc, run, edits.as_slice(), row),
-        None => Outcome::Before,
-    }
-}
-
-/// Makes the run of a row's log anew after its edits.
+/// The run of a row's log is made anew after its edits.
 pub(crate) fn reruns<A: Allocator + Copy>(alloc: A, row: &Row, scenario: Scenario) -> Outcome {
-    match run_of(alloc, row.log, scenario, row.spacings.0) {
-        Some(run) => reruns_edited(alloc, &run, row),
-        None => Outcome::Before,
+    match (
+        run_of(alloc, row.log, scenario, row.spacings.0),
+        edits_of(alloc, row.edits),
+    ) {
+        (Some(run), Some(edits)) => reruns_after(alloc, &run, &edits, row),
+        _ => Outcome::Before,
     }
 }
 

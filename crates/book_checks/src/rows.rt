@@ -1,0 +1,186 @@
+// Histories of a book of two jobs, worked by hand.
+use book_machine::SettleState;
+use checking::Written;
+
+/// A job of the whole machine that runs for half its estimate, and one with a long estimate that waits
+/// for it.
+pub(crate) const LONG: &[u8] = b"1 0 -1 50 10 -1 -1 10 100 -1 1 7 -1 -1 -1 -1 -1 -1
+2 10 -1 10 10 -1 -1 10 100 -1 1 7 -1 -1 -1 -1 -1 -1
+";
+
+/// What is called. A scenario is named by how many were added before it.
+#[derive(Clone, Copy)]
+pub(crate) enum Said {
+    Edit(Written),
+    Add(&'static str),
+    DropNamed(&'static str),
+    Retry(usize),
+    /// A scenario, and the version that was seen.
+    View(usize, u64),
+    Claim,
+    /// The ticket's task makes its run, and leaves it with the ticket.
+    Deliver(u64),
+    /// The run that the ticket's task makes is handed in.
+    Finish(u64),
+    /// The same, where the task has left none.
+    HandIn(u64),
+    /// The run of another log is.
+    FinishOther(u64),
+    /// What the ticket's task has left is.
+    FinishLeft(u64),
+    GiveUp(u64),
+    /// How far all scenarios are, beside a version that was seen.
+    Settled(u64),
+}
+
+/// What is told.
+#[derive(Clone, Copy, PartialEq, Eq)]
+pub(crate) enum Told {
+    /// A version, or the number of a scenario.
+    Number(u64),
+    /// Ticket and version; the version of the base, and how many edits it has.
+    Claimed(u64, u64, Option<(u64, usize)>),
+    /// The event seconds that were worked, and the segments that were taken over, of a run that was made
+    /// of a base.
+    Made(Option<(u64, u64)>),
+    Settled(SettleState),
+    Done,
+    /// No scenario is due, or the task has left no run.
+    Nothing,
+    Refused(&'static str),
+}
+
+/// Job 1 waits for five seconds, on which no run depends.
+const FIVE: Said = Said::Edit(Written::Change(1, 3, b"5"));
+
+/// Job 2 runs for so many seconds.
+const TWENTY: Said = Said::Edit(Written::Change(2, 4, b"20"));
+
+const THIRTY: Said = Said::Edit(Written::Change(2, 4, b"30"));
+
+/// Job 5 joins, with a partial line.
+const INSERT: Said = Said::Edit(Written::Insert(
+    b"5 4 -1 500 2 -1 -1 2 500 -1 1 8 -1 -1 -1 -1 -1 -1
+5 4 -1 100 2 -1 -1 2 500 -1 2 8 -1 -1 -1 -1 -1 -1
+",
+));
+
+/// It leaves.
+const REMOVE: Said = Said::Edit(Written::Remove(5));
+
+/// Seconds 10 and 50 are worked, and the one at which job 2 ends; the first segment is taken over.
+const MADE: Told = Told::Made(Some((3, 1)));
+
+const UNKNOWN: Told = Told::Refused("UnknownTicket");
+
+const NO_SCENARIO: Told = Told::Refused("NoSuchScenario");
+
+type Rows = &'static [(Said, Told)];
+
+/// Each call goes well.
+pub(crate) const EACH: Rows = &[
+    (Said::Add("base"), Told::Number(1)),
+    (Said::Claim, Told::Claimed(1, 0, None)),
+    (Said::HandIn(1), Told::Number(0)),
+    (Said::View(0, 0), Told::Number(0)),
+    (TWENTY, Told::Number(1)),
+    (Said::Claim, Told::Claimed(2, 1, Some((0, 1)))),
+    (Said::GiveUp(2), Told::Done),
+    (Said::Retry(0), Told::Done),
+    (Said::Claim, Told::Claimed(3, 1, Some((0, 1)))),
+    (Said::Deliver(3), MADE),
+    (Said::FinishLeft(3), Told::Number(1)),
+    (INSERT, Told::Number(2)),
+    (Said::Claim, Told::Claimed(4, 2, Some((1, 1)))),
+    (Said::Finish(4), Told::Number(2)),
+    (REMOVE, Told::Number(3)),
+    (Said::DropNamed("base"), Told::Number(1)),
+];
+
+/// Runs come late, twice and from strangers.
+pub(crate) const RUNS: Rows = &[
+    (Said::Add("base"), Told::Number(1)),
+    (Said::View(0, 0), Told::Refused("NotYet")),
+    (FIVE, Told::Number(1)),
+    (Said::Claim, Told::Claimed(1, 1, None)),
+    (Said::Claim, Told::Nothing),
+    (THIRTY, Told::Number(2)),
+    (Said::Claim, Told::Claimed(2, 2, None)),
+    (Said::Finish(2), Told::Number(2)),
+    (Said::Finish(1), Told::Refused("Stale")),
+    (Said::Finish(1), UNKNOWN),
+    (INSERT, Told::Number(3)),
+    (Said::Claim, Told::Claimed(3, 3, Some((2, 1)))),
+    (Said::FinishOther(3), Told::Refused("Stranger")),
+    (Said::View(0, 3), Told::Refused("Behind")),
+    (Said::View(0, 2), Told::Number(2)),
+    (Said::HandIn(3), Told::Number(3)),
+    (Said::View(0, 3), Told::Number(3)),
+    (Said::GiveUp(3), UNKNOWN),
+];
+
+/// A task leaves its run with its ticket, whoever hands it in; before that there is none, and the ticket
+/// stands on. Then a run is left for a version when a newer one is published.
+const LEFT: Rows = &[
+    (Said::Add("base"), Told::Number(1)),
+    (Said::FinishLeft(1), UNKNOWN),
+    (Said::Claim, Told::Claimed(1, 0, None)),
+    (Said::FinishLeft(1), Told::Nothing),
+    (Said::Finish(1), Told::Number(0)),
+    (Said::FinishLeft(1), UNKNOWN),
+    (TWENTY, Told::Number(1)),
+    (Said::Claim, Told::Claimed(2, 1, Some((0, 1)))),
+    (Said::Deliver(2), MADE),
+    (Said::FinishLeft(2), Told::Number(1)),
+    (Said::View(0, 1), Told::Number(1)),
+    (THIRTY, Told::Number(2)),
+    (Said::Claim, Told::Claimed(3, 2, Some((1, 1)))),
+    (TWENTY, Told::Number(3)),
+    (Said::Claim, Told::Claimed(4, 3, Some((1, 2)))),
+    (Said::Deliver(4), Told::Made(Some((0, 4)))),
+    (Said::FinishLeft(4), Told::Number(3)),
+    (Said::FinishLeft(3), Told::Nothing),
+    (Said::Deliver(3), MADE),
+    (Said::FinishLeft(3), Told::Refused("Stale")),
+    (Said::FinishLeft(3), UNKNOWN),
+];
+
+/// A dropped scenario's ticket and id are worth nothing afterwards, and its name is free.
+const DROPPED: Rows = &[
+    (Said::Add("big"), Told::Number(1)),
+    (Said::Claim, Told::Claimed(1, 0, None)),
+    (Said::DropNamed("big"), Told::Number(1)),
+    (Said::DropNamed("big"), NO_SCENARIO),
+    (Said::Add("big"), Told::Number(2)),
+    (Said::Finish(1), UNKNOWN),
+    (Said::View(0, 0), NO_SCENARIO),
+    (Said::View(1, 0), Told::Refused("NotYet")),
+    (Said::Retry(0), NO_SCENARIO),
+    (Said::Claim, Told::Claimed(2, 0, None)),
+];
+
+/// A run that was given up is claimed again after the next edit, or where it is tried again.
+const GIVEN_UP: Rows = &[
+    (Said::Settled(0), Told::Settled(SettleState::Done)),
+    (Said::Add("base"), Told::Number(1)),
+    (Said::Claim, Told::Claimed(1, 0, None)),
+    (Said::GiveUp(1), Told::Done),
+    (Said::Edit(Written::Remove(99)), Told::Refused("NoSuchJob")),
+    (Said::Claim, Told::Nothing),
+    (FIVE, Told::Number(1)),
+    (Said::Claim, Told::Claimed(2, 1, None)),
+    (THIRTY, Told::Number(2)),
+    (Said::GiveUp(2), Told::Done),
+    (Said::Claim, Told::Claimed(3, 2, None)),
+    (Said::GiveUp(3), Told::Done),
+    (Said::Settled(2), Told::Settled(SettleState::Failed(1))),
+    (Said::Retry(0), Told::Done),
+    (Said::Settled(2), Told::Settled(SettleState::Waiting)),
+    (Said::Claim, Told::Claimed(4, 2, None)),
+    (Said::Finish(4), Told::Number(2)),
+    (Said::Settled(2), Told::Settled(SettleState::Done)),
+    (Said::Settled(3), Told::Settled(SettleState::Waiting)),
+];
+
+/// All of them, but for `EACH`.
+pub(crate) const HISTORIES: &[Rows] = &[RUNS, LEFT, DROPPED, GIVEN_UP];
