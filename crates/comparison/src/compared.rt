@@ -18,17 +18,13 @@ fn table_of(alloc: Global, text: &SwfText<Global>) -> Option<Arc<JobTable<Global
 }
 
 // The starts of a log by the event loop.
-pub(crate) fn engine_starts(
-    alloc: Global,
-    text: &SwfText<Global>,
-    scenario: &Scenario,
-) -> Option<Vec<Start>> {
+fn engine_starts(alloc: Global, text: &SwfText<Global>, scenario: &Scenario) -> Option<Vec<Start>> {
     let table = table_of(alloc, text)?;
     Engine::new(alloc, table, *scenario).finish().ok()
 }
 
 // The run of a log, in segments of up to so many event seconds.
-pub(crate) fn run_of(
+fn run_of(
     alloc: Global,
     text: &SwfText<Global>,
     scenario: &Scenario,
@@ -38,60 +34,28 @@ pub(crate) fn run_of(
     simulate(alloc, table, *scenario, spacing).ok()
 }
 
-// The second at which the job of this number starts.
-fn start_of(starts: &[Start], number: u64) -> Option<u64> {
-    for start in starts {
-        if start.number == number {
-            return Some(start.at);
-        }
-    }
-    None
-}
-
 // Adds the jobs of a plan, with their starts; none where one does not start.
 fn add_placed(placed: &mut Vec<Placed>, jobs: &[PlainJob], starts: &[Start]) -> Option<()> {
     for job in jobs {
-        let start = start_of(starts, job.number())?;
-        placed.push((*job, start)).ok()?;
+        let start = starts.iter().find(|start| start.number == job.number())?;
+        placed.push((*job, start.at)).ok()?;
     }
     Some(())
 }
 
-// The jobs of a plan, with their starts; none where one does not start.
-fn placed_of(alloc: Global, jobs: &[PlainJob], starts: &[Start]) -> Option<Vec<Placed>> {
+// Whether a run has just the jobs of a plan, with these starts, and tables that are plain sums.
+fn has_starts(
+    alloc: Global,
+    text: &SwfText<Global>,
+    run: &Run<Global>,
+    jobs: &[PlainJob],
+    starts: &[Start],
+) -> bool {
     let mut placed = Vec::new(alloc);
-    add_placed(&mut placed, jobs, starts)?;
-    Some(placed)
+    add_placed(&mut placed, jobs, starts).is_some() && are_plain_sums(text, run, &placed)
 }
 
-// Whether the event loop starts the jobs of a log at these seconds.
-pub(crate) fn starts_so(
-    alloc: Global,
-    text: &SwfText<Global>,
-    scenario: &Scenario,
-    wanted: &[Start],
-) -> bool {
-    match engine_starts(alloc, text, scenario) {
-        None => false,
-        Some(starts) => starts.as_slice() == wanted,
-    }
-}
-
-// Whether a run of a log has these jobs with these starts, and tables that are plain sums over them.
-fn runs_so(
-    alloc: Global,
-    text: &SwfText<Global>,
-    scenario: &Scenario,
-    spacing: u32,
-    jobs: &[Placed],
-) -> bool {
-    match run_of(alloc, text, scenario, spacing) {
-        None => false,
-        Some(run) => are_plain_sums(text, scenario, &run, jobs),
-    }
-}
-
-// Whether event loop and run agree with the plain program, which gives these jobs these starts.
+// Whether event loop and run of a log agree with the plain program, which gives its jobs these starts.
 fn are_agreed(
     alloc: Global,
     text: &SwfText<Global>,
@@ -100,43 +64,40 @@ fn are_agreed(
     jobs: &[PlainJob],
     starts: &[Start],
 ) -> bool {
-    match placed_of(alloc, jobs, starts) {
-        Some(placed) => {
-            starts_so(alloc, text, scenario, starts)
-                && runs_so(alloc, text, scenario, spacing, placed.as_slice())
-        }
-        None => false,
-    }
+    engine_starts(alloc, text, scenario).is_some_and(|found| found.as_slice() == starts)
+        && run_of(alloc, text, scenario, spacing).is_some_and(|run| has_starts(
+            alloc, text, &run, jobs, starts,
+        ))
 }
 
-// How many starts the plain program gives this plan, where event loop and run agree with it; none
-// where they don't.
-fn agreed_starts(
-    alloc: Global,
-    text: &SwfText<Global>,
-    scenario: &Scenario,
-    spacing: u32,
-    plan: &LogPlan<Global>,
-) -> Option<u64> {
-    let starts = reference::simulate(alloc, plan).ok()?;
-    let jobs = plan.jobs();
-    let agreed = are_agreed(alloc, text, scenario, spacing, jobs, starts.as_slice());
-    agreed.then_some(starts.len() as u64)
-}
-
-// The same, of a log that is read.
+// The starts that the plain program gives a log, where event loop and run agree with it; none where they
+// don't.
 fn agreed_text(
     alloc: Global,
     text: &SwfText<Global>,
     scenario: &Scenario,
     spacing: u32,
-) -> Option<u64> {
+) -> Option<Vec<Start>> {
     let plan = LogPlan::of(alloc, text, scenario).ok()?;
-    agreed_starts(alloc, text, scenario, spacing, &plan)
+    let starts = reference::simulate(alloc, &plan).ok()?;
+    are_agreed(
+        alloc,
+        text,
+        scenario,
+        spacing,
+        plan.jobs(),
+        starts.as_slice(),
+    )
+    .then_some(starts)
 }
 
-// How many starts product and plain program agree on, of a log; none where they differ.
-pub(crate) fn agreed(alloc: Global, log: &[u8], scenario: &Scenario, spacing: u32) -> Option<u64> {
+// The same, of a log that is to be read.
+pub(crate) fn agreed(
+    alloc: Global,
+    log: &[u8],
+    scenario: &Scenario,
+    spacing: u32,
+) -> Option<Vec<Start>> {
     let text = read_swf(alloc, log).ok()?;
     agreed_text(alloc, &text, scenario, spacing)
 }

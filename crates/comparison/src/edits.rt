@@ -3,11 +3,11 @@ ghost use Rattle.job_table.specs.Accepted.{AreAccepted};
 ghost use Rattle.job_table.specs.Edit.{edit_of, log_after};
 
 use crate::logs::{add_at, add_edited};
-use crate::words::Words;
+use checking::{Chance, entry_of, table_of};
 use job_table::{Edit, JobTable};
 use scenarios::{Scenario, effective};
 use std::alloc::Global;
-use swf_text::{Entry, Value, read_swf};
+use swf_text::Value;
 
 /// The numbers of all jobs are below this.
 pub(crate) const NUMBERS: u64 = 64;
@@ -49,36 +49,26 @@ struct Aim {
     place: u64,
 }
 
-// The table of a log.
-fn table_from(alloc: Global, log: &[u8]) -> Option<JobTable<Global>> {
-    let text = read_swf(alloc, log).ok()?;
-    JobTable::from_text(alloc, &text).ok()
-}
-
 // A generated table.
-pub(crate) fn table_of(alloc: Global, words: &mut Words) -> Option<JobTable<Global>> {
+pub(crate) fn made_table(alloc: Global, chance: &mut Chance) -> Option<JobTable<Global>> {
     let mut log = String::new(alloc);
-    add_edited(&mut log, words)?;
-    table_from(alloc, log.as_bytes())
+    add_edited(&mut log, chance)?;
+    table_of(alloc, log.as_bytes())
 }
 
 // The last second in which a job is submitted.
 fn last_second(table: &JobTable<Global>) -> u64 {
-    let mut last = 0u64;
-    for entry in table.from_second(0) {
-        last = entry.submit();
-    }
-    last
+    table.from_second(0).fold(0, |_: u64, entry| entry.submit())
 }
 
 // The second of a place.
-fn second_of(words: &mut Words, place: u64, table: &JobTable<Global>) -> u64 {
+fn second_of(chance: &mut Chance, place: u64, table: &JobTable<Global>) -> u64 {
     let last = last_second(table);
     match place {
         0 => 0,
         1 => last / 2,
         2 => last,
-        _ => words.below(last.saturating_add(1)),
+        _ => chance.below(last.saturating_add(1)),
     }
 }
 
@@ -98,17 +88,11 @@ fn skipped_from(table: &JobTable<Global>, second: u64, scenario: &Scenario) -> O
     number_from(table, second)
 }
 
-// The entry of a line.
-fn entry_of(alloc: Global, line: &[u8]) -> Option<Entry<Global>> {
-    let text = read_swf(alloc, line).ok()?;
-    text.entries().first()?.copy().ok()
-}
-
 // The edit by which a job joins, submitted at this second.
-fn insertion(alloc: Global, words: &mut Words, second: u64) -> Option<Edit<Global>> {
-    let number = words.below(NUMBERS);
+fn insertion(alloc: Global, chance: &mut Chance, second: u64) -> Option<Edit<Global>> {
+    let number = chance.below(NUMBERS);
     let mut line = String::new(alloc);
-    add_at(&mut line, words, number, second)?;
+    add_at(&mut line, chance, number, second)?;
     Some(Edit::Insert(entry_of(alloc, line.as_bytes())?))
 }
 
@@ -119,28 +103,28 @@ fn value_of(alloc: Global, number: u64) -> Option<Value> {
 }
 
 // A number for a field.
-fn drawn(words: &mut Words, field: u8, table: &JobTable<Global>) -> u64 {
+fn drawn(chance: &mut Chance, field: u8, table: &JobTable<Global>) -> u64 {
     match field {
         2 => {
-            let place = words.below(4);
-            second_of(words, place, table)
+            let place = chance.below(4);
+            second_of(chance, place, table)
         }
-        4 => 5 * words.below(7),
-        8 => words.below(12),
-        9 => 5 * words.below(9),
-        _ => words.below(4),
+        4 => 5 * chance.below(7),
+        8 => chance.below(12),
+        9 => 5 * chance.below(9),
+        _ => chance.below(4),
     }
 }
 
 // The edit that gives a field of an entry another value.
 fn change(
     alloc: Global,
-    words: &mut Words,
+    chance: &mut Chance,
     table: &JobTable<Global>,
     number: u64,
     field: u8,
 ) -> Option<Edit<Global>> {
-    let value = value_of(alloc, drawn(words, field, table))?;
+    let value = value_of(alloc, drawn(chance, field, table))?;
     Some(Edit::Change {
         number,
         field,
@@ -151,94 +135,75 @@ fn change(
 // An edit of a table; none where there is no entry for it.
 fn edit(
     alloc: Global,
-    words: &mut Words,
+    chance: &mut Chance,
     aim: Aim,
     table: &JobTable<Global>,
     scenario: &Scenario,
 ) -> Option<Edit<Global>> {
-    let second = second_of(words, aim.place, table);
+    let second = second_of(chance, aim.place, table);
     match aim.kind {
-        Kind::Insertion => insertion(alloc, words, second),
+        Kind::Insertion => insertion(alloc, chance, second),
         Kind::Removal => Some(Edit::Remove(number_from(table, second)?)),
-        Kind::Change(field) => change(alloc, words, table, number_from(table, second)?, field),
+        Kind::Change(field) => change(alloc, chance, table, number_from(table, second)?, field),
         Kind::OfSkipped(field) => {
             let number = skipped_from(table, second, scenario)?;
-            change(alloc, words, table, number, field)
+            change(alloc, chance, table, number, field)
         }
     }
 }
 
 // The aim of the next edit: of the first one as the seed says, so that all kinds come at all places,
 // and of later ones by chance.
-fn aim_of(words: &mut Words, seed: u64, is_first: bool) -> Aim {
-    if is_first {
-        Aim {
-            kind: KINDS[(seed % KIND_COUNT) as usize],
-            place: seed / KIND_COUNT % 3,
-        }
+fn aim_of(chance: &mut Chance, seed: u64, is_first: bool) -> Aim {
+    let (kind, place) = if is_first {
+        (seed % KIND_COUNT, seed / KIND_COUNT % 3)
     } else {
-        Aim {
-            kind: KINDS[words.below(KIND_COUNT) as usize],
-            place: words.below(4),
-        }
+        (chance.below(KIND_COUNT), chance.below(4))
+    };
+    Aim {
+        kind: KINDS[kind as usize],
+        place,
     }
 }
 
-/// A table that is edited, and its edits so far.
-#[derive(Drop)]
-struct Making {
-    table: JobTable<Global>,
-    edits: Vec<Edit<Global>>,
-}
-
-impl Making {
-    // Makes an edit; none where it is refused.
-    fn make(&mut self, edit: Edit<Global>) -> Option<()> {
-        self.table.apply(&edit).ok()?;
-        self.edits.push(edit).ok()
-    }
-
-    // Makes an edit of this aim, where there is one that is accepted.
-    fn add(&mut self, alloc: Global, words: &mut Words, aim: Aim, scenario: &Scenario) {
-        if let Some(edit) = edit(alloc, words, aim, &self.table, scenario) {
-            // An edit that is refused leaves the table as it was.
-            let _ = self.make(edit);
-        }
-    }
-
-    // Makes so many edits, or as many as there are in 32 tries.
-    fn grow(
-        &mut self,
-        alloc: Global,
-        words: &mut Words,
-        seed: u64,
-        scenario: &Scenario,
-        wanted: usize,
-    ) {
-        for _ in 0..32 {
-            if self.edits.len() < wanted {
-                let aim = aim_of(words, seed, self.edits.is_empty());
-                self.add(alloc, words, aim, scenario);
+// Adds so many edits of a table, each of which is accepted after those before it, or as many as there are in
+// 32 tries.
+fn add_edits(
+    alloc: Global,
+    chance: &mut Chance,
+    seed: u64,
+    scenario: &Scenario,
+    table: &mut JobTable<Global>,
+    edits: &mut Vec<Edit<Global>>,
+    wanted: usize,
+) -> Option<()> {
+    for _ in 0..32 {
+        if edits.len() < wanted {
+            let aim = aim_of(chance, seed, edits.is_empty());
+            if let Some(edit) = edit(alloc, chance, aim, table, scenario)
+                && table.apply(&edit).is_ok()
+            {
+                edits.push(edit).ok()?;
             }
         }
     }
+    Some(())
 }
 
 // One to four edits of a table, each of which is accepted after those before it.
 pub(crate) fn edits_of(
     alloc: Global,
-    words: &mut Words,
+    chance: &mut Chance,
     seed: u64,
     scenario: &Scenario,
     table: &JobTable<Global>,
 ) -> Option<Vec<Edit<Global>>> {
-    let wanted = 1 + words.below(4) as usize;
-    let mut edited = Making {
-        table: table.copy().ok()?,
-        edits: Vec::new(alloc),
-    };
-    edited.grow(alloc, words, seed, scenario, wanted);
-    Some(edited.edits)
+    let wanted = 1 + chance.below(4) as usize;
+    let (mut table, mut edits) = (table.copy().ok()?, Vec::new(alloc));
+    add_edits(
+        alloc, chance, seed, scenario, &mut table, &mut edits, wanted,
+    )?;
+    Some(edits)
 }
 
 // The table after these edits; none where one is refused.

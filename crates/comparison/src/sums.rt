@@ -31,13 +31,10 @@ fn busy(placed: &Placed) -> u64 {
 
 // The processor-seconds of a job in a day, second by second.
 fn busy_in(placed: &Placed, day: u64) -> u64 {
-    let mut seconds = 0u64;
-    for second in placed.1..end(placed) {
-        if second / DAY == day {
-            seconds = seconds.wrapping_add(1);
-        }
-    }
-    placed.0.size().wrapping_mul(seconds)
+    let seconds = (placed.1..end(placed))
+        .filter(|second| *second / DAY == day)
+        .count();
+    placed.0.size().wrapping_mul(seconds as u64)
 }
 
 /// What is measured of jobs.
@@ -71,40 +68,33 @@ fn of_one(placed: &Placed, measure: Measure) -> u64 {
 
 // The sum of a measure over jobs.
 fn total(jobs: &[Placed], measure: Measure) -> u64 {
-    let mut sum = 0u64;
-    for placed in jobs {
-        sum = sum.wrapping_add(of_one(placed, measure));
-    }
-    sum
+    jobs.iter().fold(
+        0,
+        |sum: u64, placed| sum.wrapping_add(of_one(placed, measure)),
+    )
 }
 
 // The sum of a measure over the jobs of a user.
 fn total_of(jobs: &[Placed], user: i64, measure: Measure) -> u64 {
-    let mut sum = 0u64;
-    for placed in jobs {
-        if placed.0.user() == user {
-            sum = sum.wrapping_add(of_one(placed, measure));
-        }
-    }
-    sum
+    jobs.iter().filter(|placed| placed.0.user() == user).fold(
+        0,
+        |sum: u64, placed| sum.wrapping_add(of_one(placed, measure)),
+    )
 }
 
 // The greatest measure; 0 of no job.
 fn greatest(jobs: &[Placed], measure: Measure) -> u64 {
-    let mut most = 0u64;
-    for placed in jobs {
-        most = most.max(of_one(placed, measure));
-    }
-    most
+    jobs.iter()
+        .fold(0, |most: u64, placed| most.max(of_one(placed, measure)))
 }
 
 // The seconds from the first submit to the last end; 0 of no job.
 fn span(jobs: &[Placed]) -> u64 {
-    let mut first = greatest(jobs, Measure::End);
-    for placed in jobs {
-        first = first.min(of_one(placed, Measure::Submit));
-    }
-    greatest(jobs, Measure::End).saturating_sub(first)
+    let last = greatest(jobs, Measure::End);
+    let first = jobs
+        .iter()
+        .fold(last, |first: u64, placed| first.min(placed.0.submit()));
+    last.saturating_sub(first)
 }
 
 // The mean, cut down; 0 of none.
@@ -114,13 +104,11 @@ fn mean(sum: u64, jobs: u64) -> u128 {
 
 // How many entries of a log are skipped for a reason.
 fn skipped(text: &SwfText<Global>, scenario: &Scenario, reason: Skip) -> u64 {
-    let mut count = 0u64;
-    for entry in text.entries() {
-        if effective(entry, scenario).err() == Some(reason) {
-            count = count.saturating_add(1);
-        }
-    }
-    count
+    let skipped = text
+        .entries()
+        .iter()
+        .filter(|entry| effective(entry, scenario).err() == Some(reason));
+    skipped.count() as u64
 }
 
 // How many entries of a log are skipped.
@@ -167,20 +155,11 @@ fn user_row(user: i64, jobs: &[Placed]) -> UserRow {
 
 // Whether these are the rows of all users who have a job.
 fn are_users(rows: &[UserRow], jobs: &[Placed]) -> bool {
-    let mut left = rows;
-    for user in USERS {
-        let row = user_row(user, jobs);
-        if row.jobs > 0 {
-            let Some((first, rest)) = left.split_first() else {
-                return false;
-            };
-            if *first != row {
-                return false;
-            }
-            left = rest;
-        }
-    }
-    left.is_empty()
+    let wanted = USERS
+        .iter()
+        .map(|user| user_row(*user, jobs))
+        .filter(|row| row.jobs > 0);
+    rows.iter().copied().eq(wanted)
 }
 
 // The row of a day, of a machine with so many processor-seconds a day.
@@ -195,61 +174,45 @@ fn day_row(day: u64, room: u64, jobs: &[Placed]) -> DayRow {
 
 // Whether these are the rows of all days in which a processor-second is taken.
 fn are_days(rows: &[DayRow], room: u64, jobs: &[Placed]) -> bool {
-    let mut left = rows;
-    for day in 0..3 {
-        let row = day_row(day, room, jobs);
-        if row.busy > 0 {
-            let Some((first, rest)) = left.split_first() else {
-                return false;
-            };
-            if *first != row {
-                return false;
-            }
-            left = rest;
-        }
-    }
-    left.is_empty()
+    let wanted = (0..3)
+        .map(|day| day_row(day, room, jobs))
+        .filter(|row| row.busy > 0);
+    rows.iter().copied().eq(wanted)
+}
+
+// Whether a row is that of a job with its start.
+fn is_placed(row: &Row, placed: &Placed) -> bool {
+    row.number == placed.0.number() && row.start == placed.1 && row.end == end(placed)
 }
 
 // Whether these rows are those of jobs with their starts, in this order.
 fn are_placed(rows: &[Row], jobs: &[Placed]) -> bool {
-    for (row, placed) in rows.iter().zip(jobs) {
-        if row.number != placed.0.number() || row.start != placed.1 || row.end != end(placed) {
-            return false;
-        }
-    }
     rows.len() == jobs.len()
+        && rows
+            .iter()
+            .zip(jobs)
+            .all(|(row, placed)| is_placed(row, placed))
 }
 
 // Whether a run tells each job's start by its number.
 fn finds_starts(run: &Run<Global>, jobs: &[Placed]) -> bool {
-    for placed in jobs {
-        if run.start_of(placed.0.number()) != Some(placed.1) {
-            return false;
-        }
-    }
-    true
+    jobs.iter()
+        .all(|placed| run.start_of(placed.0.number()) == Some(placed.1))
 }
 
 // Whether a run has these starts by its schedule.
 fn has_rows(run: &Run<Global>, jobs: &[Placed]) -> bool {
-    match run.schedule() {
-        Ok(rows) => are_placed(rows.as_slice(), jobs),
-        Err(_) => false,
-    }
+    run.schedule()
+        .is_ok_and(|rows| are_placed(rows.as_slice(), jobs))
 }
 
 // Whether a run of a log has these jobs with these starts, and tables that are plain sums over them.
-pub(crate) fn are_plain_sums(
-    text: &SwfText<Global>,
-    scenario: &Scenario,
-    run: &Run<Global>,
-    jobs: &[Placed],
-) -> bool {
+pub(crate) fn are_plain_sums(text: &SwfText<Global>, run: &Run<Global>, jobs: &[Placed]) -> bool {
+    let scenario = run.scenario();
     let procs = scenario.procs();
     has_rows(run, jobs)
         && finds_starts(run, jobs)
-        && run.tables().overall() == overall(skips(text, scenario), procs, jobs)
+        && run.tables().overall() == overall(skips(text, &scenario), procs, jobs)
         && are_users(run.tables().users(), jobs)
         && are_days(run.tables().days(), procs.wrapping_mul(DAY), jobs)
 }

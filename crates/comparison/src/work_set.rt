@@ -1,8 +1,8 @@
 ghost use Rattle.std.specs.Prelude.{◌<◌, length};
 
-use crate::before::{is_before, stands};
 use crate::edits::NUMBERS;
 use checkpoints::{Row, Run, Segment};
+use cluster_state::Snapshot;
 use job_table::JobTable;
 use scenarios::{Job, Scenario, effective};
 use std::alloc::Global;
@@ -43,6 +43,55 @@ pub(crate) struct Counts {
     pub(crate) kept: u64,
     /// Whether the last old segment is kept, but not all of them.
     pub(crate) rejoins: bool,
+}
+
+// Whether a job waits before a second.
+fn waits(row: &Row, second: u64) -> bool {
+    row.submit < second && row.start >= second
+}
+
+// Whether a job runs before a second, when those that end at it have not yet ended.
+fn runs(row: &Row, second: u64) -> bool {
+    row.start < second && row.end >= second
+}
+
+// Whether just the jobs of a schedule that wait before a second wait there, in the same order.
+fn waits_so(rows: &[Row], there: &Snapshot<Global>, second: u64) -> bool {
+    let numbers = rows
+        .iter()
+        .filter(|row| waits(row, second))
+        .map(|row| row.number);
+    there.waiting().copied().eq(numbers)
+}
+
+// Whether a job of a schedule runs before a second, since this start.
+fn runs_since(rows: &[Row], number: u64, start: u64, second: u64) -> bool {
+    rows.iter().any(|row| row.number == number && row.start == start && runs(row, second))
+}
+
+// Whether just the jobs of a schedule that run before a second run there, since the same starts.
+fn runs_so(rows: &[Row], there: &Snapshot<Global>, second: u64) -> bool {
+    let are_known = there.running().all(|running| runs_since(
+        rows,
+        running.number,
+        running.start,
+        second,
+    ));
+    let count = there
+        .running()
+        .fold(0, |count: usize, _| count.saturating_add(1));
+    are_known && count == rows.iter().filter(|row| runs(row, second)).count()
+}
+
+// Whether a snapshot is what a schedule has before a second.
+fn is_before(rows: &[Row], there: &Snapshot<Global>, second: u64) -> bool {
+    waits_so(rows, there, second) && runs_so(rows, there, second)
+}
+
+// Whether a number waits or runs there.
+fn stands(there: &Snapshot<Global>, number: u64) -> bool {
+    there.running().any(|running| running.number == number)
+        || there.waiting().any(|waiting| *waiting == number)
 }
 
 // The job of a number in a table.
@@ -88,46 +137,30 @@ fn add_events(events: &mut Vec<u64>, rows: &[Row]) -> Option<()> {
 
 // Whether a segment of the plan may begin at a second.
 fn may_begin(events: &[u64], first: u64) -> bool {
-    match first.checked_sub(1) {
-        None => true,
-        Some(last) => events.contains(&last),
-    }
+    first == 0 || events.contains(&(first - 1))
 }
 
 impl Stretch {
     // Whether a second lies in the stretch.
     fn has(self, second: u64) -> bool {
-        match self.next {
-            None => second >= self.first,
-            Some(next) => second >= self.first && second < next,
-        }
+        second >= self.first && self.next.is_none_or(|next| second < next)
     }
 
-    // Whether a second, if there is one, lies in the stretch.
-    fn has_one(self, second: Option<u64>) -> bool {
-        match second {
-            None => false,
-            Some(second) => self.has(second),
-        }
+    // Whether a touched number is submitted in the stretch, before or after the edits.
+    fn has_submit(self, one: &Touched) -> bool {
+        one.was.is_some_and(|second| self.has(second))
+            || one.is.is_some_and(|second| self.has(second))
     }
 
     // Whether it ends behind its first second.
     fn is_filled(self) -> bool {
-        match self.next {
-            None => true,
-            Some(next) => self.first < next,
-        }
+        self.next.is_none_or(|next| self.first < next)
     }
 }
 
 // Whether a touched number stands before an old segment, or is submitted in its stretch.
 fn is_touched(old: &Segment<Global>, stretch: Stretch, touched: &[Touched]) -> bool {
-    for one in touched {
-        if stands(old.before(), one.number) || stretch.has_one(one.was) || stretch.has_one(one.is) {
-            return true;
-        }
-    }
-    false
+    touched.iter().any(|one| stands(old.before(), one.number) || stretch.has_submit(one))
 }
 
 // Whether an old segment with this stretch is kept.
@@ -137,18 +170,13 @@ fn is_kept(old: &Segment<Global>, stretch: Stretch, plan: &Plan<'_>) -> bool {
         && !is_touched(old, stretch, plan.touched)
 }
 
-// The first second of the segment at this place; none where there is no such segment.
-fn first_at(segments: &[Arc<Segment<Global>, Global>], place: usize) -> Option<u64> {
-    Some(segments.get(place)?.first())
-}
-
 // The stretch of the segment at this place.
 fn stretch_at(segments: &[Arc<Segment<Global>, Global>], place: usize) -> Stretch
     requires { place < length segments.now }
 {
     Stretch {
         first: segments[place].first(),
-        next: first_at(segments, place + 1),
+        next: segments.get(place + 1).map(|segment| segment.first()),
     }
 }
 
@@ -167,33 +195,12 @@ fn add_kept(
     Some(())
 }
 
-// Whether a second lies in one of these stretches.
-fn is_inside(second: u64, kept: &[Stretch]) -> bool {
-    for stretch in kept {
-        if stretch.has(second) {
-            return true;
-        }
-    }
-    false
-}
-
 // How many seconds lie in none of these stretches.
-fn count_outside(seconds: &[u64], kept: &[Stretch]) -> u64 {
-    let mut count = 0u64;
-    for second in seconds {
-        if !is_inside(*second, kept) {
-            count = count.saturating_add(1);
-        }
-    }
-    count
-}
-
-// Whether the last old segment is among the kept ones.
-fn ends_kept(kept: &[Stretch]) -> bool {
-    match kept.last() {
-        None => false,
-        Some(stretch) => stretch.next.is_none(),
-    }
+fn count_outside(seconds: &[u64], kept: &[Stretch]) -> usize {
+    seconds
+        .iter()
+        .filter(|second| !kept.iter().any(|stretch| stretch.has(**second)))
+        .count()
 }
 
 // What there is to be worked and to be kept of an old run, by a new plan.
@@ -202,20 +209,11 @@ fn counts_by(alloc: Global, was: &Run<Global>, plan: &Plan<'_>) -> Option<Counts
     add_kept(&mut kept, was.segments(), plan)?;
     Some(Counts {
         events: plan.events.len() as u64,
-        work: count_outside(plan.events, kept.as_slice()),
+        work: count_outside(plan.events, kept.as_slice()) as u64,
         kept: kept.len() as u64,
-        rejoins: kept.len() < was.segments().len() && ends_kept(kept.as_slice()),
+        rejoins: kept.len() < was.segments().len()
+            && kept.last().is_some_and(|stretch| stretch.next.is_none()),
     })
-}
-
-// Whether all starts of a segment lie in its stretch.
-fn starts_inside(segment: &Segment<Global>, stretch: Stretch) -> bool {
-    for start in segment.starts() {
-        if !stretch.has(start.at) {
-            return false;
-        }
-    }
-    true
 }
 
 // Whether a segment of the new plan may begin where it does, tells who waits and runs before it, and
@@ -223,7 +221,7 @@ fn starts_inside(segment: &Segment<Global>, stretch: Stretch) -> bool {
 fn is_segment(segment: &Segment<Global>, stretch: Stretch, plan: &Plan<'_>) -> bool {
     may_begin(plan.events, stretch.first)
         && is_before(plan.rows, segment.before(), stretch.first)
-        && starts_inside(segment, stretch)
+        && segment.starts().iter().all(|start| stretch.has(start.at))
         && stretch.is_filled()
 }
 
@@ -241,21 +239,8 @@ fn is_cut(segments: &[Arc<Segment<Global>, Global>], plan: &Plan<'_>) -> bool {
     }
 }
 
-// The counts of an old and a new run, by the new plan; none where its segments are no cut.
-fn counts_in(
-    alloc: Global,
-    was: &Run<Global>,
-    is: &Run<Global>,
-    plan: &Plan<'_>,
-) -> Option<Counts> {
-    if is_cut(is.segments(), plan) {
-        counts_by(alloc, was, plan)
-    } else {
-        None
-    }
-}
-
-// The same, where the new run has these rows and event seconds.
+// What there is to be worked and to be kept of an old run, by a new one with these rows and event seconds;
+// none where its segments are no cut.
 fn counts_at(
     alloc: Global,
     was: &Run<Global>,
@@ -270,7 +255,10 @@ fn counts_at(
         events,
         touched: touched.as_slice(),
     };
-    counts_in(alloc, was, is, &plan)
+    if !is_cut(is.segments(), &plan) {
+        return None;
+    }
+    counts_by(alloc, was, &plan)
 }
 
 // The same, of a new run with these rows.
@@ -280,8 +268,8 @@ fn counts_with(alloc: Global, was: &Run<Global>, is: &Run<Global>, rows: &[Row])
     counts_at(alloc, was, is, rows, events.as_slice())
 }
 
-// What there is to be worked and to be kept of an old run, by a new one; none where the new one's
-// segments are no cut.
+// What there is to be worked and to be kept of an old run, by a new one; none where the new one's segments
+// are no cut.
 pub(crate) fn counts_of(alloc: Global, was: &Run<Global>, is: &Run<Global>) -> Option<Counts> {
     let rows = is.schedule().ok()?;
     counts_with(alloc, was, is, rows.as_slice())

@@ -1,0 +1,34 @@
+/// What the comparison of some logs gave.
+#[derive(Clone, Copy)]
+pub(crate) struct Found {
+    /// What was counted in all of them together, by kinds.
+    counts: [u64; 3],
+    pub(crate) differences: u64,
+}
+
+impl Found {
+    /// No log.
+    pub(crate) const NONE: Found = Found {
+        counts: [0; 3],
+        differences: 0,
+    };
+
+    // Adds what was counted in another log; none is a difference.
+    pub(crate) fn add(&mut self, counts: Option<[u64; 3]>) {
+        let Some(counts) = counts else {
+            self.differences = self.differences.saturating_add(1);
+            return;
+        };
+        for (all, count) in self.counts.iter_mut().zip(&counts) {
+            *all = all.saturating_add(*count);
+        }
+    }
+
+    // Whether so much was counted of each kind.
+    pub(crate) fn has(&self, fewest: &[u64; 3]) -> bool {
+        self.counts
+            .iter()
+            .zip(fewest)
+            .all(|(count, least)| count >= least)
+    }
+}
