@@ -3,7 +3,7 @@ use crate::player::Player;
 use crate::words::Words;
 use crate::wrong::Wrong;
 use crate::{answers, inputs};
-use book_machine::{Call, Caller, Name, NotedEdit};
+use book_machine::{Call, Caller, NotedEdit, NotedName};
 use job_table::Edit;
 use scenarios::ScenarioId;
 use std::alloc::Global;
@@ -31,8 +31,8 @@ fn edit_call(alloc: Global, edit: &Edit<Global>) -> Option<Call<Global>> {
 }
 
 // The name of a call; none where memory is short.
-fn name_of(alloc: Global, name: &str) -> Option<Name<Global>> {
-    Name::new(alloc, name).ok()
+fn name_of(alloc: Global, name: &str) -> Option<NotedName<Global>> {
+    NotedName::new(alloc, name).ok()
 }
 
 impl Player<'_> {
