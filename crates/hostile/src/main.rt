@@ -1,24 +1,27 @@
 //! Changes logs and scripts at random, gives them to the reader and to the call that works a script,
 //! and counts the answers. Its word is how many logs and how many scripts. Without it they are
-//! 10,000 each, and each beginning of a log is read too, readers and writers fail at each of their
-//! calls, and two scripts are worked side by side where each growth is refused in turn. The status is
-//! 1 where an answer is not one of those that are stated, where a log is read otherwise once it was
-//! written, and where a kind of answers that may come does not.
+//! 10,000 each, and each beginning of a log is read too; readers and writers fail at each of their
+//! calls; plain runs, scripts, and scripts side by side are worked where each growth is refused in turn;
+//! two workers cross; and a conversation is to flush each answer. The status is 1 where an answer is not
+//! one of those that are stated, where a log is read otherwise once it was written, and where a kind of
+//! answers that may come does not.
 #![tactic(auto)]
 
+mod answers;
+mod changed;
+mod crossed;
 mod devices;
+mod growths;
+mod held;
+mod judge;
 mod mutation;
 mod reading;
-mod sharing;
-mod words;
+mod texts;
 mod working;
+mod works;
 
-use crate::mutation::mutated;
-use crate::reading::READ;
-use crate::words::words_of;
-use crate::working::WORKED;
+use crate::changed::{are_as_stated, are_cut_as_stated, counts_of, tell_counts};
 use anyhow::{Context, Result};
-use std::alloc::Global;
 use std::env;
 use std::marker::Sync;
 use std::process::ExitCode;
@@ -29,131 +32,79 @@ use std::thread::Threads;
 /// How many logs are changed, and how many scripts, where no word says so.
 const ROUNDS: u64 = 10_000;
 
-/// What is told without a word, where it is right.
-const CHANGED: &str = "10000 logs and 10000 scripts, changed at random: all answers as stated";
-
-const CUT: &str = "each beginning of four jobs: read, or its first fault";
-
-const DEVICES: &str =
-    "a reader and a writer of one byte a call, each call failing in turn: told, and nothing invented";
-
-const SHARED: &str = "two scripts side by side, each growth refused in turn: told, and all ends";
-
-/// The logs that are changed: four jobs; partial lines, fractions and comments; a scenario's line.
-const LOGS: [&[u8]; 3] = [
-    b"1 0 -1 100 6 -1 -1 6 100 -1 1 7 -1 -1 -1 -1 -1 -1\n2 1 -1 50 8 -1 -1 8 50 -1 1 8 -1 -1 -1 -1 -1 -1\n3 2 -1 90 4 -1 -1 4 90 -1 1 7 -1 -1 -1 -1 -1 -1\n4 3 -1 500 2 -1 -1 2 500 -1 1 8 -1 -1 -1 -1 -1 -1\n",
-    b"; MaxProcs: 10\n1 0.5 -1 100 6 -1 -1 6 100 -1 1 7 -1 -1 -1 -1 -1 -1\n1 0 -1 50 6 -1 -1 6 100 -1 2 7 -1 -1 -1 -1 -1 -1\n1 60 -1 50 6 -1 -1 6 100 -1 3 7 -1 -1 -1 -1 -1 -1\n\n2 1 -1 50.25 8 -1 -1 8 -1 -1 0 8 -1 -1 -1 -1 -1 -1\n",
-    b"; Scenario: big 16 1500 shortest\n7 100000 -1 100 6 -1 -1 6 86400 -1 1 7 -1 -1 -1 -1 -1 -1\n3 0 -1 90 4 -1 -1 17 90 -1 1 7 -1 -1 -1 -1 -1 -1\n",
-];
-
-/// The scripts that are changed.
-const SCRIPTS: [&[u8]; 2] = [
-    b"scenario big 16 1000\nsettle\nside\nremove 1\nschedule base\nsettle\nschedule base\ntable big\nlog base\nversion\nquit\n",
-    b"insert 9 4 -1 10 2 -1 -1 2 10 -1 1 7 -1 -1 -1 -1 -1 -1\nchange 2 8 3\nscenario s 8 500 shortest\nsettle\nusers s\ndays s\ndrop base\nretry s\nside\nsave\n",
-];
-
-/// How often each kind of answers came.
-#[derive(Drop)]
-struct Counts {
-    read: [u64; 12],
-    worked: [u64; 6],
+/// What is done without a word.
+#[derive(Clone, Copy)]
+enum Part {
+    Changed,
+    Cut,
+    Readers,
+    Writers,
+    Growths,
+    GrowthsBeside,
+    Crossed,
+    Held,
 }
 
-// Counts one more.
-fn count(counts: &mut [u64], kind: usize) {
-    if let Some(count) = counts.get_mut(kind) {
-        *count = count.saturating_add(1);
+/// All of it.
+const PARTS: [Part; 8] = [
+    Part::Changed,
+    Part::Cut,
+    Part::Readers,
+    Part::Writers,
+    Part::Growths,
+    Part::GrowthsBeside,
+    Part::Crossed,
+    Part::Held,
+];
+
+// What is told of a part.
+fn text_of(part: Part) -> &'static str {
+    match part {
+        Part::Changed => "10000 logs and 10000 scripts, changed at random: all answers as stated",
+        Part::Cut => "each beginning of four jobs: read, or its first fault",
+        Part::Readers => "a reader of one byte a call, each call failing in turn: nothing written",
+        Part::Writers =>
+            "a writer of few bytes a call, each call failing in turn: nothing invented",
+        Part::Growths => "a run and three scripts, each growth refused in turn: told in its place",
+        Part::GrowthsBeside => "two scripts side by side, each growth refused in turn: all ends",
+        Part::Crossed => "two workers whose tasks cross: they work beside each other",
+        Part::Held => "a conversation: each answer is flushed, once",
     }
 }
 
-// Changes so many logs and scripts, and counts what they are answered.
-fn counts_of<R: AllocGlobal + Threads + Sync>(rt: &R, rounds: u64) -> Result<Counts> {
+// Does a part: whether all is right.
+fn is_right<R: AllocGlobal + Eprint + Threads + Wait + Sync>(rt: &R, part: Part) -> Result<bool> {
     let alloc = rt.alloc();
-    let mut counts = Counts {
-        read: [0; 12],
-        worked: [0; 6],
+    let is_right = match part {
+        Part::Changed => are_as_stated(&counts_of(rt, ROUNDS)?),
+        Part::Cut => are_cut_as_stated(alloc),
+        Part::Readers => devices::are_read(rt),
+        Part::Writers => devices::are_written(rt)?,
+        Part::Growths => growths::are_told(rt),
+        Part::GrowthsBeside => growths::are_told_beside(rt),
+        Part::Crossed => crossed::are_beside(rt),
+        Part::Held => held::is_flushed(rt),
     };
-    for seed in 0..rounds {
-        let mut words = words_of(seed);
-        let log = mutated(alloc, &mut words, LOGS[(seed % 3) as usize])?;
-        count(&mut counts.read, reading::answer(alloc, log.as_slice()));
-        let script = mutated(alloc, &mut words, SCRIPTS[(seed % 2) as usize])?;
-        let log = if seed % 8 == 0 {
-            log.as_slice()
-        } else {
-            LOGS[0]
-        };
-        count(
-            &mut counts.worked,
-            working::answer(rt, log, script.as_slice()),
-        );
-    }
-    Ok(counts)
-}
-
-// Prints each kind with its count.
-fn tell<R: Print>(rt: &R, names: &[&str], counts: &[u64]) -> Result<()> {
-    for (name, count) in names.iter().zip(counts.iter()) {
-        println!(rt; "{count} {name}")?;
-    }
-    Ok(())
-}
-
-// Counts what the reader answers to each beginning of a log.
-fn counts_of_cuts(alloc: Global, log: &[u8]) -> [u64; 12] {
-    let mut counts = [0u64; 12];
-    for len in 0..log.len() + 1 {
-        let cut = &log[..len.min(log.len())];
-        count(&mut counts, reading::answer(alloc, cut));
-    }
-    counts
-}
-
-// Whether each beginning of the four jobs is read or refused as it should be: of each of its four
-// lines the whole one is read, with its line feed and without; where its last `1` is missing its
-// last word is no number; shorter, it has too few words. No byte at all is a log, too.
-fn are_cut_as_stated(alloc: Global) -> bool {
-    let counts = counts_of_cuts(alloc, LOGS[0]);
-    let all = (LOGS[0].len() as u64).saturating_add(1);
-    counts[0] == 9 && counts[4] == 4 && counts[3] == all.saturating_sub(13)
-}
-
-// Whether each kind that may come did, and no other.
-fn are_as_stated(counts: &Counts) -> bool {
-    let read = &counts.read;
-    let worked = &counts.worked;
-    let others = read[10].saturating_add(read[11]);
-    let wrong = worked[4].saturating_add(worked[5]);
-    let came = read[0] > 0 && worked[0] > 0 && worked[1] > 0;
-    came && others == 0 && wrong == 0 && read[2..9].iter().all(|count| *count > 0)
-}
-
-// Tells that something is right, or that it is not.
-fn tell_of<R: Print + Eprint>(rt: &R, is_right: bool, what: &str) -> Result<bool> {
-    if is_right {
-        println!(rt; "{what}")?;
-    } else {
-        eprintln!(rt; "hostile: not {what}")?;
-    }
     Ok(is_right)
 }
 
-// What is done without a word: whether all is right.
+// Does all parts, and tells of each: whether all is right.
 fn run_short<R: AllocGlobal + Print + Eprint + Threads + Wait + Sync>(rt: &R) -> Result<bool> {
-    let counts = counts_of(rt, ROUNDS)?;
-    Ok(
-        tell_of(rt, are_as_stated(&counts), CHANGED)?
-            && tell_of(rt, are_cut_as_stated(rt.alloc()), CUT)?
-            && tell_of(rt, devices::is_right(rt), DEVICES)?
-            && tell_of(rt, sharing::is_right(rt, rt.alloc()), SHARED)?,
-    )
+    for part in PARTS {
+        let text = text_of(part);
+        if !is_right(rt, part)? {
+            eprintln!(rt; "hostile: not {text}")?;
+            return Ok(false);
+        }
+        println!(rt; "{text}")?;
+    }
+    Ok(true)
 }
 
 // Changes so many logs and scripts, and tells the counts: whether all is right.
 fn run_long<R: AllocGlobal + Print + Threads + Sync>(rt: &R, rounds: u64) -> Result<bool> {
     let counts = counts_of(rt, rounds)?;
-    tell(rt, &READ, &counts.read)?;
-    tell(rt, &WORKED, &counts.worked)?;
+    tell_counts(rt, &counts)?;
     Ok(are_as_stated(&counts))
 }
 

@@ -1,5 +1,5 @@
 // Texts that are changed at random.
-use crate::words::Words;
+use checking::Chance;
 use memchr::{memchr2, memrchr2};
 use std::alloc::Global;
 use swf_text::Memory;
@@ -28,34 +28,33 @@ const PIECES: [&[u8]; 16] = [
 /// The most bytes of a stretch that is put in once more.
 const STRETCH: u64 = 80;
 
-// The text with so many of its bytes from a place on exchanged for a piece.
-fn exchanged(
-    alloc: Global,
-    text: &[u8],
+/// So many bytes of a text from a place on are exchanged for others.
+#[derive(Clone, Copy)]
+struct Change<'t> {
     at: usize,
     gone: usize,
-    piece: &[u8],
-) -> Result<Vec<u8>, Memory> {
-    let at = at.min(text.len());
-    let after = at.saturating_add(gone).min(text.len());
-    let mut new = Vec::with_capacity(alloc, text.len().saturating_add(piece.len()))?;
-    new.extend_from_slice(&text[..at])?;
-    new.extend_from_slice(piece)?;
-    new.extend_from_slice(&text[after..])?;
-    Ok(new)
+    new: &'t [u8],
+}
+
+// What stands in a text from a place on.
+fn from_place(text: &[u8], at: usize) -> &[u8] {
+    &text[at.min(text.len())..]
+}
+
+// The first bytes of a text.
+fn first_bytes(text: &[u8], count: usize) -> &[u8] {
+    &text[..count.min(text.len())]
 }
 
 // A place in a text, or its end.
-fn place(words: &mut Words, text: &[u8]) -> usize {
-    words.below((text.len() as u64).saturating_add(1)) as usize
+fn place(chance: &mut Chance, text: &[u8]) -> usize {
+    chance.below((text.len() as u64).saturating_add(1)) as usize
 }
 
 // A stretch of the text.
-fn stretch<'t>(words: &mut Words, text: &'t [u8]) -> &'t [u8] {
-    let from = place(words, text).min(text.len());
-    let rest = &text[from..];
-    let len = words.below(STRETCH) as usize;
-    &rest[..len.min(rest.len())]
+fn stretch<'t>(chance: &mut Chance, text: &'t [u8]) -> &'t [u8] {
+    let rest = from_place(text, place(chance, text));
+    first_bytes(rest, chance.below(STRETCH) as usize)
 }
 
 // Where the word or the line around a place begins, and how many bytes it has: what stands between two
@@ -70,46 +69,57 @@ fn around(text: &[u8], at: usize, mark: u8, other: u8) -> (usize, usize) {
     (from, at.saturating_add(end).saturating_sub(from))
 }
 
-// The text with the word around a place exchanged for a piece.
-fn with_word(alloc: Global, text: &[u8], at: usize, piece: &[u8]) -> Result<Vec<u8>, Memory> {
-    let (from, len) = around(text, at, b' ', b'\n');
-    exchanged(alloc, text, from, len, piece)
+// The word around a place is exchanged for a piece.
+fn of_word<'t>(text: &'t [u8], at: usize, new: &'t [u8]) -> Change<'t> {
+    let (at, gone) = around(text, at, b' ', b'\n');
+    Change { at, gone, new }
 }
 
-// The text with the line around a place once more before it.
-fn with_line(alloc: Global, text: &[u8], at: usize) -> Result<Vec<u8>, Memory> {
-    let (from, len) = around(text, at, b'\n', b'\n');
-    let rest = &text[from.min(text.len())..];
-    let line = &rest[..len.saturating_add(1).min(rest.len())];
-    exchanged(alloc, text, from, 0, line)
+// The line around a place is put in once more before it.
+fn of_line(text: &[u8], at: usize) -> Change<'_> {
+    let (at, len) = around(text, at, b'\n', b'\n');
+    let new = first_bytes(from_place(text, at), len.saturating_add(1));
+    Change { at, gone: 0, new }
 }
 
-// The text with one change: a byte exchanged, put in or taken out, its end cut off, a piece put in the
-// place of a byte or of a word, or a line or another stretch of it put in once more.
-fn changed(alloc: Global, words: &mut Words, text: &[u8]) -> Result<Vec<u8>, Memory> {
-    let at = place(words, text);
-    let byte = [words.below(256) as u8];
-    let piece = PIECES[words.below(16) as usize];
-    match words.below(10) {
-        0 => exchanged(alloc, text, at, 1, &byte),
-        1 => exchanged(alloc, text, at, 0, &byte),
-        2 => exchanged(alloc, text, at, 1, &[]),
-        3 => exchanged(alloc, text, at, usize::MAX, &[]),
-        4 => exchanged(alloc, text, at, 1, piece),
-        5 | 6 | 7 => with_word(alloc, text, at, piece),
-        8 => with_line(alloc, text, at),
-        _ => {
-            let again = stretch(words, text);
-            exchanged(alloc, text, at, 0, again)
-        }
-    }
+// A change at random: a byte exchanged, put in or taken out, the end cut off, a piece put in the place of a
+// byte or of a word, or a line or another stretch put in once more.
+fn drawn<'t>(chance: &mut Chance, text: &'t [u8], byte: &'t [u8]) -> Change<'t> {
+    let at = place(chance, text);
+    let piece = PIECES[chance.below(16) as usize];
+    let (gone, new): (usize, &[u8]) = match chance.below(10) {
+        0 => (1, byte),
+        1 => (0, byte),
+        2 => (1, &[]),
+        3 => (usize::MAX, &[]),
+        4 => (1, piece),
+        5 => (0, stretch(chance, text)),
+        6 => return of_line(text, at),
+        _ => return of_word(text, at, piece),
+    };
+    Change { at, gone, new }
+}
+
+// The text with a change.
+fn exchanged(alloc: Global, text: &[u8], change: Change<'_>) -> Result<Vec<u8>, Memory> {
+    let mut new = Vec::from_slice(alloc, first_bytes(text, change.at))?;
+    new.extend_from_slice(change.new)?;
+    new.extend_from_slice(from_place(text, change.at.saturating_add(change.gone)))?;
+    Ok(new)
+}
+
+// The text with one change at random.
+fn changed(alloc: Global, chance: &mut Chance, text: &[u8]) -> Result<Vec<u8>, Memory> {
+    let byte = [chance.below(256) as u8];
+    let change = drawn(chance, text, &byte);
+    exchanged(alloc, text, change)
 }
 
 // The text with one to four changes.
-pub(crate) fn mutated(alloc: Global, words: &mut Words, text: &[u8]) -> Result<Vec<u8>, Memory> {
-    let mut new = changed(alloc, words, text)?;
-    for _ in 0..words.below(4) {
-        new = changed(alloc, words, new.as_slice())?;
+pub(crate) fn mutated(alloc: Global, chance: &mut Chance, text: &[u8]) -> Result<Vec<u8>, Memory> {
+    let mut new = changed(alloc, chance, text)?;
+    for _ in 0..chance.below(4) {
+        new = changed(alloc, chance, new.as_slice())?;
     }
     Ok(new)
 }

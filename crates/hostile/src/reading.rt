@@ -1,11 +1,17 @@
-// Logs that are changed at random, and what the reader answers.
+// What the reader answers to logs that are changed or cut.
 use scripts::bytes_of;
 use std::alloc::Global;
-use swf_text::{FaultKind, SwfFault, SwfText, read_swf};
+use swf_text::{SwfText, read_swf};
 
-/// The kinds of a reader's answers, in the order in which they are counted.
+/// A log that is the same when it was written and read again.
+const KEPT: &str = "read";
+
+/// A log that is not.
+const LOST: &str = "read otherwise when it was written";
+
+/// The kinds of a reader's answers.
 pub(crate) const READ: [&str; 12] = [
-    "read",
+    KEPT,
     "LineTooLong",
     "NotAscii",
     "FieldCount",
@@ -16,45 +22,31 @@ pub(crate) const READ: [&str; 12] = [
     "DuplicateJob",
     "TooManyJobs",
     "Memory",
-    "read otherwise when it was written",
+    LOST,
 ];
 
-// The place of a fault's kind.
-fn kind_of(fault: &SwfFault) -> usize {
-    match fault.kind {
-        FaultKind::LineTooLong => 1,
-        FaultKind::NotAscii => 2,
-        FaultKind::FieldCount => 3,
-        FaultKind::BadNumber(_) => 4,
-        FaultKind::BadJobNumber => 5,
-        FaultKind::BadSubmit => 6,
-        FaultKind::OrphanPartial => 7,
-        FaultKind::DuplicateJob => 8,
-        FaultKind::TooManyJobs => 9,
-        FaultKind::Memory => 10,
+// Whether these bytes are read as a log of so many entries that is written as the very same.
+fn is_written_so(alloc: Global, bytes: &[u8], entries: usize) -> bool {
+    let Ok(text) = read_swf(alloc, bytes) else {
+        return false;
+    };
+    text.entries().len() == entries
+        && bytes_of(alloc, &text).is_ok_and(|written| written.as_slice() == bytes)
+}
+
+// Whether a log is written and read again with as many entries, and then written as the same bytes.
+fn is_kept(alloc: Global, text: &SwfText<Global>) -> bool {
+    match bytes_of(alloc, text) {
+        Ok(bytes) => is_written_so(alloc, bytes.as_slice(), text.entries().len()),
+        Err(_) => false,
     }
 }
 
-// Whether a log is written and read again with as many comments and entries, and then written as the
-// same bytes.
-fn is_kept(alloc: Global, text: &SwfText<Global>) -> bool {
-    let Ok(bytes) = bytes_of(alloc, text) else {
-        return false;
-    };
-    let Ok(again) = read_swf(alloc, bytes.as_slice()) else {
-        return false;
-    };
-    let Ok(others) = bytes_of(alloc, &again) else {
-        return false;
-    };
-    bytes.as_slice() == others.as_slice() && again.entries().len() == text.entries().len()
-}
-
-// What the reader answers to these bytes: the place of its kind.
-pub(crate) fn answer(alloc: Global, bytes: &[u8]) -> usize {
+// What the reader answers to these bytes.
+pub(crate) fn answer(alloc: Global, bytes: &[u8]) -> &'static str {
     match read_swf(alloc, bytes) {
-        Ok(text) if is_kept(alloc, &text) => 0,
-        Ok(_) => 11,
-        Err(fault) => kind_of(&fault),
+        Ok(text) if is_kept(alloc, &text) => KEPT,
+        Ok(_) => LOST,
+        Err(fault) => fault.kind.name(),
     }
 }

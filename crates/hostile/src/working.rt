@@ -1,21 +1,27 @@
-// Scripts that are changed at random, and what they are answered.
+// What scripts that are changed are answered.
 use easybook::{Options, ProgramFault, run_alone};
 use memchr::memchr;
 use std::io::Cursor;
 use std::marker::Sync;
 use std::thread::Threads;
 
-/// The kinds of answers, in the order in which they are counted.
+/// Answers that all are such as a command may have where memory is not short.
+const STATED: &str = "worked";
+
+/// Other answers.
+const OTHERS: &str = "answered as no command is";
+
+/// The kinds of answers.
 pub(crate) const WORKED: [&str; 6] = [
-    "worked",
+    STATED,
     "no log",
     "too long",
     "another fault",
     "out of memory",
-    "answered as no command is",
+    OTHERS,
 ];
 
-/// Why a command is refused, but for want of memory and of room for notes.
+/// Why a command is refused, except where memory is short or the journal is full.
 const REFUSALS: [&[u8]; 10] = [
     b"NoSuchJob",
     b"DuplicateJob",
@@ -32,20 +38,20 @@ const REFUSALS: [&[u8]; 10] = [
 /// Why a line is no command.
 const FAULTS: [&[u8]; 4] = [b"TooLong", b"Unknown", b"Words", b"BadWord "];
 
-/// A machine of ten processors.
+/// A machine of ten processors, and short segments.
 const OPTIONS: Options = Options {
     procs: Some(10),
     spacing: 2,
     workers: 1,
 };
 
-// The place of a fault's kind.
-fn kind_of(fault: ProgramFault) -> usize {
+// The kind of a fault.
+fn kind_of(fault: ProgramFault) -> &'static str {
     match fault {
-        ProgramFault::Log(_) => 1,
-        ProgramFault::TooLong => 2,
-        ProgramFault::Memory => 4,
-        _ => 3,
+        ProgramFault::Log(_) => "no log",
+        ProgramFault::TooLong => "too long",
+        ProgramFault::Memory => "out of memory",
+        _ => "another fault",
     }
 }
 
@@ -75,23 +81,20 @@ fn is_stated(line: &[u8]) -> bool {
 
 // Whether all lines are, the last of which ends with its line feed.
 fn are_stated(text: &[u8]) -> bool {
-    if !text.is_empty() && !text.ends_with(b"\n") {
-        return false;
-    }
-    for line in text.split(|byte| *byte == b'\n') {
-        if !is_stated(line) {
-            return false;
-        }
-    }
-    true
+    let is_whole = text.is_empty() || text.ends_with(b"\n");
+    is_whole && text.split(|byte| *byte == b'\n').all(is_stated)
 }
 
-// What is answered to a script on a log: the place of its kind.
-pub(crate) fn answer<R: AllocGlobal + Threads + Sync>(rt: &R, log: &[u8], script: &[u8]) -> usize {
+// What is answered to a script on a log.
+pub(crate) fn answer<R: AllocGlobal + Threads + Sync>(
+    rt: &R,
+    log: &[u8],
+    script: &[u8],
+) -> &'static str {
     let mut told = Vec::new(rt.alloc());
     match run_alone(rt, rt.alloc(), Cursor::new(script), &mut told, log, OPTIONS) {
-        Ok(()) if are_stated(told.as_slice()) => 0,
-        Ok(()) => 5,
+        Ok(()) if are_stated(told.as_slice()) => STATED,
+        Ok(()) => OTHERS,
         Err(fault) => kind_of(fault),
     }
 }
