@@ -7,7 +7,7 @@ use rejoin::Work;
 use scenarios::Scenario;
 use std::alloc::Global;
 use std::rt::Clock;
-use swf_text::{Entry, Value, read_swf};
+use swf_text::{EntryLines, Value, read_swf};
 use version_book::{Book, Task};
 
 /// The most event seconds of a segment.
@@ -44,9 +44,9 @@ fn change(alloc: Global, number: u64, place: u64) -> Option<Edit<Global>> {
 }
 
 // The entry of a line.
-fn entry_of(alloc: Global, line: &[u8]) -> Option<Entry<Global>> {
+fn entry_of(alloc: Global, line: &[u8]) -> Option<EntryLines<Global>> {
     let text = read_swf(alloc, line).ok()?;
-    text.entries().first()?.copy().ok()
+    text.entries().first()?.lines().ok()
 }
 
 // A job more.

@@ -20,6 +20,13 @@ module _ {X : Type 0} where
   fewer : (c : List X) → over_of c ≤ length c
   fewer c = omega arith
 
+  -- the first block of all, with its item
+  pub first_block : (used new : List (List X)) (b : List X) (x : X) → new ≡ used ++ b ∷ [] → used ≡ [] → b ≡ x ∷ [] → new ≡ (x ∷ []) ∷ []
+  first_block used new b x e none f = e ∙ ap (λ (r : List (List X)). r ++ b ∷ []) none ∙ ap (λ (c : List X). c ∷ []) f
+
+  pub one_block : (used new : List (List X)) (x : X) → new ≡ (x ∷ []) ∷ [] → used ≡ [] → length new ≡ length used + 1
+  one_block used new x e none = omega (arith, ap (λ (r : List (List X)). length r) e, ap (λ (r : List (List X)). length r) none)
+
   module _ (used empty : List (List X)) (over len ur er : ℕ) (row : IsRow used empty over len ur er) where
     -- the blocks that stay empty when the last of them is taken
     left_length : (rest : List (List X)) → 1 ≤ length empty → rest ≡ take (length empty - 1) empty → length rest + 1 ≡ length empty

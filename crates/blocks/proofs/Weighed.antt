@@ -145,9 +145,12 @@ module _ {X : Type 0} (f : X → ℕ) (limit : ℕ) (xs : List X) (from end : �
       (λ (g : at ≤ place). ap (passes (λ x. nat_le (f x) limit)) (slice_get_past xs place (omega (arith, g, le))))
       (cases_lt place at)
 
-  pub until : (to : ℕ) (r : Option ℕ) → IsFirstLight f limit xs from end r → IsFirstUntil f limit xs from end to r
-  until to None h = λ place low high _. h place low high
-  until to (Some k) h = h
+  pub until : (to : ℕ) (r o : Option ℕ) → r ≡ o → IsFirstLight f limit xs from end o → IsFirstUntil f limit xs from end to r
+  until to r o e h = go r (subst (IsFirstLight f limit xs from end) (sym e) h)
+    where
+      go : (r : Option ℕ) → IsFirstLight f limit xs from end r → IsFirstUntil f limit xs from end to r
+      go None h = λ place low high _. h place low high
+      go (Some k) h = h
 
   pub until_all : (to : ℕ) (r : Option ℕ) → length xs ≤ to → IsFirstUntil f limit xs from end to r → IsFirstLight f limit xs from end r
   until_all to None le h = all_none to le h

@@ -1,11 +1,20 @@
 -- What the items of a block weigh together.
 use Rattle.std.proofs.Common.{◌≡◌, ℕ, suc, ◌+◌, ◌-◌, ◌*◌, ◌^◌, ◌<◌, ◌≤◌, List, [], ◌∷◌, ◌++◌, length, length-append, length-drop, take, drop, get_or, ap, sym, subst, ◌∙◌, arith}
 use Rattle.std.specs.List.{All, insert, remove, sum_by}
-use Rattle.std.proofs.lemmas.List.{length-take}
+use Rattle.std.proofs.lemmas.List.{length-take, take_rest}
 use Rattle.std.proofs.lemmas.List.Edits.{length-insert, length-remove}
 use Rattle.std.proofs.lemmas.List.Elements.{All-append, All-cons, All-drop, All-nil, All-take, All-weaker}
 use Rattle.std.proofs.lemmas.List.Sums.{sum_by-append, sum_by-insert, sum_by-le, sum_by-remove, sum_by-take-drop}
 use Rattle.blocks.specs.Rows.{IsBlock}
+
+module _ {X : Type 0} where
+  -- the items from one on, as they are lent
+  pub lent_back : (k : ℕ) (xs seen : List X) → seen ≡ xs → take (length seen - k) (drop k seen) ≡ drop k xs
+  lent_back k xs seen e = take_rest seen k ∙ ap (drop k) e
+
+  -- a list that had none has what was put behind it
+  pub put_behind_none : (xs was none back : List X) → xs ≡ was ++ back → was ≡ none → none ≡ [] → xs ≡ back
+  put_behind_none xs was none back e f g = e ∙ ap (λ (l : List X). l ++ back) (f ∙ g)
 
 module _ {X : Type 0} (f : X → ℕ) where
   abbrev Fit : X → Type 0

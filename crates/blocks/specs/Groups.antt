@@ -1,6 +1,6 @@
 -- Groups of 64 blocks that follow each other.
-use Rattle.std.specs.Prelude.{◌≡◌, ℕ, ◌≤◌, ◌<◌, ◌+◌, ◌*◌, List, length, slice_index_or, All}
-use Rattle.blocks.specs.Rows.{block_of, start}
+use Rattle.std.specs.Prelude.{◌≡◌, ℕ, ◌≤◌, ◌<◌, ◌+◌, ◌*◌, ◌^◌, List, length, slice_index_or, All}
+use Rattle.blocks.specs.Rows.{block_of, flat, start}
 use Rattle.blocks.specs.declared.groups.Group.{Group}
 
 module _ {X : Type 0} (weigh : X → ℕ) (blocks : List (List X)) where
@@ -13,3 +13,9 @@ module _ {X : Type 0} (weigh : X → ℕ) (blocks : List (List X)) where
   -- these are the groups of the first 64 blocks, of the next 64, and so on; blocks behind them need not be in a group
   abbrev pub AreGroups : List Group → Type 0
   AreGroups groups = (number : ℕ) (other : Group) → number < length groups → IsGroup (64 * number) (slice_index_or groups number other).items (slice_index_or groups number other).least
+
+  -- blocks and items that can be counted, and what is known of groups of the former
+  pub record AreGrouped (groups : List Group) : Type 0 where
+    pub short : length blocks ≤ 2 ^ 40
+    pub few : length (flat blocks) < 2 ^ 64
+    pub known : AreGroups groups

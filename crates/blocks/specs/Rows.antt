@@ -1,5 +1,5 @@
 -- A sorted row in blocks.
-use Rattle.std.specs.Prelude.{◌≡◌, ℕ, ◌≤◌, ◌<◌, ◌+◌, ◌-◌, ◌^◌, ◌*◌, ◌==◌, ◌&&◌, ◌||◌, nat_lt, not, Bool, true, false, Option, Some, None, if◌then◌else◌, List, [], ◌∷◌, ◌++◌, length, take, drop, slice_get, slice_index_or, slice_set, sum_by, All}
+use Rattle.std.specs.Prelude.{◌≡◌, ℕ, ◌≤◌, ◌<◌, ◌+◌, ◌-◌, ◌^◌, ◌*◌, ◌==◌, ◌&&◌, ◌||◌, nat_lt, not, Bool, true, false, Option, Some, None, if◌then◌else◌, List, [], ◌∷◌, ◌++◌, length, take, drop, slice_get, slice_index_or, slice_set, sum_by, All, Vec, vec_capacity}
 use Rattle.std.specs.List.{flat_map, insert, position_or_len, remove}
 
 -- What callers see of a row: its blocks, each with its items, and how many insertions surely find room.
@@ -82,6 +82,17 @@ pub record IsRow {X : Type 0} (used empty : List (List X)) (over len used_room e
   pub few : length used + length empty ≤ 2 ^ 40
   pub usable : length used + length empty ≤ used_room
   pub returnable : length used + length empty ≤ empty_room
+
+-- a list that may have grown: it has the items that it had, and no less room
+pub record HasGrown {X A : Type 0} (old new : Vec X A) : Type 0 where
+  pub items : new.items ≡ old.items
+  pub room : vec_capacity old ≤ vec_capacity new
+
+-- so many blocks find room: among those in use, among the empty ones, and in their groups of 64
+pub record HasRoomFor (blocks used_room empty_room groups_room : ℕ) : Type 0 where
+  pub usable : blocks ≤ used_room
+  pub returnable : blocks ≤ empty_room
+  pub grouped : blocks ≤ 64 * groups_room + 63
 
 -- what the fields of a block keep: what its items weigh together, what none of them weighs less than, and their room
 pub record IsBlock {X : Type 0} (weigh : X → ℕ) (weight least room : ℕ) (items : List X) : Type 0 where

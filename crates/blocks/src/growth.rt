@@ -1,6 +1,7 @@
-ghost use Rattle.std.specs.Prelude.{◌≡◌, ◌≤◌, ◌<◌, ◌+◌, ◌*◌, ◌-◌, ◌^◌, [], IfOk, OnOk, length, vec_capacity};
+ghost use Rattle.std.specs.Prelude.{◌≡◌, ◌≤◌, ◌<◌, ◌+◌, ◌-◌, ◌^◌, [], IfOk, OnOk, length, vec_capacity};
+ghost use Rattle.blocks.specs.Rows.{HasGrown, HasRoomFor};
 
-use crate::block::{BLOCK_HALF, Block};
+use crate::block::{BLOCK_HALF, BLOCK_LIMIT, Block};
 use crate::groups::{GROUP, Group};
 use crate::ranked::Ranked;
 use std::alloc::Allocator;
@@ -8,6 +9,9 @@ use swf_text::Memory;
 
 /// The most blocks of a row, in use and empty.
 const BLOCKS_LIMIT: usize = 1 << 40;
+
+/// By how many items a full block is over.
+pub(crate) const FULL_OVER: usize = BLOCK_LIMIT - BLOCK_HALF - 1;
 
 // By how many items a block of so many is over.
 pub(crate) fn over_of(len: usize) -> usize
@@ -24,16 +28,11 @@ pub(crate) fn another<T: Ranked, A: Allocator + Copy>(
 ) -> Result<Block<T, A>, Memory>
     requires { length used.old.items + length empty.old.items ≤ 2 ^ 40 }
     ensures block { IfOk result (λ block. block ≡ []) }
-    ensures used { used.new.items ≡ used.old.items }
-    ensures empty { empty.new.items ≡ empty.old.items }
-    ensures used_room { vec_capacity used.old ≤ vec_capacity used.new }
-    ensures empty_room { vec_capacity empty.old ≤ vec_capacity empty.new }
-    ensures groups { groups.new.items ≡ groups.old.items }
-    ensures groups_room { vec_capacity groups.old ≤ vec_capacity groups.new }
+    ensures used { HasGrown used.old used.new }
+    ensures empty { HasGrown empty.old empty.new }
+    ensures groups { HasGrown groups.old groups.new }
     ensures few { OnOk result (length used.old.items + length empty.old.items < 2 ^ 40) }
-    ensures usable { OnOk result (length used.old.items + length empty.old.items < vec_capacity used.new) }
-    ensures returnable { OnOk result (length used.old.items + length empty.old.items < vec_capacity empty.new) }
-    ensures grouped { OnOk result (length used.old.items + length empty.old.items + 1 ≤ 64 * vec_capacity groups.new + 63) }
+    ensures room { OnOk result (HasRoomFor (length used.old.items + length empty.old.items + 1) (vec_capacity used.new) (vec_capacity empty.new) (vec_capacity groups.new)) }
 {
     if used.len() + empty.len() >= BLOCKS_LIMIT {
         return Err(Memory);

@@ -10,6 +10,7 @@ mod items;
 mod light;
 mod place;
 mod ranked;
+mod row_edits;
 mod search;
 mod sorted;
 mod walk;

@@ -1,5 +1,5 @@
 ghost use Rattle.std.specs.Prelude.{◌≡◌, ℕ, ◌≤◌, ◌<◌, ◌+◌, ◌*◌, ◌^◌, All, None, Some, if◌then◌else◌, length, nat_lt};
-ghost use Rattle.blocks.specs.Groups.{AreGroups};
+ghost use Rattle.blocks.specs.Groups.{AreGrouped, AreGroups};
 ghost use Rattle.blocks.specs.Light.{IsFirstLight, IsFirstUntil, NoneWithin};
 ghost use Rattle.blocks.specs.Rows.{block_of, flat, start};
 
@@ -106,9 +106,7 @@ fn light_in_group<T: Ranked, A: Allocator + Copy>(
     wanted: Wanted,
 ) -> Option<usize>
     requires number { number < length groups.old }
-    requires few { length (flat blocks.old) < 2 ^ 64 }
-    requires short { length blocks.old ≤ 2 ^ 40 }
-    requires groups { AreGroups T.weight blocks.old groups.old }
+    requires grouped { AreGrouped T.weight blocks.old groups.old }
     requires begin { begin ≡ start (64 * number) blocks.old }
     requires none { NoneWithin T.weight wanted.limit (flat blocks.old) wanted.from wanted.end begin }
     ensures place { IsFirstUntil T.weight wanted.limit (flat blocks.old) wanted.from wanted.end (start (64 * number + 64) blocks.old) result }
@@ -136,9 +134,7 @@ pub(crate) fn first_light<T: Ranked, A: Allocator + Copy>(
     groups: &mut [Group],
     wanted: Wanted,
 ) -> Option<usize>
-    requires few { length (flat blocks.old) < 2 ^ 64 }
-    requires short { length blocks.old ≤ 2 ^ 40 }
-    requires groups { AreGroups T.weight blocks.old groups.old }
+    requires { AreGrouped T.weight blocks.old groups.old }
     ensures place { IsFirstLight T.weight wanted.limit (flat blocks.old) wanted.from wanted.end result }
     ensures same { blocks.new ≡ blocks.old }
     ensures groups { AreGroups T.weight blocks.old groups.new }

@@ -5,12 +5,12 @@ ghost use Rattle.book_machine.specs.Decided.{same_entry-equiv};
 
 use std::alloc::Allocator;
 use std::marker::Model;
-use swf_text::{Entry, Memory};
+use swf_text::{EntryLines, Memory};
 
 /// An inserted entry as a note keeps it: in a box, so that all other notes stay small.
 #[derive(Drop)]
 pub struct NotedEntry<A: Allocator + Copy> {
-    entry: Box<Entry<A>, A>,
+    entry: Box<EntryLines<A>, A>,
 }
 
 impl<A: Allocator + Copy> Model for NotedEntry<A> {
@@ -37,7 +37,7 @@ impl<A: Allocator + Copy> Eq for NotedEntry<A> {
 
 impl<A: Allocator + Copy> NotedEntry<A> {
     /// The entry once more, in a box; Memory where a growth is refused.
-    pub fn new(alloc: A, entry: &Entry<A>) -> Result<NotedEntry<A>, Memory>
+    pub fn new(alloc: A, entry: &EntryLines<A>) -> Result<NotedEntry<A>, Memory>
         ensures { IfOk result (λ noted. noted ≡ entry.now) }
     {
         Ok(NotedEntry {
@@ -46,7 +46,7 @@ impl<A: Allocator + Copy> NotedEntry<A> {
     }
 
     /// The entry.
-    pub fn entry(&self) -> &Entry<A>
+    pub fn entry(&self) -> &EntryLines<A>
         ensures { result.now ≡ self.now }
     {
         &self.entry

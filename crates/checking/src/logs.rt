@@ -1,7 +1,7 @@
 use job_table::JobTable;
 use std::alloc::Allocator;
 use std::sync::Arc;
-use swf_text::{Entry, SwfText, read_swf};
+use swf_text::{EntryLines, SwfText, read_swf};
 
 /// Jobs of sizes 6, 8, 4 and 2 at 0 to 3. On ten processors they start at 0, 100, 2 and 92.
 pub const FOUR: &[u8] = b"1 0 -1 100 6 -1 -1 6 100 -1 1 7 -1 -1 -1 -1 -1 -1
@@ -24,12 +24,12 @@ pub fn shared_table<A: Allocator + Copy>(alloc: A, log: &[u8]) -> Option<Arc<Job
 }
 
 // A copy of a log's first entry.
-fn first_of<A: Allocator + Copy>(text: &SwfText<A>) -> Option<Entry<A>> {
-    text.entries().first()?.copy().ok()
+fn first_of<A: Allocator + Copy>(text: &SwfText<A>) -> Option<EntryLines<A>> {
+    text.entries().first()?.lines().ok()
 }
 
 /// The first entry of a log; none where memory is short, or there is none.
-pub fn entry_of<A: Allocator + Copy>(alloc: A, log: &[u8]) -> Option<Entry<A>> {
+pub fn entry_of<A: Allocator + Copy>(alloc: A, log: &[u8]) -> Option<EntryLines<A>> {
     match read_swf(alloc, log) {
         Ok(text) => first_of(&text),
         Err(_) => None,

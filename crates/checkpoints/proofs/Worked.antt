@@ -21,6 +21,7 @@ use Rattle.checkpoints.specs.Segment.{SegmentView}
 use Rattle.checkpoints.specs.Pieces.{PieceView, segment_of, IsNotedIn}
 use Rattle.checkpoints.specs.Cut.{placed_at, placed_of, EndsWithEvent, Spans, Chain, Over, IsFull, ShortChain, IsShortCut}
 use Rattle.checkpoints.specs.Coming.{NoneComes}
+use Rattle.checkpoints.specs.Worked.{WorksStretch, WorksUpTo}
 use Rattle.checkpoints.proofs.Chains.{chain-push, short-chain, span-bounded}
 use Rattle.checkpoints.proofs.Late.{can-sum}
 use Rattle.checkpoints.proofs.Placing.{placed_from, placed-own}
@@ -60,27 +61,22 @@ working-more old now new xs zs ps qs js t count h p next e told put more =
     }
 
 -- where an event second comes, and up to n of them were worked, at least one was
-pub working-ends : (old now : Progress) (starts : List Start) (placed : List Placed) (count : ℕ) → Working old now starts placed count → (count ≡ 0 → ⊥) → EndsWithEvent old.plan old.position now.position
-working-ends old now starts placed count h ne = h.some (omega (arith, ne))
+pub working-stretch : (old now : Progress) (starts : List Start) (placed : List Placed) (count : ℕ) → Working old now starts placed count → (count ≡ 0 → ⊥) → WorksStretch old now starts placed
+working-stretch old now starts placed count h ne = record { run = h.run; ends = h.some (omega (arith, ne)); jobs = h.jobs }
 
-pub working-short : (old now : Progress) (starts : List Start) (placed : List Placed) (count n : ℕ) → Working old now starts placed count → count ≤ n → events_before old.plan now.position ≤ events_before old.plan old.position + n
-working-short old now starts placed count n h l =
-    let a = h.counted in
-    let b = h.run.further.counted in
-    omega (arith, a, b, l)
+-- where up to n were to be worked, that many were, or no more come before the end
+pub working-up-to : (old now : Progress) (starts : List Start) (placed : List Placed) (count n : ℕ) (end : Option ℕ) → Working old now starts placed count → IfSome end (λ e. now.position ≤ e) → count ≤ n → (count ≡ n) ⊎ NoneComes now end → WorksUpTo old now n end
+working-up-to old now starts placed count n end h within few full = record {
+  within = within;
+  short = let a = h.counted in let b = h.run.further.counted in omega (arith, a, b, few);
+  full = go full;
+}
+  where
+    go : (count ≡ n) ⊎ NoneComes now end → (events_before old.plan now.position ≡ events_before old.plan old.position + n) ⊎ NoneComes now end
+    go (inl e) = inl (let a = h.counted in let b = h.run.further.counted in omega (arith, a, b, e))
+    go (inr none) = inr none
 
--- where so many were to be worked, that many were
-pub working-full : (old now : Progress) (starts : List Start) (placed : List Placed) (count n : ℕ) → Working old now starts placed count → count ≡ n → events_before old.plan now.position ≡ events_before old.plan old.position + n
-working-full old now starts placed count n h e =
-    let a = h.counted in
-    let b = h.run.further.counted in
-    omega (arith, a, b, e)
-
--- the stretch is a segment
-pub working-spans : (old new : Progress) (s : SegmentView) → IsRunOn old new s.starts → EndsWithEvent old.plan old.position new.position → s.first ≡ old.position → s.before ≡ numbers_of (before old.plan old.position) → IsPartOf (placed_of old.plan.jobs s.starts) s.part
-    → Spans old.plan s old.position new.position
-working-spans old new s run ends first snapshot part = record { first = first; ends = ends; snapshot = snapshot; starts = sym run.told; part = part }
-
+-- a stretch ends soon after the bound, at the latest
 pub ends-bounded : (plan : Plan) (a b : ℕ) → IsPlan plan → EndsWithEvent plan a b → b ≤ bound plan + 1
 ends-bounded plan a b p (t, le, e, event) = let l = events-end-by-the-bound plan t p event in omega (arith, l, e)
 
@@ -95,14 +91,13 @@ filled : (plan : Plan) (n a b : ℕ) (new : Progress) → new.plan ≡ plan → 
 filled plan n a b new same at short (inl e) = inl e
 filled plan n a b new same at short (inr none) = inr (short, subst (λ (p : Plan). Over p b) same (subst (λ t. Over new.plan t) at none))
 
-pub cutting-more : (plan : Plan) (n : ℕ) (now new : Progress) (ss : List SegmentView) (s : SegmentView) → Cutting plan n now ss → new.plan ≡ now.plan → new.failed ≡ false → Spans now.plan s now.position new.position → events_before now.plan new.position ≤ events_before now.plan now.position + n
-    → (events_before now.plan new.position ≡ events_before now.plan now.position + n) ⊎ NoneComes new None → Cutting plan n new (ss ++ s ∷ [])
-cutting-more plan n now new ss s h same going spans short full = record {
-  going = going;
-  same = same ∙ h.same;
+cutting-more : (plan : Plan) (n : ℕ) (now new : Progress) (ss : List SegmentView) (s : SegmentView) (starts : List Start) → Cutting plan n now ss → IsRunOn now new starts → Spans now.plan s now.position new.position → WorksUpTo now new n None → Cutting plan n new (ss ++ s ∷ [])
+cutting-more plan n now new ss s starts h run spans events = record {
+  going = run.going;
+  same = run.further.plan ∙ h.same;
   chain = chain-push plan n 0 now.position new.position ss s h.chain
       (subst (λ (p : Plan). Spans p s now.position new.position) h.same spans)
-      (subst (λ (p : Plan). IsFull p n now.position new.position) h.same (filled now.plan n now.position new.position new same refl short full));
+      (subst (λ (p : Plan). IsFull p n now.position new.position) h.same (filled now.plan n now.position new.position new run.further.plan refl events.short events.full));
 }
 
 -- the segments so far and the piece that was worked are one after another
@@ -120,11 +115,11 @@ cutting-down plan now new s p same spans =
     omega (arith, l, a, b)
 
 -- one piece more
-pub cutting-piece : (plan : Plan) (n : ℕ) (now new : Progress) (ss ts : List SegmentView) (p : PieceView) → Cutting plan n now ss → new.plan ≡ now.plan → new.failed ≡ false → Spans now.plan (segment_of now.plan p) now.position new.position
-    → events_before now.plan new.position ≤ events_before now.plan now.position + n → (events_before now.plan new.position ≡ events_before now.plan now.position + n) ⊎ NoneComes new None → ts ≡ ss ++ segment_of plan p ∷ [] → Cutting plan n new ts
-cutting-piece plan n now new ss ts p h same going spans short full put =
+pub cutting-piece : (plan : Plan) (n : ℕ) (now new : Progress) (ss ts : List SegmentView) (p : PieceView) → Cutting plan n now ss → IsRunOn now new p.starts → Spans now.plan (segment_of now.plan p) now.position new.position → WorksUpTo now new n None
+    → ts ≡ ss ++ segment_of plan p ∷ [] → Cutting plan n new ts
+cutting-piece plan n now new ss ts p h run spans events put =
     subst (Cutting plan n new) (sym put)
-    (cutting-more plan n now new ss (segment_of plan p) h same going (subst (λ (q : Plan). Spans now.plan (segment_of q p) now.position new.position) h.same spans) short full)
+    (cutting-more plan n now new ss (segment_of plan p) p.starts h run (subst (λ (q : Plan). Spans now.plan (segment_of q p) now.position new.position) h.same spans) events)
 
 pub cut-done : (plan : Plan) (n : ℕ) (now : Progress) (ss : List SegmentView) → Cutting plan n now ss → IsNextEvent now.plan now.position None → IsShortCut plan n ss
 cut-done plan n now ss h none = (now.position, h.chain, subst (λ (p : Plan). IsNextEvent p now.position None) h.same none)
@@ -144,12 +139,20 @@ working-can old now starts placed count h ne =
     subst CanSum (sym h.jobs) (can-sum old.plan old.position now.position starts p (ends-bounded old.plan old.position now.position p ends) h.run.told)
 
 -- the piece of a stretch
+pub piece-run : (old new : Progress) (p : PieceView) (first : ℕ) (snap : Option Numbers) (starts : List Start) (ps : List Placed) (part : PartSums) → p ≡ record { first = first; before = snap; starts = starts; part = part } → WorksStretch old new starts ps → IsRunOn old new p.starts
+piece-run old new p first snap starts ps part is stretch = subst (λ (x : PieceView). IsRunOn old new x.starts) (sym is) stretch.run
+
 pub piece-spans : (old new : Progress) (p : PieceView) (first : ℕ) (snap : Option Numbers) (starts : List Start) (ps qs : List Placed) (part : PartSums) → p ≡ record { first = first; before = snap; starts = starts; part = part }
-    → IsRunOn old new starts → EndsWithEvent old.plan old.position new.position → first ≡ old.position → qs ≡ ps → ps ≡ placed_of old.plan.jobs starts → IsPartOf qs part → Spans old.plan (segment_of old.plan p) old.position new.position
-piece-spans old new p first snap starts ps qs part is run ends at e jobs sums =
+    → WorksStretch old new starts ps → first ≡ old.position → qs ≡ ps → IsPartOf qs part → Spans old.plan (segment_of old.plan p) old.position new.position
+piece-spans old new p first snap starts ps qs part is stretch at e sums =
     let v : PieceView = record { first = first; before = snap; starts = starts; part = part } in
-    let spans : Spans old.plan (segment_of old.plan v) old.position new.position =
-    working-spans old new (segment_of old.plan v) run ends at (ap (λ t. numbers_of (before old.plan t)) at) (subst (λ (xs : List Placed). IsPartOf xs part) (e ∙ jobs) sums) in
+    let spans : Spans old.plan (segment_of old.plan v) old.position new.position = record {
+      first = at;
+      ends = stretch.ends;
+      snapshot = ap (λ t. numbers_of (before old.plan t)) at;
+      starts = sym stretch.run.told;
+      part = subst (λ (xs : List Placed). IsPartOf xs part) (e ∙ stretch.jobs) sums;
+    } in
     subst (λ (x : PieceView). Spans old.plan (segment_of old.plan x) old.position new.position) (sym is) spans
 
 -- and its snapshot is that of the plan's state, where it was noted

@@ -3,6 +3,7 @@ pub mod Pieces
 pub mod Closing
 pub mod Cut
 pub mod Coming
+pub mod Worked
 pub mod Sums
 pub mod Schedule
 pub mod Starts

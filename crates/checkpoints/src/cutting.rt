@@ -1,12 +1,12 @@
-ghost use Rattle.std.specs.Prelude.{◌≡◌, ◌+◌, ◌≤◌, ◌⊎◌, ◌↔◌, false, IsTrue, IfOk, IfErr, IfSome, OnOk};
+ghost use Rattle.std.specs.Prelude.{◌≡◌, ◌≤◌, ◌↔◌, false, IsTrue, IfOk, IfErr, IfSome, OnOk};
 ghost use Rattle.cluster_state.specs.Snapshot.{numbers_of};
 ghost use Rattle.easy_rule.specs.Simulation.{before as before_second};
-ghost use Rattle.event_loop.specs.Events.{events_before};
 ghost use Rattle.event_loop.specs.Going.{IsRunOn};
 ghost use Rattle.metrics.specs.Placed.{CanSum};
 ghost use Rattle.checkpoints.specs.Coming.{ComesBefore, NoneComes};
-ghost use Rattle.checkpoints.specs.Cut.{EndsWithEvent, Spans, placed_of};
+ghost use Rattle.checkpoints.specs.Cut.{Spans};
 ghost use Rattle.checkpoints.specs.Pieces.{IsNotedIn, segment_of};
+ghost use Rattle.checkpoints.specs.Worked.{WorksStretch, WorksUpTo};
 
 use crate::fault::RunFault;
 use crate::parts::add_placed;
@@ -48,12 +48,8 @@ fn work<A: Allocator + Copy>(
     requires spacing { 1 ≤ spacing }
     requires going { engine.old.failed ≡ false }
     requires coming { ComesBefore engine.old end }
-    ensures starts { IfOk result (λ w. IsRunOn engine.old engine.new w.starts.items) }
-    ensures placed { IfOk result (λ w. w.placed.items ≡ placed_of engine.old.plan.jobs w.starts.items) }
-    ensures ends { OnOk result (EndsWithEvent engine.old.plan engine.old.position engine.new.position) }
-    ensures within { OnOk result (IfSome end (λ e. engine.new.position ≤ e)) }
-    ensures short { OnOk result (events_before engine.old.plan engine.new.position ≤ events_before engine.old.plan engine.old.position + spacing) }
-    ensures full { OnOk result ((events_before engine.old.plan engine.new.position ≡ events_before engine.old.plan engine.old.position + spacing) ⊎ NoneComes engine.new end) }
+    ensures stretch { IfOk result (λ w. WorksStretch engine.old engine.new w.starts.items w.placed.items) }
+    ensures events { OnOk result (WorksUpTo engine.old engine.new spacing end) }
     ensures can { IfOk result (λ w. CanSum w.placed.items) }
     ensures fault { IfErr result (λ f. f ≡ RunFault.Memory) }
 {
@@ -122,14 +118,10 @@ pub fn next_piece<A: Allocator + Copy>(
     requires spacing { 1 ≤ spacing }
     requires going { engine.old.failed ≡ false }
     requires coming { ComesBefore engine.old end }
-    ensures plan { OnOk result (engine.new.plan ≡ engine.old.plan) }
-    ensures going { OnOk result (engine.new.failed ≡ false) }
+    ensures run { IfOk result (λ p. IsRunOn engine.old engine.new p.starts) }
     ensures spans { IfOk result (λ p. Spans engine.old.plan (segment_of engine.old.plan p) engine.old.position engine.new.position) }
     ensures noted { IfOk result (IsNotedIn engine.old.plan) }
-    ensures within { OnOk result (IfSome end (λ e. engine.new.position ≤ e)) }
-    ensures short { OnOk result (events_before engine.old.plan engine.new.position ≤ events_before engine.old.plan engine.old.position + spacing) }
-    ensures full { OnOk result ((events_before engine.old.plan engine.new.position ≡ events_before engine.old.plan engine.old.position + spacing) ⊎ NoneComes engine.new end) }
-    ensures counted { OnOk result (engine.new.handled + events_before engine.old.plan engine.old.position ≡ engine.old.handled + events_before engine.old.plan engine.new.position) }
+    ensures events { OnOk result (WorksUpTo engine.old engine.new spacing end) }
     ensures fault { IfErr result (λ f. f ≡ RunFault.Memory) }
 {
     let first = engine.position();

@@ -112,3 +112,8 @@ module _ {X : Type 0} where
 pub none_or : (many others old new : ℕ) → (new ≡ old + many → new ≡ old + others) → CountsNoneOr many old new → CountsNoneOr others old new
 none_or many others old new same (inl none) = inl none
 none_or many others old new same (inr counted) = inr (same counted)
+
+-- so it doesn't fall
+pub none_or_more : (many old new : ℕ) → CountsNoneOr many old new → old ≤ new
+none_or_more many old new (inl none) = omega (arith, none)
+none_or_more many old new (inr counted) = omega (arith, counted)

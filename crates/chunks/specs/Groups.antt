@@ -29,3 +29,8 @@ module _ {X : Type 0} where
     pub group : g ≤ length row
     pub chunk : c ≤ length (chunk_of row g)
     pub there : g < length row → c < length (chunk_of row g)
+
+  -- the place of an element: a place in a group's chunk at which one stands
+  pub record IsElement (g c at : ℕ) (row : List (List (List X))) : Type 0 where
+    pub spot : IsSpot g c row
+    pub inside : at < length (chunk_at g c row)

@@ -1,7 +1,7 @@
-ghost use Rattle.std.specs.Prelude.{◌≡◌, ◌≤◌, ◌<◌, ◌+◌, ◌++◌, IfOk, OnErr, OnOk, length, slice_set, take, drop, vec_len};
+ghost use Rattle.std.specs.Prelude.{◌≡◌, ◌≤◌, ◌+◌, ◌++◌, IfOk, OnErr, OnOk, length, slice_set, take, drop, vec_len};
 ghost use Rattle.std.specs.List.{insert, remove};
 ghost use Rattle.chunks.specs.Chunks.{CountsNoneOr, flat, moved};
-ghost use Rattle.chunks.specs.Groups.{AreGrouped, IsSpot, chunk_at, chunk_number, chunks_in, place_at};
+ghost use Rattle.chunks.specs.Groups.{AreGrouped, IsElement, IsSpot, chunk_at, chunk_number, chunks_in, place_at};
 
 use crate::copied::Copied;
 use crate::groups::{Group, Place, elements_at, put};
@@ -67,8 +67,7 @@ pub(crate) fn removed<T: Copied, A: Allocator + Copy>(
     place: Place,
     count: &mut u32,
 ) -> Result<Vec<Group<T, A>, A>, Memory>
-    requires spot { IsSpot place.group place.chunk groups.now }
-    requires place { place.at < length (chunk_at place.group place.chunk groups.now) }
+    requires element { IsElement place.group place.chunk place.at groups.now }
     requires room { count.old ≤ 768 }
     requires sized { AreGrouped groups.now }
     ensures flat { IfOk result (λ new. flat (chunks_in new.items) ≡ remove (flat (chunks_in groups.now)) (place_at place.group place.chunk place.at groups.now)) }
@@ -89,8 +88,7 @@ fn with_another<T: Copied, A: Allocator + Copy>(
     item: T,
     count: &mut u32,
 ) -> Result<Vec<Group<T, A>, A>, Memory>
-    requires spot { IsSpot place.group place.chunk groups.now }
-    requires place { place.at < length (chunk_at place.group place.chunk groups.now) }
+    requires element { IsElement place.group place.chunk place.at groups.now }
     requires room { count.old ≤ 768 }
     requires sized { AreGrouped groups.now }
     ensures flat { IfOk result (λ new. flat (chunks_in new.items) ≡ slice_set (flat (chunks_in groups.now)) (place_at place.group place.chunk place.at groups.now) item) }
@@ -111,15 +109,13 @@ pub(crate) fn exchange<T: Copied, A: Allocator + Copy>(
     item: T,
     count: &mut u32,
 ) -> Result<(), Memory>
-    requires spot { IsSpot place.group place.chunk groups.old.items }
-    requires place { place.at < length (chunk_at place.group place.chunk groups.old.items) }
+    requires element { IsElement place.group place.chunk place.at groups.old.items }
     requires room { count.old ≤ 768 }
     requires sized { AreGrouped groups.old.items }
     ensures flat { OnOk result (flat (chunks_in groups.new.items) ≡ slice_set (flat (chunks_in groups.old.items)) (place_at place.group place.chunk place.at groups.old.items) item) }
     ensures sized { AreGrouped groups.new.items }
     ensures kept { OnErr result (groups.new.items ≡ groups.old.items) }
     ensures count { OnOk result (CountsNoneOr (length (chunk_at place.group place.chunk groups.old.items)) count.old count.new) }
-    ensures least { OnOk result (count.old ≤ count.new) }
     ensures most { OnOk result (count.new ≤ count.old + 256) }
 {
     if let Err(item) = put(groups.as_mut_slice(), place, item) {

@@ -1,6 +1,6 @@
-ghost use Rattle.std.specs.Prelude.{◌≡◌, ◌≤◌, ◌<◌, IfErr, OnErr, OnOk, length, slice_set};
+ghost use Rattle.std.specs.Prelude.{◌≡◌, ◌≤◌, IfErr, OnErr, OnOk, length, slice_set};
 ghost use Rattle.chunks.specs.Chunks.{flat};
-ghost use Rattle.chunks.specs.Groups.{AreGrouped, IsSpot, chunk_at, chunks_in, place_at};
+ghost use Rattle.chunks.specs.Groups.{AreGrouped, IsElement, IsSpot, chunk_at, chunks_in, place_at};
 
 use crate::chunk::Chunk;
 use crate::row::elements;
@@ -39,8 +39,7 @@ pub(crate) fn put<T: Drop, A: Allocator + Copy>(
     place: Place,
     item: T,
 ) -> Result<(), T>
-    requires spot { IsSpot place.group place.chunk groups.old }
-    requires place { place.at < length (chunk_at place.group place.chunk groups.old) }
+    requires element { IsElement place.group place.chunk place.at groups.old }
     requires sized { AreGrouped groups.old }
     ensures put { OnOk result (flat (chunks_in groups.new) ≡ slice_set (flat (chunks_in groups.old)) (place_at place.group place.chunk place.at groups.old) item) }
     ensures sized { OnOk result (AreGrouped groups.new) }

@@ -1,13 +1,13 @@
 use crate::name::ScenarioName;
 use scenarios::Scenario;
 use std::alloc::Allocator;
-use swf_text::{Entry, Value};
+use swf_text::{EntryLines, Value};
 
 /// One command of a script, with the words behind it as values.
 #[derive(Drop)]
 pub enum Command<A: Allocator + Copy> {
     /// `insert` and eighteen numbers: this entry joins the log.
-    Insert(Entry<A>),
+    Insert(EntryLines<A>),
     /// `remove` and a job number: this job leaves the log.
     Remove(u64),
     /// `change`, a job number, a field and a number: that field of the job gets this value.

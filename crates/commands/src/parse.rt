@@ -10,7 +10,7 @@ use crate::values::{JOB_LIMIT, entry_values, number_between, value_of};
 use crate::words::words_of;
 use scenarios::{MAX_FACTOR, MAX_PROCS, Order, Scenario};
 use std::alloc::Allocator;
-use swf_text::{Entry, Fields, LINE_LIMIT, without_returns};
+use swf_text::{EntryLines, Fields, LINE_LIMIT, without_returns};
 
 /// The greatest field.
 const FIELD_LIMIT: u64 = 255;
@@ -24,7 +24,7 @@ fn insert<A: Allocator + Copy>(alloc: A, words: &[&[u8]]) -> Result<Command<A>, 
     }
     match entry_values(words) {
         Ok(values) => {
-            let entry = Entry::new(Fields(values), Vec::new(alloc)).unwrap();
+            let entry = EntryLines::new(Fields(values), Vec::new(alloc)).unwrap();
             Ok(Command::Insert(entry))
         }
         Err(place) => Err(CommandFault::BadWord(place)),

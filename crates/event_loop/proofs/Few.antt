@@ -1,9 +1,8 @@
 -- How many jobs wait and run before a second: no more than a machine and a log allow.
-use Rattle.std.proofs.Common.{◌≡◌, ℕ, ◌+◌, ◌≤◌, ◌<◌, ◌^◌, List, [], ◌∷◌, length, filter, count_by, All, ap, sym, arith}
-use Rattle.std.specs.Prelude.{sum_by}
+use Rattle.std.proofs.Common.{ℕ, ◌≤◌, List, [], ◌∷◌, length, All, ap, arith}
 use Rattle.std.proofs.lemmas.List.Sums.{length-filter, count_by-le-length, sum_by-cons}
 use Rattle.std.proofs.lemmas.List.Elements.{All-head, All-tail}
-use Rattle.scenarios.specs.Job.{EffectiveJob, IsWithinLimits}
+use Rattle.scenarios.specs.Job.{IsWithinLimits}
 use Rattle.scenarios.specs.Plan.{Plan}
 use Rattle.scenarios.specs.SoundPlan.{IsPlan}
 use Rattle.scenarios.specs.declared.placed.Placed.{Placed}

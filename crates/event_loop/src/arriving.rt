@@ -1,13 +1,11 @@
-ghost use Rattle.std.specs.Prelude.{◌≡◌, ◌<◌, ◌+◌, [], length, OnOk, OnErr, IfOk, IfSome};
+ghost use Rattle.std.specs.Prelude.{◌≡◌, ◌<◌, ◌+◌, [], OnOk, OnErr, IfOk, IfSome};
 ghost use Rattle.scenarios.specs.Limits.{seconds_end};
 ghost use Rattle.scenarios.specs.PlanView.{plan_in};
 ghost use Rattle.scenarios.specs.SoundPlan.{IsPlan};
-ghost use Rattle.cluster_state.specs.State.{IsSound};
 ghost use Rattle.easy_rule.specs.Rule.{shadow_of};
-ghost use Rattle.easy_rule.specs.Decision.{IsSettledFront};
 ghost use Rattle.easy_rule.specs.Simulation.{joined, submitted};
 ghost use Rattle.event_loop.specs.Coming.{IsComing};
-ghost use Rattle.event_loop.specs.Second.{IsDecided};
+ghost use Rattle.event_loop.specs.Second.{IsDecided, IsDue};
 
 use crate::coming::Coming;
 use crate::known::decide_knowing;
@@ -33,9 +31,7 @@ pub(crate) fn arrive_and_decide<A: Allocator + Copy>(
 ) -> Result<Option<Shadow>, Memory>
     requires now { second < seconds_end }
     requires plan { IsPlan (plan_in plan.now) }
-    requires coming { IsComing coming.old second (plan_in plan.now).jobs }
-    requires sound { IsSound (joined cluster.old.state (submitted (plan_in plan.now) second)) }
-    requires known { IfSome known (λ w. IsSettledFront (joined cluster.old.state (submitted (plan_in plan.now) second)) second (length cluster.old.state.waiting) w) }
+    requires due { IsDue (plan_in plan.now) second cluster.old.state coming.old known }
     ensures decided { OnOk result (IsDecided (joined cluster.old.state (submitted (plan_in plan.now) second)) second started.new.items cluster.new.state) }
     ensures coming { OnOk result (IsComing coming.new (second + 1) (plan_in plan.now).jobs) }
     ensures shadow { IfOk result (λ left. IfSome left (λ w. shadow_of cluster.new.state ≡ Some w)) }

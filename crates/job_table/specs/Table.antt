@@ -1,5 +1,5 @@
 -- A job table: a log in its order, and an index of its jobs.
-use Rattle.std.specs.Prelude.{◌≡◌, ℕ, ◌<◌, ◌==◌, nat_le, Bool, IsTrue, List, [], ◌∷◌, length, filter, find, Option, option_map}
+use Rattle.std.specs.Prelude.{◌≡◌, ℕ, ◌<◌, ◌==◌, nat_le, Bool, IsTrue, if◌then◌else◌, List, [], ◌∷◌, length, filter, find, Option, option_map}
 use Rattle.chunks.specs.declared.numbered.Numbered.{Numbered}
 use Rattle.swf_text.specs.Entry.{LogEntry, number_of_entry, submit_of}
 use Rattle.swf_text.specs.Log.{IsLog, IsRising, submits_before}
@@ -48,6 +48,11 @@ IsBelow n (pair ∷ pairs) = (n < number_in pair) × IsBelow n pairs
 abbrev pub NumbersRise : List Numbered → Type 0
 NumbersRise [] = Unit {0}
 NumbersRise (pair ∷ pairs) = IsBelow (number_in pair) pairs × NumbersRise pairs
+
+-- the new pairs rise by number, and give each number what the old ones gave it, but this one that submit second, or none
+pub record SetsSecond (old : List Numbered) (number : ℕ) (second : Option ℕ) (new : List Numbered) : Type 0 where
+  pub rising : NumbersRise new
+  pub gives : (n : ℕ) → second_of new n ≡ (if number == n then second else second_of old n)
 
 -- the pairs rise by number, give the submit second of each entry by its job number, and have no other number
 pub record IsIndex (pairs : List Numbered) (entries : List LogEntry) : Type 0 where

@@ -1,13 +1,13 @@
 ghost use Rattle.std.specs.Prelude.{◌≡◌, IfOk};
 
 use std::alloc::Allocator;
-use swf_text::{Entry, Memory, Value};
+use swf_text::{EntryLines, Memory, Value};
 
 /// One edit of a log.
 #[derive(Drop)]
 pub enum Edit<A: Allocator + Copy> {
     /// This entry joins the log.
-    Insert(Entry<A>),
+    Insert(EntryLines<A>),
     /// The entry with this job number leaves the log.
     Remove(u64),
     /// A field of a summary line gets another value; fields are counted from 1.

@@ -1,8 +1,7 @@
-ghost use Rattle.std.specs.Prelude.{◌≡◌, ◌≤◌, ◌<◌, ◌+◌, ◌==◌, ℕ, IfOk, OnErr, OnOk, Some, None, true, is_some, length, map, if◌then◌else◌};
+ghost use Rattle.std.specs.Prelude.{◌≡◌, ◌≤◌, ◌<◌, ◌+◌, ◌==◌, IfOk, OnErr, OnOk, Some, None, true, is_some, length, map, if◌then◌else◌};
 ghost use Rattle.std.specs.List.Sorted.{IsNonDecreasingBy, IsPermutation};
 ghost use Rattle.chunks.specs.Chunks.{CountsNoneOr, flat, joining, place_in, touched};
-ghost use Rattle.job_table.specs.Arranged.{IsDistinct};
-ghost use Rattle.job_table.specs.Table.{IsIndex, NumbersRise, number_in, pair_of, second_of};
+ghost use Rattle.job_table.specs.Table.{NumbersRise, SetsSecond, number_in, pair_of, second_of};
 
 use chunks::{Chunks, Numbered};
 use std::alloc::Allocator;
@@ -98,8 +97,7 @@ pub(crate) fn with_number<A: Allocator + Copy>(
     requires rising { NumbersRise (flat index.now) }
     requires new { second_of (flat index.now) number ≡ None }
     requires room { count.old ≤ 768 }
-    ensures rising { IfOk result (λ new. NumbersRise (flat new)) }
-    ensures seconds { IfOk result (λ new. (n : ℕ) → second_of (flat new) n ≡ (if number == n then Some submit else second_of (flat index.now) n)) }
+    ensures set { IfOk result (λ new. SetsSecond (flat index.now) number (Some submit) (flat new)) }
     ensures count { OnOk result (count.new ≡ count.old + joining (place_in number_in number_in number number (flat index.now)) index.now) }
     ensures least { 1 ≤ length (flat index.now) → OnOk result (count.old < count.new) }
     ensures most { OnOk result (count.new ≤ count.old + 385) }
@@ -116,8 +114,7 @@ pub(crate) fn without_number<A: Allocator + Copy>(
     requires rising { NumbersRise (flat index.now) }
     requires there { is_some (second_of (flat index.now) number) ≡ true }
     requires room { count.old ≤ 768 }
-    ensures rising { IfOk result (λ new. NumbersRise (flat new)) }
-    ensures seconds { IfOk result (λ new. (n : ℕ) → second_of (flat new) n ≡ (if number == n then None else second_of (flat index.now) n)) }
+    ensures set { IfOk result (λ new. SetsSecond (flat index.now) number None (flat new)) }
     ensures count { OnOk result (count.new ≡ count.old + touched (place_in number_in number_in number number (flat index.now)) index.now) }
     ensures least { OnOk result (count.old < count.new) }
     ensures most { OnOk result (count.new ≤ count.old + 256) }
@@ -135,8 +132,7 @@ pub(crate) fn set_second<A: Allocator + Copy>(
     requires rising { NumbersRise (flat index.old) }
     requires there { is_some (second_of (flat index.old) number) ≡ true }
     requires room { count.old ≤ 768 }
-    ensures rising { OnOk result (NumbersRise (flat index.new)) }
-    ensures seconds { OnOk result ((n : ℕ) → second_of (flat index.new) n ≡ (if number == n then Some submit else second_of (flat index.old) n)) }
+    ensures set { OnOk result (SetsSecond (flat index.old) number (Some submit) (flat index.new)) }
     ensures kept { OnErr result (index.new ≡ index.old) }
     ensures count { OnOk result (CountsNoneOr (touched (place_in number_in number_in number number (flat index.old)) index.old) count.old count.new) }
     ensures least { OnOk result (count.old ≤ count.new) }

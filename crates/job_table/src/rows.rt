@@ -143,9 +143,9 @@ pub(crate) fn changed_entry<A: Allocator + Copy>(
     requires { change_fault field value ≡ None }
     ensures { IfOk result (λ entry. entry ≡ with_field field value was.now) }
 {
-    let mut entry = was.copy()?;
-    entry.set_field(usize::from(field), value).unwrap();
-    Ok(entry)
+    let mut lines = was.lines()?;
+    lines.set_field(usize::from(field), value).unwrap();
+    Entry::of_lines(&lines)
 }
 
 // Whether two lines have the same values. All are looked at: without an end at the first that

@@ -22,7 +22,7 @@ use crate::rows::{
 use chunks::Chunks;
 use std::alloc::Allocator;
 use std::marker::Model;
-use swf_text::{ENTRY_LIMIT, Entry, Memory, SwfText, Value};
+use swf_text::{ENTRY_LIMIT, Entry, EntryLines, Memory, SwfText, Value};
 
 /// The entries of a log, by submit second, and of one second by job number. Job numbers are
 /// distinct, and there are at most 4,194,304 entries.
@@ -194,7 +194,7 @@ impl<A: Allocator + Copy> JobTable<A> {
     }
 
     // An entry more, whose number is new. Answers the count of `apply_counted`.
-    fn insert(&mut self, entry: &Entry<A>) -> Result<u32, Memory>
+    fn insert(&mut self, entry: &EntryLines<A>) -> Result<u32, Memory>
         requires new { entry_of (number_of_entry entry.now) self.old ≡ None }
         requires room { length self.old < entry_limit }
         ensures ok { OnOk result (self.new ≡ log_of (entry.now ∷ self.old)) }
@@ -203,7 +203,7 @@ impl<A: Allocator + Copy> JobTable<A> {
         ensures most { IfOk result (λ count. count ≤ most (Insert entry.now) self.old) }
     {
         let mut count = 1;
-        let copy = entry.copy()?;
+        let copy = Entry::of_lines(entry)?;
         let index = with_number(&self.index, copy.number(), copy.submit(), &mut count)?;
         let rows = with_one(&self.rows, copy, &mut count)?;
         self.index = index;

@@ -5,11 +5,13 @@ use Rattle.swf_text.specs.declared.line.Fields.{Fields}
 use Rattle.swf_text.specs.declared.line.LineRead.{LineRead}
 use Rattle.swf_text.specs.declared.line.LineRead.TheVariants as read
 use Rattle.swf_text.specs.declared.fault.FaultKind.{FaultKind}
+use denote.Ref.{Bor}
 use Rattle.parallel_reader.specs.declared.portion.JobLines.{JobLines}
 use Rattle.swf_text.specs.Entry.{LogEntry, has_number}
 use Rattle.swf_text.specs.Line.{line_of}
 use Rattle.swf_text.specs.Text.{LogText, lines}
 use Rattle.swf_text.specs.Reading.{with_job, with_lines}
+use Rattle.parallel_reader.specs.Adding.{texts}
 
 -- ---- what is read of lines by themselves
 
@@ -63,3 +65,8 @@ portion_lines portions = flat_map lines portions
 abbrev pub AreRead : List (List ℕ) → List JobLines → Type 0
 AreRead portions jobs =
     (place : ℕ) (d : JobLines) → place < length portions → IsReadOf (lines (slice_index_or portions place [])) (slice_index_or jobs place d).values (slice_index_or jobs place d).count
+
+-- there are job lines for each of these portions, and they are those of its bytes
+pub record AreJobsOf (portions : List (Bor (List ℕ))) (jobs : List JobLines) : Type 0 where
+  pub count : length jobs ≡ length portions
+  pub read : AreRead (texts portions) jobs

@@ -2,7 +2,7 @@ ghost use Rattle.std.specs.Prelude.{◌≡◌, ◌+◌, ◌<◌, ◌≤◌, ◌+
 ghost use Rattle.std.specs.Thread.{IsSync};
 ghost use Rattle.swf_text.specs.Text.{lines};
 ghost use Rattle.parallel_reader.specs.Adding.{texts};
-ghost use Rattle.parallel_reader.specs.Jobs.{Below, AddsAll, AreRead, IsReadOf, portion_lines};
+ghost use Rattle.parallel_reader.specs.Jobs.{Below, AddsAll, AreJobsOf, IsReadOf, portion_lines};
 
 use crate::portion::{JobLines, split_portion};
 use crate::rising::add_portions;
@@ -47,8 +47,7 @@ fn take_portions<'a, A: Allocator + Copy>(
 // Reads each portion by itself, side by side, and puts its job lines at its place.
 fn read_portions<R: Threads + Sync>(rt: &R, portions: &[&[u8]], jobs: &mut [JobLines])
     requires { length jobs.old ≡ length portions.now }
-    ensures count { length jobs.new ≡ length portions.now }
-    ensures read { AreRead (texts portions.now) jobs.new }
+    ensures { AreJobsOf portions.now jobs.new }
 {
     par_for_each_mut(
         rt,
@@ -73,20 +72,18 @@ fn read_and_add<R: Threads + Sync, A: Allocator + Copy>(
     jobs: &mut [JobLines],
 ) -> Option<u64>
     requires below { Below next entries.old.items }
-    requires count { length ready.now.jobs.items ≡ length ready.now.portions.items }
-    requires ready { AreRead (texts ready.now.portions.items) ready.now.jobs.items }
+    requires ready { AreJobsOf ready.now.portions.items ready.now.jobs.items }
     requires places { length jobs.old ≡ length portions.now }
-    ensures count { length jobs.new ≡ length portions.now }
-    ensures read { AreRead (texts portions.now) jobs.new }
+    ensures read { AreJobsOf portions.now jobs.new }
     ensures below { IfSome result (λ later. Below later entries.new.items) }
     ensures added { IfSome result (λ later. AddsAll entries.old.items (portion_lines (texts ready.now.portions.items)) entries.new.items) }
 {
     let mut read = ||
         requires { IsSync R.row × (length jobs.now ≡ length portions.now) }
-        ensures { (length jobs.exit.now ≡ length portions.entry.now) × AreRead (texts portions.entry.now) jobs.exit.now }
+        ensures { AreJobsOf portions.entry.now jobs.exit.now }
     { read_portions(rt, portions, jobs) };
     let mut add = || -> Option<u64>
-        requires { Below next entries.now.items × (length ready.now.jobs.items ≡ length ready.now.portions.items) × AreRead (texts ready.now.portions.items) ready.now.jobs.items }
+        requires { Below next entries.now.items × AreJobsOf ready.now.portions.items ready.now.jobs.items }
         ensures { IfSome result (λ later. Below later entries.exit.now.items × AddsAll entries.entry.now.items (portion_lines (texts ready.entry.now.portions.items)) entries.exit.now.items) }
     {
         add_portions(
@@ -145,12 +142,10 @@ impl<'a, A: Allocator + Copy> Portions<'a, A> {
         ready: &Portions<'_, A>,
     ) -> Option<u64>
         requires below { Below next entries.old.items }
-        requires count { length ready.now.jobs.items ≡ length ready.now.portions.items }
-        requires ready { AreRead (texts ready.now.portions.items) ready.now.jobs.items }
+        requires ready { AreJobsOf ready.now.portions.items ready.now.jobs.items }
         requires places { length self.old.jobs.items ≡ length self.old.portions.items }
         ensures portions { self.new.portions.items ≡ self.old.portions.items }
-        ensures count { length self.new.jobs.items ≡ length self.old.portions.items }
-        ensures read { AreRead (texts self.old.portions.items) self.new.jobs.items }
+        ensures read { AreJobsOf self.old.portions.items self.new.jobs.items }
         ensures below { IfSome result (λ later. Below later entries.new.items) }
         ensures added { IfSome result (λ later. AddsAll entries.old.items (portion_lines (texts ready.now.portions.items)) entries.new.items) }
     {

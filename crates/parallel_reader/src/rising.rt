@@ -1,11 +1,11 @@
-ghost use Rattle.std.specs.Prelude.{◌≡◌, ◌∷◌, [], ◌≤◌, IfSome, length};
+ghost use Rattle.std.specs.Prelude.{◌∷◌, [], IfSome};
 ghost use Rattle.swf_text.specs.Text.{lines};
 ghost use Rattle.parallel_reader.specs.Adding.{texts};
-ghost use Rattle.parallel_reader.specs.Jobs.{Below, AddsJobs, AddsAll, AreRead, IsReadOf, portion_lines};
+ghost use Rattle.parallel_reader.specs.Jobs.{Below, AddsJobs, AddsAll, AreJobsOf, IsReadOf, portion_lines};
 
 use crate::portion::JobLines;
 use std::alloc::Allocator;
-use swf_text::{ENTRY_LIMIT, Entry, Fields};
+use swf_text::{ENTRY_LIMIT, Entry, EntryLines, Fields};
 
 // One above the greatest job number.
 pub(crate) fn number_behind<A: Allocator + Copy>(entries: &[Entry<A>]) -> u64
@@ -30,7 +30,10 @@ fn add_job<A: Allocator + Copy>(
     ensures below { IfSome result (λ later. Below later entries.new.items) }
     ensures added { IfSome result (λ later. AddsJobs entries.old.items (job.now ∷ []) entries.new.items) }
 {
-    let Ok(entry) = Entry::new(*job, Vec::new(alloc)) else {
+    let Ok(lines) = EntryLines::new(*job, Vec::new(alloc)) else {
+        return None;
+    };
+    let Ok(entry) = Entry::of_lines(&lines) else {
         return None;
     };
     let number = entry.number();
@@ -95,8 +98,7 @@ pub(crate) fn add_portions<A: Allocator + Copy>(
     jobs: &[JobLines],
 ) -> Option<u64>
     requires below { Below next entries.old.items }
-    requires count { length jobs.now ≡ length portions.now }
-    requires read { AreRead (texts portions.now) jobs.now }
+    requires read { AreJobsOf portions.now jobs.now }
     ensures below { IfSome result (λ later. Below later entries.new.items) }
     ensures added { IfSome result (λ later. AddsAll entries.old.items (portion_lines (texts portions.now)) entries.new.items) }
 {

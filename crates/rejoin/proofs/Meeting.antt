@@ -24,7 +24,7 @@ use Rattle.checkpoints.proofs.Lemmas.{span-bounded}
 use Rattle.rejoin.specs.Touched.{IsTouched}
 use Rattle.rejoin.specs.Kept.{next_first, MayBegin, IsEnd, IsKept}
 use Rattle.rejoin.specs.Rejoining.{ChangeView, IsChange, IsClear, Stands}
-use Rattle.rejoin.specs.Noted.{AreNotes, AreStarts, Follows, HasNone, Keeps, IsNoted, IsNotedBehind, ledger_at}
+use Rattle.rejoin.specs.Noted.{AreNotes, AreStarts, Follows, HasNone, Keeps, IsNoted, ledger_at}
 use Rattle.rejoin.specs.declared.ledger.Ledger.{Ledger as Notes}
 use Rattle.rejoin.specs.Started.{among, count_before}
 use Rattle.rejoin.proofs.Alike.{stable-found, untouched-equal-numbers-are-equal-states}
@@ -234,12 +234,6 @@ module _ (c : ChangeView) (ok : IsChange c) where
             })
 
 -- ---- as the tests ask
-pub behind-false : {A : Type 0} (c : ChangeView) (at : ℕ) (kept : Bool) (position : ℕ) (notes : Notes A) → kept ≡ false → IsNoted c at position notes → IsNotedBehind c at kept position notes
-behind-false c at kept position notes e k = subst (λ b. IsNotedBehind c at b position notes) (sym e) k
-
-pub behind-true : {A : Type 0} (c : ChangeView) (at : ℕ) (kept : Bool) (position : ℕ) (notes : Notes A) → kept ≡ true → IsNotedBehind c at kept position notes
-behind-true c at kept position notes e = subst (λ b. IsNotedBehind c at b position notes) (sym e) tt
-
 pub noted-last : {A : Type 0} (c : ChangeView) (at position : ℕ) (notes : Notes A) → next_first (drop at c.old) ≡ None → IsNoted c at position notes
 noted-last c at position notes e = subst (λ (next : Option ℕ). IfSome next (λ a. AreNotes c a position notes)) (sym e) tt
 

@@ -7,9 +7,12 @@ use Rattle.easy_rule.specs.Simulation.{IsEvent, before, bound}
 use Rattle.scenarios.specs.SoundPlan.{IsPlan}
 use Rattle.timeline.specs.Laws.{IsQuiet}
 use Rattle.timeline.proofs.Lemmas.{events-end-by-the-bound, short-plan}
+use Rattle.easy_rule.specs.declared.start.Start.{Start}
 use Rattle.event_loop.specs.Events.{Progress, events_before, begun}
+use Rattle.event_loop.specs.Going.{IsRunOn}
 use Rattle.event_loop.proofs.Lemmas.{events_before-more}
 use Rattle.checkpoints.specs.Coming.{NoneComes}
+use Rattle.checkpoints.specs.Worked.{WorksUpTo}
 use Rattle.checkpoints.specs.Segment.{SegmentView}
 use Rattle.checkpoints.specs.Cut.{Spans, IsCut, Over}
 use Rattle.checkpoints.proofs.Lemmas.{span-bounded}
@@ -65,25 +68,24 @@ is-piece : (c : ChangeView) (n at k a : ℕ) (new : Progress) → new.plan ≡ c
 is-piece c n at k a new plan within counted short (inl full) = record { short = short; ends = inl (omega (arith, counted, full)) }
 is-piece c n at k a new plan within counted short (inr none) = record { short = short; ends = inr (ends-piece c.is at c.old new plan none within) }
 
-pub stands-worked : (c : ChangeView) (n at : ℕ) (now new : Progress) (ss : List SegmentView) (s : SegmentView) (handled reused : ℕ) → Stands c n at false now ss handled reused → new.plan ≡ now.plan → new.failed ≡ false → Spans now.plan s now.position new.position → IfSome (next_first (drop at c.old)) (λ e. new.position ≤ e)
-    → events_before now.plan new.position ≤ events_before now.plan now.position + n → (events_before now.plan new.position ≡ events_before now.plan now.position + n) ⊎ NoneComes new (next_first (drop at c.old))
-    → new.handled + events_before now.plan now.position ≡ now.handled + events_before now.plan new.position → Stands c n at false new (ss ++ s ∷ []) handled reused
-stands-worked c n at now new ss s handled reused (us, count, going, plan, on) same still spans within short full counted =
+pub stands-worked : (c : ChangeView) (n at : ℕ) (now new : Progress) (ss : List SegmentView) (s : SegmentView) (starts : List Start) (handled reused : ℕ) → Stands c n at false now ss handled reused → IsRunOn now new starts → Spans now.plan s now.position new.position → WorksUpTo now new n (next_first (drop at c.old))
+    → Stands c n at false new (ss ++ s ∷ []) handled reused
+stands-worked c n at now new ss s starts handled reused (us, count, going, plan, on) run spans events =
     let a = now.position in
     let b = new.position in
     let sp : Spans c.is s a b = subst (λ (q : Plan). Spans q s a b) plan spans in
-    let few : events_before c.is b ≤ events_before c.is a + n = subst (λ (q : Plan). events_before q b ≤ events_before q a + n) plan short in
-    let all : (events_before c.is b ≡ events_before c.is a + n) ⊎ NoneComes new (next_first (drop at c.old)) = subst (λ (q : Plan). (events_before q b ≡ events_before q a + n) ⊎ NoneComes new (next_first (drop at c.old))) plan full in
-    let held : new.handled + events_before c.is a ≡ now.handled + events_before c.is b = subst (λ (q : Plan). new.handled + events_before q a ≡ now.handled + events_before q b) plan counted in
+    let few : events_before c.is b ≤ events_before c.is a + n = subst (λ (q : Plan). events_before q b ≤ events_before q a + n) plan events.short in
+    let all : (events_before c.is b ≡ events_before c.is a + n) ⊎ NoneComes new (next_first (drop at c.old)) = subst (λ (q : Plan). (events_before q b ≡ events_before q a + n) ⊎ NoneComes new (next_first (drop at c.old))) plan events.full in
+    let held : new.handled + events_before c.is a ≡ now.handled + events_before c.is b = subst (λ (q : Plan). new.handled + events_before q a ≡ now.handled + events_before q b) plan run.further.counted in
     let x = sp.ends.1 in
     let y = sp.ends.2 in
     let grow = events-grow c.is a b (omega (arith, x, y)) in
     let k = events_before c.is b - events_before c.is a in
     let is : events_before c.is b ≡ events_before c.is a + k = omega (arith, grow) in
-    let piece = is-piece c n at k a new (same ∙ plan) within is (omega (arith, few)) all in
-    let more = on-worked c n (drop at c.old) ss us s a b (handled + now.handled) k on sp within is piece in
+    let piece = is-piece c n at k a new (run.further.plan ∙ plan) events.within is (omega (arith, few)) all in
+    let more = on-worked c n (drop at c.old) ss us s a b (handled + now.handled) k on sp events.within is piece in
     let sum : (handled + now.handled) + k ≡ handled + new.handled = omega (arith, held, grow) in
-    (us, count, still, same ∙ plan, subst (λ h. IsOn c n (drop at c.old) (ss ++ s ∷ []) us b h) sum more)
+    (us, count, run.going, run.further.plan ∙ plan, subst (λ h. IsOn c n (drop at c.old) (ss ++ s ∷ []) us b h) sum more)
 
 pub work-down : (c : ChangeView) → IsChange c → (n at : ℕ) (now new : Progress) (ss : List SegmentView) (s : SegmentView) (handled reused : ℕ) → Stands c n at false now ss handled reused → Spans now.plan s now.position new.position → bound c.is + 1 - new.position < bound c.is + 1 - now.position
 work-down c ok n at now new ss s handled reused (us, count, going, plan, on) spans =
@@ -190,14 +192,9 @@ done-worked c ok n at now ss handled reused l (us, count, going, plan, on) none 
     }
 
 -- the same, as callers see it
-pub stands-taken : (c : ChangeView) (n at : ℕ) (kept : Bool) (engine : Progress) (ts ss : List SegmentView) (g h r k : ℕ) → kept ≡ true → ts ≡ ss → g ≡ h → r ≡ k → Stands c n at true engine ss h k → Stands c n at kept engine ts g r
-stands-taken c n at kept engine ts ss g h r k a b d e st =
-    subst (λ (y : Bool). Stands c n at y engine ts g r) (sym a)
-    (subst (λ (zs : List SegmentView). Stands c n at true engine zs g r) (sym b)
-    (subst (λ x. Stands c n at true engine ss x r) (sym d) (subst (λ x. Stands c n at true engine ss h x) (sym e) st)))
-
-pub stands-passed : (c : ChangeView) (n at : ℕ) (kept : Bool) (engine : Progress) (ss : List SegmentView) (h k : ℕ) → kept ≡ false → Stands c n at false engine ss h k → Stands c n at kept engine ss h k
-stands-passed c n at kept engine ss h k e st = subst (λ (y : Bool). Stands c n at y engine ss h k) (sym e) st
+pub stands-as : (c : ChangeView) (n at : ℕ) (kept : Bool) (engine : Progress) (ts ss : List SegmentView) (g h r k : ℕ) → ts ≡ ss → g ≡ h → r ≡ k → Stands c n at kept engine ss h k → Stands c n at kept engine ts g r
+stands-as c n at kept engine ts ss g h r k b d e st =
+    subst (λ (zs : List SegmentView). Stands c n at kept engine zs g r) (sym b) (subst (λ x. Stands c n at kept engine ss x r) (sym d) (subst (λ x. Stands c n at kept engine ss h x) (sym e) st))
 
 -- the new segments are a cut
 pub rejoined-cut : (p q r : Plan) (old : List SegmentView) (n : ℕ) (ss : List SegmentView) (handled reused : ℕ) → IsRejoined p q old n ss handled reused → q ≡ r → IsCut r ss

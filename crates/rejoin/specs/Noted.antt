@@ -1,5 +1,5 @@
 -- How a ledger of the starts of two simulations is kept.
-use Rattle.std.specs.Prelude.{◌≡◌, ℕ, ◌+◌, ◌-◌, ◌≤◌, ◌<◌, ◌^◌, ◌↔◌, min, Bool, true, false, nat_eq, count_by, List, All, drop, None, IfSome, IsSome}
+use Rattle.std.specs.Prelude.{◌≡◌, ℕ, ◌+◌, ◌-◌, ◌≤◌, ◌<◌, ◌^◌, ◌↔◌, min, Bool, false, nat_eq, count_by, List, All, drop, None, IfSome, IsSome}
 use Rattle.std.specs.Ordering.{nat_cmp}
 use Rattle.std.specs.BTreeMap.{BTreeMap, get}
 use Rattle.scenarios.specs.Job.{EffectiveJob}
@@ -52,8 +52,3 @@ pub record AreNotes {A : Type 0} (c : ChangeView) (a position : ℕ) (notes : Le
 -- noted are those of the old plan before the first of the old segments that are left, if there is one
 abbrev pub IsNoted : {A : Type 0} → ChangeView → ℕ → ℕ → Ledger A → Type 0
 IsNoted c at position notes = IfSome (next_first (drop at c.old)) (λ a. AreNotes c a position notes)
-
--- the same, unless the last new segment is a kept old one, where nothing needs to be noted
-abbrev pub IsNotedBehind : {A : Type 0} → ChangeView → ℕ → Bool → ℕ → Ledger A → Type 0
-IsNotedBehind c at true position notes = Unit {0}
-IsNotedBehind c at false position notes = IsNoted c at position notes

@@ -1,17 +1,16 @@
 // A re-simulation: from one old segment to the next, and the new segments that come of it.
-ghost use Rattle.std.specs.Prelude.{◌≡◌, ℕ, ◌≤◌, ◌<◌, ◌+◌, true, false, drop, map, length, IfOk, IfErr, OnOk};
+ghost use Rattle.std.specs.Prelude.{◌≡◌, ℕ, ◌≤◌, ◌<◌, ◌+◌, map, length, IfOk, IfErr, OnOk};
 ghost use Rattle.std.specs.Arc.{arc_value};
 ghost use Rattle.checkpoints.specs.Cut.{Chain};
 ghost use Rattle.checkpoints.specs.Groups.{AreFrom};
 ghost use Rattle.checkpoints.specs.Pieces.{all_in};
-ghost use Rattle.rejoin.specs.Noted.{IsNoted, IsNotedBehind};
+ghost use Rattle.rejoin.specs.Joining.{IsBehindReused, IsUpTo, IsWorking};
 ghost use Rattle.rejoin.specs.Patch.{IsRejoined};
-ghost use Rattle.rejoin.specs.Rejoining.{Stands};
 
 use crate::change::Change;
 use crate::ledger::Ledger;
 use crate::notes::pass;
-use crate::patch::{Patch, take, work_to};
+use crate::patch::{Patch, reuse, work_to};
 use checkpoints::{RunFault, Segment, Segments};
 use std::alloc::Allocator;
 use std::sync::Arc;
@@ -20,14 +19,14 @@ use std::sync::Arc;
 #[derive(Drop)]
 pub(crate) struct Patched<A: Allocator + Copy> {
     pub(crate) segments: Vec<Arc<Segment<A>, A>, A>,
-    // The place of each among the old segments, where it was taken over.
+    // The place of each among the old segments, where it is a reused one.
     pub(crate) places: Vec<Option<usize>, A>,
     // The event seconds that were worked.
     pub(crate) handled: u64,
     pub(crate) reused: u64,
 }
 
-// Works up to the old segment at this place, and takes it over where it is reached and kept.
+// Works up to the old segment at this place, and reuses it where it is reached and kept.
 fn reach<A: Allocator + Copy>(
     alloc: A,
     change: &Change<'_, A>,
@@ -37,15 +36,8 @@ fn reach<A: Allocator + Copy>(
 ) -> Result<(), RunFault>
     requires spacing { 1 ≤ spacing }
     requires within { at < length change.now.old }
-    requires few { patch.old.reused ≤ at }
-    requires behind { patch.old.kept ≡ false }
-    requires stands { Stands change.now spacing at false patch.old.engine (all_in change.now.is patch.old.segments) patch.old.handled patch.old.reused }
-    requires noted { IsNoted change.now at patch.old.engine.position patch.old.ledger }
-    requires places { AreFrom change.now.old (all_in change.now.is patch.old.segments) patch.old.places.items }
-    ensures stands { OnOk result (Stands change.now spacing (at + 1) patch.new.kept patch.new.engine (all_in change.now.is patch.new.segments) patch.new.handled patch.new.reused) }
-    ensures places { OnOk result (AreFrom change.now.old (all_in change.now.is patch.new.segments) patch.new.places.items) }
-    ensures few { OnOk result (patch.new.reused ≤ at + 1) }
-    ensures noted { OnOk result (IsNotedBehind change.now (at + 1) patch.new.kept patch.new.engine.position patch.new.ledger) }
+    requires working { IsWorking change.now spacing at patch.old }
+    ensures next { OnOk result (IsUpTo change.now spacing (at + 1) patch.new) }
     ensures fault { IfErr result (λ f. f ≡ RunFault.Memory) }
 {
     work_to(alloc, change, at, spacing, patch)?;
@@ -59,12 +51,12 @@ fn reach<A: Allocator + Copy>(
         return Ok(());
     }
     patch.handled += patch.engine.handled();
-    take(change, segment, at, patch)?;
+    reuse(change, segment, at, patch)?;
     Ok(())
 }
 
-// Behind an old segment that was taken over: takes over this one too, where no touched number is
-// submitted in its stretch, or puts an engine before its first second.
+// Behind a reused old segment: reuses this one too, where no touched number is submitted in its
+// stretch, or puts an engine before its first second.
 fn follow<A: Allocator + Copy>(
     alloc: A,
     change: &Change<'_, A>,
@@ -72,24 +64,18 @@ fn follow<A: Allocator + Copy>(
     patch: &mut Patch<A>,
 ) -> Result<(), RunFault>
     requires within { at < length change.now.old }
-    requires few { patch.old.reused ≤ at }
-    requires stands { (n : ℕ) × Stands change.now n at true patch.old.engine (all_in change.now.is patch.old.segments) patch.old.handled patch.old.reused }
-    requires places { AreFrom change.now.old (all_in change.now.is patch.old.segments) patch.old.places.items }
-    ensures stands { OnOk result ((n : ℕ) → Stands change.now n at true patch.old.engine (all_in change.now.is patch.old.segments) patch.old.handled patch.old.reused
-        → Stands change.now n (at + 1) patch.new.kept patch.new.engine (all_in change.now.is patch.new.segments) patch.new.handled patch.new.reused) }
-    ensures places { OnOk result (AreFrom change.now.old (all_in change.now.is patch.new.segments) patch.new.places.items) }
-    ensures few { OnOk result (patch.new.reused ≤ at + 1) }
-    ensures noted { OnOk result (IsNotedBehind change.now (at + 1) patch.new.kept patch.new.engine.position patch.new.ledger) }
+    requires behind { (n : ℕ) × IsBehindReused change.now n at patch.old }
+    ensures next { OnOk result ((n : ℕ) → IsBehindReused change.now n at patch.old → IsUpTo change.now n (at + 1) patch.new) }
     ensures fault { IfErr result (λ f. f ≡ RunFault.Memory) }
 {
     let segment = change.segment(at);
     if change.is_clear(at) {
-        take(change, segment, at, patch)?;
+        reuse(change, segment, at, patch)?;
         return Ok(());
     }
     patch.engine = change.resume(alloc, at)?;
     patch.started = 0;
-    patch.kept = false;
+    patch.last_reused = false;
     patch.ledger = Ledger::new(alloc, change.submitted_before(segment.first()));
     pass(change, at, &mut patch.ledger)?;
     Ok(())
@@ -103,15 +89,13 @@ fn finish<A: Allocator + Copy>(
     patch: &mut Patch<A>,
 ) -> Result<(), RunFault>
     requires spacing { 1 ≤ spacing }
-    requires stands { Stands change.now spacing (length change.now.old) patch.old.kept patch.old.engine (all_in change.now.is patch.old.segments) patch.old.handled patch.old.reused }
-    requires noted { IsNotedBehind change.now (length change.now.old) patch.old.kept patch.old.engine.position patch.old.ledger }
-    requires places { AreFrom change.now.old (all_in change.now.is patch.old.segments) patch.old.places.items }
+    requires last { IsUpTo change.now spacing (length change.now.old) patch.old }
     ensures places { OnOk result (AreFrom change.now.old (all_in change.now.is patch.new.segments) patch.new.places.items) }
     ensures done { OnOk result (IsRejoined change.now.was change.now.is change.now.old spacing (all_in change.now.is patch.new.segments) patch.new.handled patch.new.reused) }
     ensures fault { IfErr result (λ f. f ≡ RunFault.Memory) }
 {
     let len = change.len();
-    if patch.kept {
+    if patch.last_reused {
         return Ok(());
     }
     work_to(alloc, change, len, spacing, patch)?;
@@ -119,7 +103,7 @@ fn finish<A: Allocator + Copy>(
     Ok(())
 }
 
-// Goes on from the old segment at this place to the next: takes it over, or works up to its first second
+// Goes on from the old segment at this place to the next: reuses it, or works up to its first second
 // and tries it.
 fn turn<A: Allocator + Copy>(
     alloc: A,
@@ -130,17 +114,11 @@ fn turn<A: Allocator + Copy>(
 ) -> Result<(), RunFault>
     requires spacing { 1 ≤ spacing }
     requires within { at < length change.now.old }
-    requires few { patch.old.reused ≤ at }
-    requires stands { Stands change.now spacing at patch.old.kept patch.old.engine (all_in change.now.is patch.old.segments) patch.old.handled patch.old.reused }
-    requires noted { IsNotedBehind change.now at patch.old.kept patch.old.engine.position patch.old.ledger }
-    requires places { AreFrom change.now.old (all_in change.now.is patch.old.segments) patch.old.places.items }
-    ensures stands { OnOk result (Stands change.now spacing (at + 1) patch.new.kept patch.new.engine (all_in change.now.is patch.new.segments) patch.new.handled patch.new.reused) }
-    ensures places { OnOk result (AreFrom change.now.old (all_in change.now.is patch.new.segments) patch.new.places.items) }
-    ensures few { OnOk result (patch.new.reused ≤ at + 1) }
-    ensures noted { OnOk result (IsNotedBehind change.now (at + 1) patch.new.kept patch.new.engine.position patch.new.ledger) }
+    requires here { IsUpTo change.now spacing at patch.old }
+    ensures next { OnOk result (IsUpTo change.now spacing (at + 1) patch.new) }
     ensures fault { IfErr result (λ f. f ≡ RunFault.Memory) }
 {
-    if patch.kept {
+    if patch.last_reused {
         follow(alloc, change, at, patch)
     } else {
         reach(alloc, change, at, spacing, patch)
@@ -155,10 +133,7 @@ fn go_over<A: Allocator + Copy>(
     patch: &mut Patch<A>,
 ) -> Result<(), RunFault>
     requires spacing { 1 ≤ spacing }
-    requires few { patch.old.reused ≤ 0 }
-    requires stands { Stands change.now spacing 0 patch.old.kept patch.old.engine (all_in change.now.is patch.old.segments) patch.old.handled patch.old.reused }
-    requires noted { IsNotedBehind change.now 0 patch.old.kept patch.old.engine.position patch.old.ledger }
-    requires places { AreFrom change.now.old (all_in change.now.is patch.old.segments) patch.old.places.items }
+    requires first { IsUpTo change.now spacing 0 patch.old }
     ensures places { OnOk result (AreFrom change.now.old (all_in change.now.is patch.new.segments) patch.new.places.items) }
     ensures done { OnOk result (IsRejoined change.now.was change.now.is change.now.old spacing (all_in change.now.is patch.new.segments) patch.new.handled patch.new.reused) }
     ensures fault { IfErr result (λ f. f ≡ RunFault.Memory) }
@@ -207,7 +182,7 @@ pub(crate) fn rejoined<A: Allocator + Copy>(
 {
     let mut patch = Patch {
         engine: change.begin(alloc)?,
-        kept: false,
+        last_reused: false,
         ledger: Ledger::new(alloc, change.submitted_before(0)),
         started: 0,
         segments: Segments::new(alloc),

@@ -1,12 +1,10 @@
-ghost use Rattle.std.specs.Prelude.{◌≡◌, ℕ, ◌≤◌, ◌<◌, ◌+◌, ◌^◌, ◌∷◌, ◌++◌, [], Some, true, false, drop, IfErr, OnOk};
+ghost use Rattle.std.specs.Prelude.{◌≡◌, ℕ, ◌≤◌, ◌<◌, ◌+◌, ◌^◌, ◌∷◌, ◌++◌, [], Some, true, drop, IfErr, OnOk};
 ghost use Rattle.std.specs.Arc.{arc_value};
 ghost use Rattle.checkpoints.specs.Coming.{NoneComes};
 ghost use Rattle.checkpoints.specs.Cut.{Chain};
-ghost use Rattle.checkpoints.specs.Groups.{AreFrom};
 ghost use Rattle.checkpoints.specs.Pieces.{all_in};
+ghost use Rattle.rejoin.specs.Joining.{IsWorking};
 ghost use Rattle.rejoin.specs.Kept.{next_first};
-ghost use Rattle.rejoin.specs.Noted.{IsNoted};
-ghost use Rattle.rejoin.specs.Rejoining.{Stands};
 
 use crate::change::Change;
 use crate::ledger::Ledger;
@@ -20,14 +18,14 @@ use std::sync::Arc;
 #[derive(Drop)]
 pub(crate) struct Patch<A: Allocator + Copy> {
     pub(crate) engine: Engine<A>,
-    // Whether the last new segment is an old one: the engine has stayed behind then.
-    pub(crate) kept: bool,
+    // Whether the last new segment is a reused one: the engine has stayed behind then.
+    pub(crate) last_reused: bool,
     // In what the starts of both simulations differ, where the engine is at work.
     pub(crate) ledger: Ledger<A>,
     // How many jobs have started since the last snapshot that was noted.
     pub(crate) started: u64,
     pub(crate) segments: Segments<A>,
-    // The place of each among the old segments, where it was taken over.
+    // The place of each among the old segments, where it is a reused one.
     pub(crate) places: Vec<Option<usize>, A>,
     // The event seconds that were worked, but for those of an engine that is still at work.
     pub(crate) handled: u64,
@@ -43,15 +41,9 @@ pub(crate) fn work_to<A: Allocator + Copy>(
     patch: &mut Patch<A>,
 ) -> Result<(), RunFault>
     requires spacing { 1 ≤ spacing }
-    requires stands { Stands change.now spacing at false patch.old.engine (all_in change.now.is patch.old.segments) patch.old.handled patch.old.reused }
-    requires places { AreFrom change.now.old (all_in change.now.is patch.old.segments) patch.old.places.items }
-    requires noted { IsNoted change.now at patch.old.engine.position patch.old.ledger }
-    ensures noted { OnOk result (IsNoted change.now at patch.new.engine.position patch.new.ledger) }
-    ensures stands { OnOk result (Stands change.now spacing at false patch.new.engine (all_in change.now.is patch.new.segments) patch.new.handled patch.new.reused) }
-    ensures places { OnOk result (AreFrom change.now.old (all_in change.now.is patch.new.segments) patch.new.places.items) }
+    requires working { IsWorking change.now spacing at patch.old }
+    ensures working { OnOk result (IsWorking change.now spacing at patch.new) }
     ensures reached { OnOk result (NoneComes patch.new.engine (next_first (drop at change.now.old))) }
-    ensures kept { OnOk result (patch.new.kept ≡ patch.old.kept) }
-    ensures reused { OnOk result (patch.new.reused ≡ patch.old.reused) }
     ensures fault { IfErr result (λ f. f ≡ RunFault.Memory) }
 {
     let end = change.first(at);
@@ -64,8 +56,8 @@ pub(crate) fn work_to<A: Allocator + Copy>(
     Ok(())
 }
 
-// Takes over the old segment at this place.
-pub(crate) fn take<A: Allocator + Copy>(
+// Reuses the old segment at this place, as the next new one.
+pub(crate) fn reuse<A: Allocator + Copy>(
     change: &Change<'_, A>,
     segment: &Arc<Segment<A>, A>,
     at: usize,
@@ -77,12 +69,12 @@ pub(crate) fn take<A: Allocator + Copy>(
     ensures places { OnOk result (patch.new.places.items ≡ patch.old.places.items ++ Some at ∷ []) }
     ensures reused { OnOk result (patch.new.reused ≡ patch.old.reused + 1) }
     ensures handled { OnOk result (patch.new.handled ≡ patch.old.handled) }
-    ensures kept { OnOk result (patch.new.kept ≡ true) }
+    ensures last { OnOk result (patch.new.last_reused ≡ true) }
     ensures fault { IfErr result (λ f. f ≡ RunFault.Memory) }
 {
     patch.segments.take_over(&change.plan(), segment)?;
     patch.places.push(Some(at))?;
     patch.reused += 1;
-    patch.kept = true;
+    patch.last_reused = true;
     Ok(())
 }

@@ -8,19 +8,19 @@ use crate::job::Job;
 use crate::scenario::Scenario;
 use crate::skip::Skip;
 use std::alloc::Allocator;
-use swf_text::{Entry, Fields};
+use swf_text::Entry;
 
 /// The longest estimate and length, in seconds.
 pub const MAX_ESTIMATE: u64 = 100_000_000;
 
-// A field of a line, to the nearest whole number.
-fn whole_field(line: &Fields, place: usize) -> i64
+// A field of a summary line, to the nearest whole number.
+fn whole_field<A: Allocator + Copy>(entry: &Entry<A>, place: usize) -> i64
     requires low { 1 ≤ place }
     requires high { place ≤ 18 }
-    ensures value { result ≡ whole_field line.now.0 place }
+    ensures value { result ≡ whole_field entry.now.main place }
     ensures within { nat_abs result ≤ 1000000000000 }
 {
-    line.0[place - 1].whole()
+    entry.whole(place)
 }
 
 // The number, where it is at least 0.
@@ -40,27 +40,27 @@ fn positive(number: i64) -> Option<u64>
 }
 
 // The processors that a job asks for, or else was given.
-fn size_of(line: &Fields) -> Option<u64>
-    ensures { result ≡ size_of line.now.0 }
+fn size_of<A: Allocator + Copy>(entry: &Entry<A>) -> Option<u64>
+    ensures { result ≡ size_of entry.now.main }
 {
-    positive(whole_field(line, 8)).or(positive(whole_field(line, 5)))
+    positive(whole_field(entry, 8)).or(positive(whole_field(entry, 5)))
 }
 
 // The seconds that a job ran.
-fn run_of(line: &Fields) -> Option<u64>
-    ensures value { result ≡ run_of line.now.0 }
+fn run_of<A: Allocator + Copy>(entry: &Entry<A>) -> Option<u64>
+    ensures value { result ≡ run_of entry.now.main }
     ensures within { IfSome result (λ n. n ≤ 1000000000000) }
 {
-    natural(whole_field(line, 4))
+    natural(whole_field(entry, 4))
 }
 
 // The seconds that a job asks for, or else ran.
-fn base_of(line: &Fields, run: u64) -> u64
+fn base_of<A: Allocator + Copy>(entry: &Entry<A>, run: u64) -> u64
     requires { run ≤ 1000000000000 }
-    ensures value { result ≡ base_of line.now.0 run }
+    ensures value { result ≡ base_of entry.now.main run }
     ensures within { result ≤ 1000000000000 }
 {
-    match positive(whole_field(line, 9)) {
+    match positive(whole_field(entry, 9)) {
         Some(asked) => asked,
         None => run,
     }
@@ -86,20 +86,19 @@ pub fn effective<A: Allocator + Copy>(entry: &Entry<A>, scenario: &Scenario) -> 
     ensures job { result ≡ effective entry.now scenario.now }
     ensures limits { IfOk result IsWithinLimits }
 {
-    let line = entry.main();
-    let size = size_of(line).ok_or(Skip::NoSize)?;
-    let run = run_of(line).ok_or(Skip::NoRun)?;
+    let size = size_of(entry).ok_or(Skip::NoSize)?;
+    let run = run_of(entry).ok_or(Skip::NoRun)?;
     if size > scenario.procs() {
         return Err(Skip::TooLarge);
     }
-    let estimate = estimate_of(base_of(line, run), scenario.factor());
+    let estimate = estimate_of(base_of(entry, run), scenario.factor());
     if estimate > MAX_ESTIMATE {
         return Err(Skip::TooLong);
     }
     Ok(Job {
         number: entry.number(),
         submit: entry.submit(),
-        user: whole_field(line, 12),
+        user: whole_field(entry, 12),
         size: size as u32,
         estimate: estimate as u32,
         length: run.min(estimate).max(1) as u32,

@@ -8,6 +8,7 @@ mod Outcomes
 mod Faults
 mod Texts
 mod Entries
+mod Codes
 mod Spellings
 mod Writings
 mod Printed

@@ -4,6 +4,7 @@ pub mod Line
 pub mod Fault
 pub mod Names
 pub mod Entry
+pub mod Packed
 pub mod Log
 pub mod Text
 pub mod Seen

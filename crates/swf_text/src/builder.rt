@@ -110,9 +110,10 @@ impl<A: Allocator + Copy> Builder<A> {
         if self.entries.len() >= ENTRY_LIMIT {
             return Err(FaultKind::TooManyJobs);
         }
+        let entry = Entry::of_main(alloc, &job)?;
         self.entries.reserve(1)?;
         self.numbers.insert(number)?;
-        self.entries.push(Entry::of_main(alloc, job)).unwrap();
+        self.entries.push(entry).unwrap();
         Ok(())
     }
 

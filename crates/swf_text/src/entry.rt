@@ -1,63 +1,86 @@
-ghost use Rattle.std.specs.Prelude.{◌≡◌, ◌++◌, ◌∷◌, ◌≤◌, ◌&&◌, ◌-◌, [], OnOk, OnErr, IfOk, slice_set, map, true, false, IsTrue, is_some, nat_le, pos, Some, None, if◌then◌else◌};
-ghost use Rattle.swf_text.specs.Entry.{HasNumber, is_partial, field, values, entry_made, whole_number, IsEntry, number_of_entry, submit_of, field_change};
-ghost use Rattle.swf_text.specs.Number.{whole_of, is_below_zero};
+ghost use Rattle.std.specs.Prelude.{◌≡◌, ◌++◌, ◌∷◌, ◌≤◌, ◌<◌, ◌&&◌, [], OnOk, OnErr, IfOk, map, true, nat_abs, nat_le, pos, Some, None, if◌then◌else◌};
+ghost use Rattle.swf_text.specs.Entry.{HasNumber, is_partial, field, values, IsEntry, number_of_entry, submit_of};
+ghost use Rattle.swf_text.specs.Number.{whole_of};
 
-use crate::checks::{are_parts, is_before_start, is_below_zero, is_partial_line, job_number};
-use crate::fault::EntryFault;
+use crate::entry_lines::EntryLines;
 use crate::line::Fields;
 use crate::memory::Memory;
+use crate::packed::Packed;
 use crate::value::Value;
 use std::alloc::{AllocFailed, Allocator};
 use std::marker::Model;
 
 /// A job of a log: its summary line, and the lines of its partial executions, in order.
+///
+/// A summary line is packed, into 72 bytes in place of 144, if each of its values is -1, a whole
+/// number from 0 to 3,999,999,998, or another number of hundredths from 0 to 2,949,672.95. Any other
+/// one takes memory, as partial lines do.
 #[derive(Drop)]
 pub struct Entry<A: Allocator + Copy> {
-    main: Fields,
-    parts: Vec<Fields, A>,
+    // the summary line, if it is packed: otherwise it is the first of the lines
+    packed: Option<Packed>,
+    lines: Vec<Fields, A>,
 }
 
 impl<A: Allocator + Copy> Model for Entry<A> {
-    ghost use Rattle.std.specs.Prelude.{map};
-    ghost use Rattle.swf_text.specs.Entry.{LogEntry, values, IsEntry};
+    ghost use Rattle.swf_text.specs.Entry.{LogEntry, IsEntry};
+    ghost use Rattle.swf_text.specs.Packed.{entry_of};
 
     ghost Value = { LogEntry };
 
-    ghost view = { λ e. record { main = e.main.0; parts = map values e.parts.items } };
+    ghost view = { λ e. entry_of e.packed e.lines.items };
 
-    ghost invariant = { λ e. IsEntry (record { main = e.main.0; parts = map values e.parts.items }) };
+    ghost invariant = { λ e. IsEntry (entry_of e.packed e.lines.items) };
+}
+
+// A line and those behind it.
+fn with_first<A: Allocator + Copy>(
+    alloc: A,
+    line: &Fields,
+    others: &[Fields],
+) -> Result<Vec<Fields, A>, Memory>
+    ensures { IfOk result (λ lines. lines.items ≡ line.now ∷ others.now) }
+{
+    let mut lines = Vec::with_capacity(alloc, others.len() + 1)?;
+    lines.push(*line)?;
+    lines.extend_from_slice(others)?;
+    Ok(lines)
 }
 
 impl<A: Allocator + Copy> Entry<A> {
-    /// An entry of these lines, or the first of its faults in the order of `EntryFault`. Takes no
-    /// memory; on a fault the partial lines are dropped.
-    pub fn new(main: Fields, parts: Vec<Fields, A>) -> Result<Entry<A>, EntryFault>
-        ensures { result ≡ entry_made main.0 (map values parts.items) }
+    // The entry of a summary line and these partial lines.
+    fn of_parts(alloc: A, main: &Fields, parts: &[Fields]) -> Result<Entry<A>, Memory>
+        requires { IsEntry (record { main = main.now.0; parts = map values parts.now }) }
+        ensures { IfOk result (λ entry. entry ≡ record { main = main.now.0; parts = map values parts.now }) }
     {
-        let Some(number) = job_number(&main) else {
-            return Err(EntryFault::BadJobNumber);
+        let Some(packed) = Packed::of(main) else {
+            let lines = with_first(alloc, main, parts)?;
+            return Ok(Entry {
+                packed: None,
+                lines,
+            });
         };
-        if is_before_start(&main) {
-            return Err(EntryFault::BadSubmit);
-        }
-        if is_partial_line(&main) {
-            return Err(EntryFault::BadStatus);
-        }
-        if !are_parts(number, parts.as_slice()) {
-            return Err(EntryFault::BadPart);
-        }
-        Ok(Entry { main, parts })
+        let lines = Vec::from_slice(alloc, parts)?;
+        Ok(Entry {
+            packed: Some(packed),
+            lines,
+        })
+    }
+
+    /// The entry of these lines, on the allocator that they keep. Memory where the growth for the
+    /// partial lines, or for a summary line that can't be packed, is refused.
+    pub fn of_lines(lines: &EntryLines<A>) -> Result<Entry<A>, Memory>
+        ensures { IfOk result (λ entry. entry ≡ lines.now) }
+    {
+        Entry::of_parts(lines.allocator(), lines.main(), lines.parts())
     }
 
     // An entry of a summary line alone.
-    pub(crate) fn of_main(alloc: A, main: Fields) -> Entry<A>
-        requires { IsEntry (record { main = main.0; parts = [] }) }
-        ensures { result ≡ record { main = main.0; parts = [] } }
+    pub(crate) fn of_main(alloc: A, main: &Fields) -> Result<Entry<A>, Memory>
+        requires { IsEntry (record { main = main.now.0; parts = [] }) }
+        ensures { IfOk result (λ entry. entry ≡ record { main = main.now.0; parts = [] }) }
     {
-        Entry {
-            main,
-            parts: Vec::new(alloc),
-        }
+        Entry::of_parts(alloc, main, &[])
     }
 
     /// The job number: field 1 of the summary line, at most a trillion.
@@ -67,7 +90,7 @@ impl<A: Allocator + Copy> Entry<A> {
         ensures limit { result ≤ 1000000000000 }
         ensures entry { IsEntry self.now }
     {
-        self.main.0[0].millionths() as u64 / 1_000_000
+        self.value(1).millionths() as u64 / 1_000_000
     }
 
     /// The second in which the job is submitted: field 2, to the nearest second, halves up; at
@@ -78,7 +101,7 @@ impl<A: Allocator + Copy> Entry<A> {
         ensures limit { result ≤ 1000000000000 }
         ensures entry { IsEntry self.now }
     {
-        self.main.0[1].whole() as u64
+        self.whole(2) as u64
     }
 
     /// A field of the summary line, the first of which is field 1; None outside 1 to 18.
@@ -88,57 +111,78 @@ impl<A: Allocator + Copy> Entry<A> {
         if place == 0 || place > 18 {
             return None;
         }
-        Some(self.main.0[place - 1])
+        Some(self.value(place))
+    }
+
+    /// A field of the summary line, of 1 to 18.
+    pub fn value(&self, place: usize) -> Value
+        requires low { 1 ≤ place }
+        requires high { place ≤ 18 }
+        ensures value { result ≡ field self.now.main place }
+        ensures entry { IsEntry self.now }
+    {
+        match &self.packed {
+            Some(packed) => packed.value(place - 1),
+            None => self.lines[0].0[place - 1],
+        }
+    }
+
+    /// A field of the summary line, of 1 to 18, to the nearest whole number, halves up, as seconds
+    /// are taken from a log.
+    pub fn whole(&self, place: usize) -> i64
+        requires low { 1 ≤ place }
+        requires high { place ≤ 18 }
+        ensures value { result ≡ whole_of (field self.now.main place) }
+        ensures within { nat_abs result ≤ 1000000000000 }
+        ensures entry { IsEntry self.now }
+    {
+        match &self.packed {
+            Some(packed) => packed.whole(place - 1),
+            None => self.lines[0].0[place - 1].whole(),
+        }
     }
 
     /// The summary line.
-    pub fn main(&self) -> &Fields
-        ensures main { result.now.0 ≡ self.now.main }
+    pub fn main(&self) -> Fields
+        ensures main { result.0 ≡ self.now.main }
         ensures entry { IsEntry self.now }
     {
-        &self.main
+        match &self.packed {
+            Some(packed) => packed.fields(),
+            None => self.lines[0],
+        }
     }
 
     /// The partial lines, in order.
     pub fn parts(&self) -> &[Fields]
         ensures { map values result.now ≡ self.now.parts }
     {
-        self.parts.as_slice()
+        let lines = self.lines.as_slice();
+        match &self.packed {
+            Some(_) => lines,
+            None => &lines[1..],
+        }
+    }
+
+    /// The lines of the entry, on the allocator that it keeps; Memory where the growth for its
+    /// partial lines is refused.
+    pub fn lines(&self) -> Result<EntryLines<A>, Memory>
+        ensures { IfOk result (λ lines. lines ≡ self.now) }
+    {
+        let parts = Vec::from_slice(*self.lines.allocator(), self.parts())?;
+        Ok(EntryLines::of_parts(self.main(), parts))
     }
 
     /// The same entry once more, on the allocator that this one keeps; Memory where the growth for
-    /// its partial lines is refused.
+    /// its partial lines, or for a summary line that isn't packed, is refused.
     pub fn copy(&self) -> Result<Entry<A>, Memory>
         ensures { IfOk result (λ entry. entry ≡ self.now) }
     {
-        let parts = Vec::from_slice(*self.parts.allocator(), self.parts.as_slice())?;
+        let lines = Vec::from_slice(*self.lines.allocator(), self.lines.as_slice())?;
         Ok(Entry {
-            main: self.main,
-            parts,
+            packed: self.packed,
+            lines,
         })
-    }
-
-    /// Changes a field of the summary line, 2 to 18. A refused change leaves the entry as it was,
-    /// and is told by the first of these: BadJobNumber for every other place, whatever the value:
-    /// 0, 19 and above, which no field has, and 1, the job number, which is never changed;
-    /// BadSubmit for a negative submit time; BadStatus for the status of a partial line, 2, 3 or
-    /// 4. Takes no memory.
-    pub fn set_field(&mut self, place: usize, value: Value) -> Result<(), EntryFault>
-        ensures answer { result ≡ field_change place value }
-        ensures changed { OnOk result (self.new ≡ record self.old { main = slice_set self.old.main (place - 1) value }) }
-        ensures kept { OnErr result (self.new ≡ self.old) }
-    {
-        if place < 2 || place > 18 {
-            return Err(EntryFault::BadJobNumber);
-        }
-        if place == 2 && is_below_zero(&value) {
-            return Err(EntryFault::BadSubmit);
-        }
-        if place == 11 && value.is_partial() {
-            return Err(EntryFault::BadStatus);
-        }
-        self.main.0[place - 1] = value;
-        Ok(())
     }
 
     // Adds a partial line.
@@ -150,6 +194,6 @@ impl<A: Allocator + Copy> Entry<A> {
         ensures added { OnOk result (self.new ≡ record self.old { parts = self.old.parts ++ part.0 ∷ [] }) }
         ensures kept { OnErr result (self.new ≡ self.old) }
     {
-        self.parts.push(part)
+        self.lines.push(part)
     }
 }

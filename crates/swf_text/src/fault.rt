@@ -1,7 +1,8 @@
 ghost use Rattle.std.specs.Prelude.{◌≡◌};
-ghost use Rattle.swf_text.specs.declared.fault.FaultKind.TheVariants.{Memory};
+ghost use Rattle.swf_text.specs.declared.fault.FaultKind.TheVariants.{Memory as no_memory};
 
 use crate::line::LineFault;
+use crate::memory::Memory;
 use std::alloc::{AllocError, AllocFailed};
 use std::fmt;
 use thiserror::Error;
@@ -84,8 +85,16 @@ impl From<LineFault> for FaultKind {
     }
 }
 
+impl From<Memory> for FaultKind {
+    ghost from_gives = { λ _ kind. kind ≡ no_memory };
+
+    fn from(_memory: Memory) -> FaultKind {
+        FaultKind::Memory
+    }
+}
+
 impl From<AllocError> for FaultKind {
-    ghost from_gives = { λ _ kind. kind ≡ Memory };
+    ghost from_gives = { λ _ kind. kind ≡ no_memory };
 
     fn from(_error: AllocError) -> FaultKind {
         FaultKind::Memory
@@ -93,7 +102,7 @@ impl From<AllocError> for FaultKind {
 }
 
 impl<T: Drop> From<AllocFailed<T>> for FaultKind {
-    ghost from_gives = { λ _ kind. kind ≡ Memory };
+    ghost from_gives = { λ _ kind. kind ≡ no_memory };
 
     fn from(_error: AllocFailed<T>) -> FaultKind {
         FaultKind::Memory

@@ -66,7 +66,7 @@ fn write_entry<W: Write, A: Allocator + Copy>(
     ensures text { Writes result (W.contents writer.old) (W.contents writer.new) (entry_text entry.now) }
     ensures fields { OnOk result (HasFields entry.now) }
 {
-    write_bytes(writer, line_text(entry.main()).as_slice())?;
+    write_bytes(writer, line_text(&entry.main()).as_slice())?;
     for part in entry.parts() {
         write_bytes(writer, line_text(part).as_slice())?;
     }

@@ -1,4 +1,4 @@
-use Rattle.std.proofs.Common.{◌≤◌, arith, rules}
+use Rattle.std.proofs.Common.{arith, rules}
 use Rattle.blocks.proofs.Grouped.{groups_added}
 use Rattle.blocks.proofs.groups.mend.Goals as goal
 

@@ -1,4 +1,4 @@
-use Rattle.std.proofs.Common.{◌≡◌, ◌≤◌, ◌-◌, ◌/◌, length, vec_capacity}
+use Rattle.std.proofs.Common.{◌≤◌, ◌-◌, ◌/◌, length, vec_capacity}
 use Rattle.blocks.specs.Groups.{AreGroups}
 use Rattle.blocks.proofs.groups.mend.Given as goal
 

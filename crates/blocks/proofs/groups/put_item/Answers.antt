@@ -1,4 +1,4 @@
-use Rattle.std.proofs.Common.{◌≡◌, ◌≤◌, ◌<◌, ◌/◌, ◌*◌, ap, arith, length, refl, rules}
+use Rattle.std.proofs.Common.{◌/◌, ◌*◌, ap, arith, length, refl, rules}
 use Rattle.blocks.specs.declared.groups.Group.{Group}
 use Rattle.blocks.proofs.Grouped.{group_fits, groups_put, groups_same, groups_unset}
 use Rattle.blocks.proofs.groups.put_item.Goals as goal

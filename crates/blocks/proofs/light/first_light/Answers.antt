@@ -1,5 +1,5 @@
-use Rattle.std.proofs.Common.{◌≡◌, ◌≤◌, ◌<◌, ◌+◌, ◌*◌, ◌^◌, ap, arith, length, rules, ◌∙◌}
-use Rattle.blocks.specs.Groups.{AreGroups}
+use Rattle.std.proofs.Common.{◌^◌, ap, arith, length, rules, sym, ◌∙◌}
+use Rattle.blocks.specs.Groups.{AreGrouped, AreGroups}
 use Rattle.blocks.specs.declared.groups.Group.{Group}
 use Rattle.std.proofs.Common.{subst}
 use Rattle.blocks.proofs.Grouped.{groups_there}
@@ -11,6 +11,10 @@ overflow_add-start g c =
     let d : Group = record { items = 0; least = 0 } in
     let fits = passed_fits g.T.Ranked.weight c.args.wanted.limit c.args.wanted.from c.args.wanted.end c.args.blocks.now c.loop-number.blocks c.loop-number.invariant.same c.loop-number.groups c.loop-number.number c.loop-number.start (2 ^ 64) d c.loop-number.invariant.known (omega (arith, c.loop-number-test.true, c.loop-number.invariant.count)) c.loop-number.invariant.at c.requires.few in
     omega (arith, fits)
+
+pub light_in_group-requires-clause-grouped : goal.light_in_group-requires-clause-grouped
+light_in_group-requires-clause-grouped g c =
+    subst (λ blocks. AreGrouped g.T.Ranked.weight blocks c.loop-number.groups) (sym c.loop-number.invariant.same) (record { short = c.requires.short; few = c.requires.few; known = c.loop-number.invariant.known })
 
 pub loop-number-preserved : goal.loop-number-preserved
 loop-number-preserved g c =

@@ -1,4 +1,4 @@
-use Rattle.std.proofs.Common.{◌≤◌, ◌*◌, arith, length}
+use Rattle.std.proofs.Common.{arith}
 use Rattle.blocks.proofs.Grouped.{groups_there, low_groups}
 use Rattle.blocks.proofs.light.least_of_all.Goals as goal
 

@@ -1,6 +1,6 @@
-use Rattle.std.proofs.Common.{◌+◌, ◌^◌, ◌<◌, ◌≡◌, arith, ℕ, length, rules, subst, sym, ap, ◌∙◌}
+use Rattle.std.proofs.Common.{◌+◌, ◌^◌, ◌<◌, arith, length, rules, sym, ◌∙◌}
+use Rattle.std.specs.Prelude.{None, Some, if◌then◌else◌, nat_lt}
 use Rattle.blocks.specs.Rows.{flat, start}
-use Rattle.blocks.specs.Light.{IsFirstLight}
 use Rattle.blocks.proofs.Weighed.{fits_found, fits_next, found_by, next_by, none_by, none_within, until, within_none, same_by, same_length}
 use Rattle.blocks.proofs.light.light_within.Goals as goal
 
@@ -13,9 +13,8 @@ overflow_add-start g c =
 pub returns-in-Some-clause-place : goal.returns-in-Some-clause-place
 returns-in-Some-clause-place g c =
     let none = none_within g.T.Ranked.weight c.args.wanted.limit (flat c.args.blocks.now) c.args.wanted.from c.args.wanted.end c.loop-number.start (search rules) c.loop-number.invariant.none in
-    until g.T.Ranked.weight c.args.wanted.limit (flat c.args.blocks.now) c.args.wanted.from c.args.wanted.end (start c.args.last c.args.blocks.now) c.within.result
-    (subst (IsFirstLight g.T.Ranked.weight c.args.wanted.limit (flat c.args.blocks.now) c.args.wanted.from c.args.wanted.end) (sym c.within.ensures)
-    (found_by g.T.Ranked.weight c.args.wanted.limit c.loop-number.number c.args.wanted.from c.args.blocks.now c.loop-number.blocks c.index-blocks-number-in-loop-number.result c.loop-number.start c.saturating_sub-from.result c.loop-number.invariant.same (search rules) c.index-blocks-number-in-loop-number.is c.loop-number.invariant.at c.saturating_sub-from.ensures none c.args.wanted.end c.in-Some.at c.in-Some.ensures.first))
+    until g.T.Ranked.weight c.args.wanted.limit (flat c.args.blocks.now) c.args.wanted.from c.args.wanted.end (start c.args.last c.args.blocks.now) c.within.result (if nat_lt (c.loop-number.start + c.in-Some.at) c.args.wanted.end then Some (c.loop-number.start + c.in-Some.at) else None) c.within.ensures
+    (found_by g.T.Ranked.weight c.args.wanted.limit c.loop-number.number c.args.wanted.from c.args.blocks.now c.loop-number.blocks c.index-blocks-number-in-loop-number.result c.loop-number.start c.saturating_sub-from.result c.loop-number.invariant.same (search rules) c.index-blocks-number-in-loop-number.is c.loop-number.invariant.at c.saturating_sub-from.ensures none c.args.wanted.end c.in-Some.at c.in-Some.ensures.first)
 
 pub overflow_add-start-in-loop-number : goal.overflow_add-start-in-loop-number
 overflow_add-start-in-loop-number g c =

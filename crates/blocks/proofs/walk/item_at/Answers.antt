@@ -1,4 +1,4 @@
-use Rattle.std.proofs.Common.{◌≡◌, ◌*◌, ◌≤◌, arith, length, ◌∙◌}
+use Rattle.std.proofs.Common.{arith, ◌∙◌}
 use Rattle.blocks.proofs.Grouped.{groups_there, item_start}
 use Rattle.blocks.proofs.walk.item_at.Goals as goal
 

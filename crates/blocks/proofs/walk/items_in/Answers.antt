@@ -1,5 +1,5 @@
-use Rattle.std.proofs.Common.{◌+◌, ◌<◌, ◌≤◌, ◌^◌, [], ap, arith, get_or, length, rules, ◌∙◌, ◌≡◌}
-use Rattle.blocks.specs.Rows.{flat, start}
+use Rattle.std.proofs.Common.{◌+◌, [], ap, arith, get_or, length, rules, ◌∙◌, ◌≡◌}
+use Rattle.blocks.specs.Rows.{start}
 use Rattle.blocks.proofs.Edits.{read_is}
 use Rattle.blocks.proofs.Grouped.{start_most, start_next}
 use Rattle.blocks.proofs.walk.items_in.Goals as goal

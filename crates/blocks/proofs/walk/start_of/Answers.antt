@@ -1,4 +1,4 @@
-use Rattle.std.proofs.Common.{◌≡◌, ◌*◌, ◌+◌, ◌≤◌, ◌<◌, arith, length, rules}
+use Rattle.std.proofs.Common.{arith}
 use Rattle.blocks.proofs.Grouped.{groups_all, groups_sum, start_most}
 use Rattle.blocks.proofs.walk.start_of.Goals as goal
 

@@ -3,15 +3,20 @@ use Rattle.std.proofs.lemmas.Bool.{false≢true}
 use Rattle.scenarios.specs.Job.{EffectiveJob}
 use Rattle.easy_rule.specs.Pass.{start_at}
 use Rattle.checkpoints.proofs.Placing.{placed_from}
-use Rattle.checkpoints.proofs.Worked.{working-more, working-ends, working-full, working-short, working-can}
+use Rattle.checkpoints.proofs.Worked.{working-more, working-stretch, working-up-to, working-can}
 use Rattle.checkpoints.proofs.Coming.{step-before-end, none-worked, comes-some}
 use Rattle.checkpoints.proofs.cutting.work.Goals as goal
 
-pub returns-then-not-comes_before-clause-ends : goal.returns-then-not-comes_before-clause-ends
-returns-then-not-comes_before-clause-ends g c =
+pub returns-then-not-comes_before-clause-stretch : goal.returns-then-not-comes_before-clause-stretch
+returns-then-not-comes_before-clause-stretch g c =
     let fails : c.comes_before.result ≡ false = search rules in
-    working-ends c.args.engine.now c.loop.engine c.loop.starts.items c.loop.placed.items c.loop.counter c.loop.invariant.working
+    working-stretch c.args.engine.now c.loop.engine c.loop.starts.items c.loop.placed.items c.loop.counter c.loop.invariant.working
     (none-worked c.args.engine.now c.loop.engine c.loop.starts.items c.loop.placed.items c.loop.counter c.args.end c.loop.invariant.working c.requires.coming (λ k. false≢true (sym fails ∙ c.comes_before.ensures.comes.1 k)))
+
+pub returns-then-not-comes_before-clause-events : goal.returns-then-not-comes_before-clause-events
+returns-then-not-comes_before-clause-events g c =
+    let fails : c.comes_before.result ≡ false = search rules in
+    working-up-to c.args.engine.now c.loop.engine c.loop.starts.items c.loop.placed.items c.loop.counter c.args.spacing c.args.end c.loop.invariant.working c.loop.invariant.within (omega arith) (inr (c.comes_before.ensures.none fails))
 
 pub returns-then-not-comes_before-clause-can : goal.returns-then-not-comes_before-clause-can
 returns-then-not-comes_before-clause-can g c =
@@ -19,8 +24,14 @@ returns-then-not-comes_before-clause-can g c =
     working-can c.args.engine.now c.loop.engine c.loop.starts.items c.loop.placed.items c.loop.counter c.loop.invariant.working
     (none-worked c.args.engine.now c.loop.engine c.loop.starts.items c.loop.placed.items c.loop.counter c.args.end c.loop.invariant.working c.requires.coming (λ k. false≢true (sym fails ∙ c.comes_before.ensures.comes.1 k)))
 
-pub returns-in_default-clause-ends : goal.returns-in_default-clause-ends
-returns-in_default-clause-ends g c =
+pub returns-in_default-clause-stretch : goal.returns-in_default-clause-stretch
+returns-in_default-clause-stretch g c =
+    let n = rw c.in_default.is at c.in_ok-second.ensures.none in
+    let comes : c.comes_before.result ≡ true = search rules in
+    absurd (comes-some c.loop.engine c.args.end (c.comes_before.ensures.comes.0 comes) n.1)
+
+pub returns-in_default-clause-events : goal.returns-in_default-clause-events
+returns-in_default-clause-events g c =
     let n = rw c.in_default.is at c.in_ok-second.ensures.none in
     let comes : c.comes_before.result ≡ true = search rules in
     absurd (comes-some c.loop.engine c.args.end (c.comes_before.ensures.comes.0 comes) n.1)
@@ -43,32 +54,14 @@ loop-preserved g c =
       within = step-before-end c.loop.engine c.step_into.new.self c.args.end c.in-Some.second (c.comes_before.ensures.comes.0 comes) w.1 w.2;
     }
 
+pub returns-clause-stretch : goal.returns-clause-stretch
+returns-clause-stretch g c =
+    working-stretch c.args.engine.now c.loop.engine c.loop.starts.items c.loop.placed.items c.loop.counter c.loop.invariant.working (λ (e : c.loop.counter ≡ 0). let l = c.requires.spacing in omega (arith, l, e))
+
+pub returns-clause-events : goal.returns-clause-events
+returns-clause-events g c =
+    working-up-to c.args.engine.now c.loop.engine c.loop.starts.items c.loop.placed.items c.loop.counter c.args.spacing c.args.end c.loop.invariant.working c.loop.invariant.within (omega arith) (inl (omega arith))
+
 pub returns-clause-can : goal.returns-clause-can
 returns-clause-can g c =
     working-can c.args.engine.now c.loop.engine c.loop.starts.items c.loop.placed.items c.loop.counter c.loop.invariant.working (λ (e : c.loop.counter ≡ 0). let l = c.requires.spacing in omega (arith, l, e))
-
-pub returns-then-not-comes_before-clause-short : goal.returns-then-not-comes_before-clause-short
-returns-then-not-comes_before-clause-short g c = working-short c.args.engine.now c.loop.engine c.loop.starts.items c.loop.placed.items c.loop.counter c.args.spacing c.loop.invariant.working (omega arith)
-
-pub returns-in_default-clause-short : goal.returns-in_default-clause-short
-returns-in_default-clause-short g c =
-    let n = rw c.in_default.is at c.in_ok-second.ensures.none in
-    let comes : c.comes_before.result ≡ true = search rules in
-    absurd (comes-some c.loop.engine c.args.end (c.comes_before.ensures.comes.0 comes) n.1)
-
-pub returns-clause-short : goal.returns-clause-short
-returns-clause-short g c = working-short c.args.engine.now c.loop.engine c.loop.starts.items c.loop.placed.items c.loop.counter c.args.spacing c.loop.invariant.working (omega arith)
-
-pub returns-then-not-comes_before-clause-full : goal.returns-then-not-comes_before-clause-full
-returns-then-not-comes_before-clause-full g c =
-    let fails : c.comes_before.result ≡ false = search rules in
-    inr (c.comes_before.ensures.none fails)
-
-pub returns-in_default-clause-full : goal.returns-in_default-clause-full
-returns-in_default-clause-full g c =
-    let n = rw c.in_default.is at c.in_ok-second.ensures.none in
-    let comes : c.comes_before.result ≡ true = search rules in
-    absurd (comes-some c.loop.engine c.args.end (c.comes_before.ensures.comes.0 comes) n.1)
-
-pub returns-clause-full : goal.returns-clause-full
-returns-clause-full g c = inl (working-full c.args.engine.now c.loop.engine c.loop.starts.items c.loop.placed.items c.loop.counter c.args.spacing c.loop.invariant.working (omega arith))

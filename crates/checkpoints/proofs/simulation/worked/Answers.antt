@@ -35,7 +35,7 @@ pub segments-preserved : goal.segments-preserved
 segments-preserved g c =
     let plan : Plan = plan_in c.view-view.result in
     cutting-piece plan c.args.spacing c.segments.engine c.next_piece.new.engine (all_in plan c.segments.segments) (all_in plan c.add.new.self) c.in_ok-piece.piece c.segments.invariant
-    c.in_ok-piece.ensures.plan c.in_ok-piece.ensures.going c.in_ok-piece.ensures.spans c.in_ok-piece.ensures.short c.in_ok-piece.ensures.full c.in_ok-add.ensures
+    c.in_ok-piece.ensures.run c.in_ok-piece.ensures.spans c.in_ok-piece.ensures.events c.in_ok-add.ensures
 
 pub segments-smaller : goal.segments-smaller
 segments-smaller g c =

@@ -10,12 +10,12 @@ exchange-requires-clause-parted g c = parted-numbers c.args.number (flat c.args.
 pub exchange-requires-clause-there : goal.exchange-requires-clause-there
 exchange-requires-clause-there g c = number-within c.args.number (flat c.args.index.now) c.requires.rising c.requires.there
 
-pub returns-clause-rising : goal.returns-clause-rising
-returns-clause-rising g c =
+pub returns-clause-set : goal.returns-clause-set
+returns-clause-set g c =
     let pair : Numbered = record { number = c.args.number; submit = c.args.submit } in
-    on_ok_weaker c.exchange.result (other-rises pair (flat c.args.index.now) (flat c.exchange.new.self) c.requires.rising c.requires.there) c.exchange.ensures.list
-
-pub returns-clause-seconds : goal.returns-clause-seconds
-returns-clause-seconds g c =
-    let pair : Numbered = record { number = c.args.number; submit = c.args.submit } in
-    on_ok_weaker c.exchange.result (other-gives pair (flat c.args.index.now) (flat c.exchange.new.self) c.requires.rising c.requires.there) c.exchange.ensures.list
+    on_ok_weaker c.exchange.result
+    (λ list. record {
+      rising = other-rises pair (flat c.args.index.now) (flat c.exchange.new.self) c.requires.rising c.requires.there list;
+      gives = other-gives pair (flat c.args.index.now) (flat c.exchange.new.self) c.requires.rising c.requires.there list;
+    })
+    c.exchange.ensures.list

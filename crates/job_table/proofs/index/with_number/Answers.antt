@@ -6,12 +6,10 @@ use Rattle.job_table.proofs.index.with_number.Goals as goal
 pub with-requires-clause-parted : goal.with-requires-clause-parted
 with-requires-clause-parted g c = parted-numbers c.args.number (flat c.args.index.now) c.requires.rising
 
-pub returns-clause-rising : goal.returns-clause-rising
-returns-clause-rising g c =
+pub returns-clause-set : goal.returns-clause-set
+returns-clause-set g c =
     let pair : Numbered = record { number = c.args.number; submit = c.args.submit } in
-    more-rises pair (flat c.args.index.now) (flat c.in_ok-with.field-0) c.requires.rising c.requires.new c.in_ok-with.ensures.list
-
-pub returns-clause-seconds : goal.returns-clause-seconds
-returns-clause-seconds g c =
-    let pair : Numbered = record { number = c.args.number; submit = c.args.submit } in
-    more-gives pair (flat c.args.index.now) (flat c.in_ok-with.field-0) c.requires.rising c.requires.new c.in_ok-with.ensures.list
+    record {
+      rising = more-rises pair (flat c.args.index.now) (flat c.in_ok-with.field-0) c.requires.rising c.requires.new c.in_ok-with.ensures.list;
+      gives = more-gives pair (flat c.args.index.now) (flat c.in_ok-with.field-0) c.requires.rising c.requires.new c.in_ok-with.ensures.list;
+    }

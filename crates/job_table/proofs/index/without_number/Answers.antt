@@ -8,8 +8,8 @@ without-requires-clause-parted g c = parted-numbers c.args.number (flat c.args.i
 pub without-requires-clause-there : goal.without-requires-clause-there
 without-requires-clause-there g c = number-within c.args.number (flat c.args.index.now) c.requires.rising c.requires.there
 
-pub returns-clause-rising : goal.returns-clause-rising
-returns-clause-rising g c = fewer-rises c.args.number (flat c.args.index.now) (flat c.in_ok-without.field-0) c.requires.rising c.requires.there c.in_ok-without.ensures.list
-
-pub returns-clause-seconds : goal.returns-clause-seconds
-returns-clause-seconds g c = fewer-gives c.args.number (flat c.args.index.now) (flat c.in_ok-without.field-0) c.requires.rising c.requires.there c.in_ok-without.ensures.list
+pub returns-clause-set : goal.returns-clause-set
+returns-clause-set g c = record {
+  rising = fewer-rises c.args.number (flat c.args.index.now) (flat c.in_ok-without.field-0) c.requires.rising c.requires.there c.in_ok-without.ensures.list;
+  gives = fewer-gives c.args.number (flat c.args.index.now) (flat c.in_ok-without.field-0) c.requires.rising c.requires.there c.in_ok-without.ensures.list;
+}

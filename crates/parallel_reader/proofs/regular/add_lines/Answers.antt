@@ -1,7 +1,7 @@
 use Rattle.std.proofs.Common.{◌≡◌, ℕ, [], ◌++◌, List, Bor, length, sym, ap, subst, ◌∙◌, arith}
 use Rattle.swf_text.specs.Text.{lines}
 use Rattle.parallel_reader.specs.Adding.{texts}
-use Rattle.parallel_reader.specs.Jobs.{Below, portion_lines, AreRead}
+use Rattle.parallel_reader.specs.Jobs.{Below, portion_lines, AreJobsOf}
 use Rattle.parallel_reader.proofs.Jobs.{all_none, portions_added}
 use Rattle.parallel_reader.proofs.regular.add_lines.Goals as goal
 
@@ -13,8 +13,10 @@ portions-init g c =
       whole = ap (λ (ps : List (Bor (List ℕ))). portion_lines (texts ps) ++ lines c.args.bytes.now) (sym none);
       done = all_none c.args.entries.now.items;
       below = subst (Below c.number_behind-next.result) c.as_slice.ensures.value c.number_behind-next.ensures;
-      count = ap length c.new-ready.ensures.jobs ∙ sym (ap length none);
-      read = λ place d lt. absurd (omega (arith, ap (λ (ps : List (Bor (List ℕ))). length (texts ps)) none));
+      read = record {
+        count = ap length c.new-ready.ensures.jobs ∙ sym (ap length none);
+        read = λ place d lt. absurd (omega (arith, ap (λ (ps : List (Bor (List ℕ))). length (texts ps)) none));
+      };
     }
 
 pub portions-preserved : goal.portions-preserved
@@ -30,6 +32,5 @@ portions-preserved g c =
       whole = both.0 ∙ ap (λ (ls : List (List ℕ)). (h.front ++ ready) ++ ls) split;
       done = both.1;
       below = c.in_ok-next.ensures.below;
-      count = ap length jobs ∙ c.read_beside.ensures.count ∙ sym (ap length taken);
-      read = subst (λ (ps : List (Bor (List ℕ))). AreRead (texts ps) c.swap.new.x.jobs.items) (sym taken) (subst (AreRead (texts c.take.new.self.portions.items)) (sym jobs) c.read_beside.ensures.read);
+      read = subst (λ (ps : List (Bor (List ℕ))). AreJobsOf ps c.swap.new.x.jobs.items) (sym taken) (subst (AreJobsOf c.take.new.self.portions.items) (sym jobs) c.read_beside.ensures.read);
     }

@@ -1,7 +1,7 @@
 use Rattle.std.proofs.Common.{◌≡◌, ℕ, ◌+◌, ◌*◌, List, ◌++◌, length}
 use Rattle.swf_text.specs.Text.{lines}
 use Rattle.parallel_reader.specs.Adding.{texts}
-use Rattle.parallel_reader.specs.Jobs.{Below, AddsAll, AreRead, portion_lines}
+use Rattle.parallel_reader.specs.Jobs.{Below, AddsAll, AreJobsOf, portion_lines}
 use Rattle.parallel_reader.proofs.regular.add_lines.Given as goal
 
 abbrev pub invariant-portions : goal.invariant-portions
@@ -10,8 +10,7 @@ invariant-portions g l = record {
   whole : lines l.bytes ≡ front ++ (portion_lines (texts l.ready.portions.items) ++ lines l.rest);
   done : AddsAll l.fn.entries.items front l.entries.items;
   below : Below l.next l.entries.items;
-  count : length l.ready.jobs.items ≡ length l.ready.portions.items;
-  read : AreRead (texts l.ready.portions.items) l.ready.jobs.items;
+  read : AreJobsOf l.ready.portions.items l.ready.jobs.items;
 }
 
 abbrev pub decreases-portions : goal.decreases-portions

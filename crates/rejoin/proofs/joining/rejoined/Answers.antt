@@ -1,4 +1,4 @@
-use Rattle.std.proofs.Common.{map, refl, ap}
+use Rattle.std.proofs.Common.{map, refl, ap, inl}
 use Rattle.std.specs.Arc.{arc_value}
 use Rattle.checkpoints.specs.Groups.{AreFrom}
 use Rattle.checkpoints.specs.Pieces.{all_in}
@@ -9,15 +9,17 @@ use Rattle.rejoin.proofs.Placed.{from-none}
 use Rattle.rejoin.proofs.Turns.{stands-begun}
 use Rattle.rejoin.proofs.joining.rejoined.Goals as goal
 
-pub go_over-requires-clause-stands : goal.go_over-requires-clause-stands
-go_over-requires-clause-stands g c = stands-begun c.args.change.now c.in_ok-begin.ensures.sound c.args.spacing _ _ c.in_ok-begin.ensures.ok (ap (all_in c.args.change.now.is) c.new-2.ensures)
-
-pub go_over-requires-clause-places : goal.go_over-requires-clause-places
-go_over-requires-clause-places g c = from-none c.args.change.now.old _ _ (ap (all_in c.args.change.now.is) c.new-2.ensures) c.new-3.ensures.items
-
-pub go_over-requires-clause-noted : goal.go_over-requires-clause-noted
-go_over-requires-clause-noted g c = begun-noted c.args.change.now c.in_ok-begin.ensures.sound _ c.in_ok-begin.ensures.ok _
-    (new-notes c.args.change.now 0 0 c.submitted_before.result _ refl c.submitted_before.ensures.count c.submitted_before.ensures.small c.new.ensures.was c.new.ensures.is c.new.ensures.until c.new.ensures.started c.new.ensures.ended)
+pub go_over-requires-clause-first : goal.go_over-requires-clause-first
+go_over-requires-clause-first g c =
+    let change = c.args.change.now in
+    let none = ap (all_in change.is) c.new-2.ensures in
+    inl (record {
+      working = refl;
+      stands = stands-begun change c.in_ok-begin.ensures.sound c.args.spacing _ _ c.in_ok-begin.ensures.ok none;
+      noted = begun-noted change c.in_ok-begin.ensures.sound _ c.in_ok-begin.ensures.ok _
+          (new-notes change 0 0 c.submitted_before.result _ refl c.submitted_before.ensures.count c.submitted_before.ensures.small c.new.ensures.was c.new.ensures.is c.new.ensures.until c.new.ensures.started c.new.ensures.ended);
+      places = from-none change.old _ _ none c.new-3.ensures.items;
+    })
 
 pub settled-requires : goal.settled-requires
 settled-requires g c =

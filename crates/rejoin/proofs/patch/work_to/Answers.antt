@@ -1,8 +1,7 @@
-use Rattle.std.proofs.Common.{◌≡◌, ◌+◌, ◌⊎◌, ◌≤◌, ◌∷◌, ◌++◌, [], false, subst, sym, List, IfSome}
-use Rattle.event_loop.specs.Events.{events_before}
-use Rattle.checkpoints.specs.Coming.{NoneComes}
+use Rattle.std.proofs.Common.{◌≡◌, ◌∷◌, ◌++◌, [], false, subst, sym, List}
 use Rattle.checkpoints.specs.Pieces.{all_in, segment_of}
 use Rattle.checkpoints.specs.Segment.{SegmentView}
+use Rattle.checkpoints.specs.Worked.{WorksUpTo}
 use Rattle.rejoin.specs.Rejoining.{Stands}
 use Rattle.rejoin.proofs.Meeting.{stands-spans}
 use Rattle.rejoin.proofs.Pieces.{piece-spans, piece-follows, piece-noted, piece-added}
@@ -18,18 +17,17 @@ segments-preserved g c =
     let piece = c.in_ok-piece.piece in
     let s = segment_of change.is piece in
     let p = c.segments.patch in
+    let w = c.segments.invariant in
     let before' : List SegmentView = all_in change.is p.segments in
-    let spans = piece-spans change c.args.spacing c.args.at now before' p.handled p.reused c.segments.invariant.stands piece new.position c.in_ok-piece.ensures.spans in
+    let spans = piece-spans change c.args.spacing c.args.at now before' p.handled p.reused w.stands piece new.position c.in_ok-piece.ensures.spans in
     let added : all_in change.is c.add.new.self ≡ before' ++ s ∷ [] = piece-added _ change.is p.segments c.add.new.self piece c.plan.ensures.plan c.in_ok-add.ensures in
-    let more = stands-worked change c.args.spacing c.args.at now new before' s p.handled p.reused c.segments.invariant.stands c.in_ok-piece.ensures.plan c.in_ok-piece.ensures.going spans
-    (subst (λ o. IfSome o (λ e. new.position ≤ e)) c.first-end.ensures.first c.in_ok-piece.ensures.within) c.in_ok-piece.ensures.short
-    (subst (λ o. (events_before now.plan new.position ≡ events_before now.plan now.position + c.args.spacing) ⊎ NoneComes new o) c.first-end.ensures.first c.in_ok-piece.ensures.full) c.in_ok-piece.ensures.counted in
+    let events = subst (λ o. WorksUpTo now new c.args.spacing o) c.first-end.ensures.first c.in_ok-piece.ensures.events in
     record {
-      stands = subst (λ (ss : List SegmentView). Stands change c.args.spacing c.args.at false new ss p.handled p.reused) (sym added) more;
-      places = from-worked change.old before' _ p.places.items _ s c.segments.invariant.places added c.in_ok-push.ensures.items;
-      noted = c.in_ok-note_worked.ensures.noted now.position new.position (stands-spans change c.args.spacing c.args.at now before' p.handled p.reused c.segments.invariant.stands s now.position new.position spans) c.segments.invariant.noted;
-      kept = c.segments.invariant.kept;
-      reused = c.segments.invariant.reused;
+      working = w.working;
+      stands = subst (λ (ss : List SegmentView). Stands change c.args.spacing c.args.at false new ss p.handled p.reused) (sym added)
+          (stands-worked change c.args.spacing c.args.at now new before' s piece.starts p.handled p.reused w.stands c.in_ok-piece.ensures.run spans events);
+      noted = c.in_ok-note_worked.ensures.noted now.position new.position (stands-spans change c.args.spacing c.args.at now before' p.handled p.reused w.stands s now.position new.position spans) w.noted;
+      places = from-worked change.old before' _ p.places.items _ s w.places added c.in_ok-push.ensures.items;
     }
 
 pub segments-smaller : goal.segments-smaller

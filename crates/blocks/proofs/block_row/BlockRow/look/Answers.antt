@@ -1,4 +1,4 @@
-use Rattle.std.proofs.Common.{rules, ◌≡◌, ◌≤◌, ◌∙◌, ◌*◌, ◌+◌, List, [], ap, arith, length, subst, sym, vec_capacity}
+use Rattle.std.proofs.Common.{rules, ◌≡◌, ◌≤◌, ◌∙◌, List, ap, arith, length, subst, sym, vec_capacity}
 use Rattle.std.specs.List.{All}
 use Rattle.blocks.specs.Light.{IsFirstLight}
 use Rattle.blocks.specs.Rows.{BlocksView, IsRow, flat, room_of}

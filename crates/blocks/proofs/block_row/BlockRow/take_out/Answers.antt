@@ -1,5 +1,4 @@
 use Rattle.std.proofs.Common.{◌∙◌, ◌≤◌, ◌≡◌, List, [], ap, arith, remove, set, subst, get_or, length, rules}
-use Rattle.blocks.specs.Rows.{flat}
 use Rattle.blocks.proofs.Grouped.{groups_same, lent}
 use Rattle.blocks.proofs.Bounds.{low_taken}
 use Rattle.std.proofs.lemmas.List.{length-set}

@@ -8,10 +8,12 @@ pub place_of-place-requires-clause-parted : goal.place_of-place-requires-clause-
 place_of-place-requires-clause-parted g c =
     parted_for g.T.Keyed.major g.T.Keyed.minor c.args.major c.args.minor c.args.major c.args.minor c.as_slice-old.result.now c.self.inside.groups.items c.args.self.now c.as_slice-old.ensures.value c.self.view_is refl refl c.requires.parted
 
-pub removed-requires-clause-place : goal.removed-requires-clause-place
-removed-requires-clause-place g c =
-    c.place_of-place.ensures.inside
-    (inside_for g.T.Keyed.major g.T.Keyed.minor c.args.major c.args.minor c.args.major c.args.minor c.as_slice-old.result.now c.self.inside.groups.items c.args.self.now c.as_slice-old.ensures.value c.self.view_is refl refl _ c.place_of-place.ensures.place c.requires.there)
+pub removed-requires-clause-element : goal.removed-requires-clause-element
+removed-requires-clause-element g c = record {
+  spot = c.place_of-place.ensures.spot;
+  inside = c.place_of-place.ensures.inside
+      (inside_for g.T.Keyed.major g.T.Keyed.minor c.args.major c.args.minor c.args.major c.args.minor c.as_slice-old.result.now c.self.inside.groups.items c.args.self.now c.as_slice-old.ensures.value c.self.view_is refl refl _ c.place_of-place.ensures.place c.requires.there);
+}
 
 pub returns-clause-count : goal.returns-clause-count
 returns-clause-count g c =

@@ -1,10 +1,8 @@
-use Rattle.std.proofs.Common.{◌≡◌, ◌+◌, ◌≤◌, ap, arith, false, length, sym, ◌∙◌}
+use Rattle.std.proofs.Common.{ap, arith, length}
 use Rattle.scenarios.specs.Plan.{Plan}
 use Rattle.scenarios.specs.PlanView.{plan_in}
 use Rattle.cluster_state.specs.State.{State}
 use Rattle.cluster_state.proofs.Lemmas.{length-by_end}
-use Rattle.easy_rule.specs.Simulation.{before}
-use Rattle.event_loop.specs.Events.{Progress}
 use Rattle.event_loop.proofs.Few.{few-running, few-waiting}
 use Rattle.event_loop.proofs.engine.Engine.standing.Goals as goal
 

@@ -4,10 +4,10 @@ use Rattle.scenarios.specs.Plan.{Plan}
 use Rattle.scenarios.specs.PlanView.{plan_in}
 use Rattle.cluster_state.specs.State.{State}
 use Rattle.easy_rule.specs.Rule.{state_after}
-use Rattle.easy_rule.specs.Simulation.{before, joined, ready, submitted}
+use Rattle.easy_rule.specs.Simulation.{joined, submitted}
 use Rattle.timeline.proofs.Lemmas.{second-is, before-more}
 use Rattle.event_loop.specs.Events.{Progress}
-use Rattle.event_loop.specs.Second.{IsDecided}
+use Rattle.event_loop.specs.Second.{IsDecided, IsDue}
 use Rattle.event_loop.specs.Stepped.{StartIn}
 use Rattle.event_loop.proofs.Kept.{start-in}
 use Rattle.event_loop.proofs.EventLemmas.{midway-at, ready-at, sound-ready, known-front}
@@ -20,20 +20,8 @@ arrive_and_decide-requires-clause-now g c =
     let l = r.small in
     omega (arith, l)
 
-pub arrive_and_decide-requires-clause-coming : goal.arrive_and_decide-requires-clause-coming
-arrive_and_decide-requires-clause-coming g c =
-    let plan : Plan = plan_in c.self.inside.plan in
-    let r = ready-at c.args.self.now plan c.self.inside.cluster.state c.self.inside.coming c.self.inside.known c.self.inside.position c.self.inside.handled c.args.second c.self.inside.failed c.self.view_is c.self.invariant c.requires.going c.requires.next in
-    rw c.view.ensures.same r.next
-
-pub arrive_and_decide-requires-clause-sound : goal.arrive_and_decide-requires-clause-sound
-arrive_and_decide-requires-clause-sound g c =
-    let plan : Plan = plan_in c.self.inside.plan in
-    let r = ready-at c.args.self.now plan c.self.inside.cluster.state c.self.inside.coming c.self.inside.known c.self.inside.position c.self.inside.handled c.args.second c.self.inside.failed c.self.view_is c.self.invariant c.requires.going c.requires.next in
-    rw c.view.ensures.same (sound-ready plan c.self.inside.cluster.state c.finish_until.new.self.state c.args.second c.self.invariant.is_plan r.small r.is c.finish_until.ensures.state)
-
-pub arrive_and_decide-requires-clause-known : goal.arrive_and_decide-requires-clause-known
-arrive_and_decide-requires-clause-known g c =
+pub arrive_and_decide-requires-clause-due : goal.arrive_and_decide-requires-clause-due
+arrive_and_decide-requires-clause-due g c =
     let plan : Plan = plan_in c.self.inside.plan in
     let t = c.args.second in
     let ended : State = c.finish_until.new.self.state in
@@ -41,8 +29,13 @@ arrive_and_decide-requires-clause-known g c =
     let l = r.small in
     let ready-is = second-is plan c.self.inside.cluster.state ended (joined ended (submitted plan t)) t (omega (arith, l)) c.self.invariant.is_plan r.is c.finish_until.ensures.state refl in
     let going : c.self.inside.failed ≡ false = ap (λ (p : Progress). p.failed) c.self.view_is ∙ c.requires.going in
-    rw c.view.ensures.same
-    (known-front plan c.self.inside.cluster.state (joined ended (submitted plan t)) t (length ended.waiting) c.self.inside.known c.standing_at-known.result r.is ready-is (ap (λ (z : State). length z.waiting) c.finish_until.ensures.state) (c.self.invariant.known_is going) c.standing_at-known.ensures.known c.standing_at-known.ensures.stands)
+    let due : IsDue plan t ended c.self.inside.coming c.standing_at-known.result
+    = record {
+      next = r.next;
+      sound = sound-ready plan c.self.inside.cluster.state ended t c.self.invariant.is_plan r.small r.is c.finish_until.ensures.state;
+      settled = known-front plan c.self.inside.cluster.state (joined ended (submitted plan t)) t (length ended.waiting) c.self.inside.known c.standing_at-known.result r.is ready-is (ap (λ (z : State). length z.waiting) c.finish_until.ensures.state) (c.self.invariant.known_is going) c.standing_at-known.ensures.known c.standing_at-known.ensures.stands;
+    } in
+    rw c.view.ensures.same due
 
 pub invariant_of-self : goal.invariant_of-self
 invariant_of-self g c = record {

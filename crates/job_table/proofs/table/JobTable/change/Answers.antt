@@ -43,7 +43,7 @@ invariant_of-self-2 g c =
     let there : entry_of n rows ≡ Some c.unwrap-was.result.now = sym c.entry_at.ensures ∙ ap option_copied c.unwrap-was.ensures in
     let number : number_of_entry entry ≡ n = number-stays n c.args.field c.args.value rows c.unwrap-was.result.now entry later there c.in_ok-entry.ensures in
     let moved : flat c.in_ok-rows.rows ≡ with_entry entry (without n rows) = c.in_ok-rows.ensures.rows ∙ ap (λ (m : ℕ). with_entry entry (without m rows)) number in
-    stored-moved rows (flat c.in_ok-rows.rows) (flat c.self.inside.index) (flat c.set_second.new.index) c.self.inside.len c.self.invariant n c.submit-at.result c.unwrap-was.result.now entry there c.submit-at.ensures.entry number moved c.submit-at.ensures.second c.in_ok-set_second.ensures.rising c.in_ok-set_second.ensures.seconds
+    stored-moved rows (flat c.in_ok-rows.rows) (flat c.self.inside.index) (flat c.set_second.new.index) c.self.inside.len c.self.invariant n c.submit-at.result c.unwrap-was.result.now entry there c.submit-at.ensures.entry number moved c.submit-at.ensures.second c.in_ok-set_second.ensures.set.rising c.in_ok-set_second.ensures.set.gives
 
 pub returns-clause-ok : goal.returns-clause-ok
 returns-clause-ok g c =

@@ -14,7 +14,7 @@ unwrap-submit-requires g c =
 pub invariant_of-self : goal.invariant_of-self
 invariant_of-self g c =
     let there = entry-there c.args.number c.unwrap-submit.result (flat c.self.inside.rows) (sym c.unwrap-submit.ensures ∙ c.second.ensures ∙ c.self.invariant.index.gives c.args.number) in
-    stored-less (flat c.self.inside.rows) (flat c.in_ok-rows.rows) (flat c.self.inside.index) (flat c.in_ok-index.index) c.self.inside.len c.self.invariant c.args.number there.0 there.1 c.in_ok-rows.ensures.rows c.in_ok-index.ensures.rising c.in_ok-index.ensures.seconds
+    stored-less (flat c.self.inside.rows) (flat c.in_ok-rows.rows) (flat c.self.inside.index) (flat c.in_ok-index.index) c.self.inside.len c.self.invariant c.args.number there.0 there.1 c.in_ok-rows.ensures.rows c.in_ok-index.ensures.set.rising c.in_ok-index.ensures.set.gives
 
 pub returns-clause-ok : goal.returns-clause-ok
 returns-clause-ok g c =

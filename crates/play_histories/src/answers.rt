@@ -1,0 +1,124 @@
+// What the calls of a book or at a desk answer, written as the replies of the book machine.
+use book_machine::Reply;
+use scenarios::{NoSuchScenario, ScenarioId};
+use std::alloc::{Allocator, Global};
+use version_book::{
+    AddRefusal, Base, ClaimRefusal, DropRefusal, EditRefusal, FinishFault, FinishRefusal,
+    GiveUpRefusal, Published, RetryRefusal, Task, TooManyTickets, UnknownTicket, ViewFault,
+    ViewRefusal,
+};
+
+/// Why a call has no reply.
+#[derive(Clone, Copy, Debug, PartialEq, Eq)]
+pub(crate) enum Unanswered {
+    /// The journal is full.
+    JournalFull,
+    /// A growth was refused.
+    Memory,
+    /// What was shown is not the run of its version.
+    OtherRun,
+}
+
+/// What a call answers.
+pub(crate) type Answer = Result<Reply, Unanswered>;
+
+pub(crate) fn of_edit(told: Result<u64, EditRefusal>) -> Answer {
+    match told {
+        Ok(version) => Ok(Reply::Edited { version }),
+        Err(EditRefusal::Fault(fault)) => Ok(Reply::EditRefused(fault)),
+        Err(EditRefusal::JournalFull) => Err(Unanswered::JournalFull),
+        Err(EditRefusal::Memory) => Err(Unanswered::Memory),
+    }
+}
+
+pub(crate) fn of_add(told: Result<ScenarioId, AddRefusal>) -> Answer {
+    match told {
+        Ok(id) => Ok(Reply::Added { id }),
+        Err(AddRefusal::Fault(fault)) => Ok(Reply::AddRefused(fault)),
+        Err(AddRefusal::JournalFull) => Err(Unanswered::JournalFull),
+        Err(AddRefusal::Memory) => Err(Unanswered::Memory),
+    }
+}
+
+pub(crate) fn of_drop(told: Result<ScenarioId, DropRefusal>) -> Answer {
+    match told {
+        Ok(id) => Ok(Reply::Dropped { id }),
+        Err(DropRefusal::Fault(NoSuchScenario)) => Ok(Reply::NoSuchScenario),
+        Err(DropRefusal::JournalFull) => Err(Unanswered::JournalFull),
+        Err(DropRefusal::Memory) => Err(Unanswered::Memory),
+    }
+}
+
+pub(crate) fn of_retry(told: Result<(), RetryRefusal>) -> Answer {
+    match told {
+        Ok(()) => Ok(Reply::Retried),
+        Err(RetryRefusal::Fault(NoSuchScenario)) => Ok(Reply::NoSuchScenario),
+        Err(RetryRefusal::JournalFull) => Err(Unanswered::JournalFull),
+        Err(RetryRefusal::Memory) => Err(Unanswered::Memory),
+    }
+}
+
+// Why a view has no run, as a reply.
+fn of_view_refusal(refusal: ViewRefusal) -> Answer {
+    match refusal {
+        ViewRefusal::Fault(ViewFault::NoSuchScenario) => Ok(Reply::NoSuchScenario),
+        ViewRefusal::Fault(ViewFault::NotYet) => Ok(Reply::NotYet),
+        ViewRefusal::Fault(ViewFault::Behind { seen, found }) => Ok(Reply::Behind { seen, found }),
+        ViewRefusal::JournalFull => Err(Unanswered::JournalFull),
+        ViewRefusal::Memory => Err(Unanswered::Memory),
+    }
+}
+
+pub(crate) fn of_view<A: Allocator + Copy>(told: &Result<Published<A>, ViewRefusal>) -> Answer {
+    match told {
+        Ok(published) => Ok(Reply::Shown {
+            version: published.version(),
+        }),
+        Err(refusal) => of_view_refusal(*refusal),
+    }
+}
+
+// The version of a base.
+fn version_of(base: Option<&Base<Global>>) -> Option<u64> {
+    match base {
+        Some(base) => Some(base.version()),
+        None => None,
+    }
+}
+
+pub(crate) fn of_claim(told: &Result<Option<Task<Global>>, ClaimRefusal>) -> Answer {
+    match told {
+        Ok(None) => Ok(Reply::NoneDue),
+        Ok(Some(task)) => Ok(Reply::Claimed {
+            ticket: task.ticket(),
+            id: task.id(),
+            version: task.version(),
+            base: version_of(task.base()),
+        }),
+        Err(ClaimRefusal::Fault(TooManyTickets)) => Ok(Reply::TooManyTickets),
+        Err(ClaimRefusal::JournalFull) => Err(Unanswered::JournalFull),
+        Err(ClaimRefusal::Memory) => Err(Unanswered::Memory),
+    }
+}
+
+pub(crate) fn of_finish(told: Result<u64, FinishRefusal>) -> Answer {
+    match told {
+        Ok(version) => Ok(Reply::Finished { version }),
+        Err(FinishRefusal::Fault(FinishFault::UnknownTicket)) => Ok(Reply::UnknownTicket),
+        Err(FinishRefusal::Fault(FinishFault::Stranger)) => Ok(Reply::Stranger),
+        Err(FinishRefusal::Fault(FinishFault::Stale { published })) => Ok(Reply::Stale {
+            published,
+        }),
+        Err(FinishRefusal::JournalFull) => Err(Unanswered::JournalFull),
+        Err(FinishRefusal::Memory) => Err(Unanswered::Memory),
+    }
+}
+
+pub(crate) fn of_give_up(told: Result<(), GiveUpRefusal>) -> Answer {
+    match told {
+        Ok(()) => Ok(Reply::GivenUp),
+        Err(GiveUpRefusal::Fault(UnknownTicket)) => Ok(Reply::UnknownTicket),
+        Err(GiveUpRefusal::JournalFull) => Err(Unanswered::JournalFull),
+        Err(GiveUpRefusal::Memory) => Err(Unanswered::Memory),
+    }
+}

@@ -1,0 +1,200 @@
+// What a session and a worker play at a desk on an allocator that may refuse a growth.
+use crate::analyst::{Analyst, First};
+use crate::desk_handle::DeskHandle;
+use crate::threads::{Script, plays, works};
+use crate::wrong::{Wrong, right_if};
+use book_machine::Reply;
+use chronicle::Naming;
+use job_table::Edit;
+use std::alloc::Allocator;
+use std::sync::Wait;
+use std::sync::atomic::{AtomicBool, AtomicU64, Ordering};
+use std::thread;
+use std::thread::Threads;
+use workers::{Desk, Gate, NoGate, Session, Worker, WorkerEnd};
+
+/// What a session plays beside a worker: the edit by which the fifth job joins, how often it was told want of
+/// memory, and whether a run was not there. Beside the allocator that refuses there is one that has enough.
+#[derive(Drop)]
+pub(crate) struct Growing<'a, A: Allocator + Copy> {
+    pub(crate) enough: A,
+    joins: &'a Edit<A>,
+    wants: AtomicU64,
+    misses: AtomicBool,
+}
+
+impl<'a, A: Allocator + Copy> Growing<'a, A> {
+    pub(crate) fn new(enough: A, joins: &'a Edit<A>) -> Growing<'a, A> {
+        Growing {
+            enough,
+            joins,
+            wants: AtomicU64::new(0),
+            misses: AtomicBool::new(false),
+        }
+    }
+}
+
+impl<A: Allocator + Copy> Growing<'_, A> {
+    // A session of these wants.
+    fn analyst<'a, 'b, R: Wait, J: Naming>(
+        &'b self,
+        handle: &DeskHandle<'a, R, A, J>,
+    ) -> Analyst<'a, 'b, R, A, J> {
+        Analyst {
+            handle: DeskHandle {
+                rt: handle.rt,
+                desk: handle.desk,
+            },
+            joins: self.joins,
+            wants: &self.wants,
+        }
+    }
+}
+
+impl<A: Allocator + Copy> Script<A> for Growing<'_, A> {
+    fn play<R: Wait, J: Naming>(
+        &self,
+        handle: &DeskHandle<'_, R, A, J>,
+        session: &mut Session<A, J>,
+    ) -> Result<(), Wrong> {
+        if !self.analyst(handle).plays(session)? {
+            self.misses.store(true, Ordering::SeqCst);
+        }
+        Ok(())
+    }
+}
+
+/// Stops the desk before a run is made.
+#[derive(Drop)]
+struct Stopping<'a, R, A: Allocator + Copy, J: Naming> {
+    rt: &'a R,
+    desk: &'a Desk<A, J>,
+}
+
+impl<R: Wait, A: Allocator + Copy, J: Naming> Gate for Stopping<'_, R, A, J> {
+    fn before_work(&self, _ticket: u64) {
+        self.desk.stop(self.rt);
+    }
+
+    fn before_finish(&self, _ticket: u64) {}
+}
+
+/// What came of a history: how often want of memory was told, and whether it was told by what came
+/// first.
+#[derive(Clone, Copy)]
+pub(crate) struct Wants {
+    pub(crate) all: u64,
+    pub(crate) was_first: bool,
+}
+
+// What a worker was told last.
+fn last_reply<A: Allocator + Copy>(worker: &Worker<A>) -> Option<Reply> {
+    match worker.list().last() {
+        Some(listed) => Some(listed.reply),
+        None => None,
+    }
+}
+
+// Has the worker make one run, for which it stops the desk, and a session look then; whether the worker
+// ended for want of memory.
+fn works_once<R: Wait, A: Allocator + Copy, J: Naming>(
+    analyst: &Analyst<'_, '_, R, A, J>,
+    session: &mut Session<A, J>,
+    worker: &mut Worker<A>,
+) -> Result<bool, Wrong> {
+    let (rt, desk) = (analyst.handle.rt, analyst.handle.desk);
+    let end = worker.run(rt, desk, &Stopping { rt, desk });
+    analyst.looks_after(session, last_reply(worker))?;
+    right_if(end != WorkerEnd::Full, Wrong::Ended)?;
+    Ok(end == WorkerEnd::Memory)
+}
+
+// Has the session make all calls while the worker runs, each on a thread of its own.
+fn plays_with<R: Threads + Wait + Sync, A: Allocator + Copy + Send + Sync, J: Naming + Send + Sync>(
+    rt: &R,
+    desk: &Desk<A, J>,
+    sessions: &mut Vec<Session<A, J>, A>,
+    workers: &mut Vec<Worker<A>, A>,
+    script: &Growing<'_, A>,
+    has_ended: &AtomicBool,
+) -> Result<(), Wrong> {
+    thread::scope(thread::scope_env(), rt, |scope| {
+        for worker in workers.iter_mut() {
+            if scope
+                .spawn(move || works(rt, desk, worker, &NoGate, WorkerEnd::Stopped, has_ended))
+                .is_err()
+            {
+                desk.stop(rt);
+            }
+        }
+        let mut played = Err(Wrong::Input);
+        for session in sessions.iter_mut() {
+            match scope.spawn(move || plays(rt, desk, session, script)) {
+                Ok(play) => played = play.join(rt),
+                Err(_) => played = Err(Wrong::Thread),
+            }
+        }
+        desk.stop(rt);
+        played
+    })
+}
+
+// Has the session make all calls while the worker runs; whether the worker ended before the desk was
+// stopped, as for want of memory. Runs are missing only then.
+fn plays_beside<
+    R: Threads + Wait + Sync,
+    A: Allocator + Copy + Send + Sync,
+    J: Naming + Send + Sync,
+>(
+    handle: &DeskHandle<'_, R, A, J>,
+    sessions: &mut Vec<Session<A, J>, A>,
+    workers: &mut Vec<Worker<A>, A>,
+    script: &Growing<'_, A>,
+) -> Result<bool, Wrong> {
+    let has_ended = AtomicBool::new(false);
+    let (rt, desk) = (handle.rt, handle.desk);
+    plays_with(rt, desk, sessions, workers, script, &has_ended)?;
+    let has_ended = has_ended.load(Ordering::SeqCst);
+    let has_missed = script.misses.load(Ordering::SeqCst);
+    right_if(has_ended || !has_missed, Wrong::Ended)?;
+    Ok(has_ended)
+}
+
+// What came of a history in which a worker may have ended before its time.
+fn wants_of<A: Allocator + Copy>(
+    script: &Growing<'_, A>,
+    has_ended: bool,
+    was_first: bool,
+) -> Wants {
+    let told = script.wants.load(Ordering::SeqCst);
+    Wants {
+        all: told.saturating_add(u64::from(has_ended)),
+        was_first,
+    }
+}
+
+/// Plays a history, and tells how often want of memory was told but by a given-up ticket.
+pub(crate) fn played<
+    R: Threads + Wait + Sync,
+    A: Allocator + Copy + Send + Sync,
+    J: Naming + Send + Sync,
+>(
+    handle: &DeskHandle<'_, R, A, J>,
+    sessions: &mut Vec<Session<A, J>, A>,
+    workers: &mut Vec<Worker<A>, A>,
+    script: &Growing<'_, A>,
+    first: First,
+) -> Result<Wants, Wrong> {
+    let analyst = script.analyst(handle);
+    let (Some(session), Some(worker)) = (sessions.first_mut(), workers.first_mut()) else {
+        return Err(Wrong::Input);
+    };
+    if matches!(first, First::Work | First::Run) {
+        let has_ended = works_once(&analyst, session, worker)?;
+        return Ok(wants_of(script, has_ended, has_ended && first == First::Work));
+    }
+    analyst.begins(session, first)?;
+    let was_told = script.wants.load(Ordering::SeqCst) > 0;
+    let has_ended = plays_beside(handle, sessions, workers, script)?;
+    Ok(wants_of(script, has_ended, was_told))
+}

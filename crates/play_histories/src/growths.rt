@@ -1,0 +1,175 @@
+// Each growth at a desk refused in turn, from the first one until a history meets no refusal.
+ghost use Rattle.std.specs.Prelude.{◌≡◌};
+ghost use Rattle.version_book.specs.Book.{machine_of};
+
+use crate::analyst::First;
+use crate::desk_handle::DeskHandle;
+use crate::desk_history::is_legal;
+use crate::growing::{Growing, Wants, played};
+use crate::known_log::{fifth, with_base};
+use crate::open_desk::OpenDesk;
+use crate::wrong::{Wrong, right_if};
+use book_machine::{Call, Note};
+use chronicle::{Naming, Unnamed};
+use refusing::Refusing;
+use std::alloc::{Allocator, Global};
+use std::marker::Brand;
+use std::sync::Wait;
+use std::thread::Threads;
+use version_book::Book;
+
+/// All that may come first.
+const FIRSTS: [First; 8] = [
+    First::Edit,
+    First::Add,
+    First::Drop,
+    First::Retry,
+    First::View,
+    First::Read,
+    First::Work,
+    First::Run,
+];
+
+// How often a ticket was given up.
+fn given_up<A: Allocator + Copy>(notes: &[Note<A>]) -> u64 {
+    let count = notes
+        .iter()
+        .filter(|note| matches!(note.call, Call::GiveUp { .. }))
+        .count();
+    count as u64
+}
+
+// Closes the desk, of which the journal is judged with memory enough, and tells all wants.
+fn closed<A: Allocator + Copy, J: Naming>(
+    enough: A,
+    open: OpenDesk<A, J>,
+    wants: Wants,
+    first: First,
+) -> Result<Wants, Wrong> {
+    let book = open.close()?;
+    is_legal(enough, book.journal())?;
+    let given_up = given_up(book.journal());
+    Ok(Wants {
+        all: wants.all.saturating_add(given_up),
+        was_first: wants.was_first || (first == First::Run && given_up > 0),
+    })
+}
+
+// Plays a history with the callers of a desk.
+fn played_at<R: Threads + Wait + Sync, A: Allocator + Copy + Send + Sync, J: Naming + Send + Sync>(
+    rt: &R,
+    open: &mut OpenDesk<A, J>,
+    script: &Growing<'_, A>,
+    first: First,
+) -> Result<Wants, Wrong> {
+    let handle = DeskHandle {
+        rt,
+        desk: &open.desk,
+    };
+    played(
+        &handle,
+        &mut open.sessions,
+        &mut open.workers,
+        script,
+        first,
+    )
+}
+
+// Plays a history at a desk over this book, closes it and judges its journal; none where a growth was
+// refused before.
+fn history_on<J: Naming + Send + Sync, R: Threads + Wait + Sync, A: Allocator + Copy + Send + Sync>(
+    rt: &R,
+    alloc: A,
+    book: Book<A>,
+    unnamed: Unnamed,
+    script: &Growing<'_, A>,
+    first: First,
+) -> Result<Option<Wants>, Wrong>
+    requires name { unnamed ≡ J.book }
+    requires opening { J.opening ≡ machine_of book }
+{
+    let Ok(mut open) = OpenDesk::<A, J>::new(rt, alloc, book, unnamed, 1, 1) else {
+        return Ok(None);
+    };
+    let wants = played_at(rt, &mut open, script, first)?;
+    let wants = closed(script.enough, open, wants, first)?;
+    Ok(Some(wants))
+}
+
+// The same of the book with the scenario `base`.
+fn history_of<R: Threads + Wait + Sync, A: Allocator + Copy + Send + Sync>(
+    rt: &R,
+    alloc: A,
+    enough: A,
+    first: First,
+) -> Result<Option<Wants>, Wrong> {
+    let Ok(joins) = fifth(alloc) else {
+        return Ok(None);
+    };
+    let Ok(book) = with_base(alloc) else {
+        return Ok(None);
+    };
+    let script = Growing::new(enough, &joins);
+    history_on::<Brand, R, A>(rt, alloc, book, Unnamed::new(), &script, first)
+}
+
+/// What came of a history while the growth of a number was refused.
+#[derive(Clone, Copy)]
+enum Met {
+    /// There was no such growth.
+    Nothing,
+    /// It was refused before the history began.
+    Before,
+    /// Want of memory was told once, by what came first or later.
+    Once { by_first: bool },
+}
+
+// What came of a history while the growth of this number was refused.
+fn met_at<R: Threads + Wait + Sync>(
+    rt: &R,
+    alloc: Global,
+    nth: u64,
+    first: First,
+) -> Result<Met, Wrong> {
+    let heap = Refusing::new(alloc, nth);
+    let enough = Refusing::new(alloc, 0);
+    let Some(wants) = history_of(rt, &heap, &enough, first)? else {
+        return Ok(Met::Before);
+    };
+    match (heap.refused(), wants.all) {
+        (false, 0) => Ok(Met::Nothing),
+        (true, 1) => Ok(Met::Once {
+            by_first: wants.was_first,
+        }),
+        _ => Err(Wrong::Wants),
+    }
+}
+
+/// More growths than are made.
+const MANY: u64 = 100_000;
+
+// Refuses each growth in turn; at one of them what comes first is told want of memory.
+fn is_right_after<R: Threads + Wait + Sync>(
+    rt: &R,
+    alloc: Global,
+    first: First,
+) -> Result<(), Wrong> {
+    let mut was_told = false;
+    for nth in 1..MANY {
+        match met_at(rt, alloc, nth, first)? {
+            Met::Nothing => return right_if(was_told, Wrong::Untold),
+            Met::Before => {}
+            Met::Once { by_first } => was_told = was_told || by_first,
+        }
+    }
+    Err(Wrong::Endless)
+}
+
+/// Refuses each growth in turn, with each call once the first one: every history ends, nothing changes
+/// by a refused call, each refused growth is told once, and every desk closes with a legal journal.
+pub(crate) fn is_right<R: Threads + Wait + Sync>(rt: &R, alloc: Global) -> Result<(), Wrong> {
+    for first in FIRSTS {
+        is_right_after(rt, alloc, first)?;
+    }
+    Ok(())
+}

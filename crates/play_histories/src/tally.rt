@@ -1,0 +1,67 @@
+use book_machine::{Note, Reply};
+use job_table::EditFault;
+use scenarios::AddFault;
+use std::alloc::Global;
+
+/// How many kinds of replies are counted.
+pub(crate) const KINDS: usize = 24;
+
+// The kind of a reply, from 0; that of faults that can't come is the number of kinds.
+fn kind_of(reply: &Reply) -> usize {
+    match reply {
+        Reply::Edited { .. } => 0,
+        Reply::Added { .. } => 1,
+        Reply::Dropped { .. } => 2,
+        Reply::Retried => 3,
+        Reply::Shown { .. } => 4,
+        Reply::Claimed { base: Some(_), .. } => 5,
+        Reply::Finished { .. } => 6,
+        Reply::EditRefused(EditFault::NoSuchJob) => 7,
+        Reply::AddRefused(AddFault::NameTaken) => 8,
+        Reply::EditRefused(EditFault::DuplicateJob) => 9,
+        Reply::EditRefused(EditFault::BadField) => 10,
+        Reply::EditRefused(EditFault::BadValue) => 11,
+        Reply::AddRefused(AddFault::BadName) => 12,
+        Reply::AddRefused(AddFault::TooMany) => 13,
+        Reply::NoSuchScenario => 14,
+        Reply::NoneDue => 15,
+        Reply::Claimed { .. } => 16,
+        Reply::TooManyTickets => 17,
+        Reply::UnknownTicket => 18,
+        Reply::Stranger => 19,
+        Reply::Stale { .. } => 20,
+        Reply::GivenUp => 21,
+        Reply::NotYet => 22,
+        Reply::Behind { .. } => 23,
+        _ => KINDS,
+    }
+}
+
+/// How often each kind of replies came.
+#[derive(Clone, Copy)]
+pub(crate) struct Tally {
+    counts: [u64; 24],
+}
+
+impl Tally {
+    /// No reply.
+    pub(crate) const NONE: Tally = Tally { counts: [0; 24] };
+
+    // Counts the replies of a journal.
+    pub(crate) fn add(&mut self, notes: &[Note<Global>]) {
+        for note in notes {
+            if let Some(count) = self.counts.get_mut(kind_of(&note.reply)) {
+                *count = count.saturating_add(1);
+            }
+        }
+    }
+
+    // How often the rarest of the first so many kinds came.
+    pub(crate) fn fewest(&self, kinds: usize) -> u64 {
+        let mut fewest = u64::MAX;
+        for count in self.counts.iter().take(kinds) {
+            fewest = fewest.min(*count);
+        }
+        fewest
+    }
+}

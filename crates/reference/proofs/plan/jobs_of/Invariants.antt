@@ -1,6 +1,0 @@
-use Rattle.std.proofs.Common.{take}
-use Rattle.reference.proofs.Collected.{IsCollected}
-use Rattle.reference.proofs.plan.jobs_of.Given as goal
-
-abbrev pub invariant-loop-entry : goal.invariant-loop-entry
-invariant-loop-entry g l = IsCollected (take l.entry-index l.entries) l.scenario l.jobs.items

@@ -1,5 +1,0 @@
-use Rattle.std.proofs.Common.{length}
-use Rattle.reference.proofs.rule.+shortest.Given as goal
-
-abbrev pub decreases-shortest : goal.decreases-shortest
-decreases-shortest l = length l.jobs.now

@@ -1,6 +1,0 @@
-use Rattle.std.proofs.Common.{◌≡◌, map, take}
-use Rattle.std.specs.Arc.{arc_value}
-use Rattle.run_checks.proofs.own_segments.shared.Given as goal
-
-abbrev pub invariant-loop-segment : goal.invariant-loop-segment
-invariant-loop-segment g l = map arc_value l.all.items ≡ map arc_value (take l.segment-index l.segments)

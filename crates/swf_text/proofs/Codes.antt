@@ -1,0 +1,52 @@
+-- Summary lines in codes.
+use Rattle.std.proofs.Common.{◌≡◌, ℕ, ◌+◌, ◌-◌, ◌*◌, ◌<◌, ◌≤◌, true, false, eqb, ltb, List, [], ◌∷◌, ◌++◌, length, get_or, take, set, map, ℤ, pos, sym, ap, ◌∙◌, arith}
+use Rattle.std.proofs.lemmas.Bool.{lt-ltb, le-ltb}
+use Rattle.std.proofs.lemmas.Grind.{common_steps}
+use Rattle.std.proofs.lemmas.List.{map-append, take_more, take_more_set, take_all}
+use Rattle.swf_text.specs.Number.{whole_of}
+use Rattle.swf_text.specs.Packed.{value_of}
+
+-- ---- the value of a code
+
+not_zero : (n : ℕ) → 0 < n → eqb n 0 ≡ false
+not_zero n some = grind (arith, common_steps)
+
+pub low_code : (code n : ℕ) → 0 < code → code < 4000000000 → n ≡ 1000000 * (code - 1) → pos n ≡ value_of code
+low_code code n some lt is =
+    let known : eqb code 0 ≡ false = not_zero code some in
+    let small : ltb code 4000000000 ≡ true = lt-ltb code 4000000000 lt in
+    rw (known, small) (ap pos is)
+
+pub high_code : (code n : ℕ) → 4000000000 ≤ code → n ≡ 10000 * (code - 4000000000) → pos n ≡ value_of code
+high_code code n le is =
+    let known : eqb code 0 ≡ false = not_zero code (omega arith) in
+    let great : ltb code 4000000000 ≡ false = le-ltb code 4000000000 le in
+    rw (known, great) (ap pos is)
+
+-- the nearest whole number to it
+pub low_whole : (code : ℕ) → 0 < code → code < 4000000000 → pos (code - 1) ≡ whole_of (value_of code)
+low_whole code some lt =
+    let known : eqb code 0 ≡ false = not_zero code some in
+    let small : ltb code 4000000000 ≡ true = lt-ltb code 4000000000 lt in
+    rw (known, small) (ap pos (omega arith))
+
+-- ---- the values of a line
+
+module _ (codes : List ℕ) (line : List ℤ) (sized : length codes ≡ 18) (eighteen : length line ≡ 18) where
+  pub codes_more : (place code : ℕ) (d : ℤ) → place < 18 → map value_of (take place codes) ≡ take place line → value_of code ≡ get_or line place d → map value_of (take (place + 1) (set codes place code)) ≡ take (place + 1) line
+  codes_more place code d lt so_far is =
+      let written : take (place + 1) (set codes place code) ≡ take place codes ++ code ∷ [] = take_more_set codes place code (omega (arith, sized)) in
+      ap (map value_of) written ∙ map-append value_of (take place codes) (code ∷ []) ∙ ap (λ (vs : List ℤ). vs ++ value_of code ∷ []) so_far ∙ ap (λ (v : ℤ). take place line ++ v ∷ []) is
+      ∙ sym (take_more line place d (omega (arith, eighteen)))
+
+  pub codes_whole : (place : ℕ) → 18 ≤ place → map value_of (take place codes) ≡ take place line → map value_of codes ≡ line
+  codes_whole place done so_far = ap (map value_of) (sym (take_all place codes (omega (arith, sized)))) ∙ so_far ∙ take_all place line (omega (arith, eighteen))
+
+  pub values_more : (place : ℕ) (v : ℤ) → place < 18 → take place line ≡ map value_of (take place codes) → v ≡ value_of (get_or codes place 0) → take (place + 1) (set line place v) ≡ map value_of (take (place + 1) codes)
+  values_more place v lt so_far is =
+      let written : take (place + 1) (set line place v) ≡ take place line ++ v ∷ [] = take_more_set line place v (omega (arith, eighteen)) in
+      written ∙ ap (λ (vs : List ℤ). vs ++ v ∷ []) so_far ∙ ap (λ (w : ℤ). map value_of (take place codes) ++ w ∷ []) is
+      ∙ sym (map-append value_of (take place codes) (get_or codes place 0 ∷ [])) ∙ ap (map value_of) (sym (take_more codes place 0 (omega (arith, sized))))
+
+  pub values_whole : (place : ℕ) → 18 ≤ place → take place line ≡ map value_of (take place codes) → line ≡ map value_of codes
+  values_whole place done so_far = sym (take_all place line (omega (arith, eighteen))) ∙ so_far ∙ ap (map value_of) (take_all place codes (omega (arith, sized)))
