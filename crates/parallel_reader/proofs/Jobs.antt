@@ -1,5 +1,5 @@
 -- Job lines that are read apart from those before them.
-use Rattle.std.proofs.Common.{◌≡◌, ℕ, zero, suc, ◌+◌, ◌-◌, ◌*◌, ◌<◌, ◌≤◌, Bool, true, false, ◌||◌, List, [], ◌∷◌, ◌++◌, length, get_or, take, drop, Option, Some, None, Result, Ok, Err, ℤ, refl, sym, ap, subst, ◌∙◌, append_assoc, arith, inl, inr}
+use Rattle.std.proofs.Common.{◌≡◌, ℕ, zero, suc, ◌+◌, ◌-◌, ◌*◌, ◌<◌, ◌≤◌, Bool, true, false, ◌||◌, List, [], ◌∷◌, ◌++◌, length, get_or, take, drop, map, Option, Some, None, Result, Ok, Err, refl, sym, ap, subst, ◌∙◌, append_assoc, arith, inl, inr}
 use Rattle.std.specs.Prelude.{unwrap_or, if◌then◌else◌, IfSome}
 use Rattle.std.specs.List.{list_any, before_first, after_first, position_or_len, slice_split, onto_first}
 use Rattle.std.proofs.lemmas.Bool.{cases_Bool, cases_lt, eqb-true, false_from_ne_true}
@@ -11,11 +11,12 @@ use Rattle.std.proofs.lemmas.List.Folds.{list_any-append}
 use Rattle.std.proofs.lemmas.Grind.{flat_map-append}
 use denote.Ref.{Bor}
 use Rattle.swf_text.specs.declared.fault.FaultKind.{FaultKind}
-use Rattle.swf_text.specs.declared.fault.EntryFault.TheVariants as faults
 use Rattle.swf_text.specs.declared.line.Fields.{Fields}
+use Rattle.swf_text.specs.declared.packed.PackedLine.{PackedLine}
+use Rattle.swf_text.specs.Packed.{unpacked}
 use Rattle.swf_text.specs.declared.line.LineRead.{LineRead}
 use Rattle.swf_text.specs.declared.line.LineRead.TheVariants as read
-use Rattle.swf_text.specs.Entry.{LogEntry, field, whole_number, is_partial, is_some_number, has_number, number_of_entry, entry_made, entry_numbered}
+use Rattle.swf_text.specs.Entry.{LogEntry, field, whole_number, is_partial, is_some_number, has_number, number_of_entry}
 use Rattle.swf_text.specs.Number.{is_below_zero}
 use Rattle.swf_text.specs.Line.{line_of}
 use Rattle.swf_text.specs.Grammar.{IsText}
@@ -24,7 +25,7 @@ use Rattle.swf_text.specs.Text.{LogText, empty, lines, is_feed, without_empty_en
 use Rattle.swf_text.specs.Reading.{with_job, with_line, with_lines, with_read, at_line, text_of}
 use Rattle.swf_text.proofs.Lemmas.{job_more, lines-next, gives_text, text_sound, text_read}
 use Rattle.parallel_reader.specs.Adding.{texts}
-use Rattle.parallel_reader.specs.Jobs.{BeginsJobs, AreJobs, IsReadOf, after_job, with_jobs, AddsJobs, AddsAll, Below, portion_lines}
+use Rattle.parallel_reader.specs.Jobs.{BeginsJobs, AreJobs, IsReadOf, job_of, after_job, with_jobs, AddsJobs, AddsAll, Below, portion_lines}
 use Rattle.parallel_reader.proofs.Adding.{lines_after}
 
 -- ---- what is read of lines by themselves
@@ -87,8 +88,10 @@ pub jobs_then : (a b c : List LogEntry) (xs ys : List Fields) → AddsJobs a xs 
 jobs_then a b c xs ys h k = λ comments. jobs_after _ _ xs ys (h comments) ∙ k comments
 
 -- the job line behind those that were added
-pub jobs_next : (old t new : List LogEntry) (jobs : List Fields) (k : ℕ) (d : Fields) → k < length jobs → AddsJobs old (take k jobs) t → AddsJobs t (get_or jobs k d ∷ []) new → AddsJobs old (take (k + 1) jobs) new
-jobs_next old t new jobs k d lt h step = subst (λ (js : List Fields). AddsJobs old js new) (sym (take_more jobs k d lt)) (jobs_then old t new (take k jobs) (get_or jobs k d ∷ []) h step)
+pub jobs_next : (old t new : List LogEntry) (jobs : List PackedLine) (k : ℕ) (d : PackedLine) → k < length jobs → AddsJobs old (map job_of (take k jobs)) t → AddsJobs t (job_of (get_or jobs k d) ∷ []) new → AddsJobs old (map job_of (take (k + 1) jobs)) new
+jobs_next old t new jobs k d lt h step =
+    let more : map job_of (take (k + 1) jobs) ≡ map job_of (take k jobs) ++ job_of (get_or jobs k d) ∷ [] = ap (map job_of) (take_more jobs k d lt) ∙ map-append job_of (take k jobs) (get_or jobs k d ∷ []) in
+    subst (λ (js : List Fields). AddsJobs old js new) (sym more) (jobs_then old t new (map job_of (take k jobs)) (job_of (get_or jobs k d) ∷ []) h step)
 
 pub all_none : (old : List LogEntry) → AddsAll old [] old
 unfolding with_lines
@@ -125,34 +128,22 @@ below_next next later entries k d lt below le less = subst (Below later) (sym (t
 pub below_none : Below 0 []
 below_none n there = absurd cc
 
-record Made (main : List ℤ) (entry : LogEntry) : Type 0 where
-  pub number : ℕ
-  pub numbered : whole_number (field main 1) ≡ Some number
-  pub submit : is_below_zero (field main 2) ≡ false
-  pub summary : is_partial (field main 11) ≡ false
-  pub is : entry ≡ record { main = main; parts = [] }
+-- the entry of a packed summary line, whose number is at least one above all others
+module _ (old : List LogEntry) (job : PackedLine) (next number : ℕ) (below : Below next old) (numbered : whole_number (field (unpacked job) 1) ≡ Some number) (le : next ≤ number) where
+  abbrev pub made : LogEntry
+  made = record { main = unpacked job; parts = [] }
 
-made : (main : List ℤ) (entry : LogEntry) → entry_made main [] ≡ Ok entry → Made main entry
-made main entry h = go (whole_number (field main 1)) refl h
-  where
-    pick : (n : ℕ) → whole_number (field main 1) ≡ Some n → (a : Bool) → is_below_zero (field main 2) ≡ a → (b : Bool) → is_partial (field main 11) ≡ b → (if a then Err faults.BadSubmit else (if b then Err faults.BadStatus else Ok (record { main = main; parts = [] }))) ≡ Ok entry → Made main entry
-    pick n e true p b q t = absurd cc
-    pick n e false p true q t = absurd cc
-    pick n e false p false q t = record { number = n; numbered = e; submit = p; summary = q; is = cc }
+  pub entry_added : is_partial (field (unpacked job) 11) ≡ false → is_below_zero (field (unpacked job) 2) ≡ false → length old < 4194304 → AddsJobs old (job_of job ∷ []) (old ++ made ∷ [])
+  entry_added summary submit fits =
+      let new : list_any (has_number number) old ≡ false = false_from_ne_true (list_any (has_number number) old) (λ there. omega (arith, below number there)) in
+      λ comments.
+      let t : LogText = record { comments = comments; entries = old } in
+      ap (λ (r : Result LogText FaultKind). after_job r (λ later. with_jobs later [])) (job_more t (unpacked job) number numbered summary submit new fits)
 
-    go : (o : Option ℕ) → whole_number (field main 1) ≡ o → entry_numbered main [] o ≡ Ok entry → Made main entry
-    go None e t = absurd cc
-    go (Some n) e t = pick n e (is_below_zero (field main 2)) refl (is_partial (field main 11)) refl t
-
-pub entry_added : (old : List LogEntry) (job : Fields) (entry : LogEntry) (next : ℕ) → Below next old → entry_made job.0 [] ≡ Ok entry → next ≤ number_of_entry entry → length old < 4194304 → AddsJobs old (job ∷ []) (old ++ entry ∷ [])
-entry_added old job entry next below is le fits =
-    let m = made job.0 entry is in
-    let number : number_of_entry entry ≡ m.number = ap number_of_entry m.is ∙ ap (λ (o : Option ℕ). unwrap_or o 0) m.numbered in
-    let new : list_any (has_number m.number) old ≡ false = false_from_ne_true (list_any (has_number m.number) old) (λ there. omega (arith, below m.number there, number)) in
-    λ comments.
-    let t : LogText = record { comments = comments; entries = old } in
-    ap (λ (r : Result LogText FaultKind). after_job r (λ next. with_jobs next [])) (job_more t job.0 m.number m.numbered m.summary m.submit new fits)
-    ∙ ap (λ (e : LogEntry). Ok (record { comments = comments; entries = old ++ e ∷ [] })) (sym m.is)
+  pub entry_below : Below (number + 1) (old ++ made ∷ [])
+  entry_below =
+      let own : number_of_entry made ≡ number = ap (λ (o : Option ℕ). unwrap_or o 0) numbered in
+      below_more next (number + 1) old made below (omega arith) (omega (arith, own))
 
 -- ---- whole lines
 
@@ -274,18 +265,18 @@ pub fewer_left : (rest ready taken after : ℕ) → taken + after ≤ rest → (
 fewer_left zero ready taken after within less some = omega arith
 fewer_left (suc rest) ready taken after within less some = omega (arith, less (omega arith))
 
-pub read_counted : (ls : List (List ℕ)) (values : List Fields) (o : Option ℕ) (n : ℕ) → IsReadOf ls values o → o ≡ Some n → (n ≤ length values) × AreJobs ls (take n values)
-read_counted ls values o n h is = subst (IsReadOf ls values) is h
+pub read_counted : (ls : List (List ℕ)) (jobs : List PackedLine) (o : Option ℕ) (n : ℕ) → IsReadOf ls jobs o → o ≡ Some n → (n ≤ length jobs) × AreJobs ls (map job_of (take n jobs))
+read_counted ls jobs o n h is = subst (IsReadOf ls jobs) is h
 
 -- one above the number of each entry that was looked at
 pub below_all : (next : ℕ) (entries : List LogEntry) (k : ℕ) → length entries ≤ k → Below next (take k entries) → Below next entries
 below_all next entries k le below = subst (Below next) (take_all k entries le) below
 
-pub portion_read : (old new : List LogEntry) (ls : List (List ℕ)) (values : List Fields) (o : Option ℕ) (n : ℕ) (result : Option ℕ) → IsReadOf ls values o → o ≡ Some n → (m : ℕ) → (n ≤ length values → m ≡ n) → IfSome result (λ later. AddsJobs old (take m values) new) → IfSome result (λ later. AddsAll old ls new)
-portion_read old new ls values o n None h is m same added = tt
-portion_read old new ls values o n (Some later) h is m same added =
-    let read = read_counted ls values o n h is in
-    portion_added old new ls (take n values) read.1 (subst (λ (k : ℕ). AddsJobs old (take k values) new) (same read.0) added)
+pub portion_read : (old new : List LogEntry) (ls : List (List ℕ)) (jobs : List PackedLine) (o : Option ℕ) (n : ℕ) (result : Option ℕ) → IsReadOf ls jobs o → o ≡ Some n → (m : ℕ) → (n ≤ length jobs → m ≡ n) → IfSome result (λ later. AddsJobs old (map job_of (take m jobs)) new) → IfSome result (λ later. AddsAll old ls new)
+portion_read old new ls jobs o n None h is m same added = tt
+portion_read old new ls jobs o n (Some later) h is m same added =
+    let read = read_counted ls jobs o n h is in
+    portion_added old new ls (map job_of (take n jobs)) read.1 (subst (λ (k : ℕ). AddsJobs old (map job_of (take k jobs)) new) (same read.0) added)
 
 -- the lines of a portion, by its place
 pub lines_at : (ps : List (Bor (List ℕ))) (k : ℕ) (d : Bor (List ℕ)) (old new : List LogEntry) → k < length ps → AddsAll old (lines (get_or ps k d).now) new → AddsAll old (lines (get_or (texts ps) k [])) new

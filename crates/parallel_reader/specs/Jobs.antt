@@ -1,13 +1,15 @@
 -- Job lines that are read apart from those before them, and the entries that they add.
-use Rattle.std.specs.Prelude.{◌≡◌, ℕ, ◌<◌, ◌≤◌, List, [], ◌∷◌, length, take, true, Option, IfSome, Result, Ok, Err, slice_index_or}
+use Rattle.std.specs.Prelude.{◌≡◌, ℕ, ◌<◌, ◌≤◌, List, [], ◌∷◌, length, map, take, true, Option, IfSome, Result, Ok, Err, slice_index_or}
 use Rattle.std.specs.List.{list_any, flat_map}
 use Rattle.swf_text.specs.declared.line.Fields.{Fields}
 use Rattle.swf_text.specs.declared.line.LineRead.{LineRead}
 use Rattle.swf_text.specs.declared.line.LineRead.TheVariants as read
+use Rattle.swf_text.specs.declared.packed.PackedLine.{PackedLine}
 use Rattle.swf_text.specs.declared.fault.FaultKind.{FaultKind}
 use denote.Ref.{Bor}
 use Rattle.parallel_reader.specs.declared.portion.JobLines.{JobLines}
 use Rattle.swf_text.specs.Entry.{LogEntry, has_number}
+use Rattle.swf_text.specs.Packed.{unpacked}
 use Rattle.swf_text.specs.Line.{line_of}
 use Rattle.swf_text.specs.Text.{LogText, lines}
 use Rattle.swf_text.specs.Reading.{with_job, with_lines}
@@ -27,9 +29,13 @@ abbrev pub AreJobs : List (List ℕ) → List Fields → Type 0
 AreJobs [] jobs = jobs ≡ []
 AreJobs (line ∷ ls) jobs = BeginsJobs (line_of line) (AreJobs ls) jobs
 
--- the first of these values, as many as are counted, are the job lines of the lines
-abbrev pub IsReadOf : List (List ℕ) → List Fields → Option ℕ → Type 0
-IsReadOf ls values count = IfSome count (λ n. (n ≤ length values) × AreJobs ls (take n values))
+-- the values of a packed line
+abbrev pub job_of : PackedLine → Fields
+job_of packed = record { 0 = unpacked packed }
+
+-- the first of these packed lines, as many as are counted, are the job lines of the lines
+abbrev pub IsReadOf : List (List ℕ) → List PackedLine → Option ℕ → Type 0
+IsReadOf ls jobs count = IfSome count (λ n. (n ≤ length jobs) × AreJobs ls (map job_of (take n jobs)))
 
 -- ---- what job lines add
 
@@ -64,7 +70,7 @@ portion_lines portions = flat_map lines portions
 -- the job lines of each of the portions stand at its place
 abbrev pub AreRead : List (List ℕ) → List JobLines → Type 0
 AreRead portions jobs =
-    (place : ℕ) (d : JobLines) → place < length portions → IsReadOf (lines (slice_index_or portions place [])) (slice_index_or jobs place d).values (slice_index_or jobs place d).count
+    (place : ℕ) (d : JobLines) → place < length portions → IsReadOf (lines (slice_index_or portions place [])) (slice_index_or jobs place d).jobs (slice_index_or jobs place d).count
 
 -- there are job lines for each of these portions, and they are those of its bytes
 pub record AreJobsOf (portions : List (Bor (List ℕ))) (jobs : List JobLines) : Type 0 where

@@ -1,8 +1,10 @@
-ghost use Rattle.std.specs.Prelude.{◌≡◌, ◌++◌, ◌<◌, ◌≤◌, length, take, IfSome};
+ghost use Rattle.std.specs.Prelude.{◌≡◌, ◌++◌, ◌<◌, ◌≤◌, length, map, take, IfSome, IsTrue};
+ghost use Rattle.swf_text.specs.declared.line.LineRead.TheVariants.{Blank};
+ghost use Rattle.swf_text.specs.Line.{line_of};
 ghost use Rattle.swf_text.specs.Text.{lines};
-ghost use Rattle.parallel_reader.specs.Jobs.{AreJobs, IsReadOf};
+ghost use Rattle.parallel_reader.specs.Jobs.{AreJobs, IsReadOf, job_of};
 
-use swf_text::{Fields, LineRead, Value, read_line, split_line};
+use swf_text::{LineRead, PackedLine, packed_line, read_line, split_line};
 
 /// The bytes behind which a portion of a log ends with its line.
 const LEAST_BYTES: usize = 16_384;
@@ -11,11 +13,12 @@ const LEAST_BYTES: usize = 16_384;
 /// long lines have no more.
 const MOST_JOBS: usize = 512;
 
-/// The job lines of a portion of a log: their values, and how many they are; None where one of its
-/// lines is neither blank nor a job line without faults of its own, or where there are too many.
+/// The job lines of a portion of a log, in codes, and how many they are; None where one of its lines
+/// is neither blank nor a job line without faults of its own that can be packed, or where there are
+/// too many.
 #[derive(Clone, Copy)]
 pub(crate) struct JobLines {
-    pub(crate) values: [Fields; MOST_JOBS],
+    pub(crate) jobs: [PackedLine; MOST_JOBS],
     pub(crate) count: Option<usize>,
 }
 
@@ -31,25 +34,35 @@ pub(crate) fn split_portion(bytes: &[u8]) -> (&[u8], &[u8])
     bytes.split_at(bytes.len() - after.len())
 }
 
+// Whether a line is blank.
+fn is_blank(line: &[u8]) -> bool
+    ensures { IsTrue result → line_of line.now ≡ Blank }
+{
+    matches!(read_line(line), LineRead::Blank)
+}
+
 // Reads the job lines of some bytes into these places: how many they are.
-fn read_jobs(bytes: &[u8], values: &mut [Fields]) -> Option<usize>
-    ensures same { length values.new ≡ length values.old }
-    ensures read { IfSome result (λ count. (count ≤ length values.new) × AreJobs (lines bytes.now) (take count values.new)) }
+fn read_jobs(bytes: &[u8], jobs: &mut [PackedLine]) -> Option<usize>
+    ensures same { length jobs.new ≡ length jobs.old }
+    ensures read { IfSome result (λ count. (count ≤ length jobs.new) × AreJobs (lines bytes.now) (map job_of (take count jobs.new))) }
 {
     let mut count = 0usize;
     let mut rest = bytes;
     'lines: while !rest.is_empty() {
         let (line, after) = split_line(rest);
-        match read_line(line) {
-            LineRead::Blank => {}
-            LineRead::Job(job) => {
-                if count >= values.len() {
+        match packed_line(line) {
+            Some(job) => {
+                if count >= jobs.len() {
                     return None;
                 }
-                values[count] = job;
+                jobs[count] = job;
                 count += 1;
             }
-            LineRead::Comment | LineRead::Fault(_) => return None,
+            None => {
+                if !is_blank(line) {
+                    return None;
+                }
+            }
         }
         rest = after;
     }
@@ -60,15 +73,15 @@ impl JobLines {
     // None yet.
     pub(crate) fn new() -> JobLines {
         JobLines {
-            values: [Fields([Value::ZERO; 18]); MOST_JOBS],
+            jobs: [PackedLine::UNKNOWN; MOST_JOBS],
             count: None,
         }
     }
 
     // Those of some bytes, in the place of those that were there.
     pub(crate) fn read(&mut self, bytes: &[u8])
-        ensures { IsReadOf (lines bytes.now) self.new.values self.new.count }
+        ensures { IsReadOf (lines bytes.now) self.new.jobs self.new.count }
     {
-        self.count = read_jobs(bytes, self.values.as_mut_slice());
+        self.count = read_jobs(bytes, self.jobs.as_mut_slice());
     }
 }

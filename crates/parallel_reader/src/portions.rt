@@ -13,7 +13,7 @@ use std::thread::{Threads, join_mut};
 use swf_text::Entry;
 
 /// The most portions that are read at once.
-const MOST_PORTIONS: usize = 128;
+const MOST_PORTIONS: usize = 64;
 
 /// Some portions of a log that follow one another, and the job lines of each. Its memory is used again
 /// by the portions behind them.
@@ -54,7 +54,7 @@ fn read_portions<R: Threads + Sync>(rt: &R, portions: &[&[u8]], jobs: &mut [JobL
         jobs,
         |place: usize, read: &mut JobLines|
             requires { place < length portions.now }
-            ensures { IsReadOf (lines (slice_index_or (texts portions.entry.now) place [])) read.new.values read.new.count }
+            ensures { IsReadOf (lines (slice_index_or (texts portions.entry.now) place [])) read.new.jobs read.new.count }
         {
             read.read(portions[place]);
         },

@@ -1,11 +1,11 @@
-ghost use Rattle.std.specs.Prelude.{◌∷◌, [], IfSome};
+ghost use Rattle.std.specs.Prelude.{◌∷◌, [], map, IfSome};
 ghost use Rattle.swf_text.specs.Text.{lines};
 ghost use Rattle.parallel_reader.specs.Adding.{texts};
-ghost use Rattle.parallel_reader.specs.Jobs.{Below, AddsJobs, AddsAll, AreJobsOf, IsReadOf, portion_lines};
+ghost use Rattle.parallel_reader.specs.Jobs.{Below, AddsJobs, AddsAll, AreJobsOf, IsReadOf, job_of, portion_lines};
 
 use crate::portion::JobLines;
 use std::alloc::Allocator;
-use swf_text::{ENTRY_LIMIT, Entry, EntryLines, Fields};
+use swf_text::{ENTRY_LIMIT, Entry, PackedLine};
 
 // One above the greatest job number.
 pub(crate) fn number_behind<A: Allocator + Copy>(entries: &[Entry<A>]) -> u64
@@ -24,23 +24,20 @@ fn add_job<A: Allocator + Copy>(
     alloc: A,
     entries: &mut Vec<Entry<A>, A>,
     next: u64,
-    job: &Fields,
+    job: &PackedLine,
 ) -> Option<u64>
     requires { Below next entries.old.items }
     ensures below { IfSome result (λ later. Below later entries.new.items) }
-    ensures added { IfSome result (λ later. AddsJobs entries.old.items (job.now ∷ []) entries.new.items) }
+    ensures added { IfSome result (λ later. AddsJobs entries.old.items (job_of job.now ∷ []) entries.new.items) }
 {
-    let Ok(lines) = EntryLines::new(*job, Vec::new(alloc)) else {
+    let number = job.job_number()?;
+    if job.is_partial() || job.is_before_start() {
         return None;
-    };
-    let Ok(entry) = Entry::of_lines(&lines) else {
-        return None;
-    };
-    let number = entry.number();
+    }
     if number < next || entries.len() >= ENTRY_LIMIT {
         return None;
     }
-    match entries.push(entry) {
+    match entries.push(Entry::of_packed(alloc, job)) {
         Ok(()) => Some(number + 1),
         Err(_) => None,
     }
@@ -51,11 +48,11 @@ fn add_jobs<A: Allocator + Copy>(
     alloc: A,
     entries: &mut Vec<Entry<A>, A>,
     next: u64,
-    jobs: &[Fields],
+    jobs: &[PackedLine],
 ) -> Option<u64>
     requires { Below next entries.old.items }
     ensures below { IfSome result (λ later. Below later entries.new.items) }
-    ensures added { IfSome result (λ later. AddsJobs entries.old.items jobs.now entries.new.items) }
+    ensures added { IfSome result (λ later. AddsJobs entries.old.items (map job_of jobs.now) entries.new.items) }
 {
     let mut next = next;
     for job in jobs {
@@ -76,14 +73,14 @@ fn add_portion<A: Allocator + Copy>(
     jobs: &JobLines,
 ) -> Option<u64>
     requires below { Below next entries.old.items }
-    requires read { IsReadOf (lines portion.now) jobs.now.values jobs.now.count }
+    requires read { IsReadOf (lines portion.now) jobs.now.jobs jobs.now.count }
     ensures below { IfSome result (λ later. Below later entries.new.items) }
     ensures added { IfSome result (λ later. AddsAll entries.old.items (lines portion.now) entries.new.items) }
 {
     let _lines = portion;
-    let values = jobs.values.as_slice();
+    let read = jobs.jobs.as_slice();
     match jobs.count {
-        Some(count) => add_jobs(alloc, entries, next, &values[..count.min(values.len())]),
+        Some(count) => add_jobs(alloc, entries, next, &read[..count.min(read.len())]),
         None => None,
     }
 }

@@ -32,11 +32,14 @@ low_whole code some lt =
 
 -- ---- the values of a line
 
+-- a code behind others
+pub codes_next : (codes : List ℕ) (place code : ℕ) → place < length codes → map value_of (take (place + 1) (set codes place code)) ≡ map value_of (take place codes) ++ value_of code ∷ []
+codes_next codes place code lt = ap (map value_of) (take_more_set codes place code lt) ∙ map-append value_of (take place codes) (code ∷ [])
+
 module _ (codes : List ℕ) (line : List ℤ) (sized : length codes ≡ 18) (eighteen : length line ≡ 18) where
   pub codes_more : (place code : ℕ) (d : ℤ) → place < 18 → map value_of (take place codes) ≡ take place line → value_of code ≡ get_or line place d → map value_of (take (place + 1) (set codes place code)) ≡ take (place + 1) line
   codes_more place code d lt so_far is =
-      let written : take (place + 1) (set codes place code) ≡ take place codes ++ code ∷ [] = take_more_set codes place code (omega (arith, sized)) in
-      ap (map value_of) written ∙ map-append value_of (take place codes) (code ∷ []) ∙ ap (λ (vs : List ℤ). vs ++ value_of code ∷ []) so_far ∙ ap (λ (v : ℤ). take place line ++ v ∷ []) is
+      codes_next codes place code (omega (arith, sized)) ∙ ap (λ (vs : List ℤ). vs ++ value_of code ∷ []) so_far ∙ ap (λ (v : ℤ). take place line ++ v ∷ []) is
       ∙ sym (take_more line place d (omega (arith, eighteen)))
 
   pub codes_whole : (place : ℕ) → 18 ≤ place → map value_of (take place codes) ≡ take place line → map value_of codes ≡ line

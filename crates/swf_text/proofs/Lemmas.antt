@@ -11,8 +11,8 @@ pub use Rattle.swf_text.proofs.Texts.{line_found, rest_found, line_none, rest_no
 pub use Rattle.swf_text.proofs.Texts.{with_lines-append, read_none, at_end}
 -- what a reading answers, and the line that was being read
 pub use Rattle.swf_text.proofs.Outcomes.{gives_text, gives_only, gives_fault, reached}
--- a job line that adds an entry
-pub use Rattle.swf_text.proofs.Entries.{job_more}
+-- a job line that adds an entry, and what its tests say of it
+pub use Rattle.swf_text.proofs.Entries.{entry_sound, job_more}
 -- a number that is read exactly, and a text that is one, read line after line
 pub use Rattle.swf_text.proofs.Grammars.{exact_number, text_read}
 -- the canonical spelling of a value spells it

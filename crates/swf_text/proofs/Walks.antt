@@ -1,16 +1,17 @@
 -- One walk over a good line.
-use Rattle.std.proofs.Common.{◌≡◌, ℕ, zero, suc, ◌+◌, ◌*◌, ◌<◌, ◌≤◌, Bool, true, false, eqb, ltb, ◌||◌, List, [], ◌∷◌, ◌++◌, length, take, drop, set, Option, Some, None, Ok, ℤ, refl, sym, ap, subst, ◌∙◌, append_assoc, arith, inl, inr, add-one, length-set}
+use Rattle.std.proofs.Common.{◌≡◌, ℕ, zero, suc, ◌+◌, ◌*◌, ◌<◌, ◌≤◌, Bool, true, false, eqb, ltb, ◌||◌, List, [], ◌∷◌, ◌++◌, length, get_or, take, drop, Option, Some, None, Ok, ℤ, refl, sym, ap, subst, ◌∙◌, append_assoc, arith, inl, inr}
 use Rattle.std.specs.Prelude.{IsTrue}
 use Rattle.std.specs.List.{list_all, list_any, prefix_len}
 use Rattle.std.specs.Char.{is_ascii_digit}
-use Rattle.std.proofs.Math.Seq.{take-suc-set}
 use Rattle.std.proofs.lemmas.Grind.{common_steps}
 use Rattle.std.proofs.lemmas.Bool.{cases_Bool, lt-ltb}
-use Rattle.std.proofs.lemmas.List.{append-nil, take-append-drop, length-take-le, take_all, nil_from_length}
+use Rattle.std.proofs.lemmas.List.{append-nil, take-append-drop, length-take-le, drop_more, nil_from_length}
 use Rattle.std.proofs.lemmas.List.Folds.{list_any-append}
 use Rattle.swf_text.specs.Number.{digits_value, are_digits, begins_negative, unsigned_text, sign_text, signed, greatest, millionths_of}
 use Rattle.swf_text.specs.Line.{is_blank, is_high, fields, from_first, values_from, value_then, job_line, job_of_values}
-use Rattle.swf_text.specs.Scan.{Word, ends}
+use Rattle.swf_text.specs.Packed.{value_of}
+use Rattle.swf_text.specs.Scan.{NextWord, Word, ends}
+use Rattle.swf_text.proofs.Codes.{low_code}
 use Rattle.swf_text.proofs.Numbers.{and_first, sign_again, number_of-Spells}
 use Rattle.swf_text.proofs.Words.{onto, onto-value_then, fields-from_first, values_end, fields-end}
 use Rattle.swf_text.proofs.Plains.{is_plain, plain_no_blank, word_fields, spelling_plain, all_low}
@@ -86,13 +87,29 @@ word_unknown bytes digits rest sign digit end =
     subst (λ (l : List ℕ). Word l (signed true 1000000) rest) is (word_whole (45 ∷ 49 ∷ rest) (49 ∷ rest) true 1 1 refl refl (omega arith) refl refl (omega arith) (omega arith) rest (signed true 1000000) refl end refl)
 
 -- a space changes nothing of what follows the blanks
-pub front_space : (bytes rest : List ℕ) → bytes ≡ 32 ∷ rest → from_first rest ≡ from_first bytes
-front_space bytes rest is =
+front_space : (rest : List ℕ) → from_first (32 ∷ rest) ≡ from_first rest
+front_space rest =
     let count : prefix_len is_blank (32 ∷ rest) ≡ suc (prefix_len is_blank rest) = omega arith in
-    sym (ap from_first is ∙ ap (λ (k : ℕ). drop k (32 ∷ rest)) count)
+    ap (λ (k : ℕ). drop k (32 ∷ rest)) count
 
-pub word_same : (front bytes rest : List ℕ) (v : ℤ) → front ≡ bytes → Word front v rest → Word bytes v rest
-word_same front bytes rest v is h = subst (λ (l : List ℕ). Word l v rest) is h
+-- the word `-1` and a space
+pub next_unknown : (bytes rest : List ℕ) → 3 ≤ length bytes → get_or bytes 0 0 ≡ 45 → get_or bytes 1 0 ≡ 49 → get_or bytes 2 0 ≡ 32 → rest ≡ drop 3 bytes → NextWord bytes (signed true 1000000) rest
+next_unknown [] rest long sign digit space is = absurd (omega arith)
+next_unknown (a ∷ []) rest long sign digit space is = absurd (omega arith)
+next_unknown (a ∷ b ∷ []) rest long sign digit space is = absurd (omega arith)
+next_unknown (a ∷ b ∷ c ∷ bs) rest long sign digit space is =
+    let whole : 45 ∷ 49 ∷ 32 ∷ rest ≡ a ∷ b ∷ c ∷ bs = ap (λ (l : List ℕ). 45 ∷ 49 ∷ 32 ∷ l) is ∙ ap (λ (x : ℕ). x ∷ 49 ∷ 32 ∷ bs) (sym sign) ∙ ap (λ (x : ℕ). a ∷ x ∷ 32 ∷ bs) (sym digit) ∙ ap (λ (x : ℕ). a ∷ b ∷ x ∷ bs) (sym space) in
+    subst (λ (l : List ℕ). NextWord l (signed true 1000000) rest) whole (record { after = 32 ∷ rest; word = word_unknown (45 ∷ 49 ∷ 32 ∷ rest) (49 ∷ 32 ∷ rest) (32 ∷ rest) refl refl refl; goes_on = front_space rest })
+
+-- a word of digits that has a code, and a space
+pub next_digits : (bytes rest : List ℕ) (count value : ℕ) → 10 ≤ length bytes → count < 10 → 0 < count → list_all is_ascii_digit (take count bytes) ≡ true → value ≡ digits_value (take count bytes) → value < 1000000000 → get_or bytes count 0 ≡ 32 → rest ≡ drop (count + 1) bytes → NextWord bytes (value_of (value + 1)) rest
+next_digits bytes rest count value long within some digits value_is small space is =
+    let behind : drop count bytes ≡ 32 ∷ rest = drop_more bytes count 0 (omega arith) ∙ ap (λ (b : ℕ). b ∷ drop (count + 1) bytes) space ∙ ap (λ (l : List ℕ). 32 ∷ l) (sym is) in
+    record {
+      after = 32 ∷ rest;
+      word = word_digits bytes (32 ∷ rest) count value (value_of (value + 1)) (omega arith) digits value_is some (omega arith) (sym behind) refl (sym (low_code (value + 1) (1000000 * value) (omega arith) (omega arith) (omega arith)));
+      goes_on = front_space rest;
+    }
 
 plain_front : (w rest : List ℕ) → list_all is_plain w ≡ true → 0 < length w → from_first (w ++ rest) ≡ w ++ rest
 plain_front [] rest all some = absurd (omega arith)
@@ -101,12 +118,32 @@ plain_front (b ∷ w) rest all some =
     let count : prefix_len is_blank (b ∷ (w ++ rest)) ≡ 0 = rw other refl in
     ap (λ (k : ℕ). drop k (b ∷ (w ++ rest))) count
 
+pub front_twice : (bytes : List ℕ) → from_first (from_first bytes) ≡ from_first bytes
+front_twice [] = refl
+front_twice (b ∷ bs) = elim (cases_Bool (is_blank b)) [
+  | inl blank ↦
+      let count : prefix_len is_blank (b ∷ bs) ≡ suc (prefix_len is_blank bs) = rw blank (omega arith) in
+      let same : from_first (b ∷ bs) ≡ from_first bs = ap (λ (k : ℕ). drop k (b ∷ bs)) count in
+      ap from_first same ∙ front_twice bs ∙ sym same
+  | inr other ↦
+      let count : prefix_len is_blank (b ∷ bs) ≡ 0 = rw other refl in
+      let same : from_first (b ∷ bs) ≡ b ∷ bs = ap (λ (k : ℕ). drop k (b ∷ bs)) count in
+      ap from_first same
+]
+
 -- a word behind blanks
-pub word_behind : (bytes front rest : List ℕ) (v : ℤ) → from_first front ≡ from_first bytes → Word front v rest → Word (from_first bytes) v rest
+word_behind : (bytes front rest : List ℕ) (v : ℤ) → from_first front ≡ from_first bytes → Word front v rest → Word (from_first bytes) v rest
 word_behind bytes front rest v is h =
     let plain = spelling_plain h.word v h.spells in
     let kept : from_first front ≡ front = ap from_first h.is ∙ plain_front h.word rest plain.0 plain.1 ∙ sym h.is in
     subst (λ (l : List ℕ). Word l v rest) (sym kept ∙ is) h
+
+pub next_behind : (bytes front rest : List ℕ) (v : ℤ) → from_first front ≡ from_first bytes → NextWord front v rest → NextWord (from_first bytes) v rest
+next_behind bytes front rest v is h = record { after = h.after; word = word_behind bytes front h.after v is h.word; goes_on = h.goes_on }
+
+-- a word that is looked at without a blank behind it
+pub next_same : (bytes front rest : List ℕ) (v w : ℤ) → front ≡ bytes → v ≡ w → Word front v rest → NextWord bytes w rest
+next_same bytes front rest v w is value h = record { after = rest; word = subst (λ (l : List ℕ). Word l w rest) is (subst (λ (x : ℤ). Word front x rest) value h); goes_on = refl }
 
 -- ---- a line
 
@@ -135,28 +172,38 @@ module _ (bytes after : List ℕ) (v : ℤ) (h : Word bytes v after) where
   pub word_low : list_any is_high bytes ≡ list_any is_high after
   word_low = ap (list_any is_high) h.is ∙ list_any-append is_high h.word after ∙ ap (λ (c : Bool). c || list_any is_high after) (all_low h.word plain_word.0)
 
-pub walk_kept : (line : List ℕ) (values : List ℤ) (place : ℕ) (rest front after : List ℕ) (v : ℤ) → length values ≡ 18 → place < 18 → place + length (fields rest) ≡ length (fields line) → list_any is_high line ≡ list_any is_high rest → onto (take place values) (values_from (place + 1) (fields rest)) ≡ values_from 1 (fields line) → front ≡ from_first rest → Word front v after
-    → record { sized : length (set values place v) ≡ 18; counted : place + 1 + length (fields after) ≡ length (fields line); low : list_any is_high line ≡ list_any is_high after; read : onto (take (place + 1) (set values place v)) (values_from (place + 1 + 1) (fields after)) ≡ values_from 1 (fields line) }
+-- the values that a walk over a line has met, and what is left of the line
+abbrev pub IsMet : List ℕ → List ℤ → ℕ → List ℕ → Type 0
+IsMet line front place rest = record {
+  counted : place + length (fields rest) ≡ length (fields line);
+  low : list_any is_high line ≡ list_any is_high rest;
+  read : onto front (values_from (place + 1) (fields rest)) ≡ values_from 1 (fields line);
+}
+
+pub walk_kept : (line : List ℕ) (front next : List ℤ) (place : ℕ) (rest behind : List ℕ) (v : ℤ) → IsMet line front place rest → next ≡ front ++ v ∷ [] → NextWord (from_first rest) v behind → IsMet line next (place + 1) behind
 unfolding values_from
-walk_kept line values place rest front after v sized less counted low read is h =
-    let next : fields rest ≡ h.word ∷ fields after = fields-from_first rest ∙ ap fields (sym is) ∙ word_next front after v h in
-    let written : take (place + 1) (set values place v) ≡ take place values ++ v ∷ [] = rw add-one (take-suc-set values place v (omega arith)) in
+walk_kept line front next place rest behind v met next_is h =
+    let same : fields h.after ≡ fields behind = fields-from_first h.after ∙ ap fields h.goes_on ∙ sym (fields-from_first behind) in
+    let words : fields rest ≡ h.word.word ∷ fields behind = fields-from_first rest ∙ word_next (from_first rest) h.after v h.word ∙ ap (λ (ws : List (List ℕ)). h.word.word ∷ ws) same in
     record {
-      sized = omega (arith, length-set {A = ℤ});
-      counted = omega (arith, ap length next);
-      low = low ∙ low_from_first rest ∙ ap (list_any is_high) (sym is) ∙ word_low front after v h;
-      read = ap (λ (vs : List ℤ). onto vs (values_from (place + 1 + 1) (fields after))) written
-          ∙ sym (onto-value_then (take place values) (place + 1) v (values_from (place + 1 + 1) (fields after)))
-          ∙ ap (λ (o : Option ℤ). onto (take place values) (value_then (place + 1) o (values_from (place + 1 + 1) (fields after)))) (sym (number_of-Spells h.word v h.spells))
-          ∙ ap (λ (ws : List (List ℕ)). onto (take place values) (values_from (place + 1) ws)) (sym next)
-          ∙ read;
+      counted = omega (arith, met.counted, ap length words);
+      low = met.low ∙ low_from_first rest ∙ word_low (from_first rest) h.after v h.word ∙ low_from_first h.after ∙ ap (list_any is_high) h.goes_on ∙ sym (low_from_first behind);
+      read = ap (λ (vs : List ℤ). onto vs (values_from (place + 1 + 1) (fields behind))) next_is
+          ∙ sym (onto-value_then front (place + 1) v (values_from (place + 1 + 1) (fields behind)))
+          ∙ ap (λ (o : Option ℤ). onto front (value_then (place + 1) o (values_from (place + 1 + 1) (fields behind)))) (sym (number_of-Spells h.word.word v h.word.spells))
+          ∙ ap (λ (ws : List (List ℕ)). onto front (values_from (place + 1) ws)) (sym words)
+          ∙ met.read;
     }
 
-pub walk_end : (line : List ℕ) (values : List ℤ) (place : ℕ) (rest front : List ℕ) → length values ≡ 18 → 18 ≤ place → place ≤ 18 → place + length (fields rest) ≡ length (fields line) → list_any is_high line ≡ list_any is_high rest → onto (take place values) (values_from (place + 1) (fields rest)) ≡ values_from 1 (fields line) → front ≡ from_first rest → length front ≡ 0 → job_line line ≡ job_of_values (Ok values)
-walk_end line values place rest front sized done within counted low read is none =
-    let nothing : from_first rest ≡ [] = sym is ∙ nil_from_length front none in
+-- the word at the beginning of what is left
+pub next_here : (bytes rest : List ℕ) (v : ℤ) → Word bytes v rest → NextWord bytes v rest
+next_here bytes rest v h = record { after = rest; word = h; goes_on = refl }
+
+pub walk_end : (line : List ℕ) (front values : List ℤ) (rest left : List ℕ) → IsMet line front 18 rest → front ≡ values → left ≡ from_first rest → length left ≡ 0 → job_line line ≡ job_of_values (Ok values)
+walk_end line front values rest left met whole is none =
+    let nothing : from_first rest ≡ [] = sym is ∙ nil_from_length left none in
     let no_words : fields rest ≡ [] = fields-end rest (ap length nothing) in
-    let low' : list_any is_high line ≡ false = low ∙ low_from_first rest ∙ ap (list_any is_high) nothing in
-    let count : eqb (length (fields line)) 18 ≡ true = let c : length (fields line) ≡ 18 = omega (arith, ap length no_words) in rw c refl in
-    let all : values_from 1 (fields line) ≡ Ok values = sym read ∙ values_end (take place values) (place + 1) rest (ap length no_words) ∙ ap Ok (take_all place values (omega arith)) in
+    let low' : list_any is_high line ≡ false = met.low ∙ low_from_first rest ∙ ap (list_any is_high) nothing in
+    let count : eqb (length (fields line)) 18 ≡ true = let c : length (fields line) ≡ 18 = omega (arith, met.counted, ap length no_words) in rw c refl in
+    let all : values_from 1 (fields line) ≡ Ok values = sym met.read ∙ values_end front (18 + 1) rest (ap length no_words) ∙ ap Ok whole in
     rw (low', count, all) refl

@@ -16,6 +16,12 @@ pub record Word (bytes : List ℕ) (v : ℤ) (rest : List ℕ) : Type 0 where
   pub spells : Spells word v
   pub end : ends rest ≡ true
 
+-- the bytes begin with a word that spells this value, and behind it and blanks the rest goes on
+pub record NextWord (bytes : List ℕ) (v : ℤ) (rest : List ℕ) : Type 0 where
+  pub after : List ℕ
+  pub word : Word bytes v after
+  pub goes_on : from_first after ≡ from_first rest
+
 -- ---- the words one after another
 
 -- the first word of the bytes

@@ -1,6 +1,9 @@
-ghost use Rattle.std.specs.Prelude.{◌≡◌, ◌+◌, ◌-◌, ◌≤◌, ℕ, List, length, slice_get, OnErr, OnOk, Some, true};
-ghost use Rattle.std.specs.List.{AllByRecursion, count_by};
+ghost use Rattle.std.specs.Prelude.{◌≡◌, ◌<◌, ◌+◌, ◌++◌, ◌∷◌, ◌-◌, ◌≤◌, [], ℕ, List, length, nat_le, slice_get, if◌then◌else◌, OnErr, OnOk, Ok, Err, Some, true, false};
+ghost use Rattle.std.specs.List.{AllByRecursion, count_by, list_any};
+ghost use Rattle.swf_text.specs.declared.fault.FaultKind.TheVariants.{DuplicateJob, TooManyJobs};
 ghost use Rattle.swf_text.specs.Entry.{IsEntry, LogEntry, field, whole_number, is_partial, has_number};
+ghost use Rattle.swf_text.specs.Limits.{entry_limit};
+ghost use Rattle.swf_text.specs.Packed.{unpacked};
 ghost use Rattle.swf_text.specs.Text.{empty};
 ghost use Rattle.swf_text.specs.Reading.{with_part, with_job, with_read, with_line, Adds};
 
@@ -10,7 +13,8 @@ use crate::fault::FaultKind;
 use crate::limits::ENTRY_LIMIT;
 use crate::line::{Fields, LineRead};
 use crate::memory::Memory;
-use crate::scan::{from_first, read_line, without_returns};
+use crate::packed::PackedLine;
+use crate::scan::{from_first, packed_line, read_line, without_returns};
 use crate::seen::SeenNumbers;
 use crate::text::SwfText;
 use crate::value::Value;
@@ -90,6 +94,34 @@ impl<A: Allocator + Copy> Builder<A> {
         Ok(())
     }
 
+    // Whether a job of this number is new, and has room.
+    fn check_new(&self, number: u64) -> Result<(), FaultKind>
+        ensures { result ≡ (if list_any (has_number number) self.now.entries then Err DuplicateJob else (if nat_le entry_limit (length self.now.entries) then Err TooManyJobs else Ok tt)) }
+    {
+        if self.numbers.contains(number) {
+            return Err(FaultKind::DuplicateJob);
+        }
+        if self.entries.len() >= ENTRY_LIMIT {
+            return Err(FaultKind::TooManyJobs);
+        }
+        Ok(())
+    }
+
+    // Adds the entry of a job whose number is new.
+    fn push_entry(&mut self, number: u64, entry: Entry<A>) -> Result<(), Memory>
+        requires sound { IsEntry entry }
+        requires number { whole_number (field entry.main 1) ≡ Some number }
+        requires new { list_any (has_number number) self.old.entries ≡ false }
+        requires room { length self.old.entries < 4194304 }
+        ensures added { OnOk result (self.new ≡ record self.old { entries = self.old.entries ++ entry ∷ [] }) }
+        ensures kept { OnErr result (self.new ≡ self.old) }
+    {
+        self.entries.reserve(1)?;
+        self.numbers.insert(number)?;
+        self.entries.push(entry).unwrap();
+        Ok(())
+    }
+
     // Adds a job line: an entry, or a part of the last one.
     fn add_job(&mut self, alloc: A, job: Fields) -> Result<(), FaultKind>
         ensures adds { Adds self.new result (with_job self.old job.0) }
@@ -104,16 +136,27 @@ impl<A: Allocator + Copy> Builder<A> {
         if is_before_start(&job) {
             return Err(FaultKind::BadSubmit);
         }
-        if self.numbers.contains(number) {
-            return Err(FaultKind::DuplicateJob);
-        }
-        if self.entries.len() >= ENTRY_LIMIT {
-            return Err(FaultKind::TooManyJobs);
-        }
+        self.check_new(number)?;
         let entry = Entry::of_main(alloc, &job)?;
-        self.entries.reserve(1)?;
-        self.numbers.insert(number)?;
-        self.entries.push(entry).unwrap();
+        self.push_entry(number, entry)?;
+        Ok(())
+    }
+
+    // Adds a job line in codes.
+    fn add_packed(&mut self, alloc: A, job: &PackedLine) -> Result<(), FaultKind>
+        ensures { Adds self.new result (with_job self.old (unpacked job.now)) }
+    {
+        if job.is_partial() {
+            return self.add_job(alloc, job.fields());
+        }
+        let Some(number) = job.job_number() else {
+            return Err(FaultKind::BadJobNumber);
+        };
+        if job.is_before_start() {
+            return Err(FaultKind::BadSubmit);
+        }
+        self.check_new(number)?;
+        self.push_entry(number, Entry::of_packed(alloc, job))?;
         Ok(())
     }
 
@@ -144,7 +187,10 @@ impl<A: Allocator + Copy> Builder<A> {
     pub(crate) fn add_line(&mut self, alloc: A, line: &[u8]) -> Result<(), FaultKind>
         ensures { Adds self.new result (with_line self.old line.now) }
     {
-        self.add_read(alloc, line, read_line(line))
+        match packed_line(line) {
+            Some(job) => self.add_packed(alloc, &job),
+            None => self.add_read(alloc, line, read_line(line)),
+        }
     }
 
     /// The log that was read. Takes no memory.

@@ -7,7 +7,7 @@ use crate::line::Fields;
 use crate::value::Value;
 
 // The number that a value is, where it is whole and at least 0.
-fn whole_number(value: &Value) -> Option<u64>
+pub(crate) fn whole_number(value: &Value) -> Option<u64>
     ensures value { result ≡ whole_number value.now }
     ensures limit { IfSome result (λ n. n ≤ 1000000000000) }
 {

@@ -1,24 +1,24 @@
 ghost use Rattle.std.specs.Prelude.{◌≡◌, ◌++◌, ◌∷◌, ◌≤◌, ◌<◌, ◌&&◌, [], OnOk, OnErr, IfOk, map, true, nat_abs, nat_le, pos, Some, None, if◌then◌else◌};
 ghost use Rattle.swf_text.specs.Entry.{HasNumber, is_partial, field, values, IsEntry, number_of_entry, submit_of};
 ghost use Rattle.swf_text.specs.Number.{whole_of};
+ghost use Rattle.swf_text.specs.Packed.{unpacked};
 
 use crate::entry_lines::EntryLines;
 use crate::line::Fields;
 use crate::memory::Memory;
-use crate::packed::Packed;
+use crate::packed::PackedLine;
 use crate::value::Value;
 use std::alloc::{AllocFailed, Allocator};
 use std::marker::Model;
 
 /// A job of a log: its summary line, and the lines of its partial executions, in order.
 ///
-/// A summary line is packed, into 72 bytes in place of 144, if each of its values is -1, a whole
-/// number from 0 to 3,999,999,998, or another number of hundredths from 0 to 2,949,672.95. Any other
-/// one takes memory, as partial lines do.
+/// A summary line is packed, into 72 bytes in place of 144, if a `PackedLine` can hold its values. Any
+/// other one takes memory, as partial lines do.
 #[derive(Drop)]
 pub struct Entry<A: Allocator + Copy> {
     // the summary line, if it is packed: otherwise it is the first of the lines
-    packed: Option<Packed>,
+    packed: Option<PackedLine>,
     lines: Vec<Fields, A>,
 }
 
@@ -53,7 +53,7 @@ impl<A: Allocator + Copy> Entry<A> {
         requires { IsEntry (record { main = main.now.0; parts = map values parts.now }) }
         ensures { IfOk result (λ entry. entry ≡ record { main = main.now.0; parts = map values parts.now }) }
     {
-        let Some(packed) = Packed::of(main) else {
+        let Some(packed) = PackedLine::of(main) else {
             let lines = with_first(alloc, main, parts)?;
             return Ok(Entry {
                 packed: None,
@@ -73,6 +73,17 @@ impl<A: Allocator + Copy> Entry<A> {
         ensures { IfOk result (λ entry. entry ≡ lines.now) }
     {
         Entry::of_parts(lines.allocator(), lines.main(), lines.parts())
+    }
+
+    /// The entry of a packed summary line alone. Takes no memory.
+    pub fn of_packed(alloc: A, main: &PackedLine) -> Entry<A>
+        requires { IsEntry (record { main = unpacked main.now; parts = [] }) }
+        ensures { result ≡ record { main = unpacked main.now; parts = [] } }
+    {
+        Entry {
+            packed: Some(*main),
+            lines: Vec::new(alloc),
+        }
     }
 
     // An entry of a summary line alone.

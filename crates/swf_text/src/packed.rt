@@ -1,12 +1,14 @@
-ghost use Rattle.std.specs.Prelude.{◌≡◌, ◌<◌, ◌≤◌, IfSome, map, nat_abs, pos, slice_index_or};
-ghost use Rattle.swf_text.specs.Number.{whole_of};
-ghost use Rattle.swf_text.specs.Packed.{value_of};
+ghost use Rattle.std.specs.Prelude.{◌≡◌, ◌<◌, ◌≤◌, IfSome, length, nat_abs, pos, slice_index_or};
+ghost use Rattle.swf_text.specs.Entry.{field, is_partial, whole_number};
+ghost use Rattle.swf_text.specs.Number.{greatest, is_below_zero, whole_of};
+ghost use Rattle.swf_text.specs.Packed.{unpacked, value_of};
 
+use crate::checks::{is_below_zero, whole_number};
 use crate::line::Fields;
 use crate::value::{Value, signed_value};
 
 /// The code of -1, by which a log says that a value is not known.
-const UNKNOWN: u32 = 0;
+pub(crate) const UNKNOWN: u32 = 0;
 
 /// The first code of a number of hundredths; those before it, but for UNKNOWN, are one above a whole
 /// number.
@@ -28,7 +30,7 @@ fn code_of_size(millionths: u64) -> Option<u32>
 }
 
 // The code of a value, if there is one.
-fn code_of(value: &Value) -> Option<u32>
+pub(crate) fn code_of(value: &Value) -> Option<u32>
     ensures { IfSome result (λ code. value_of code ≡ value.now) }
 {
     let millionths = value.millionths();
@@ -71,14 +73,32 @@ fn whole_of(code: u32) -> i64
     }
 }
 
-/// The eighteen values of a job line in four bytes each.
-#[derive(Clone, Copy)]
-pub(crate) struct Packed([u32; 18]);
+// The job number that the value of a code is, if it is one.
+fn number_of(code: u32) -> Option<u64>
+    ensures value { result ≡ whole_number (value_of code) }
+    ensures limit { IfSome result (λ n. n ≤ 1000000000000) }
+{
+    if code == UNKNOWN {
+        return None;
+    }
+    if u64::from(code) < HUNDREDTHS {
+        return Some(u64::from(code - 1));
+    }
+    whole_number(&value_of(code))
+}
 
-impl Packed {
+/// The eighteen values of a job line in four bytes each: each is -1, a whole number from 0 to
+/// 3,999,999,998, or another number of hundredths from 0 to 2,949,672.95.
+#[derive(Clone, Copy)]
+pub struct PackedLine(pub(crate) [u32; 18]);
+
+impl PackedLine {
+    /// The line of eighteen times -1.
+    pub const UNKNOWN: PackedLine = PackedLine([UNKNOWN; 18]);
+
     // The line in codes, if each of its values has one.
-    pub(crate) fn of(line: &Fields) -> Option<Packed>
-        ensures { IfSome result (λ packed. map value_of packed.0 ≡ line.now.0) }
+    pub(crate) fn of(line: &Fields) -> Option<PackedLine>
+        ensures { IfSome result (λ packed. unpacked packed ≡ line.now.0) }
     {
         let mut codes = [0; 18];
         for place in 0..18usize {
@@ -87,13 +107,37 @@ impl Packed {
             };
             codes[place] = code;
         }
-        Some(Packed(codes))
+        Some(PackedLine(codes))
+    }
+
+    /// The job number: field 1, where it is whole and at least 0.
+    pub fn job_number(&self) -> Option<u64>
+        ensures number { result ≡ whole_number (field (unpacked self.now) 1) }
+        ensures limit { IfSome result (λ n. n ≤ 1000000000000) }
+        ensures values { length (unpacked self.now) ≡ 18 }
+    {
+        number_of(self.0[0])
+    }
+
+    /// Whether the submit time, field 2, is negative.
+    pub fn is_before_start(&self) -> bool
+        ensures submit { result ≡ is_below_zero (field (unpacked self.now) 2) }
+        ensures limit { nat_abs (field (unpacked self.now) 2) ≤ greatest }
+    {
+        is_below_zero(&self.value(1))
+    }
+
+    /// Whether it is a partial line, by its status, field 11.
+    pub fn is_partial(&self) -> bool
+        ensures { result ≡ is_partial (field (unpacked self.now) 11) }
+    {
+        self.value(10).is_partial()
     }
 
     // The value at an index below 18.
     pub(crate) fn value(&self, index: usize) -> Value
         requires { index < 18 }
-        ensures { result ≡ slice_index_or (map value_of self.now.0) index (pos 0) }
+        ensures { result ≡ slice_index_or (unpacked self.now) index (pos 0) }
     {
         value_of(self.0[index])
     }
@@ -101,7 +145,7 @@ impl Packed {
     // The nearest whole number to the value at an index below 18, halves up.
     pub(crate) fn whole(&self, index: usize) -> i64
         requires { index < 18 }
-        ensures value { result ≡ whole_of (slice_index_or (map value_of self.now.0) index (pos 0)) }
+        ensures value { result ≡ whole_of (slice_index_or (unpacked self.now) index (pos 0)) }
         ensures within { nat_abs result ≤ 1000000000000 }
     {
         whole_of(self.0[index])
@@ -109,7 +153,7 @@ impl Packed {
 
     // The line.
     pub(crate) fn fields(&self) -> Fields
-        ensures { result.0 ≡ map value_of self.now.0 }
+        ensures { result.0 ≡ unpacked self.now }
     {
         let mut values = [Value::ZERO; 18];
         for place in 0..18usize {

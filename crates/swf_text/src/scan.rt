@@ -1,14 +1,16 @@
-ghost use Rattle.std.specs.Prelude.{◌≡◌, ◌+◌, ◌-◌, ◌<◌, ◌≤◌, ℕ, length, Result, Ok, Err, not};
+ghost use Rattle.std.specs.Prelude.{◌≡◌, ◌+◌, ◌-◌, ◌<◌, ◌≤◌, ℕ, length, IfSome, Result, Ok, Err, not};
 ghost use Rattle.std.specs.List.{list_any, prefix_len, suffix_len, position_or_len, before_first};
-ghost use Rattle.swf_text.specs.Line.{is_blank, is_return, is_high, without_returns, from_first, fields, values_from, job_line, line_by_front, line_of, IsReadAs};
+ghost use Rattle.swf_text.specs.Line.{is_blank, is_return, is_high, without_returns, from_first, fields, values_from, job_line, job_of_values, line_by_front, line_of, IsReadAs};
+ghost use Rattle.swf_text.specs.Packed.{unpacked};
 ghost use Rattle.swf_text.specs.Scan.{first_word, after_word};
 ghost use Rattle.swf_text.specs.declared.line.LineRead.{LineRead};
 
 use crate::limits::LINE_LIMIT;
 use crate::line::{Fields, LineFault, LineRead};
 use crate::number::number;
+use crate::packed::PackedLine;
 use crate::value::Value;
-use crate::walk::values_at;
+use crate::walk::{codes_at, values_at};
 
 // Whether a byte is a space or a tab.
 fn is_blank(byte: u8) -> bool
@@ -116,6 +118,9 @@ fn values_of(line: &[u8]) -> Result<[Value; 18], u8>
 fn job_line(line: &[u8]) -> LineRead
     ensures { result ≡ job_line line.now }
 {
+    if let Some(packed) = codes_at(line) {
+        return LineRead::Job(packed.fields());
+    }
     match values_at(line) {
         Some(values) => LineRead::Job(Fields(values)),
         None => checked_line(line),
@@ -163,5 +168,22 @@ fn line_within(line: &[u8]) -> LineRead
         [] => LineRead::Blank,
         [b';', ..] => LineRead::Comment,
         _ => job_line(line),
+    }
+}
+
+/// The values of a job line without faults, in codes, given without its line feed: those of
+/// `read_line`. None says nothing: the line is no such one, or a value of it has no code. Takes no
+/// memory.
+#[tactic(auto, using(crate::proofs::Lines::short_line))]
+pub fn packed_line(line: &[u8]) -> Option<PackedLine>
+    ensures { IfSome result (λ packed. line_of line.now ≡ job_of_values (Ok (unpacked packed))) }
+{
+    if line.len() > LINE_LIMIT {
+        return None;
+    }
+    let bare = without_returns(line);
+    match from_first(bare) {
+        [] | [b';', ..] => None,
+        _ => codes_at(bare),
     }
 }

@@ -2,12 +2,14 @@ ghost use Rattle.std.specs.Prelude.{◌≡◌, ◌∷◌, ◌++◌, ◌+◌, ◌
 ghost use Rattle.std.specs.List.{list_all};
 ghost use Rattle.std.specs.Char.{is_ascii_digit};
 ghost use Rattle.swf_text.specs.Number.{digits_value, greatest, millionths_of, signed};
-ghost use Rattle.swf_text.specs.Scan.{Word, ends};
+ghost use Rattle.swf_text.specs.Packed.{unpacked, value_of};
+ghost use Rattle.swf_text.specs.Scan.{NextWord, Word, ends};
 ghost use Rattle.swf_text.specs.Header.{digit_len};
 ghost use Rattle.swf_text.specs.Line.{from_first, job_line, job_of_values};
 ghost use Rattle.std.specs.Prelude.{Ok};
 
 use crate::number::{LIMIT, millionths, split_sign};
+use crate::packed::{PackedLine, UNKNOWN, code_of};
 use crate::scan::from_first;
 use crate::value::{Value, signed_value};
 
@@ -66,10 +68,27 @@ fn after_byte(byte: u8, bytes: &[u8]) -> Option<&[u8]>
     Some(&bytes[1..])
 }
 
+// What follows the word `-1`, where the bytes begin with it.
+#[tactic(auto, using(crate::proofs::Walks::word_unknown))]
+fn after_unknown(bytes: &[u8]) -> Option<&[u8]>
+    ensures { IfSome result (λ rest. Word bytes.now (signed true 1000000) rest.now) }
+{
+    let Some(digits) = after_byte(b'-', bytes) else {
+        return None;
+    };
+    let Some(rest) = after_byte(b'1', digits) else {
+        return None;
+    };
+    if is_ended(rest) { Some(rest) } else { None }
+}
+
 // The value of the word that the bytes begin with, and what follows it.
 fn word_at(bytes: &[u8]) -> Option<(Value, &[u8])>
     ensures { IfSome result (λ r. Word bytes.now r.0 r.1.now) }
 {
+    if let Some(rest) = after_unknown(bytes) {
+        return Some((signed_value(true, 1_000_000), rest));
+    }
     let (is_negative, unsigned) = split_sign(bytes);
     let (whole, count) = leading_digits(unsigned);
     if count == 0 {
@@ -94,76 +113,112 @@ fn word_at(bytes: &[u8]) -> Option<(Value, &[u8])>
     Some((signed_value(is_negative, magnitude), rest))
 }
 
-// What follows a space, where the bytes begin with one, and else all of them.
-#[tactic(auto, using(crate::proofs::Walks::front_space))]
-fn after_space(bytes: &[u8]) -> &[u8]
-    ensures { from_first result.now ≡ from_first bytes.now }
+// The code of the number of at most nine digits that the bytes begin with, and what follows the space
+// behind it; None says nothing.
+fn short_number(bytes: &[u8]) -> Option<(u32, &[u8])>
+    requires { 10 ≤ length bytes.now }
+    ensures { IfSome result (λ r. NextWord bytes.now (value_of r.0) r.1.now) }
 {
-    match after_byte(b' ', bytes) {
-        Some(rest) => rest,
-        None => bytes,
+    let mut value = 0u64;
+    for place in 0..10usize {
+        let byte = bytes[place];
+        if !byte.is_ascii_digit() {
+            if place == 0 || byte != b' ' {
+                return None;
+            }
+            return Some(((value + 1) as u32, &bytes[place + 1..]));
+        }
+        value = value * 10 + u64::from(byte.saturating_sub(b'0'));
+    }
+    None
+}
+
+// What follows the word `-1` and a space, where the bytes begin with them.
+fn after_unknown_space(bytes: &[u8]) -> Option<&[u8]>
+    ensures { IfSome result (λ rest. NextWord bytes.now (value_of 0) rest.now) }
+{
+    if bytes.len() < 3 || bytes[0] != b'-' || bytes[1] != b'1' || bytes[2] != b' ' {
+        return None;
+    }
+    Some(&bytes[3..])
+}
+
+// The code of `-1` or of a short number that the bytes begin with, and what follows the space behind
+// it; None says nothing.
+fn short_word(bytes: &[u8]) -> Option<(u32, &[u8])>
+    ensures { IfSome result (λ r. NextWord bytes.now (value_of r.0) r.1.now) }
+{
+    if let Some(rest) = after_unknown_space(bytes) {
+        return Some((UNKNOWN, rest));
+    }
+    if bytes.len() < 10 {
+        return None;
+    }
+    short_number(bytes)
+}
+
+// The code of any word that has one, behind blanks, and what follows it; None says nothing.
+fn long_word(bytes: &[u8]) -> Option<(u32, &[u8])>
+    ensures { IfSome result (λ r. NextWord (from_first bytes.now) (value_of r.0) r.1.now) }
+{
+    let Some((value, rest)) = word_at(from_first(bytes)) else {
+        return None;
+    };
+    match code_of(&value) {
+        Some(code) => Some((code, rest)),
+        None => None,
     }
 }
 
-// What follows the word `-1`, where the bytes begin with it.
-#[tactic(auto, using(crate::proofs::Walks::word_unknown))]
-fn after_unknown(bytes: &[u8]) -> Option<&[u8]>
-    ensures { IfSome result (λ rest. Word bytes.now (signed true 1000000) rest.now) }
+// The code of the next word, and what follows it; None says nothing.
+fn next_code(bytes: &[u8]) -> Option<(u32, &[u8])>
+    ensures { IfSome result (λ r. NextWord (from_first bytes.now) (value_of r.0) r.1.now) }
 {
-    let Some(digits) = after_byte(b'-', bytes) else {
-        return None;
-    };
-    let Some(rest) = after_byte(b'1', digits) else {
-        return None;
-    };
-    if is_ended(rest) { Some(rest) } else { None }
+    let mut rest = bytes;
+    loop {
+        if let Some(word) = short_word(rest) {
+            return Some(word);
+        }
+        let front = from_first(rest);
+        if front.len() == rest.len() {
+            return long_word(rest);
+        }
+        rest = front;
+    }
 }
 
-// The value of the word of digits that the bytes begin with, and what follows it; None says nothing.
-fn digits_at(bytes: &[u8]) -> Option<(Value, &[u8])>
-    ensures { IfSome result (λ r. Word bytes.now r.0 r.1.now) }
+// The values of a job line without faults in codes, by one walk; None says nothing.
+pub(crate) fn codes_at(line: &[u8]) -> Option<PackedLine>
+    ensures { IfSome result (λ packed. job_line line.now ≡ job_of_values (Ok (unpacked packed))) }
 {
-    let (whole, count) = leading_digits(bytes);
-    if count == 0 {
-        return None;
+    let mut codes = [UNKNOWN; 18];
+    let mut rest = line;
+    for place in 0..18usize {
+        let Some(word) = next_code(rest) else {
+            return None;
+        };
+        codes[place] = word.0;
+        rest = word.1;
     }
-    let rest = &bytes[count..];
-    if is_ended(rest) {
-        Some((signed_value(false, 1_000_000 * whole), rest))
+    if from_first(rest).is_empty() {
+        Some(PackedLine(codes))
     } else {
         None
     }
 }
 
-// The value of the next word, and what follows it.
-#[tactic(auto, using(crate::proofs::Walks::word_behind, crate::proofs::Walks::word_same))]
-fn next_at(bytes: &[u8]) -> Option<(Value, &[u8])>
-    ensures { IfSome result (λ r. Word (from_first bytes.now) r.0 r.1.now) }
-{
-    let bytes = after_space(bytes);
-    if let Some(rest) = after_unknown(bytes) {
-        return Some((signed_value(true, 1_000_000), rest));
-    }
-    if let Some(word) = digits_at(bytes) {
-        return Some(word);
-    }
-    match word_at(from_first(bytes)) {
-        Some(word) => Some(word),
-        None => None,
-    }
-}
-
-// The values of a job line without faults, by one walk; None says nothing.
+// The values of a job line without faults, by one walk, where not all of them have codes; None says
+// nothing.
 pub(crate) fn values_at(line: &[u8]) -> Option<[Value; 18]>
     ensures { IfSome result (λ values. job_line line.now ≡ job_of_values (Ok values)) }
 {
     let mut values = [Value::ZERO; 18];
     let mut rest = line;
-    for place in 0..18usize {
-        let Some(word) = next_at(rest) else {
+    for index in 0..18usize {
+        let Some(word) = word_at(from_first(rest)) else {
             return None;
         };
-        values[place] = word.0;
+        values[index] = word.0;
         rest = word.1;
     }
     if from_first(rest).is_empty() {

@@ -1,15 +1,15 @@
-use Rattle.std.proofs.Common.{◌≡◌, ℕ, ◌≤◌, List, ◌++◌, length, take}
+use Rattle.std.proofs.Common.{◌≡◌, ℕ, ◌≤◌, List, ◌++◌, length, map, take}
 use Rattle.swf_text.specs.Text.{lines}
-use Rattle.parallel_reader.specs.Jobs.{AreJobs}
+use Rattle.parallel_reader.specs.Jobs.{AreJobs, job_of}
 use Rattle.parallel_reader.proofs.portion.read_jobs.Given as goal
 
 abbrev pub invariant-lines : goal.invariant-lines
 invariant-lines l = record {
   front : List (List ℕ);
   whole : lines l.bytes ≡ front ++ lines l.rest;
-  read : AreJobs front (take l.count l.values);
-  within : l.count ≤ length l.values;
-  same : length l.values ≡ length l.fn.values;
+  read : AreJobs front (map job_of (take l.count l.jobs));
+  within : l.count ≤ length l.jobs;
+  same : length l.jobs ≡ length l.fn.jobs;
 }
 
 abbrev pub decreases-lines : goal.decreases-lines

@@ -12,18 +12,18 @@ returns-then-is_ended c =
     let count : ℕ = c.leading_digits-whole.result.1 in
     let whole : take (length unsigned - count) (drop count unsigned) ≡ drop count unsigned = take_all (length unsigned - count) (drop count unsigned) (omega (arith, length-drop count unsigned)) in
     word_whole c.args.bytes.now unsigned c.split_sign-is_negative.result.0 count c.leading_digits-whole.result.0 c.split_sign-is_negative.ensures.negative c.split_sign-is_negative.ensures.rest c.leading_digits-whole.ensures.within c.leading_digits-whole.ensures.digits c.leading_digits-whole.ensures.value (omega arith) (omega (arith, c.leading_digits-whole.ensures.limit))
-    _ c.signed_value.result whole (sym c.if-is_ended.ensures) c.signed_value.ensures
+    _ c.signed_value-then-is_ended.result whole (sym c.if-is_ended.ensures) c.signed_value-then-is_ended.ensures
 
 pub returns : goal.returns
 returns c =
     let unsigned : List ℕ = c.split_sign-is_negative.result.1.now in
     let count : ℕ = c.leading_digits-whole.result.1 in
     let whole : take (length unsigned - count) (drop count unsigned) ≡ drop count unsigned = take_all (length unsigned - count) (drop count unsigned) (omega (arith, length-drop count unsigned)) in
-    let rest : List ℕ = c.in-Some.rest.now in
+    let rest : List ℕ = c.in-Some-after_byte.rest.now in
     let digits : ℕ = c.digit_count-count.result in
     word_point c.args.bytes.now unsigned c.split_sign-is_negative.result.0 count c.leading_digits-whole.result.0 c.split_sign-is_negative.ensures.negative c.split_sign-is_negative.ensures.rest c.leading_digits-whole.ensures.within c.leading_digits-whole.ensures.digits c.leading_digits-whole.ensures.value (omega arith) (omega (arith, c.leading_digits-whole.ensures.limit))
     c.split_at.result.0.now c.split_at.result.1.now c.signed_value-2.result
-    (sym whole ∙ c.in-Some.ensures ∙ ap (λ (l : List ℕ). 46 ∷ l) (sym (take-append-drop digits rest) ∙ ap (λ (l : List ℕ). l ++ drop digits rest) (sym c.split_at.ensures.front) ∙ ap (λ (l : List ℕ). c.split_at.result.0.now ++ l) (sym c.split_at.ensures.back)))
+    (sym whole ∙ c.in-Some-after_byte.ensures ∙ ap (λ (l : List ℕ). 46 ∷ l) (sym (take-append-drop digits rest) ∙ ap (λ (l : List ℕ). l ++ drop digits rest) (sym c.split_at.ensures.front) ∙ ap (λ (l : List ℕ). c.split_at.result.0.now ++ l) (sym c.split_at.ensures.back)))
     (ap (list_all is_ascii_digit) c.split_at.ensures.front ∙ c.digit_count-count.ensures.digits)
     (omega (arith, c.split_at.ensures.front_len))
     (omega (arith, c.if-magnitude-gt-LIMIT.false, c.millionths.ensures.value))

@@ -1,6 +1,6 @@
 use Rattle.std.proofs.Common.{ℤ, arith, length-set}
 use Rattle.swf_text.proofs.Codes.{values_more, values_whole}
-use Rattle.swf_text.proofs.packed.Packed.fields.Goals as goal
+use Rattle.swf_text.proofs.packed.PackedLine.fields.Goals as goal
 
 pub loop-place-preserved : goal.loop-place-preserved
 loop-place-preserved c =

@@ -1,6 +1,6 @@
 use Rattle.std.proofs.Common.{ℕ, arith, length-set}
 use Rattle.swf_text.proofs.Codes.{codes_more, codes_whole}
-use Rattle.swf_text.proofs.packed.Packed.of.Goals as goal
+use Rattle.swf_text.proofs.packed.PackedLine.of.Goals as goal
 
 pub loop-place-preserved : goal.loop-place-preserved
 loop-place-preserved c =

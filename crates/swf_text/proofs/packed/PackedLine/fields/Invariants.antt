@@ -1,6 +1,6 @@
 use Rattle.std.proofs.Common.{◌≡◌, length, take, map}
 use Rattle.swf_text.specs.Packed.{value_of}
-use Rattle.swf_text.proofs.packed.Packed.fields.Given as goal
+use Rattle.swf_text.proofs.packed.PackedLine.fields.Given as goal
 
 abbrev pub invariant-loop-place : goal.invariant-loop-place
 invariant-loop-place l = record {
