@@ -1,11 +1,9 @@
 -- What none of a row's items weighs less than, through each edit.
-use Rattle.std.proofs.Common.{◌≡◌, ℕ, suc, ◌+◌, ◌<◌, ◌≤◌, List, [], ◌∷◌, ◌++◌, length, take, drop, get_or, insert, remove, set, ap, sym, subst, ◌∙◌, arith}
+use Rattle.std.proofs.Common.{◌≡◌, ℕ, suc, ◌+◌, ◌<◌, ◌≤◌, List, [], ◌∷◌, length, take, drop, get_or, insert, remove, set, ap, sym, subst, ◌∙◌, arith}
 use Rattle.std.specs.List.{All}
-use Rattle.std.proofs.lemmas.List.{append-nil, take_more}
-use Rattle.std.proofs.lemmas.List.Concat.{flat_map-append}
 use Rattle.std.proofs.lemmas.List.Elements.{All-append, All-cons, All-drop, All-nil, All-take, All-weaker}
 use Rattle.blocks.specs.Rows.{cut_at, flat, joined_at}
-use Rattle.blocks.proofs.Edits.{cut_flat, join_flat, put_flat, read_is, retired_flat, taken_flat}
+use Rattle.blocks.proofs.Edits.{cut_flat, join_flat, put_flat, retired_flat, taken_flat}
 
 module _ {X : Type 0} (f : X → ℕ) where
   -- none of these weighs less
@@ -28,6 +26,9 @@ module _ {X : Type 0} (f : X → ℕ) where
   pub low_one : (least : ℕ) (x : X) (new : List (List X)) → least ≤ f x → new ≡ (x ∷ []) ∷ [] → Low least (flat new)
   low_one least x new le e = low_by least (x ∷ []) (flat new) (All-cons (λ y. least ≤ f y) x [] le (All-nil (λ y. least ≤ f y))) (ap flat e)
 
+  pub low_none : (least : ℕ) (new : List (List X)) → new ≡ [] → Low least (flat new)
+  low_none least new e = low_by least [] (flat new) (All-nil (λ y. least ≤ f y)) (ap flat e)
+
   module _ (least : ℕ) (k : ℕ) (cs new : List (List X)) (low : Low least (flat cs)) where
     pub low_put : (less at : ℕ) (x : X) → k < length cs → at ≤ length (get_or cs k []) → new ≡ set cs k (insert (get_or cs k []) at x) → less ≤ least → less ≤ f x → Low less (flat new)
     low_put less at x lt le e first second =
@@ -44,10 +45,3 @@ module _ {X : Type 0} (f : X → ℕ) where
 
     pub low_joined : k + 1 < length cs → new ≡ joined_at k cs → Low least (flat new)
     low_joined lt e = low_by least (flat cs) (flat new) low (join_flat k cs new lt e)
-
-  -- one block more of a walk over all
-  pub low_next : (least less i : ℕ) (cs : List (List X)) (b : List X) → i < length cs → b ≡ get_or cs i b → Low least (flat (take i cs)) → Low less b → (both : ℕ) → both ≤ least → both ≤ less → Low both (flat (take (i + 1) cs))
-  low_next least less i cs b lt read low here both first second =
-      let last : b ≡ get_or cs i [] = read_is i cs b lt read in
-      low_by both (flat (take i cs) ++ b) (flat (take (i + 1) cs)) (All-append (λ y. both ≤ f y) (flat (take i cs)) b (lower least both (flat (take i cs)) first low) (lower less both b second here))
-      (ap flat (take_more cs i [] lt) ∙ flat_map-append (λ (c : List X). c) (take i cs) (get_or cs i [] ∷ []) ∙ ap (λ (l : List X). flat (take i cs) ++ l) (append-nil (get_or cs i []) ∙ sym last))

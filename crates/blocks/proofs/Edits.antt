@@ -1,6 +1,8 @@
 -- What an edit of a row's blocks leaves.
 use Rattle.std.proofs.Common.{◌≡◌, ℕ, zero, suc, ◌+◌, ◌-◌, ◌<◌, ◌≤◌, List, [], ◌∷◌, ◌++◌, length, length-append, length-drop, take, drop, get_or, set, insert, remove, refl, ap, sym, subst, ◌∙◌, append_assoc, arith, take-append-drop, ⊎_elim}
 use Rattle.std.specs.List.{sum_by}
+use Rattle.std.specs.Prelude.{◌==◌, false, true}
+use Rattle.std.proofs.lemmas.Bool.Decides.{nat_tests}
 use Rattle.std.proofs.lemmas.List.{append-nil, drop-set-lt, drop_more, get_or_at, get_or_read, length-set, length-take-le, length_push, set_at, set_split, take_at, take_more, take_more_set}
 use Rattle.std.proofs.lemmas.Bool.{cases_lt}
 use Rattle.std.proofs.lemmas.List.Concat.{flat_map-append, get_or-flat_map, length-flat_map}
@@ -11,6 +13,14 @@ use Rattle.blocks.proofs.Changes.{filled-append, filled-drop, filled-take, inser
 
 next_is : (k : ℕ) → k + 1 ≡ suc k
 next_is k = omega arith
+
+-- ---- a list that was asked whether it is empty
+pub none_by : {Y : Type 0} (xs : List Y) → true ≡ (length xs == 0) → xs ≡ []
+none_by [] e = refl
+none_by (x ∷ xs) e = absurd (grind (arith, nat_tests, e))
+
+pub some_by : {Y : Type 0} (xs again : List Y) → again ≡ xs → false ≡ (length xs == 0) → 1 ≤ length again
+some_by xs again same e = let some : 1 ≤ length xs = grind (arith, nat_tests, e) in omega (arith, ap length same, some)
 
 module _ {X : Type 0} where
   -- ---- sums over blocks
@@ -43,16 +53,17 @@ module _ {X : Type 0} where
   only_one (x ∷ []) e = refl
   only_one (x ∷ y ∷ c) e = absurd (omega (arith, e))
 
+  -- how many items a block has that was read from a list lent
+  pub seen_length : (k : ℕ) (cs seen : List (List X)) (items : List X) → items ≡ get_or seen k [] → seen ≡ cs → length items ≡ length (get_or cs k [])
+  seen_length k cs seen items e same = ap length e ∙ ap (λ (r : List (List X)). length (get_or r k [])) same
+
   -- ---- what the code makes of a block that it has read
   module _ (k : ℕ) (cs : List (List X)) (b : List X) (lt : k < length cs) (read : b ≡ get_or cs k b) where
     pub read_is : b ≡ get_or cs k []
     read_is = get_or_read cs k b lt read []
 
-    pub put_by : (at : ℕ) (x : X) (new : List X) → new ≡ insert b at x → set cs k new ≡ set cs k (insert (get_or cs k []) at x)
-    put_by at x new e = ap (set cs k) (e ∙ ap (λ (c : List X). insert c at x) read_is)
-
-    pub taken_by : (at : ℕ) (new : List X) → new ≡ remove b at → set cs k new ≡ set cs k (remove (get_or cs k []) at)
-    taken_by at new e = ap (set cs k) (e ∙ ap (λ (c : List X). remove c at) read_is)
+    pub again_is : get_or cs k b ≡ get_or cs k []
+    again_is = sym read ∙ read_is
 
     pub cut_by : (low high : List X) (new : List (List X)) → low ≡ take 64 b → high ≡ drop 64 b → new ≡ insert (set cs k low) (k + 1) high → new ≡ cut_at k cs
     cut_by low high new e f h =
@@ -61,12 +72,15 @@ module _ {X : Type 0} where
     pub only_by : (new : List X) → length (get_or cs k []) ≡ 1 → new ≡ remove b 0 → new ≡ []
     only_by new one e = e ∙ only_one b (ap length read_is ∙ one)
 
+  pub join_reads : (k : ℕ) (cs rest : List (List X)) (a b : List X) → k + 1 < length cs → rest ≡ remove cs (k + 1) → b ≡ get_or cs (k + 1) b → a ≡ get_or rest k a → (a ≡ get_or cs k []) × (b ≡ get_or cs (k + 1) [])
+  join_reads k cs rest a b lt e read first =
+      let front : a ≡ get_or (remove cs (k + 1)) k a = first ∙ ap (λ (r : List (List X)). get_or r k a) e in
+      (get_or_read cs k a (omega (arith, lt)) (front ∙ get_or-remove_below cs (k + 1) a k (omega arith) lt) [], read_is (k + 1) cs b lt read)
+
   pub join_by : (k : ℕ) (cs rest : List (List X)) (a b both : List X) → k + 1 < length cs → rest ≡ remove cs (k + 1) → b ≡ get_or cs (k + 1) b → a ≡ get_or rest k a → both ≡ a ++ b → set rest k both ≡ joined_at k cs
   join_by k cs rest a b both lt e read first f =
-      let next : b ≡ get_or cs (k + 1) [] = read_is (k + 1) cs b lt read in
-      let front : a ≡ get_or (remove cs (k + 1)) k a = first ∙ ap (λ (r : List (List X)). get_or r k a) e in
-      let here : a ≡ get_or cs k [] = get_or_read cs k a (omega (arith, lt)) (front ∙ get_or-remove_below cs (k + 1) a k (omega arith) lt) [] in
-      ap (λ (r : List (List X)). set r k both) e ∙ ap (set (remove cs (k + 1)) k) (f ∙ ap (λ (c : List X). c ++ b) here ∙ ap (λ (c : List X). get_or cs k [] ++ c) next)
+      let is = join_reads k cs rest a b lt e read first in
+      ap (λ (r : List (List X)). set r k both) e ∙ ap (set (remove cs (k + 1)) k) (f ∙ ap (λ (c : List X). c ++ b) is.0 ∙ ap (λ (c : List X). get_or cs k [] ++ c) is.1)
 
   -- ---- an item more or less in one block
   pub put_flat : (k at : ℕ) (cs new : List (List X)) (x : X) → k < length cs → at ≤ length (get_or cs k []) → new ≡ set cs k (insert (get_or cs k []) at x) → flat new ≡ insert (flat cs) (start k cs + at) x
@@ -88,6 +102,15 @@ module _ {X : Type 0} where
       removed_is k 0 cs (get_or cs k []) (get_or cs k []) [] (flat new) refl refl (sym (only_one (get_or cs k []) one)) (omega (arith, one))
       (ap flat e ∙ flat-append (take k cs) (drop (suc k) cs) ∙ ap (λ (r : List X). r ++ flat (drop (suc k) cs)) (sym (append-nil (flat (take k cs))))
       ∙ ap (λ (n : ℕ). flat (take k cs) ++ [] ++ flat (drop n cs)) (sym (next_is k)))
+
+  -- ---- the first item of all
+  pub begun_flat : (k at : ℕ) (cs new : List (List X)) (x : X) → cs ≡ [] → new ≡ (x ∷ []) ∷ [] → flat new ≡ insert (flat cs) (start k cs + at) x
+  begun_flat k at [] new x none e = ap flat e ∙ sym (alone (start k [] + at))
+    where
+      alone : (n : ℕ) → insert [] n x ≡ x ∷ []
+      alone zero = refl
+      alone (suc n) = refl
+  begun_flat k at (c ∷ cs) new x none e = absurd (omega (arith, ap length none))
 
   -- ---- a block that is cut
   pub cut_parts : (k : ℕ) (cs : List (List X)) → k < length cs → cut_at k cs ≡ take k cs ++ take 64 (get_or cs k []) ∷ drop 64 (get_or cs k []) ∷ drop (k + 1) cs

@@ -38,10 +38,6 @@ module _ {X : Type 0} where
       slice_get_past (flat cs) (start k cs + at) (omega (arith, behind_is k cs le)) ∙ sym (slice_get_past (get_or cs k []) at (omega (arith, none))))
       (cases_lt k (length cs))
 
-  -- the first and the last item
-  pub first_is : (cs : List (List X)) → AreFilled cs → slice_get (get_or cs 0 []) 0 ≡ slice_get (flat cs) 0
-  first_is cs s = sym (get_is 0 0 cs (λ lt. some_at 0 cs s lt))
-
   pub last_is : (k : ℕ) (cs : List (List X)) → AreFilled cs → k + 1 ≡ length cs → slice_get (get_or cs k []) (length (get_or cs k []) - 1) ≡ slice_get (flat cs) (length (flat cs) - 1)
   last_is k cs s e =
       let low : 1 ≤ length (get_or cs k []) = some_at k cs s (omega (arith, e)) in
@@ -70,9 +66,6 @@ module _ {X : Type 0} where
 
     pub walk_on : length b ≤ n → slice_get (flat (drop (i + 1) cs)) (n - length b) ≡ slice_get (flat (drop i cs)) n
     walk_on le = sym (ap (λ (l : List X). slice_get l n) from_here ∙ get_right b (flat (drop (i + 1) cs)) n le)
-
-  pub walk_past : (i n : ℕ) (cs : List (List X)) → length cs ≤ i → slice_get (flat (drop i cs)) n ≡ None
-  walk_past i n cs le = slice_get_past (flat (drop i cs)) n (let none : length (flat (drop i cs)) ≡ 0 = ap (λ (r : List (List X)). length (flat r)) (drop_all i cs le) in omega (arith, none))
 
   -- ---- the item that is taken out
   pub taken_item : (k at : ℕ) (cs old : List (List X)) (x : X) (found : Option X) → cs ≡ old → k < length cs → at < length (get_or cs k []) → found ≡ slice_get (flat cs) (start k cs + at) → x ≡ get_or (flat old) (start k old + at) x → Some x ≡ found

@@ -2,13 +2,13 @@
 use Rattle.std.proofs.Common.{◌≡◌, ℕ, zero, suc, ◌+◌, ◌-◌, ◌*◌, ◌/◌, ◌<◌, ◌≤◌, List, [], ◌∷◌, ◌++◌, length, length-append, take, drop, get_or, insert, remove, set, slice_get, refl, ap, sym, subst, ◌∙◌, arith, ⊎_elim}
 use Rattle.std.specs.List.{All, sum_by}
 use Rattle.std.proofs.lemmas.Bool.{cases_lt}
-use Rattle.std.proofs.lemmas.List.{append-nil, drop_all, get_or_at, get_or_read, length-set, length-take, length-take-le, length_push, take_all, take_more}
+use Rattle.std.proofs.lemmas.List.{append-nil, drop_all, get_or_at, get_or_past, length-set, length-take, length-take-le, length_push, take_all, take_more}
 use Rattle.std.proofs.lemmas.List.Edits.{length-insert, length-remove}
 use Rattle.std.proofs.lemmas.List.Elements.{All-append, All-nil}
 use Rattle.std.proofs.lemmas.List.Sums.{sum_by-append, sum_by-cons}
 use Rattle.blocks.specs.Rows.{cut_at, flat, joined_at, start}
 use Rattle.blocks.proofs.Bounds.{low_insert, low_remove, lower}
-use Rattle.blocks.proofs.Edits.{cut_parts, join_parts, read_is}
+use Rattle.blocks.proofs.Edits.{again_is, cut_parts, join_parts, read_is}
 use Rattle.blocks.specs.Groups.{AreGroups, IsGroup}
 use Rattle.blocks.specs.declared.groups.Group.{Group}
 
@@ -60,9 +60,14 @@ pub lent : {Y : Type 0} (n : ℕ) (new old : List Y) → n ≡ length old → le
 lent n new old at same =
     ap (λ (r : List _). take n (new ++ r)) (drop_all (length new) old (omega (arith, same))) ∙ ap (take n) (append-nil new) ∙ take_all n new (omega (arith, at, same))
 
--- blocks that are none count for nothing
-pub none_more : {Y : Type 0} (xs : List Y) (n m : ℕ) → length xs ≡ 0 → n ≤ m → length xs + n ≤ m
-none_more xs n m none le = omega (arith, none, le)
+-- and one of whose elements was set
+pub lent_length : {Y : Type 0} (k : ℕ) (new old seen : List Y) (f : List Y → Y) → seen ≡ old → new ≡ set seen k (f seen) → length new ≡ length old
+lent_length k new old seen f same e = ap length e ∙ length-set seen k (f seen) ∙ ap length same
+
+pub lent_set : {Y : Type 0} (n k : ℕ) (new old seen : List Y) (f : List Y → Y) → n ≡ length old → seen ≡ old → new ≡ set seen k (f seen) → take n (new ++ drop (length new) old) ≡ set old k (f old)
+lent_set n k new old seen f at same e =
+    let here : new ≡ set old k (f old) = e ∙ ap (λ (r : List _). set r k (f r)) same in
+    lent n new old at (ap length here ∙ length-set old k (f old)) ∙ here
 
 module _ {X : Type 0} where
   -- ---- where a block begins, once one before it was edited
@@ -84,6 +89,12 @@ module _ {X : Type 0} where
 
   pub start_next : (k : ℕ) (cs : List (List X)) → k < length cs → start (k + 1) cs ≡ start k cs + length (get_or cs k [])
   start_next k cs lt = let next : k + 1 ≡ suc k = omega arith in ap (λ (n : ℕ). start n cs) next ∙ start_suc k cs lt
+
+  -- behind the last block is the end of that one
+  pub open_start : (k at count : ℕ) (cs : List (List X)) → 1 ≤ length cs → k ≤ length cs → length cs ≤ k → at ≤ length (get_or cs k []) → count ≡ length (get_or cs (length cs - 1) []) → start (length cs - 1) cs + count ≡ start k cs + at
+  open_start k at count cs some le ge within e =
+      let last : length cs - 1 + 1 ≡ k = omega (arith, some, le, ge) in
+      omega (arith, e, start_next (length cs - 1) cs (omega (arith, some)), ap (λ (n : ℕ). start n cs) last, within, ap length (get_or_past cs k [] ge))
 
   pub start_rises : (k n : ℕ) (cs : List (List X)) → k ≤ n → start k cs ≤ start n cs
   start_rises zero n cs le = omega arith
@@ -282,16 +293,6 @@ module _ {X : Type 0} where
         is (g ∷ gs) zero l = refl
         is (g ∷ gs) (suc n) l = is gs n (omega (arith, l))
 
--- the bound of one group more
-pub group_least : (gs : List Group) (number least both : ℕ) (g : Group) → number < length gs → g ≡ get_or gs number g → ((k : ℕ) (d : Group) → k < number → least ≤ (get_or gs k d).least) → both ≤ least → both ≤ g.least → (k : ℕ) (d : Group) → k < number + 1 → both ≤ (get_or gs k d).least
-group_least gs number least both g lt read others one two k d high =
-    ⊎_elim
-    (λ (l : k < number). omega (arith, others k d l, one))
-    (λ (r : number ≤ k).
-    let same : number ≡ k = omega (arith, r, high) in
-    subst (λ (n : ℕ). both ≤ (get_or gs n d).least) same (subst (λ (h : Group). both ≤ h.least) (get_or_read gs number g lt read d) two))
-    (cases_lt k number)
-
 module _ {X : Type 0} (f : X → ℕ) where
   pub group_fits : (cs : List (List X)) (first items least : ℕ) → IsGroup f cs first items least → start first cs + items ≤ length (flat cs)
   group_fits cs first items least g = omega (arith, g.count, start_most (first + 64) cs)
@@ -329,7 +330,7 @@ module _ {X : Type 0} (f : X → ℕ) where
   groups_put cs b at x c r groups new least d lt le read made all inside one two is =
       let q = b / 64 in
       let old : IsGroup f cs (64 * q) (get_or groups q d).items (get_or groups q d).least = all q d inside in
-      let here : get_or cs b r ≡ get_or cs b [] = sym read ∙ read_is b cs r lt read in
+      let here : get_or cs b r ≡ get_or cs b [] = again_is b cs r lt read in
       let made_here : c ≡ insert (get_or cs b []) at x = made ∙ ap (λ (l : List X). insert l at x) here in
       let low : Low f least (get_or cs b []) = lower f (get_or groups q d).least least (get_or cs b []) one (old.bound b (omega arith) (omega arith)) in
       let fresh : Low f least c = subst (Low f least) (sym made_here) (low_insert f least at (get_or cs b []) x low two) in
@@ -344,7 +345,7 @@ module _ {X : Type 0} (f : X → ℕ) where
       let q = b / 64 in
       let least = (get_or groups q d).least in
       let old : IsGroup f cs (64 * q) (get_or groups q d).items least = all q d inside in
-      let here : get_or cs b r ≡ get_or cs b [] = sym read ∙ read_is b cs r lt read in
+      let here : get_or cs b r ≡ get_or cs b [] = again_is b cs r lt read in
       let made_here : c ≡ remove (get_or cs b []) at = made ∙ ap (λ (l : List X). remove l at) here in
       let fresh : Low f least c = subst (Low f least) (sym made_here) (low_remove f least at (get_or cs b []) (old.bound b (omega arith) (omega arith))) in
       subst (AreGroups f (set cs b c)) (sym is)

@@ -1,10 +1,9 @@
 -- What a row keeps through each edit.
-use Rattle.std.proofs.Common.{◌≡◌, ℕ, ◌+◌, ◌-◌, ◌*◌, ◌^◌, ◌<◌, ◌≤◌, List, [], ◌∷◌, ◌++◌, length, take, get_or, set, insert, refl, remove, ap, sym, subst, ◌∙◌, ◌⊎◌, inl, inr, arith}
+use Rattle.std.proofs.Common.{◌≡◌, ℕ, ◌+◌, ◌-◌, ◌*◌, ◌^◌, ◌<◌, ◌≤◌, List, [], ◌∷◌, length, get_or, set, insert, remove, ap, sym, subst, ◌∙◌, ◌⊎◌, inl, inr, arith}
 use Rattle.std.specs.List.{All, sum_by}
 use Rattle.std.proofs.lemmas.Bool.{cases_lt}
-use Rattle.std.proofs.lemmas.List.{get_or_at, length-set, length-take-le, length_push}
+use Rattle.std.proofs.lemmas.List.{length-set}
 use Rattle.std.proofs.lemmas.List.Edits.{length-insert, length-remove}
-use Rattle.std.proofs.lemmas.List.Elements.{All-get_or, All-push, All-take}
 use Rattle.std.proofs.lemmas.List.Sums.{get_or-le-sum_by, sum_by-cons, sum_by-le-sum_by, sum_by-remove, sum_by-set}
 use Rattle.blocks.specs.Rows.{AreFilled, IsFilled, IsRow, cut_at, flat, joined_at, over_of, room_of}
 use Rattle.blocks.proofs.Edits.{all_is, cut_filled, cut_flat, cut_length, cut_over, filled-remove, filled-set, filled_here, join_filled, join_flat, join_length, join_over}
@@ -21,26 +20,10 @@ module _ {X : Type 0} where
   fewer c = omega arith
 
   -- the first block of all, with its item
-  pub first_block : (used new : List (List X)) (b : List X) (x : X) → new ≡ used ++ b ∷ [] → used ≡ [] → b ≡ x ∷ [] → new ≡ (x ∷ []) ∷ []
-  first_block used new b x e none f = e ∙ ap (λ (r : List (List X)). r ++ b ∷ []) none ∙ ap (λ (c : List X). c ∷ []) f
+  pub first_block : (used new : List (List X)) (b c : List X) (x : X) → used ≡ [] → b ≡ [] → c ≡ insert b 0 x → new ≡ insert used 0 c → new ≡ (x ∷ []) ∷ []
+  first_block used new b c x none clear e f = f ∙ ap (λ (r : List (List X)). insert r 0 c) none ∙ ap (λ (l : List X). l ∷ []) (e ∙ ap (λ (l : List X). insert l 0 x) clear)
 
-  pub one_block : (used new : List (List X)) (x : X) → new ≡ (x ∷ []) ∷ [] → used ≡ [] → length new ≡ length used + 1
-  one_block used new x e none = omega (arith, ap (λ (r : List (List X)). length r) e, ap (λ (r : List (List X)). length r) none)
-
-  module _ (used empty : List (List X)) (over len ur er : ℕ) (row : IsRow used empty over len ur er) where
-    -- the blocks that stay empty when the last of them is taken
-    left_length : (rest : List (List X)) → 1 ≤ length empty → rest ≡ take (length empty - 1) empty → length rest + 1 ≡ length empty
-    left_length rest some e = omega (arith, ap length e, length-take-le (length empty - 1) empty (omega arith), some)
-
-    left_clear : (rest : List (List X)) → rest ≡ take (length empty - 1) empty → All IsClear rest
-    left_clear rest e = subst (All IsClear) (sym e) (All-take IsClear (length empty - 1) empty row.cleared)
-
-    more_clear : (rest : List (List X)) (c : List X) → c ≡ [] → rest ≡ empty ++ c ∷ [] → All IsClear rest
-    more_clear rest c none e = subst (All IsClear) (sym e) (All-push IsClear empty c row.cleared none)
-
-    more_length : (rest : List (List X)) (c : List X) → rest ≡ empty ++ c ∷ [] → length rest ≡ length empty + 1
-    more_length rest c e = ap length e ∙ length_push empty c
-
+  module _ {used empty : List (List X)} {over len ur er : ℕ} (row : IsRow used empty over len ur er) where
     -- by how many items one block is over, and all blocks are
     pub over_here : (k : ℕ) → k < length used → length (get_or used k []) - 65 ≤ over
     over_here k lt = omega (arith, get_or-le-sum_by over_of used k [] lt, row.overs)
@@ -55,68 +38,65 @@ module _ {X : Type 0} where
     pub here_all : (k : ℕ) → k < length used → length (get_or used k []) ≤ len
     here_all k lt = omega (arith, row.all, all_is used, get_or-le-sum_by (λ (c : List X). length c) used k [] lt)
 
-    pub begun_row : (x : X) (new rest : List (List X)) (ur' er' : ℕ) → used ≡ [] → 1 ≤ room_of (length used) (length empty) over → new ≡ (x ∷ []) ∷ [] → rest ≡ take (length empty - 1) empty → ur ≤ ur' → er' ≡ er → IsRow new rest over 1 ur' er'
-    begun_row x new rest ur' er' none room e f wide same =
-        let some : 1 ≤ length empty = omega (arith, room) in
-        let fewer : length rest + 1 ≡ length empty = left_length rest some f in
+    pub begun_row : (x : X) (new rest : List (List X)) (ur' er' : ℕ) → used ≡ [] → new ≡ (x ∷ []) ∷ [] → All IsClear rest → length rest + 1 ≡ length empty → ur ≤ ur' → er ≤ er' → IsRow new rest over 1 ur' er'
+    begun_row x new rest ur' er' none e clear fewer wide room =
         let count : length new ≡ length used + 1 = omega (arith, ap (λ (r : List (List X)). length r) e, ap (λ (r : List (List X)). length r) none) in
         let over_none : over ≡ 0 = row.overs ∙ ap (sum_by over_of) none in
         record {
           filled = subst AreFilled (sym e) (record { low = omega arith; high = omega arith }, tt);
-          cleared = left_clear rest f;
+          cleared = clear;
           overs = over_none ∙ sym (ap (sum_by over_of) e);
           owed = omega (arith, over_none);
           all = sym (ap (λ (r : List (List X)). length (flat r)) e);
-          few = omega (arith, row.few);
-          usable = omega (arith, row.usable);
-          returnable = omega (arith, row.returnable);
+          few = omega (arith, row.few, fewer, count);
+          usable = omega (arith, row.usable, fewer, count, wide);
+          returnable = omega (arith, row.returnable, fewer, count, room);
         }
 
-    -- the block that was taken from the empty ones, with its first item
-    pub begun : (x : X) (rest : List (List X)) (b c : List X) → empty ≡ rest ++ b ∷ [] → c ≡ insert b 0 x → c ≡ x ∷ []
-    begun x rest b c e f =
-        let none : b ≡ [] = sym (get_or_at rest b [] [] (length rest) refl) ∙ All-get_or IsClear (rest ++ b ∷ []) (length rest) [] (omega (arith, length_push rest b)) (subst (All IsClear) e row.cleared) in
-        f ∙ ap (λ (l : List X). insert l 0 x) none
-
-    -- blocks in use and empty ones together
-    pub moved_count : (new rest : List (List X)) (room room' : ℕ) → length new ≡ length used + 1 → 1 ≤ length empty → rest ≡ take (length empty - 1) empty → length used + length empty ≤ 64 * room + 63 → room ≤ room' → length new + length rest ≤ 64 * room' + 63
-    moved_count new rest room room' count some e le wide = omega (arith, count, left_length rest some e, le, wide)
-
-    pub returned_count : (new rest : List (List X)) (c : List X) (room room' : ℕ) → length new + 1 ≡ length used → rest ≡ empty ++ c ∷ [] → length used + length empty ≤ 64 * room + 63 → room ≤ room' → length new + length rest ≤ 64 * room' + 63
-    returned_count new rest c room room' count e le wide = omega (arith, count, more_length rest c e, le, wide)
-
-    pub grown_row : (more rest : List (List X)) (b : List X) (ur' er' : ℕ) → more ≡ used → b ≡ [] → rest ≡ empty ++ b ∷ [] → length used + length empty < 2 ^ 40 → length used + length empty < ur' → length used + length empty < er' → IsRow more rest over len ur' er'
-    grown_row more rest b ur' er' e none f few wide room =
+    pub kept_row : (more rest : List (List X)) (ur' er' : ℕ) → more ≡ used → rest ≡ empty → ur ≤ ur' → er ≤ er' → IsRow more rest over len ur' er'
+    kept_row more rest ur' er' e f wide room =
         let count : length more ≡ length used = ap (λ (r : List (List X)). length r) e in
-        let added : length rest ≡ length empty + 1 = more_length rest b f in
+        let same : length rest ≡ length empty = ap (λ (r : List (List X)). length r) f in
         record {
           filled = subst AreFilled (sym e) row.filled;
-          cleared = more_clear rest b none f;
+          cleared = subst (All IsClear) (sym f) row.cleared;
           overs = row.overs ∙ sym (ap (sum_by over_of) e);
-          owed = omega (arith, row.owed);
+          owed = omega (arith, row.owed, same);
           all = row.all ∙ sym (ap (λ (r : List (List X)). length (flat r)) e);
-          few = omega (arith, few);
-          usable = omega (arith, wide);
-          returnable = omega (arith, room);
+          few = omega (arith, row.few, count, same);
+          usable = omega (arith, row.usable, count, same, wide);
+          returnable = omega (arith, row.returnable, count, same, room);
         }
 
-    pub cut_row : (k : ℕ) (new rest : List (List X)) (ur' er' : ℕ) → k < length used → length (get_or used k []) ≡ 128 → 1 ≤ room_of (length used) (length empty) over → new ≡ cut_at k used → rest ≡ take (length empty - 1) empty → ur ≤ ur' → er' ≡ er → IsRow new rest (over - 63) len ur' er'
-    cut_row k new rest ur' er' lt full room e f wide same =
-        let some : 1 ≤ length empty = omega (arith, room) in
-        let fewer : length rest + 1 ≡ length empty = left_length rest some f in
+    pub grown_row : (more rest : List (List X)) (ur' er' : ℕ) → more ≡ used → All IsClear rest → length rest ≡ length empty + 1 → length used + length empty < 2 ^ 40 → length used + length empty < ur' → length used + length empty < er' → IsRow more rest over len ur' er'
+    grown_row more rest ur' er' e clear added few wide room =
+        let count : length more ≡ length used = ap (λ (r : List (List X)). length r) e in
+        record {
+          filled = subst AreFilled (sym e) row.filled;
+          cleared = clear;
+          overs = row.overs ∙ sym (ap (sum_by over_of) e);
+          owed = omega (arith, row.owed, added);
+          all = row.all ∙ sym (ap (λ (r : List (List X)). length (flat r)) e);
+          few = omega (arith, few, count, added);
+          usable = omega (arith, wide, count, added);
+          returnable = omega (arith, room, count, added);
+        }
+
+    pub cut_row : (k : ℕ) (new rest : List (List X)) (ur' er' : ℕ) → k < length used → length (get_or used k []) ≡ 128 → 1 ≤ room_of (length used) (length empty) over → new ≡ cut_at k used → All IsClear rest → length rest + 1 ≡ length empty → ur ≤ ur' → er ≤ er' → IsRow new rest (over - 63) len ur' er'
+    cut_row k new rest ur' er' lt full some e clear fewer wide room =
         let count : length new ≡ length used + 1 = ap length e ∙ cut_length k used lt in
         record {
           filled = subst AreFilled (sym e) (cut_filled k used lt row.filled full);
-          cleared = left_clear rest f;
+          cleared = clear;
           overs = omega (arith, row.overs, ap (sum_by over_of) e, cut_over k used lt full);
-          owed = omega (arith, room);
+          owed = omega (arith, some, fewer);
           all = row.all ∙ ap length (sym (ap flat e ∙ cut_flat k used lt));
-          few = omega (arith, row.few);
-          usable = omega (arith, row.usable);
-          returnable = omega (arith, row.returnable);
+          few = omega (arith, row.few, fewer, count);
+          usable = omega (arith, row.usable, fewer, count, wide);
+          returnable = omega (arith, row.returnable, fewer, count, room);
         }
 
-    same_row : (k : ℕ) (block : List X) (new : List (List X)) (over' len' ur' er' : ℕ) → k < length used → IsFilled block → new ≡ set used k block → ur ≤ ur' → er' ≡ er
+    same_row : (k : ℕ) (block : List X) (new : List (List X)) (over' len' ur' er' : ℕ) → k < length used → IsFilled block → new ≡ set used k block → ur ≤ ur' → er ≤ er'
         → over' ≤ 64 * length empty → over' + (length (get_or used k []) - 65) ≡ over + (length block - 65) → len' + length (get_or used k []) ≡ len + length block → IsRow new empty over' len' ur' er'
     same_row k block new over' len' ur' er' lt full e wide same owed overs all =
         let count : length new ≡ length used = ap length e ∙ length-set used k block in
@@ -131,7 +111,7 @@ module _ {X : Type 0} where
           returnable = omega (arith, row.returnable);
         }
 
-    pub put_row : (k at n less more : ℕ) (new : List (List X)) (x : X) (ur' er' : ℕ) → k < length used → at ≤ length (get_or used k []) → length (get_or used k []) < 128 → (64 < length (get_or used k []) → 1 ≤ room_of (length used) (length empty) over) → n ≡ length (get_or used k []) → less ≡ n - 65 → more ≡ n + 1 - 65 → new ≡ set used k (insert (get_or used k []) at x) → ur ≤ ur' → er' ≡ er
+    pub put_row : (k at n less more : ℕ) (new : List (List X)) (x : X) (ur' er' : ℕ) → k < length used → at ≤ length (get_or used k []) → length (get_or used k []) < 128 → (64 < length (get_or used k []) → 1 ≤ room_of (length used) (length empty) over) → n ≡ length (get_or used k []) → less ≡ n - 65 → more ≡ n + 1 - 65 → new ≡ set used k (insert (get_or used k []) at x) → ur ≤ ur' → er ≤ er'
         → IsRow new empty (over - less + more) (len + 1) ur' er'
     put_row k at n less more new x ur' er' lt le short room long down up e wide same =
         let longer : length (insert (get_or used k []) at x) ≡ length (get_or used k []) + 1 = length-insert (get_or used k []) at x le in
@@ -141,39 +121,60 @@ module _ {X : Type 0} where
         owes (inl many) = let some = room many in omega (arith, row.owed, some)
         owes (inr few) = omega (arith, row.owed)
 
-    pub taken_row : (k at n less more : ℕ) (new : List (List X)) (ur' er' : ℕ) → k < length used → at < length (get_or used k []) → 2 ≤ length (get_or used k []) → n ≡ length (get_or used k []) → less ≡ n - 65 → more ≡ n - 1 - 65 → new ≡ set used k (remove (get_or used k []) at) → ur ≤ ur' → er' ≡ er
+    pub put_spare : (k n less more : ℕ) (b : List X) (new : List (List X)) {spare : ℕ} → k < length used → n ≡ length (get_or used k []) → less ≡ n - 65 → more ≡ n + 1 - 65 → new ≡ set used k b → spare ≡ room_of (length used) (length empty) over → spare ≤ room_of (length new) (length empty) (over - less + more) + 1
+    put_spare k n less more b new lt long down up e is = omega (arith, long, down, up, over_here k lt, ap length e, length-set used k b, is)
+
+    pub put_kept : (n less more k : ℕ) (b : List X) (new : List (List X)) {spare : ℕ} → n ≤ 64 → less ≡ n - 65 → more ≡ n + 1 - 65 → new ≡ set used k b → spare ≡ room_of (length used) (length empty) over → room_of (length new) (length empty) (over - less + more) ≡ spare
+    put_kept n less more k b new short down up e is = omega (arith, short, down, up, ap length e, length-set used k b, is)
+
+    pub taken_spare : (k n less more : ℕ) (b : List X) (new : List (List X)) {spare : ℕ} → k < length used → n ≡ length (get_or used k []) → less ≡ n - 65 → more ≡ n - 1 - 65 → new ≡ set used k b → spare ≡ room_of (length used) (length empty) over → spare ≤ room_of (length new) (length empty) (over - less + more)
+    taken_spare k n less more b new lt long down up e is = omega (arith, long, down, up, over_here k lt, ap length e, length-set used k b, is)
+
+    pub taken_row : (k at n less more : ℕ) (new : List (List X)) (ur' er' : ℕ) → k < length used → at < length (get_or used k []) → 2 ≤ length (get_or used k []) → n ≡ length (get_or used k []) → less ≡ n - 65 → more ≡ n - 1 - 65 → new ≡ set used k (remove (get_or used k []) at) → ur ≤ ur' → er ≤ er'
         → IsRow new empty (over - less + more) (len - 1) ur' er'
     taken_row k at n less more new ur' er' lt le several long down up e wide same =
         let shorter : length (remove (get_or used k []) at) + 1 ≡ length (get_or used k []) = length-remove (get_or used k []) at le in
         let here : IsFilled (get_or used k []) = filled_here k used row.filled lt in
         same_row k (remove (get_or used k []) at) new (over - less + more) (len - 1) ur' er' lt (record { low = omega arith; high = omega (arith, here.high) }) e wide same (omega (arith, row.owed, over_here k lt)) (omega (arith, over_here k lt)) (omega (arith, here_all k lt))
 
-    pub retired_row : (k : ℕ) (new rest : List (List X)) (c : List X) (ur' er' : ℕ) → k < length used → length (get_or used k []) ≡ 1 → new ≡ remove used k → c ≡ [] → rest ≡ empty ++ c ∷ [] → ur' ≡ ur → er ≤ er' → IsRow new rest over (len - 1) ur' er'
-    retired_row k new rest c ur' er' lt one e none f same wide =
+    pub retired_row : (k : ℕ) (new rest : List (List X)) (ur' er' : ℕ) → k < length used → length (get_or used k []) ≡ 1 → new ≡ remove used k → All IsClear rest → length rest ≡ length empty + 1 → ur ≤ ur' → er ≤ er' → IsRow new rest over (len - 1) ur' er'
+    retired_row k new rest ur' er' lt one e clear more wide room =
         let count : length new + 1 ≡ length used = ap (λ (r : List (List X)). length r + 1) e ∙ length-remove used k lt in
-        let more : length rest ≡ length empty + 1 = more_length rest c f in
         record {
           filled = subst AreFilled (sym e) (filled-remove k used row.filled);
-          cleared = more_clear rest c none f;
+          cleared = clear;
           overs = omega (arith, row.overs, ap (sum_by over_of) e, sum_by-remove over_of used k [] lt, one);
-          owed = omega (arith, row.owed);
+          owed = omega (arith, row.owed, more);
           all = omega (arith, row.all, all_is used, all_is new, ap (sum_by (λ (c : List X). length c)) e, sum_by-remove (λ (c : List X). length c) used k [] lt, one);
-          few = omega (arith, row.few);
-          usable = omega (arith, row.usable);
-          returnable = omega (arith, row.returnable);
+          few = omega (arith, row.few, more, count);
+          usable = omega (arith, row.usable, more, count, wide);
+          returnable = omega (arith, row.returnable, more, count, room);
         }
 
-    pub joined_row : (k : ℕ) (new rest : List (List X)) (c : List X) (ur' er' : ℕ) → k + 1 < length used → length (get_or used k []) + length (get_or used (k + 1) []) ≤ 64 → new ≡ joined_at k used → c ≡ [] → rest ≡ empty ++ c ∷ [] → ur' ≡ ur → er ≤ er' → IsRow new rest over len ur' er'
-    joined_row k new rest c ur' er' lt le e none f same wide =
+    pub joined_row : (k : ℕ) (new rest : List (List X)) (ur' er' : ℕ) → k + 1 < length used → length (get_or used k []) + length (get_or used (k + 1) []) ≤ 64 → new ≡ joined_at k used → All IsClear rest → length rest ≡ length empty + 1 → ur ≤ ur' → er ≤ er' → IsRow new rest over len ur' er'
+    joined_row k new rest ur' er' lt le e clear more wide room =
         let count : length new + 1 ≡ length used = ap (λ (r : List (List X)). length r + 1) e ∙ join_length k used lt in
-        let more : length rest ≡ length empty + 1 = more_length rest c f in
         record {
           filled = subst AreFilled (sym e) (join_filled k used lt row.filled le);
-          cleared = more_clear rest c none f;
+          cleared = clear;
           overs = row.overs ∙ sym (ap (sum_by over_of) e ∙ join_over k used lt le);
-          owed = omega (arith, row.owed);
+          owed = omega (arith, row.owed, more);
           all = row.all ∙ ap length (sym (join_flat k used new lt e));
-          few = omega (arith, row.few);
-          usable = omega (arith, row.usable);
-          returnable = omega (arith, row.returnable);
+          few = omega (arith, row.few, more, count);
+          usable = omega (arith, row.usable, more, count, wide);
+          returnable = omega (arith, row.returnable, more, count, room);
+        }
+
+    pub cleared_row : (new rest : List (List X)) (ur' er' : ℕ) → new ≡ [] → All IsClear rest → length rest ≡ length used + length empty → ur ≤ ur' → er ≤ er' → IsRow new rest 0 0 ur' er'
+    cleared_row new rest ur' er' none clear more wide room =
+        let count : length new ≡ 0 = ap (λ (r : List (List X)). length r) none in
+        record {
+          filled = subst AreFilled (sym none) tt;
+          cleared = clear;
+          overs = sym (ap (sum_by over_of) none);
+          owed = omega arith;
+          all = sym (ap (λ (r : List (List X)). length (flat r)) none);
+          few = omega (arith, row.few, more, count);
+          usable = omega (arith, row.usable, more, count, wide);
+          returnable = omega (arith, row.returnable, more, count, room);
         }

@@ -1,11 +1,12 @@
 -- Items that weigh at most so much, by their places, and where blocks begin.
 use Rattle.std.proofs.Common.{◌≡◌, ℕ, zero, suc, ◌+◌, ◌-◌, ◌<◌, ◌≤◌, Bool, true, false, nat_le, nat_lt, Option, Some, None, List, [], ◌∷◌, ◌++◌, length, length-append, take, drop, slice_get, get_or, set, refl, ap, sym, subst, ◌∙◌, arith, ⊎_elim}
-use Rattle.std.specs.List.{All}
+use Rattle.std.specs.List.{All, sum_by}
 use Rattle.std.specs.Prelude.{if◌then◌else◌}
 use Rattle.std.proofs.lemmas.Bool.Decides.{nat_tests}
 use Rattle.std.proofs.lemmas.Bool.{cases_lt}
-use Rattle.std.proofs.lemmas.List.{append-nil, set-get_or, take_all, take_more}
+use Rattle.std.proofs.lemmas.List.{append-nil, set-get_or, take_more}
 use Rattle.std.proofs.lemmas.List.Concat.{flat_map-append}
+use Rattle.std.proofs.lemmas.List.Sums.{sum_by-append}
 use Rattle.std.proofs.lemmas.Option.{slice_get_cases, slice_get_past}
 use Rattle.blocks.specs.Rows.{flat, passes, start}
 use Rattle.blocks.specs.Groups.{IsGroup}
@@ -18,6 +19,12 @@ next : {X : Type 0} (i : ℕ) (cs : List (List X)) (b : List X) → i < length c
 next {X} i cs b lt read =
     ap (λ (r : List (List X)). length (flat r)) (take_more cs i [] lt) ∙ ap length (flat_map-append (λ (c : List X). c) (take i cs) (get_or cs i [] ∷ [])) ∙ length-append (flat (take i cs)) (flat (get_or cs i [] ∷ []))
     ∙ ap (λ (n : ℕ). start i cs + n) (ap length (append-nil (get_or cs i [])) ∙ ap length (sym (read_is i cs b lt read)))
+
+-- what the blocks weigh together, one block further
+pub weight_next : {X : Type 0} (f : X → ℕ) (i : ℕ) (cs : List (List X)) (b : List X) → i < length cs → b ≡ get_or cs i b → (weight more : ℕ) → weight ≡ sum_by f (flat (take i cs)) → more ≡ sum_by f b → weight + more ≡ sum_by f (flat (take (i + 1) cs))
+weight_next {X} f i cs b lt read weight more sum own =
+    let all : flat (take (i + 1) cs) ≡ flat (take i cs) ++ b = ap flat (take_more cs i [] lt) ∙ flat_map-append (λ (c : List X). c) (take i cs) (get_or cs i [] ∷ []) ∙ ap (λ (l : List X). flat (take i cs) ++ l) (append-nil (get_or cs i []) ∙ sym (read_is i cs b lt read)) in
+    omega (arith, sum, own, ap (sum_by f) all, sum_by-append f (flat (take i cs)) b)
 
 module _ {X : Type 0} (f : X → ℕ) (limit : ℕ) where
   too_heavy : (x : X) (least : ℕ) → limit < least → least ≤ f x → nat_le (f x) limit ≡ false
@@ -62,14 +69,6 @@ module _ {X : Type 0} (f : X → ℕ) (limit : ℕ) where
         go true e = let l = first.0 in (omega (arith, l), grind (arith, nat_tests, e), same_at at first.1 ∙ first.2, before)
         go false e = λ place low high. before place low (grind (arith, nat_tests, e, high))
 
-  -- none at all
-  pub none_left : (cs : List (List X)) (from end begin : ℕ) → begin ≡ start (length cs) cs → NoneLight f limit (flat cs) from begin → NoneLight f limit (flat cs) from end
-  none_left cs from end begin e none place low high =
-      ⊎_elim
-      (λ (l : place < begin). none place low l)
-      (λ (g : begin ≤ place). ap (passes (λ x. nat_le (f x) limit)) (slice_get_past (flat cs) place (let all : start (length cs) cs ≡ length (flat cs) = ap (λ (r : List (List X)). length (flat r)) (take_all (length cs) cs (omega arith)) in omega (arith, all, e, g))))
-      (cases_lt place begin)
-
   -- ---- what the search has of a block that it reads
   module _ (n from : ℕ) (cs now : List (List X)) (b : List X) (begin first : ℕ) (same : now ≡ cs) (within : n < length now) (read : b ≡ get_or now n b) (at_start : begin ≡ start n cs) (skip : first ≡ from - begin) (none : NoneLight f limit (flat cs) from begin) where
     there : n < length cs
@@ -111,18 +110,6 @@ module _ {X : Type 0} (f : X → ℕ) (limit : ℕ) where
 
   pub same_length : (n : ℕ) (now : List (List X)) (a b items : List X) → n < length now → a ≡ get_or now n a → b ≡ get_or now n b → items ≡ a → length items ≡ length b
   same_length n now a b items lt one two e = ap length (e ∙ read_is n now a lt one ∙ sym (read_is n now b lt two))
-
--- ---- how many items the blocks before one have
-module _ {X : Type 0} (n : ℕ) (cs : List (List X)) (b items : List X) (begin : ℕ) where
-  block_is : n < length cs → b ≡ get_or cs n b → items ≡ b → items ≡ get_or cs n []
-  block_is lt read e = e ∙ read_is n cs b lt read
-
-  pub block_fits : (size : ℕ) → n < length cs → b ≡ get_or cs n b → items ≡ b → begin ≡ start n cs → length (flat cs) < size → begin + length items < size
-  block_fits size lt read e at le =
-      omega (arith, le, at, ap length (block_is lt read e), ap length (flat_at n cs), length-append (flat (take n cs)) (get_or cs n [] ++ flat (drop (suc n) cs)), length-append (get_or cs n []) (flat (drop (suc n) cs)))
-
-  pub block_next : n < length cs → b ≡ get_or cs n b → items ≡ b → begin ≡ start n cs → begin + length items ≡ start (n + 1) cs
-  block_next lt read e at = omega (arith, at, ap length e, next n cs b lt read)
 
 -- ---- what a walk up to a place tells of a walk up to the end
 module _ {X : Type 0} (f : X → ℕ) (limit : ℕ) (xs : List X) (from end : ℕ) where

@@ -1,10 +1,10 @@
 -- What the items of a block weigh together.
-use Rattle.std.proofs.Common.{◌≡◌, ℕ, suc, ◌+◌, ◌-◌, ◌*◌, ◌^◌, ◌<◌, ◌≤◌, List, [], ◌∷◌, ◌++◌, length, length-append, length-drop, take, drop, get_or, ap, sym, subst, ◌∙◌, arith}
+use Rattle.std.proofs.Common.{◌≡◌, ℕ, suc, ◌+◌, ◌-◌, ◌*◌, ◌^◌, ◌<◌, ◌≤◌, List, [], ◌∷◌, ◌++◌, length, length-drop, take, drop, get_or, ap, sym, subst, ◌∙◌, arith}
 use Rattle.std.specs.List.{All, insert, remove, sum_by}
 use Rattle.std.proofs.lemmas.List.{length-take, take_rest}
 use Rattle.std.proofs.lemmas.List.Edits.{length-insert, length-remove}
-use Rattle.std.proofs.lemmas.List.Elements.{All-append, All-cons, All-drop, All-nil, All-take, All-weaker}
-use Rattle.std.proofs.lemmas.List.Sums.{sum_by-append, sum_by-insert, sum_by-le, sum_by-remove, sum_by-take-drop}
+use Rattle.std.proofs.lemmas.List.Elements.{All-append, All-cons, All-drop, All-take, All-weaker}
+use Rattle.std.proofs.lemmas.List.Sums.{sum_by-insert, sum_by-le, sum_by-remove, sum_by-take-drop}
 use Rattle.blocks.specs.Rows.{IsBlock}
 
 module _ {X : Type 0} where
@@ -40,9 +40,6 @@ module _ {X : Type 0} (f : X → ℕ) where
   back_light weight least room k xs back b e =
       let parts : sum_by f (take k xs) + sum_by f (drop k xs) ≡ sum_by f xs = sum_by-take-drop f xs k in
       (omega (arith, ap (sum_by f) e, parts, light xs b.fit b.most), omega (arith, ap (sum_by f) e, parts, b.sum))
-
-  pub block_empty : (least room : ℕ) → 128 ≤ room → IsBlock f 0 least room []
-  block_empty least room le = record { sum = omega arith; bound = All-nil (λ x. least ≤ f x); fit = All-nil Fit; most = omega arith; wide = le }
 
   pub block_insert : (weight least room more at : ℕ) (xs ys : List X) (x : X) (least' room' : ℕ) → IsBlock f weight least room xs → at ≤ length xs → length xs < 128 → more ≡ f x → more < 2 ^ 64 → ys ≡ insert xs at x → least' ≤ least → least' ≤ more → room ≤ room' → IsBlock f (weight + more) least' room' ys
   block_insert weight least room more at xs ys x least' room' b le lt e fits is low under wide =
@@ -92,18 +89,3 @@ module _ {X : Type 0} (f : X → ℕ) where
         most = omega (arith, length-drop k xs, b.most);
         wide = wide;
       })
-
-  pub block_join : (weight least room weight' least' room' : ℕ) (xs next ys : List X) (both room'' : ℕ) → IsBlock f weight least room xs → IsBlock f weight' least' room' next → length xs + length next ≤ 128 → ys ≡ xs ++ next → both ≤ least → both ≤ least' → room ≤ room'' → IsBlock f (weight + weight') both room'' ys
-  block_join weight least room weight' least' room' xs next ys both room'' a b le is first second wide =
-      subst (IsBlock f (weight + weight') both room'') (sym is)
-      (record {
-        sum = omega (arith, sum_by-append f xs next, a.sum, b.sum);
-        bound = All-append (λ y. both ≤ f y) xs next (lower least both xs first a.bound) (lower least' both next second b.bound);
-        fit = All-append Fit xs next a.fit b.fit;
-        most = omega (arith, length-append xs next);
-        wide = omega (arith, a.wide, wide);
-      })
-
-  -- the same items under another bound that holds of them
-  pub block_bound : (weight least room : ℕ) (xs : List X) (least' : ℕ) → IsBlock f weight least room xs → Below least' xs → IsBlock f weight least' room xs
-  block_bound weight least room xs least' b low = record { sum = b.sum; bound = low; fit = b.fit; most = b.most; wide = b.wide }

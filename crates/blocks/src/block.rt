@@ -1,4 +1,4 @@
-ghost use Rattle.std.specs.Prelude.{◌≡◌, ◌≤◌, ◌<◌, ◌+◌, ◌++◌, ◌^◌, [], All, IfOk, length, sum_by, take, drop, slice_index_or};
+ghost use Rattle.std.specs.Prelude.{◌≡◌, ◌≤◌, ◌<◌, ◌+◌, ◌++◌, ◌^◌, [], All, IfOk, length, sum_by, take, drop, slice_index_or, vec_capacity};
 ghost use Rattle.std.specs.List.{insert, remove};
 ghost use Rattle.blocks.specs.Light.{IsFirstLight};
 ghost use Rattle.blocks.specs.Rows.{EndsAt, ends_by, stands};
@@ -211,5 +211,46 @@ impl<T: Ranked, A: Allocator + Copy> Block<T, A> {
             self.least = least_of(self.items.as_slice());
         }
         found
+    }
+
+    // Puts it at a place of a list that has room.
+    pub(crate) fn put_into(self, blocks: &mut Vec<Block<T, A>, A>, at: usize)
+        requires within { at ≤ length blocks.old.items }
+        requires room { length blocks.old.items < vec_capacity blocks.old }
+        ensures items { blocks.new.items ≡ insert blocks.old.items at self }
+        ensures kept { vec_capacity blocks.new ≡ vec_capacity blocks.old }
+    {
+        let Ok(()) = blocks.insert(at, self) else {
+            unreachable!()
+        };
+    }
+
+    // Takes one of the empty blocks.
+    pub(crate) fn take_from(empty: &mut Vec<Block<T, A>, A>) -> Block<T, A>
+        requires some { 1 ≤ length empty.old.items }
+        requires cleared { All (λ block. block ≡ []) empty.old.items }
+        ensures none { result ≡ [] }
+        ensures cleared { All (λ block. block ≡ []) empty.new.items }
+        ensures count { length empty.new.items + 1 ≡ length empty.old.items }
+        ensures kept { vec_capacity empty.new ≡ vec_capacity empty.old }
+    {
+        let Some(block) = empty.pop() else {
+            unreachable!()
+        };
+        block
+    }
+
+    // Adds it, which is empty, to the empty blocks, which have room.
+    pub(crate) fn keep_in(self, empty: &mut Vec<Block<T, A>, A>)
+        requires none { self ≡ [] }
+        requires cleared { All (λ block. block ≡ []) empty.old.items }
+        requires room { length empty.old.items < vec_capacity empty.old }
+        ensures cleared { All (λ block. block ≡ []) empty.new.items }
+        ensures count { length empty.new.items ≡ length empty.old.items + 1 }
+        ensures kept { vec_capacity empty.old ≤ vec_capacity empty.new }
+    {
+        let Ok(()) = empty.push(self) else {
+            unreachable!()
+        };
     }
 }

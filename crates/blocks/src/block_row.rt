@@ -1,4 +1,4 @@
-ghost use Rattle.std.specs.Prelude.{◌≡◌, ◌≤◌, ◌<◌, ◌^◌, [], IsOk, OnErr, OnOk, length};
+ghost use Rattle.std.specs.Prelude.{◌≡◌, ◌≤◌, ◌<◌, ◌^◌, [], IsOk, OnOk, length};
 ghost use Rattle.blocks.specs.Groups.{AreGroups};
 ghost use Rattle.blocks.specs.Light.{IsFirstLight};
 ghost use Rattle.blocks.specs.Rows.{AreFilled, flat};
@@ -89,19 +89,6 @@ impl<T: Ranked, A: Allocator + Copy> BlockRow<T, A> {
         room.saturating_sub(self.over)
     }
 
-    // Adds an empty block.
-    fn grow(&mut self) -> Result<(), Memory>
-        ensures blocks { self.new.blocks ≡ self.old.blocks }
-        ensures ok { OnOk result (self.old.spare < self.new.spare) }
-        ensures kept { OnErr result (self.new.spare ≡ self.old.spare) }
-    {
-        let block = another(&mut self.used, &mut self.empty, &mut self.groups)?;
-        let Ok(()) = self.empty.push(block) else {
-            unreachable!()
-        };
-        Ok(())
-    }
-
     // Makes room for so many insertions. Memory where a growth was refused; the room may then be
     // greater than it was, too.
     pub(crate) fn reserve(&mut self, count: usize) -> Result<(), Memory>
@@ -111,7 +98,8 @@ impl<T: Ranked, A: Allocator + Copy> BlockRow<T, A> {
         ensures room { count ≤ self.old.spare → IsOk result }
     {
         'room: while self.spare() < count {
-            self.grow()?;
+            let block = another(&mut self.used, &mut self.empty, &mut self.groups)?;
+            block.keep_in(&mut self.empty);
         }
         Ok(())
     }
@@ -125,13 +113,6 @@ impl<T: Ranked, A: Allocator + Copy> BlockRow<T, A> {
         first_light(self.used.as_mut_slice(), self.groups.as_mut_slice(), wanted)
     }
 
-    // Learns from groups and blocks what all items weigh at least.
-    fn learn(&mut self)
-        ensures { self.new ≡ self.old }
-    {
-        self.least = least_of_all(self.used.as_slice(), self.groups.as_slice());
-    }
-
     // The first place from one to another whose item weighs at most so much. A search up to the end that
     // found nothing learns from the blocks what all items weigh at least.
     pub(crate) fn first_light(&mut self, from: usize, end: usize, limit: u64) -> Option<usize>
@@ -143,7 +124,7 @@ impl<T: Ranked, A: Allocator + Copy> BlockRow<T, A> {
         }
         let found = self.look(Wanted { from, end, limit });
         if found.is_none() && self.len <= end {
-            self.learn();
+            self.least = least_of_all(self.used.as_slice(), self.groups.as_slice());
         }
         found
     }
@@ -155,9 +136,7 @@ impl<T: Ranked, A: Allocator + Copy> BlockRow<T, A> {
     {
         'used: while let Some(mut block) = self.used.pop() {
             block.clear();
-            let Ok(()) = self.empty.push(block) else {
-                unreachable!()
-            };
+            block.keep_in(&mut self.empty);
         }
         self.groups.clear();
         self.over = 0;

@@ -3,7 +3,7 @@ ghost use Rattle.std.specs.Prelude.{◌≡◌, ◌≤◌, ◌<◌, ◌+◌, [], 
 ghost use Rattle.std.specs.List.{insert, remove};
 ghost use Rattle.blocks.specs.Rows.{block_of, cut_at, flat, joined_at, start};
 
-use crate::block::BLOCK_LIMIT;
+use crate::block::{BLOCK_LIMIT, Block};
 use crate::block_row::BlockRow;
 use crate::groups::{GROUP, put_item, take_item};
 use crate::growth::{FULL_OVER, over_of};
@@ -19,14 +19,10 @@ impl<T: Ranked, A: Allocator + Copy> BlockRow<T, A> {
         ensures blocks { self.new.blocks ≡ (item ∷ []) ∷ [] }
         ensures spare { self.old.spare ≤ self.new.spare + 1 }
     {
-        let Some(mut block) = self.empty.pop() else {
-            unreachable!()
-        };
+        let mut block = Block::take_from(&mut self.empty);
         self.least = item.weight();
         block.insert(0, item);
-        let Ok(()) = self.used.push(block) else {
-            unreachable!()
-        };
+        block.put_into(&mut self.used, 0);
         self.len = 1;
     }
 
@@ -38,13 +34,9 @@ impl<T: Ranked, A: Allocator + Copy> BlockRow<T, A> {
         ensures blocks { self.new.blocks ≡ cut_at block self.old.blocks }
         ensures spare { self.old.spare ≤ self.new.spare + 1 }
     {
-        let Some(mut high) = self.empty.pop() else {
-            unreachable!()
-        };
+        let mut high = Block::take_from(&mut self.empty);
         self.used[block].cut(&mut high);
-        let Ok(()) = self.used.insert(block + 1, high) else {
-            unreachable!()
-        };
+        high.put_into(&mut self.used, block + 1);
         self.groups.truncate(block / GROUP);
         self.over -= FULL_OVER;
     }
@@ -113,9 +105,7 @@ impl<T: Ranked, A: Allocator + Copy> BlockRow<T, A> {
     {
         let mut last = self.used.remove(block);
         let item = last.remove(0);
-        let Ok(()) = self.empty.push(last) else {
-            unreachable!()
-        };
+        last.keep_in(&mut self.empty);
         self.groups.truncate(block / GROUP);
         self.len -= 1;
         item
@@ -146,24 +136,12 @@ impl<T: Ranked, A: Allocator + Copy> BlockRow<T, A> {
     {
         let mut next = self.used.remove(block + 1);
         self.used[block].join(&mut next);
+        next.keep_in(&mut self.empty);
         self.groups.truncate(block / GROUP);
-        let Ok(()) = self.empty.push(next) else {
-            unreachable!()
-        };
     }
 
-    // Joins a short block with a neighbour, where both together fill at most half a block.
-    fn settle(&mut self, block: usize)
-        requires { block < length self.old.blocks }
-        ensures items { flat self.new.blocks ≡ flat self.old.blocks }
-        ensures spare { self.old.spare ≤ self.new.spare }
-    {
-        if let Some(first) = mate(self.blocks(), block) {
-            self.join(first);
-        }
-    }
-
-    // Takes the item at a place out.
+    // Takes the item at a place out; a block that is short then joins a neighbour, where both together
+    // fill at most half a block.
     pub(crate) fn remove(&mut self, place: Place) -> T
         requires block { place.block < length self.old.blocks }
         requires at { place.at < length (block_of self.old.blocks place.block) }
@@ -175,7 +153,9 @@ impl<T: Ranked, A: Allocator + Copy> BlockRow<T, A> {
             return self.retire(place.block);
         }
         let item = self.take_out(place);
-        self.settle(place.block);
+        if let Some(first) = mate(self.blocks(), place.block) {
+            self.join(first);
+        }
         item
     }
 }

@@ -1,15 +1,55 @@
-use Rattle.std.proofs.Common.{◌+◌, ap, length, rules, ◌∙◌}
+use Rattle.std.proofs.Common.{◌+◌, ◌<◌, ◌≤◌, [], ap, arith, get_or, length, subst, sym, ◌∙◌}
+use Rattle.blocks.specs.Rows.{BlocksView, joined_at}
 use Rattle.blocks.proofs.Bounds.{low_joined}
-use Rattle.blocks.proofs.Edits.{join_by, join_length}
+use Rattle.blocks.proofs.Edits.{join_by, join_length, join_reads}
 use Rattle.blocks.proofs.Grouped.{groups_joined}
-use Rattle.blocks.proofs.Rooms.{joined_row, returned_count}
+use Rattle.blocks.proofs.Rooms.{joined_row}
 use Rattle.blocks.proofs.block_row.BlockRow.join.Goals as goal
+
+pub overflow_add-block : goal.overflow_add-block
+overflow_add-block g c = omega (arith, c.self.invariant.0.few, subst (λ (v : BlocksView g.row.T.Denot). c.args.block + 1 < length v.blocks) (sym c.self.view_is) c.requires.block)
+
+pub remove-next-requires : goal.remove-next-requires
+remove-next-requires g c = omega (arith, c.self.inside.used.ok.0, subst (λ (v : BlocksView g.row.T.Denot). c.args.block + 1 < length v.blocks) (sym c.self.view_is) c.requires.block)
+
+pub index_mut-requires : goal.index_mut-requires
+index_mut-requires g c =
+    let lt = subst (λ (v : BlocksView g.row.T.Denot). c.args.block + 1 < length v.blocks) (sym c.self.view_is) c.requires.block in
+    omega (arith, lt, c.self.inside.used.ok.0, c.remove-next.ensures.len)
+
+pub join-requires : goal.join-requires
+join-requires g c =
+    let lt = subst (λ (v : BlocksView g.row.T.Denot). c.args.block + 1 < length v.blocks) (sym c.self.view_is) c.requires.block in
+    let short = subst (λ (v : BlocksView g.row.T.Denot). length (get_or v.blocks c.args.block []) + length (get_or v.blocks (c.args.block + 1) []) ≤ 64) (sym c.self.view_is) c.requires.short in
+    let read = join_reads c.args.block c.self.inside.used.items c.remove-next.new.self.items c.index_mut.result.now c.remove-next.result lt c.remove-next.ensures.items c.remove-next.ensures.value c.index_mut.ensures.value in
+    omega (arith, short, ap length read.0, ap length read.1)
+
+pub keep_in-requires-clause-room : goal.keep_in-requires-clause-room
+keep_in-requires-clause-room g c =
+    let lt = subst (λ (v : BlocksView g.row.T.Denot). c.args.block + 1 < length v.blocks) (sym c.self.view_is) c.requires.block in
+    omega (arith, lt, c.self.invariant.0.returnable)
 
 pub invariant_of-self : goal.invariant_of-self
 invariant_of-self g c =
-    let made = join_by c.args.block c.self.inside.used.items c.remove-next.new.self.items c.index_mut.result.now c.remove-next.result c.join.new.self (search rules) c.remove-next.ensures.items c.remove-next.ensures.value c.index_mut.ensures.value c.join.ensures.all in (
-      joined_row c.self.inside.used.items c.self.inside.empty.items c.self.inside.over c.self.inside.len _ _ c.self.invariant.0 c.args.block _ c.push.new.self.items c.join.new.next _ _ (search rules) (search rules) made (search rules) (search rules) (search rules) (search rules),
-      low_joined g.T.Ranked.weight c.self.inside.least c.args.block c.self.inside.used.items _ c.self.invariant.1 (search rules) made,
-      groups_joined g.T.Ranked.weight c.args.block c.self.inside.used.items _ c.self.inside.groups.items _ (search rules) made (search rules) c.self.invariant.2,
-      returned_count c.self.inside.used.items c.self.inside.empty.items c.self.inside.over c.self.inside.len _ _ c.self.invariant.0 _ c.push.new.self.items c.join.new.next _ _ (ap (λ r. length r + 1) made ∙ join_length c.args.block c.self.inside.used.items (search rules)) (search rules) c.self.invariant.3 (search rules),
+    let used = c.self.inside.used.items in
+    let lt = subst (λ (v : BlocksView g.row.T.Denot). c.args.block + 1 < length v.blocks) (sym c.self.view_is) c.requires.block in
+    let short = subst (λ (v : BlocksView g.row.T.Denot). length (get_or v.blocks c.args.block []) + length (get_or v.blocks (c.args.block + 1) []) ≤ 64) (sym c.self.view_is) c.requires.short in
+    let made = join_by c.args.block used c.remove-next.new.self.items c.index_mut.result.now c.remove-next.result c.join.new.self lt c.remove-next.ensures.items c.remove-next.ensures.value c.index_mut.ensures.value c.join.ensures.all in
+    let count = ap (λ r. length r + 1) made ∙ join_length c.args.block used lt in (
+      joined_row c.self.invariant.0 c.args.block _ c.keep_in.new.empty.items _ _ lt short made c.keep_in.ensures.cleared c.keep_in.ensures.count (omega (arith, c.remove-next.ensures.capacity)) c.keep_in.ensures.kept,
+      low_joined g.T.Ranked.weight c.self.inside.least c.args.block used _ c.self.invariant.1 lt made,
+      groups_joined g.T.Ranked.weight c.args.block used _ c.self.inside.groups.items _ lt made c.truncate.ensures.items c.self.invariant.2,
+      omega (arith, c.self.invariant.3, count, c.keep_in.ensures.count, c.truncate.ensures.capacity),
     )
+
+pub returns-clause-blocks : goal.returns-clause-blocks
+returns-clause-blocks g c =
+    let lt = subst (λ (v : BlocksView g.row.T.Denot). c.args.block + 1 < length v.blocks) (sym c.self.view_is) c.requires.block in
+    join_by c.args.block c.self.inside.used.items c.remove-next.new.self.items c.index_mut.result.now c.remove-next.result c.join.new.self lt c.remove-next.ensures.items c.remove-next.ensures.value c.index_mut.ensures.value c.join.ensures.all
+    ∙ ap (λ (v : BlocksView g.row.T.Denot). joined_at c.args.block v.blocks) c.self.view_is
+
+pub returns-clause-spare : goal.returns-clause-spare
+returns-clause-spare g c =
+    let lt = subst (λ (v : BlocksView g.row.T.Denot). c.args.block + 1 < length v.blocks) (sym c.self.view_is) c.requires.block in
+    let made = join_by c.args.block c.self.inside.used.items c.remove-next.new.self.items c.index_mut.result.now c.remove-next.result c.join.new.self lt c.remove-next.ensures.items c.remove-next.ensures.value c.index_mut.ensures.value c.join.ensures.all in
+    omega (arith, lt, ap (λ r. length r + 1) made ∙ join_length c.args.block c.self.inside.used.items lt, c.keep_in.ensures.count, ap (λ (v : BlocksView g.row.T.Denot). v.spare) c.self.view_is)
