@@ -43,9 +43,9 @@ pub record IsHead {X : Type 0} (places : List (Option X)) (head : ℕ) : Type 0 
   pub ahead : (place : ℕ) → place < head → at_place places place ≡ None
   pub met : head < length places → is_some (at_place places head) ≡ true
 
--- how many places there may be beside so many nodes: without a tree at most 1,024, and 64 for each leaf
+-- how many places there may be beside so many nodes: without a tree at most 128, and 64 for each leaf
 abbrev pub room_of : ℕ → ℕ
-room_of nodes = max 1024 (32 * nodes)
+room_of nodes = max 128 (32 * nodes)
 
 -- what the fields keep: how many wait, the place of the first, room, and a tree of bounds where there are many places
 pub record IsPlaces {X : Type 0} (size estimate : X → ℕ) (places : List (Option X)) (nodes : List LeastsView) (len head room : ℕ) : Type 0 where

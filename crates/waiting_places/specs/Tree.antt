@@ -25,7 +25,7 @@ pub record IsWhole (count : ℕ) : Type 0 where
 -- who wait below it
 pub record IsTree {X : Type 0} (size estimate : X → ℕ) (nodes : List LeastsView) (places : List (Option X)) : Type 0 where
   pub whole : IsWhole (length nodes)
-  pub many : 32 ≤ length nodes
+  pub many : 4 ≤ length nodes
   pub few : length nodes ≤ 2 ^ 40
   pub room : length places ≤ 32 * length nodes
   pub below : (times place : ℕ) (x : X) → slice_index_or places place None ≡ Some x → 1 ≤ halved times (leaf_of (length nodes) place) → IsBelow (node_at nodes (halved times (leaf_of (length nodes) place))) (size x) (estimate x)

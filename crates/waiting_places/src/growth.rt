@@ -8,7 +8,7 @@ use std::alloc::Allocator;
 use swf_text::Memory;
 
 /// So many places are searched one by one, without a tree.
-pub(crate) const LIST: usize = 1024;
+pub(crate) const LIST: usize = 128;
 
 // The least power of two that is not below this.
 fn power_from(count: usize) -> usize
@@ -32,7 +32,7 @@ pub(crate) fn nodes_for<A: Allocator + Copy>(
     requires { room ≤ 2 ^ 40 }
     ensures enough { IfOk result (λ nodes. room ≤ room_of (length nodes.items)) }
     ensures whole { IfOk result (λ nodes. 1 ≤ length nodes.items → IsWhole (length nodes.items)) }
-    ensures many { IfOk result (λ nodes. 1 ≤ length nodes.items → 32 ≤ length nodes.items) }
+    ensures many { IfOk result (λ nodes. 1 ≤ length nodes.items → 4 ≤ length nodes.items) }
     ensures few { IfOk result (λ nodes. length nodes.items ≤ 2 ^ 40) }
 {
     if room <= LIST {

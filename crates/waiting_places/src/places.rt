@@ -20,7 +20,7 @@ use swf_text::Memory;
 const PLACES_LIMIT: usize = 1 << 40;
 
 /// Those who wait, each at a place of its own in order of arrival. Who leaves leaves its place empty, so
-/// that it costs a step. Beside more than 1,024 places stands a tree of lower bounds on those who wait at
+/// that it costs a step. Beside more than 128 places stands a tree of lower bounds on those who wait at
 /// 64 places each. They are lowered at once when one comes, and raised only by a search that found
 /// nothing. Contracts see the places, and how many more surely find room.
 #[derive(Drop)]
