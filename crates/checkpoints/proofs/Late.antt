@@ -179,6 +179,13 @@ module _ {X Y : Type 0} (f : X → ℕ) (g : Y → ℕ) where
 pub sim-fewer : (plan : Plan) → IsPlan plan → length (sim plan) ≤ length plan.jobs
 sim-fewer plan p = no-more (λ (x : Start). x.number) (λ (j : EffectiveJob). j.number) (sim plan) plan.jobs (λ n. let e = each-job-starts-once plan n p in omega (arith, e))
 
+-- as many start as there are jobs
+pub sim-counted : (plan : Plan) → IsPlan plan → length (sim plan) ≡ length plan.jobs
+sim-counted plan p =
+    let more = no-more (λ (j : EffectiveJob). j.number) (λ (x : Start). x.number) plan.jobs (sim plan) (λ n. let e = each-job-starts-once plan n p in omega (arith, e)) in
+    let fewer = sim-fewer plan p in
+    omega (arith, more, fewer)
+
 pub sim-few : (plan : Plan) → IsPlan plan → length (sim plan) ≤ 4194304
 sim-few plan p = let l = sim-fewer plan p in let few = p.few in omega (arith, l, few)
 

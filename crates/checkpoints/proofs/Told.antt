@@ -1,11 +1,13 @@
 -- The rows that a run's own starts give.
-use Rattle.std.proofs.Common.{◌≡◌, ℕ, List, map, length, refl, ap, sym, ◌∙◌}
+use Rattle.std.proofs.Common.{◌≡◌, ℕ, List, ◌++◌, map, length, refl, ap, sym, subst, ◌∙◌}
 use Rattle.std.specs.List.{filter_map}
 use Rattle.std.proofs.lemmas.List.{length-map}
 use Rattle.scenarios.specs.Job.{EffectiveJob}
 use Rattle.scenarios.specs.Plan.{Plan}
 use Rattle.scenarios.specs.SoundPlan.{IsPlan}
-use Rattle.easy_rule.specs.Simulation.{sim, start_of}
+use Rattle.easy_rule.specs.declared.start.Start.{Start}
+use Rattle.easy_rule.specs.Simulation.{sim, start_of, starts_before}
+use Rattle.event_loop.specs.Events.{Progress, begun}
 use Rattle.timeline.proofs.Lemmas.{all-start-early}
 use Rattle.checkpoints.specs.Segment.{SegmentView}
 use Rattle.checkpoints.specs.Cut.{IsCut, all_starts}
@@ -17,10 +19,23 @@ use Rattle.checkpoints.proofs.EachRow.{each-job-has-a-row}
 use Rattle.checkpoints.proofs.Found.{found-early}
 use Rattle.checkpoints.proofs.Known.{rows-same, early-same}
 
-module _ (plan : Plan) (ss seen : List SegmentView) (known : KnownStarts) (p : IsPlan plan) (cut : IsCut plan ss) (same : seen ≡ ss) (gives : (n : ℕ) → known_start known n ≡ start_of (all_starts seen) n) where
-  told : (n : ℕ) → known_start known n ≡ start_of (sim plan) n
-  told n = gives n ∙ ap (λ (xs : List SegmentView). start_of (all_starts xs) n) same ∙ ap (λ xs. start_of xs n) (cut-told plan ss p cut)
+-- what an engine answers that goes from second 0 to the end are all starts
+pub told-whole : (plan whole : Plan) (begins : Progress) (xs : List Start) → begins ≡ begun whole 0 → whole ≡ plan → starts_before begins.plan begins.position ++ xs ≡ sim begins.plan → xs ≡ sim plan
+unfolding starts_before
+told-whole plan whole begins xs is same all =
+    let from : xs ≡ sim whole = subst (λ (p : Progress). starts_before p.plan p.position ++ xs ≡ sim p.plan) is all in
+    from ∙ ap sim same
 
+-- where a cut's starts are known, each number starts as in the simulation
+pub told-cut : (plan : Plan) (ss seen : List SegmentView) (known : KnownStarts) → IsPlan plan → IsCut plan ss → seen ≡ ss → ((n : ℕ) → known_start known n ≡ start_of (all_starts seen) n)
+    → (n : ℕ) → known_start known n ≡ start_of (sim plan) n
+told-cut plan ss seen known p cut same gives n = gives n ∙ ap (λ (xs : List SegmentView). start_of (all_starts xs) n) same ∙ ap (λ xs. start_of xs n) (cut-told plan ss p cut)
+
+-- where those of a list are known that is the simulation's
+pub told-list : (plan : Plan) (xs : List Start) (known : KnownStarts) → xs ≡ sim plan → ((n : ℕ) → known_start known n ≡ start_of xs n) → (n : ℕ) → known_start known n ≡ start_of (sim plan) n
+told-list plan xs known is gives n = gives n ∙ ap (λ (ys : List Start). start_of ys n) is
+
+module _ (plan : Plan) (known : KnownStarts) (p : IsPlan plan) (told : (n : ℕ) → known_start known n ≡ start_of (sim plan) n) where
   pub told-early : AreEarly known
   told-early = early-same known (sim plan) told (λ n. found-early (sim plan) n (all-start-early plan (sim plan) p refl))
 

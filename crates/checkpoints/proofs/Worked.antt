@@ -1,5 +1,5 @@
 -- An engine that works some event seconds.
-use Rattle.std.proofs.Common.{◌≡◌, ℕ, ◌+◌, ◌-◌, ◌≤◌, ◌<◌, ◌⊎◌, inl, inr, false, List, [], ◌∷◌, ◌++◌, map, All, Option, Some, None, IfSome, refl, sym, ◌∙◌, ap, arith, subst}
+use Rattle.std.proofs.Common.{◌≡◌, ℕ, ◌+◌, ◌-◌, ◌≤◌, ◌<◌, ◌⊎◌, inl, inr, List, [], ◌∷◌, ◌++◌, map, All, Option, Some, None, IfSome, refl, sym, ◌∙◌, ap, arith, subst}
 use Rattle.std.proofs.lemmas.List.{map-append}
 use Rattle.std.proofs.lemmas.List.Elements.{filter_map-append}
 use Rattle.scenarios.specs.Job.{EffectiveJob}
@@ -21,7 +21,7 @@ use Rattle.checkpoints.specs.Segment.{SegmentView}
 use Rattle.checkpoints.specs.Pieces.{PieceView, segment_of, IsNotedIn}
 use Rattle.checkpoints.specs.Cut.{placed_at, placed_of, EndsWithEvent, Spans, Chain, Over, IsFull, ShortChain, IsShortCut}
 use Rattle.checkpoints.specs.Coming.{NoneComes}
-use Rattle.checkpoints.specs.Worked.{WorksStretch, WorksUpTo}
+use Rattle.checkpoints.specs.Worked.{Cutting, WorksStretch, WorksUpTo}
 use Rattle.checkpoints.proofs.Chains.{chain-push, short-chain, span-bounded}
 use Rattle.checkpoints.proofs.Late.{can-sum}
 use Rattle.checkpoints.proofs.Placing.{placed_from, placed-own}
@@ -79,12 +79,6 @@ working-up-to old now starts placed count n end h within few full = record {
 -- a stretch ends soon after the bound, at the latest
 pub ends-bounded : (plan : Plan) (a b : ℕ) → IsPlan plan → EndsWithEvent plan a b → b ≤ bound plan + 1
 ends-bounded plan a b p (t, le, e, event) = let l = events-end-by-the-bound plan t p event in omega (arith, l, e)
-
--- the segments so far
-pub record Cutting (plan : Plan) (n : ℕ) (now : Progress) (ss : List SegmentView) : Type 0 where
-  pub going : now.failed ≡ false
-  pub same : now.plan ≡ plan
-  pub chain : ShortChain plan n 0 ss now.position
 
 -- a segment that was worked is full, or the last one
 filled : (plan : Plan) (n a b : ℕ) (new : Progress) → new.plan ≡ plan → new.position ≡ b → events_before plan b ≤ events_before plan a + n → (events_before plan b ≡ events_before plan a + n) ⊎ NoneComes new None → IsFull plan n a b

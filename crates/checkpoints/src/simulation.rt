@@ -1,11 +1,13 @@
-ghost use Rattle.std.specs.Prelude.{◌≡◌, ◌≤◌, map, IfOk, IfErr, OnOk};
+ghost use Rattle.std.specs.Prelude.{◌≡◌, ◌≤◌, None, map, IfOk, IfErr, OnOk};
 ghost use Rattle.std.specs.Arc.{arc_value};
 ghost use Rattle.scenarios.specs.Plan.{plan_of};
 ghost use Rattle.scenarios.specs.PlanView.{plan_in};
+ghost use Rattle.checkpoints.specs.Coming.{ComesBefore};
 ghost use Rattle.checkpoints.specs.Cut.{IsShortCut};
 ghost use Rattle.checkpoints.specs.Pieces.{all_in};
 ghost use Rattle.checkpoints.specs.RunView.{IsRun};
 ghost use Rattle.checkpoints.specs.Spacing.{IsSpacing, IsRefusal};
+ghost use Rattle.checkpoints.specs.Worked.{Cutting, IsNearer};
 
 use crate::cutting::{comes_before, next_piece};
 use crate::fault::RunFault;
@@ -14,12 +16,34 @@ use crate::segment::Segment;
 use crate::segments::Segments;
 use event_loop::Engine;
 use job_table::JobTable;
-use scenarios::{Plan, Scenario};
+use scenarios::{Plan, PlanRef, Scenario};
 use std::alloc::Allocator;
 use std::sync::Arc;
 
 /// The most event seconds that a segment may be asked to hold.
 pub const MAX_SPACING: u32 = 65_536;
+
+// Works the next piece of a plan's simulation, and adds it to the segments before it.
+fn add_next<A: Allocator + Copy>(
+    alloc: A,
+    plan: &PlanRef<'_, A>,
+    engine: &mut Engine<A>,
+    segments: &mut Segments<A>,
+    spacing: u32,
+    started: &mut u64,
+) -> Result<(), RunFault>
+    requires spacing { 1 ≤ spacing }
+    requires cut { Cutting (plan_in plan.now) spacing engine.old (all_in (plan_in plan.now) segments.old) }
+    requires coming { ComesBefore engine.old None }
+    ensures cut { OnOk result (Cutting (plan_in plan.now) spacing engine.new (all_in (plan_in plan.now) segments.new)) }
+    ensures nearer { OnOk result (IsNearer (plan_in plan.now) engine.old.position engine.new.position) }
+    ensures fault { IfErr result (λ f. f ≡ RunFault.Memory) }
+{
+    prove!(plan.scenario().procs() >= 1);
+    let piece = next_piece(alloc, engine, spacing, None, started)?;
+    segments.add(plan, piece)?;
+    Ok(())
+}
 
 // The segments of a plan's simulation, of `spacing` event seconds each, but the last, of which some are
 // pending.
@@ -37,8 +61,14 @@ fn worked<A: Allocator + Copy>(
     let mut started = 0;
     let mut segments = Segments::new(alloc);
     'segments: while comes_before(&engine, None) {
-        let piece = next_piece(alloc, &mut engine, spacing, None, &mut started)?;
-        segments.add(&view, piece)?;
+        add_next(
+            alloc,
+            &view,
+            &mut engine,
+            &mut segments,
+            spacing,
+            &mut started,
+        )?;
     }
     Ok(segments)
 }

@@ -1,4 +1,4 @@
-ghost use Rattle.std.specs.Prelude.{◌≡◌, ◌==◌, if◌then◌else◌, ℕ, ◌∷◌, map, length, [], IfOk, OnOk};
+ghost use Rattle.std.specs.Prelude.{◌≡◌, ◌==◌, if◌then◌else◌, ℕ, ◌∷◌, map, length, [], None, IfOk, OnOk};
 ghost use Rattle.std.specs.Arc.{arc_value};
 ghost use Rattle.std.specs.Option.{option_or};
 ghost use Rattle.std.specs.List.Sorted.{IsNonDecreasingBy};
@@ -37,15 +37,47 @@ impl<A: Allocator + Copy> Model for Starts<A> {
 }
 
 impl<A: Allocator + Copy> Starts<A> {
+    // None yet, with capacity for those of these numbers.
+    fn none(alloc: A, numbers: &Numbers) -> Result<Starts<A>, Memory>
+        ensures { IfOk result (λ starts. (n : ℕ) → known_start starts n ≡ None) }
+    {
+        let mut places = Vec::new(alloc);
+        places.resize(numbers.places(), None)?;
+        let others = Vec::with_capacity(alloc, numbers.without_places())?;
+        Ok(Starts {
+            least: numbers.least,
+            places,
+            others,
+        })
+    }
+
+    // These starts.
+    pub(crate) fn of_list(alloc: A, starts: &[Start]) -> Result<Starts<A>, Memory>
+        ensures { IfOk result (λ known. (n : ℕ) → known_start known n ≡ start_of starts.now n) }
+    {
+        let Starts {
+            least,
+            mut places,
+            mut others,
+        } = Starts::none(alloc, &Numbers::among(starts))?;
+        note_all(least, &mut places, &mut others, starts)?;
+        sort_by_number(&mut others)?;
+        Ok(Starts {
+            least,
+            places,
+            others,
+        })
+    }
+
     // The starts of these segments.
     pub(crate) fn of(alloc: A, segments: &[Arc<Segment<A>, A>]) -> Result<Starts<A>, Memory>
         ensures { IfOk result (λ starts. (n : ℕ) → known_start starts n ≡ start_of (all_starts (map arc_value segments.now)) n) }
     {
-        let numbers = Numbers::of(segments);
-        let least = numbers.least;
-        let mut places = Vec::new(alloc);
-        places.resize(numbers.places(), None)?;
-        let mut others = Vec::with_capacity(alloc, numbers.without_places())?;
+        let Starts {
+            least,
+            mut places,
+            mut others,
+        } = Starts::none(alloc, &Numbers::of(segments))?;
         for segment in segments {
             note_all(least, &mut places, &mut others, segment.starts())?;
         }
@@ -78,13 +110,25 @@ struct Numbers {
 }
 
 impl Numbers {
-    // Those of the starts of these segments.
-    fn of<A: Allocator + Copy>(segments: &[Arc<Segment<A>, A>]) -> Numbers {
-        let mut numbers = Numbers {
+    // Those of no starts.
+    fn none() -> Numbers {
+        Numbers {
             least: u64::MAX,
             greatest: 0,
             count: 0,
-        };
+        }
+    }
+
+    // Those of these starts.
+    fn among(starts: &[Start]) -> Numbers {
+        let mut numbers = Numbers::none();
+        numbers.add(starts);
+        numbers
+    }
+
+    // Those of the starts of these segments.
+    fn of<A: Allocator + Copy>(segments: &[Arc<Segment<A>, A>]) -> Numbers {
+        let mut numbers = Numbers::none();
         for segment in segments {
             numbers.add(segment.starts());
         }

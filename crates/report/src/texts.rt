@@ -2,6 +2,7 @@
 
 ghost use Rattle.std.specs.Prelude.{◌≡◌, IfOk};
 ghost use Rattle.scenarios.specs.Plan.{plan_of};
+ghost use Rattle.scenarios.specs.PlanView.{plan_in};
 ghost use Rattle.report.specs.Schedule.{schedule_text, HasALineForEachJob};
 ghost use Rattle.report.specs.Table.{table_text};
 ghost use Rattle.report.specs.Users.{users_text};
@@ -12,7 +13,8 @@ use crate::printing::ScheduleReport;
 use crate::schedule::rows_report;
 use crate::table::table_report;
 use crate::users::users_report;
-use checkpoints::Run;
+use checkpoints::{Run, plan_rows};
+use scenarios::Plan;
 use std::alloc::Allocator;
 use swf_text::Memory;
 
@@ -45,6 +47,21 @@ pub fn schedule_report<'a, A: Allocator + Copy>(
 {
     let rows = run.rows()?;
     Ok(ScheduleReport::new(alloc, name, version, rows)?)
+}
+
+/// The report on the schedule of a plan, simulated for it alone (`checkpoints::plan_rows`): its text is
+/// that of `schedule_text` for a run of the same table and scenario. Memory where a growth is refused.
+pub fn plan_report<'a, A: Allocator + Copy>(
+    alloc: A,
+    name: &str,
+    version: u64,
+    plan: &'a Plan<A>,
+) -> Result<ScheduleReport<'a, A>, Memory>
+    ensures text { IfOk result (λ text. text ≡ schedule_text name.now version (plan_in plan.now)) }
+    ensures lines { IfOk result (λ text. HasALineForEachJob name.now version (plan_in plan.now) text) }
+{
+    let report = ScheduleReport::new(alloc, name, version, plan_rows(alloc, plan)?)?;
+    Ok(report)
 }
 
 /// The numbers of a run over all its jobs: how many there are and were killed, how many entries

@@ -4,10 +4,9 @@ use Rattle.swf_text.specs.Entry.{LogEntry}
 use Rattle.scenarios.specs.Scenario.{Setting}
 use Rattle.scenarios.specs.Plan.{Plan, plan_of}
 use Rattle.scenarios.specs.PlanView.{PlanView, plan_in}
-use Rattle.scenarios.specs.SoundPlan.{IsPlan}
 use Rattle.checkpoints.specs.Cut.{IsShortCut}
-use Rattle.checkpoints.specs.Pieces.{all_in, segment_of, IsNotedIn}
-use Rattle.checkpoints.proofs.Worked.{cutting-first, cutting-piece, cutting-down, cutting-chain, cut-done}
+use Rattle.checkpoints.specs.Pieces.{all_in}
+use Rattle.checkpoints.proofs.Worked.{cutting-first, cut-done}
 use Rattle.checkpoints.proofs.simulation.worked.Goals as goal
 
 pub segments-init : goal.segments-init
@@ -17,31 +16,17 @@ segments-init g c =
     (ap (λ (log : List LogEntry). plan_of log c.scenario.result) (c.in_ok-clone.ensures.cases ∙ c.table.ensures.table) ∙ ap (λ (s : Setting). plan_of c.args.plan.now.log s) c.scenario.ensures.scenario ∙ ap plan_in (sym c.view-view.ensures.same))
     (ap (all_in plan) c.new-segments.ensures)
 
-pub next_piece-requires-clause-going : goal.next_piece-requires-clause-going
-next_piece-requires-clause-going g c = c.segments.invariant.going
+pub add_next-requires-clause-cut : goal.add_next-requires-clause-cut
+add_next-requires-clause-cut g c = c.segments.invariant
 
-pub next_piece-requires-clause-coming : goal.next_piece-requires-clause-coming
-next_piece-requires-clause-coming g c = c.comes_before.ensures.comes.0 c.segments-test.true
-
-pub add-requires-clause-chain : goal.add-requires-clause-chain
-add-requires-clause-chain g c =
-    let plan : Plan = plan_in c.view-view.result in
-    cutting-chain plan c.args.spacing c.segments.engine c.next_piece.new.engine (all_in plan c.segments.segments) c.in_ok-piece.piece c.segments.invariant c.in_ok-piece.ensures.spans
-
-pub add-requires-clause-noted : goal.add-requires-clause-noted
-add-requires-clause-noted g c = subst (λ (q : Plan). IsNotedIn q c.in_ok-piece.piece) c.segments.invariant.same c.in_ok-piece.ensures.noted
+pub add_next-requires-clause-coming : goal.add_next-requires-clause-coming
+add_next-requires-clause-coming g c = c.comes_before.ensures.comes.0 c.segments-test.true
 
 pub segments-preserved : goal.segments-preserved
-segments-preserved g c =
-    let plan : Plan = plan_in c.view-view.result in
-    cutting-piece plan c.args.spacing c.segments.engine c.next_piece.new.engine (all_in plan c.segments.segments) (all_in plan c.add.new.self) c.in_ok-piece.piece c.segments.invariant
-    c.in_ok-piece.ensures.run c.in_ok-piece.ensures.spans c.in_ok-piece.ensures.events c.in_ok-add.ensures
+segments-preserved g c = c.in_ok-add_next.ensures.cut
 
 pub segments-smaller : goal.segments-smaller
-segments-smaller g c =
-    let plan : Plan = plan_in c.view-view.result in
-    let p : IsPlan plan = subst (λ (v : PlanView). IsPlan (plan_in v)) (sym c.view-view.ensures.same) c.view-view.ensures.sound in
-    cutting-down plan c.segments.engine c.next_piece.new.engine (segment_of c.segments.engine.plan c.in_ok-piece.piece) p c.segments.invariant.same c.in_ok-piece.ensures.spans
+segments-smaller g c = c.in_ok-add_next.ensures.nearer
 
 pub returns-clause-cut : goal.returns-clause-cut
 returns-clause-cut g c =

@@ -2,7 +2,7 @@ use Rattle.std.proofs.Common.{◌+◌, ◌-◌}
 use Rattle.scenarios.specs.PlanView.{plan_in}
 use Rattle.easy_rule.specs.Simulation.{bound}
 use Rattle.checkpoints.specs.Pieces.{all_in}
-use Rattle.checkpoints.proofs.Worked.{Cutting}
+use Rattle.checkpoints.specs.Worked.{Cutting}
 use Rattle.checkpoints.proofs.simulation.worked.Given as goal
 
 abbrev pub invariant-segments : goal.invariant-segments
