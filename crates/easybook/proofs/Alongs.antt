@@ -8,12 +8,13 @@ use Rattle.book_machine.specs.declared.settle_state.SettleState.{SettleState}
 use Rattle.book_machine.specs.Call.{BookCall, View}
 use Rattle.book_machine.specs.Machine.{Machine, reply_to, version}
 use Rattle.chronicle.specs.Events.{Happened, state_after}
+use Rattle.tasks.specs.Published.{PublishedView}
 use Rattle.version_book.specs.declared.faults.ViewFault.{ViewFault}
 use Rattle.version_book.specs.declared.faults.ViewFault.TheVariants as view
 use Rattle.version_book.specs.declared.refusal.Refusal.{Refusal}
 use Rattle.version_book.specs.declared.refusal.Refusal.TheVariants as why
 use Rattle.version_book.specs.Answers.{view_answer}
-use Rattle.version_book.specs.Book.{PublishedView, machine_of}
+use Rattle.version_book.specs.Book.{machine_of}
 use Rattle.version_book.specs.Steps.{Answer}
 use Rattle.workers.specs.Callers.{SessionView}
 use Rattle.workers.specs.History.{CalledAt, IsShownAt, Settles}

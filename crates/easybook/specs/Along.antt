@@ -9,10 +9,10 @@ use Rattle.book_machine.specs.declared.settle_state.SettleState.TheVariants as s
 use Rattle.book_machine.specs.Call.{BookCall, View}
 use Rattle.book_machine.specs.Machine.{Machine, version}
 use Rattle.chronicle.specs.Events.{Happened, IsLegalFrom, notes_of, state_after}
+use Rattle.tasks.specs.Published.{PublishedView}
 use Rattle.version_book.specs.declared.faults.ViewFault.{ViewFault}
 use Rattle.version_book.specs.declared.refusal.Refusal.{Refusal}
 use Rattle.version_book.specs.Answers.{view_answer}
-use Rattle.version_book.specs.Book.{PublishedView}
 use Rattle.version_book.specs.Steps.{Answer}
 use Rattle.workers.specs.declared.settled.Settled.{Settled}
 use Rattle.workers.specs.declared.settled.Settled.TheVariants as settled_as

@@ -1,42 +1,20 @@
-ghost use Rattle.std.specs.Prelude.{◌≡◌, ℕ, List, Option, None, IfOk, IfErr, map, slice_get};
+ghost use Rattle.std.specs.Prelude.{◌≡◌, ℕ, List, Option, None, map, slice_get};
 ghost use Rattle.scenarios.specs.Plan.{plan_of};
-ghost use Rattle.checkpoints.specs.Cut.{IsShortCut};
-ghost use Rattle.checkpoints.specs.Spacing.{spacing_limit};
 ghost use Rattle.easybook.specs.Opened.{IsOpened};
 ghost use Rattle.easybook.specs.Plain.{Prints, Answers};
 
 use crate::fault::ProgramFault;
 use crate::opened::opening_of;
 use crate::options::Options;
-use checkpoints::{MAX_SPACING, Run, RunFault, simulate};
 use commands::Opening;
 use job_table::JobTable;
-use report::schedule_report;
-use scenarios::Scenario;
+use report::plan_report;
+use scenarios::{Plan, Scenario};
 use std::alloc::Allocator;
 use std::io::Write;
 use std::marker::Sync;
 use std::sync::Arc;
 use std::thread::Threads;
-
-// The run of a table under a scenario. Nobody edits the log of a plain run, so its segments are as long
-// as they may be.
-fn run_of<A: Allocator + Copy>(
-    alloc: A,
-    table: JobTable<A>,
-    scenario: Scenario,
-) -> Result<Run<A>, ProgramFault>
-    ensures log { IfOk result (λ run. run.log ≡ table) }
-    ensures setting { IfOk result (λ run. run.setting ≡ scenario) }
-    ensures cut { IfOk result (λ run. IsShortCut (plan_of table scenario) spacing_limit run.segments) }
-    ensures memory { IfErr result (λ fault. fault ≡ ProgramFault.Memory) }
-{
-    match simulate(alloc, Arc::new(alloc, table)?, scenario, MAX_SPACING) {
-        Ok(run) => Ok(run),
-        Err(RunFault::Memory) => Err(ProgramFault::Memory),
-        Err(RunFault::BadSpacing) => unreachable!(),
-    }
-}
 
 // Writes the schedule of a table under a scenario of this name.
 fn write_under<W: Write, A: Allocator + Copy>(
@@ -48,8 +26,8 @@ fn write_under<W: Write, A: Allocator + Copy>(
 ) -> Result<(), ProgramFault>
     ensures { Prints name.now (plan_of table scenario) (W.contents writer.old) (W.contents writer.new) result }
 {
-    let run = run_of(alloc, table, scenario)?;
-    let report = schedule_report(alloc, name, 0, &run)?;
+    let plan = Plan::new(Arc::new(alloc, table)?, scenario);
+    let report = plan_report(alloc, name, 0, &plan)?;
     report.write(writer)?;
     Ok(())
 }

@@ -4,13 +4,13 @@ use Rattle.handover.specs.declared.parcel.Parcel.{Parcel}
 use Rattle.handover.specs.declared.parcel.Parcel.TheVariants as parcel
 
 module _ {Q R : Type 0} where
-  -- the question that the first parcel has
-  abbrev pub question_of : List (Parcel Q R) → Option Q
-  question_of [] = None
-  question_of (parcel.Question q ∷ later) = Some q
-  question_of (parcel.Answer r ∷ later) = None
+  -- the request that the first parcel has
+  abbrev pub request_of : List (Parcel Q R) → Option Q
+  request_of [] = None
+  request_of (parcel.Request q ∷ later) = Some q
+  request_of (parcel.Response r ∷ later) = None
 
-  -- an answer behind a question answers it
+  -- a response behind a request answers it
   abbrev pub MayFollow : (Q → R → Type 0) → List (Parcel Q R) → Parcel Q R → Type 0
-  MayFollow answers before (parcel.Question q) = Unit {0}
-  MayFollow answers before (parcel.Answer r) = (q : Q) → question_of before ≡ Some q → answers q r
+  MayFollow answers before (parcel.Request q) = Unit {0}
+  MayFollow answers before (parcel.Response r) = (q : Q) → request_of before ≡ Some q → answers q r

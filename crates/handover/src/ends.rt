@@ -1,92 +1,92 @@
 ghost use Rattle.std.specs.Prelude.{◌≡◌, Some, IfOk, IfSome};
 
-use crate::answer::Answer;
 use crate::parcel::{Answering, Parcel};
+use crate::response::Response;
 use rtrb::{Consumer, Producer, RingBuffer};
 use std::alloc::{AllocError, Allocator};
 use std::marker::Model;
 
-/// The end that gives an answer to its question.
+/// The end that sends a response to its request.
 #[derive(Drop)]
-pub struct Giver<Q, R: Answer<Q>, A: Allocator + Copy> {
+pub struct Sender<Q, R: Response<Q>, A: Allocator + Copy> {
     producer: Producer<Parcel<Q, R>, A, Answering>,
 }
 
-impl<Q, R: Answer<Q>, A: Allocator + Copy> Model for Giver<Q, R, A> {
+impl<Q, R: Response<Q>, A: Allocator + Copy> Model for Sender<Q, R, A> {
     ghost use Rattle.std.specs.Prelude.{Option};
     ghost use Rattle.rtrb.specs.Ring.{sent};
-    ghost use Rattle.handover.specs.Parcels.{question_of};
+    ghost use Rattle.handover.specs.Parcels.{request_of};
 
     ghost Value = { Option Q };
 
-    ghost view = { λ g. question_of (sent g.producer) };
+    ghost view = { λ s. request_of (sent s.producer) };
 }
 
-/// The end that takes the answer to its question.
+/// The end that receives the response to its request.
 #[derive(Drop)]
-pub struct Taker<Q, R: Answer<Q>, A: Allocator + Copy> {
-    question: Q,
-    // None once the answer was taken.
+pub struct Receiver<Q, R: Response<Q>, A: Allocator + Copy> {
+    request: Q,
+    // None once the response was received.
     consumer: Option<Consumer<Parcel<Q, R>, A, Answering>>,
 }
 
-impl<Q, R: Answer<Q>, A: Allocator + Copy> Model for Taker<Q, R, A> {
+impl<Q, R: Response<Q>, A: Allocator + Copy> Model for Receiver<Q, R, A> {
     ghost use Rattle.std.specs.Prelude.{◌≡◌, IfSome, Some};
     ghost use Rattle.rtrb.specs.Ring.{received};
-    ghost use Rattle.handover.specs.Parcels.{question_of};
+    ghost use Rattle.handover.specs.Parcels.{request_of};
 
     ghost Value = { Q };
 
-    ghost view = { λ t. t.question };
+    ghost view = { λ r. r.request };
 
-    ghost invariant = { λ t. IfSome t.consumer (λ c. question_of (received c) ≡ Some t.question) };
+    ghost invariant = { λ r. IfSome r.consumer (λ c. request_of (received c) ≡ Some r.request) };
 }
 
-/// Both ends for one question. AllocError where a growth was refused.
-pub fn open<Q: Drop, R: Answer<Q> + Drop, A: Allocator + Copy>(
+/// Both ends for one request. AllocError where a growth was refused.
+pub fn open<Q: Drop, R: Response<Q> + Drop, A: Allocator + Copy>(
     alloc: A,
-    question: Q,
-) -> Result<(Giver<Q, R, A>, Taker<Q, R, A>), AllocError>
-    ensures giver { IfOk result (λ ends. ends.0 ≡ Some question) }
-    ensures taker { IfOk result (λ ends. ends.1 ≡ question) }
+    request: Q,
+) -> Result<(Sender<Q, R, A>, Receiver<Q, R, A>), AllocError>
+    ensures sender { IfOk result (λ ends. ends.0 ≡ Some request) }
+    ensures receiver { IfOk result (λ ends. ends.1 ≡ request) }
 {
     let (mut producer, mut consumer) = RingBuffer::with_protocol::<A, Answering>(alloc, 1)?;
-    producer.push_reserved(Parcel::Question(question));
+    producer.push_reserved(Parcel::Request(request));
     consumer.slots_beside(&mut producer);
-    let Parcel::Question(question) = consumer.pop_known() else {
+    let Parcel::Request(request) = consumer.pop_known() else {
         unreachable!()
     };
     let consumer = Some(consumer);
-    Ok((Giver { producer }, Taker { question, consumer }))
+    Ok((Sender { producer }, Receiver { request, consumer }))
 }
 
-impl<Q: Drop, R: Answer<Q> + Drop, A: Allocator + Copy> Giver<Q, R, A> {
-    /// Gives an answer. Where one was given that is not taken yet, this one is dropped.
-    pub fn give(&mut self, answer: R)
-        requires { IfSome self.old (λ q. R.answers q answer) }
+impl<Q: Drop, R: Response<Q> + Drop, A: Allocator + Copy> Sender<Q, R, A> {
+    /// Sends a response. Where one was sent that is not received yet, this one is dropped.
+    pub fn send(&mut self, response: R)
+        requires { IfSome self.old (λ q. R.answers q response) }
         ensures { self.new ≡ self.old }
     {
-        let _ = self.producer.push(Parcel::Answer(answer));
+        let _ = self.producer.push(Parcel::Response(response));
     }
 }
 
-impl<Q: Drop, R: Answer<Q> + Drop, A: Allocator + Copy> Taker<Q, R, A> {
-    /// The question.
-    pub fn question(&self) -> &Q
+impl<Q: Drop, R: Response<Q> + Drop, A: Allocator + Copy> Receiver<Q, R, A> {
+    /// The request.
+    pub fn request(&self) -> &Q
         ensures { result.now ≡ self.now }
     {
-        &self.question
+        &self.request
     }
 
-    /// The answer, once it was given, and once only. No clause says that it has come.
-    pub fn take(&mut self) -> Option<R>
-        ensures answer { IfSome result (R.answers self.old) }
-        ensures question { self.new ≡ self.old }
+    /// The response, once it was sent, and once only. No clause says that it has come.
+    pub fn receive(&mut self) -> Option<R>
+        ensures response { IfSome result (R.answers self.old) }
+        ensures request { self.new ≡ self.old }
     {
-        let Ok(Parcel::Answer(answer)) = self.consumer.as_mut()?.pop() else {
+        let Ok(Parcel::Response(response)) = self.consumer.as_mut()?.pop() else {
             return None;
         };
         self.consumer = None;
-        Some(answer)
+        Some(response)
     }
 }

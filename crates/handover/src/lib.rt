@@ -1,10 +1,10 @@
-//! One answer, handed over: what is taken at one end answers the question that was asked when both ends
-//! were made.
+//! One response, handed over: what is received at one end answers the request that was made when both ends
+//! were.
 #![tactic(auto)]
 
-mod answer;
 mod ends;
 mod parcel;
+mod response;
 
-pub use answer::Answer;
-pub use ends::{Giver, Taker, open};
+pub use ends::{Receiver, Sender, open};
+pub use response::Response;

@@ -1,18 +1,18 @@
 ghost use Rattle.handover.specs.Parcels.{MayFollow};
 
-use crate::answer::Answer;
+use crate::response::Response;
 use rtrb::Protocol;
 
-// What goes from one end to the other: first the question, which is taken at once, and then an answer.
+// What goes from one end to the other: first the request, which is received at once, and then a response.
 #[derive(Drop)]
 pub(crate) enum Parcel<Q, R> {
-    Question(Q),
-    Answer(R),
+    Request(Q),
+    Response(R),
 }
 
-// The answers behind a question answer it.
+// The responses behind a request answer it.
 pub(crate) struct Answering;
 
-impl<Q, R: Answer<Q>> Protocol<Parcel<Q, R>> for Answering {
+impl<Q, R: Response<Q>> Protocol<Parcel<Q, R>> for Answering {
     ghost allows = { MayFollow R.answers };
 }

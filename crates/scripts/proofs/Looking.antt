@@ -14,12 +14,13 @@ use Rattle.book_machine.specs.declared.caller.Caller.{Caller}
 use Rattle.book_machine.specs.declared.reply.Reply.TheVariants as reply
 use Rattle.book_machine.specs.Call.{View}
 use Rattle.book_machine.specs.Machine.{Machine, Progress, progress_of, reply_to, view_reply, view_reply_at}
+use Rattle.tasks.specs.Published.{PublishedView}
 use Rattle.version_book.specs.declared.faults.ViewFault.{ViewFault}
 use Rattle.version_book.specs.declared.faults.ViewFault.TheVariants as view
 use Rattle.version_book.specs.declared.refusal.Refusal.{Refusal}
 use Rattle.version_book.specs.declared.refusal.Refusal.TheVariants as why
 use Rattle.version_book.specs.Answers.{view_answer}
-use Rattle.version_book.specs.Book.{BookView, PublishedView, ShownView, progress_of_shown, machine_of}
+use Rattle.version_book.specs.Book.{BookView, ShownView, progress_of_shown, machine_of}
 use Rattle.version_book.specs.Lookups.{has_id}
 use Rattle.version_book.specs.Sound.{IsBook}
 use Rattle.version_book.specs.Steps.{Answers as Answered}

@@ -9,8 +9,10 @@ use Rattle.book_machine.specs.declared.reply.Reply.TheVariants as reply
 use Rattle.book_machine.specs.Call.{Claim}
 use Rattle.book_machine.specs.Machine.{Machine, Progress, Ticket, version, due, are_all_out, is_due, after, changed, closed, publish, note_limit}
 use Rattle.checkpoints.specs.RunView.{RunView}
-use Rattle.version_book.specs.Book.{BookView, StateView, ShownView, TicketView, machine_of, progress_of_shown}
-use Rattle.version_book.specs.Tasks.{TaskView, Fits, HasThoseOf, IsOut, due_shown, free_due, task_for, ticket_for}
+use Rattle.tasks.specs.Tasks.{TaskView, ticket_for}
+use Rattle.tasks.specs.Tickets.{HasThoseOf, TicketView}
+use Rattle.version_book.specs.Book.{BookView, StateView, ShownView, machine_of, progress_of_shown}
+use Rattle.version_book.specs.Tasks.{Fits, IsOut, due_shown, free_due, task_for}
 use Rattle.version_book.proofs.Lemmas.{find-map}
 use Rattle.scripts.specs.declared.settling.Turn.{Turn}
 use Rattle.scripts.specs.declared.settling.Turn.TheVariants as turn

@@ -12,8 +12,8 @@ use Rattle.commands.specs.Commands.{command_of_line}
 use Rattle.book_machine.specs.declared.reply.Reply.{Reply}
 use Rattle.book_machine.specs.declared.settle_state.SettleState.{SettleState}
 use Rattle.book_machine.specs.Call.{BookCall, Edit, AddScenario, DropScenario, Retry, View}
+use Rattle.tasks.specs.Published.{PublishedView}
 use Rattle.version_book.specs.Answers.{view_answer}
-use Rattle.version_book.specs.Book.{PublishedView}
 use Rattle.version_book.specs.Names.{refusal_name, view_fault_name}
 use Rattle.version_book.specs.Steps.{Answer}
 use Rattle.version_book.specs.declared.faults.ViewFault.{ViewFault}

@@ -3,7 +3,7 @@ use Rattle.std.specs.Prelude.{◌≡◌, ℕ, Option, None, Some, Result, Ok, Er
 use Rattle.scenarios.specs.ScenarioList.{Listed, id_of}
 use Rattle.book_machine.specs.Call.{BookCall}
 use Rattle.book_machine.specs.Machine.{Machine, current, settled, version, note_limit}
-use Rattle.version_book.specs.Book.{PublishedView}
+use Rattle.tasks.specs.Published.{PublishedView}
 use Rattle.version_book.specs.Steps.{Answer, full, memory, told}
 use Rattle.version_book.specs.declared.faults.ViewFault.{ViewFault}
 use Rattle.version_book.specs.declared.faults.ViewFault.TheVariants as view

@@ -5,7 +5,8 @@ use Rattle.commands.specs.declared.fault.CommandFault.{CommandFault}
 use Rattle.book_machine.specs.declared.reply.Reply.TheVariants as reply
 use Rattle.book_machine.specs.Call.{View}
 use Rattle.book_machine.specs.Machine.{reply_to}
-use Rattle.version_book.specs.Book.{BookView, PublishedView, machine_of}
+use Rattle.tasks.specs.Published.{PublishedView}
+use Rattle.version_book.specs.Book.{BookView, machine_of}
 use Rattle.version_book.specs.Sound.{IsBook}
 use Rattle.version_book.specs.Tasks.{IsShownFor}
 use Rattle.version_book.specs.declared.faults.ViewFault.{ViewFault}

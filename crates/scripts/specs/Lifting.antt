@@ -2,9 +2,9 @@
 use Rattle.std.specs.Prelude.{◌≡◌, ℕ, List, Option, Result}
 use Rattle.book_machine.specs.declared.settle_state.SettleState.{SettleState}
 use Rattle.book_machine.specs.Call.{BookCall}
+use Rattle.tasks.specs.Published.{PublishedView}
 use Rattle.version_book.specs.declared.faults.ViewFault.{ViewFault}
 use Rattle.version_book.specs.declared.refusal.Refusal.{Refusal}
-use Rattle.version_book.specs.Book.{PublishedView}
 use Rattle.version_book.specs.Steps.{Answer}
 use Rattle.scripts.specs.Analysts.{IsViewed, LinesBy}
 use Rattle.scripts.specs.Rules.{Moment, Rules}

@@ -7,11 +7,11 @@ use Rattle.checkpoints.specs.RunView.{IsRun}
 use Rattle.book_machine.specs.declared.reply.Reply.TheVariants as reply
 use Rattle.book_machine.specs.Call.{View}
 use Rattle.book_machine.specs.Machine.{Machine, note_limit}
+use Rattle.tasks.specs.Published.{PublishedView}
 use Rattle.version_book.specs.declared.faults.ViewFault.{ViewFault}
 use Rattle.version_book.specs.declared.faults.ViewFault.TheVariants as view
 use Rattle.version_book.specs.declared.refusal.Refusal.{Refusal}
 use Rattle.version_book.specs.declared.refusal.Refusal.TheVariants as why
-use Rattle.version_book.specs.Book.{PublishedView}
 use Rattle.version_book.specs.Names.{refusal_name, view_fault_name}
 use Rattle.scripts.specs.declared.views.Beside.{Beside}
 use Rattle.scripts.specs.declared.views.Beside.TheVariants as beside

@@ -5,9 +5,9 @@ use Rattle.swf_text.specs.Entry.{LogEntry}
 use Rattle.scenarios.specs.ScenarioList.{Listing}
 use Rattle.book_machine.specs.declared.settle_state.SettleState.{SettleState}
 use Rattle.book_machine.specs.Call.{BookCall}
+use Rattle.tasks.specs.Published.{PublishedView}
 use Rattle.version_book.specs.declared.faults.ViewFault.{ViewFault}
 use Rattle.version_book.specs.declared.refusal.Refusal.{Refusal}
-use Rattle.version_book.specs.Book.{PublishedView}
 use Rattle.version_book.specs.Steps.{Answer}
 use Rattle.scripts.specs.declared.analyst.Reading.{Reading}
 

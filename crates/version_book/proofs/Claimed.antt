@@ -7,12 +7,13 @@ use Rattle.std.proofs.lemmas.Bool.{eq-eqb, ne_eqb}
 use Rattle.book_machine.specs.Machine.{Machine, opened}
 use Rattle.book_machine.specs.Sound.{IsClaim, IsSound as IsSoundMachine}
 use Rattle.book_machine.proofs.Lemmas.{sound-opened, sound_after}
+use Rattle.tasks.specs.Tasks.{TaskView, ticket_for}
+use Rattle.tasks.specs.Tickets.{TicketView, has_number}
 use Rattle.version_book.specs.declared.faults.TooManyTickets.{TooManyTickets}
 use Rattle.version_book.specs.declared.refusal.Refusal.{Refusal}
-use Rattle.version_book.specs.Book.{BookView, StateView, ShownView, TicketView, ticket_of_view, machine_of}
-use Rattle.version_book.specs.Lookups.{has_number}
+use Rattle.version_book.specs.Book.{BookView, StateView, ShownView, ticket_of_view, machine_of}
 use Rattle.version_book.specs.Sound.{IsBook}
-use Rattle.version_book.specs.Tasks.{IsOut, TaskView, due_shown, task_for, ticket_for}
+use Rattle.version_book.specs.Tasks.{IsOut, due_shown, task_for}
 
 none-from : (m : Machine) (n : ℕ) (ts : List TicketView) → AllByRecursion (IsClaim m) (map ticket_of_view ts) → m.next_ticket ≤ n → find (has_number n) ts ≡ None
 none-from m n [] all le = refl

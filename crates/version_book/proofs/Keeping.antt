@@ -4,7 +4,8 @@ use Rattle.std.specs.Prelude.{Option, None, Some, find, filter}
 use Rattle.std.proofs.lemmas.Bool.{eqb-true}
 use Rattle.book_machine.specs.declared.reply.Reply.{Reply}
 use Rattle.book_machine.specs.declared.reply.Reply.TheVariants as reply
-use Rattle.version_book.specs.Book.{PublishedView, ShownView, StateView}
+use Rattle.tasks.specs.Published.{PublishedView}
+use Rattle.version_book.specs.Book.{ShownView, StateView}
 use Rattle.version_book.specs.Lookups.{has_id, published_for, publishing, with_change}
 use Rattle.version_book.specs.Steps.{KeepsRuns}
 

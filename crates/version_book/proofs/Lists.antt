@@ -1,9 +1,8 @@
 -- Tests, look-ups and counts over a mapped list.
-use Rattle.std.proofs.Common.{◌≡◌, ℕ, ◌≤◌, ◌<◌, ◌||◌, length, List, [], ◌∷◌, map, zero, suc, get_or, refl, sym, ◌∙◌, ap, subst, Bool, true, false, cond, arith}
+use Rattle.std.proofs.Common.{◌≡◌, ◌≤◌, ◌||◌, length, List, [], ◌∷◌, map, refl, ap, subst, Bool, true, false, cond, arith}
 use Rattle.std.specs.Prelude.{Some, find, filter, count_by}
-use Rattle.std.specs.List.{list_any, position, All}
+use Rattle.std.specs.List.{list_any, All}
 use Rattle.std.specs.Option.{option_map}
-use Rattle.std.proofs.lemmas.List.Quantifiers.{position-Some}
 use Rattle.std.proofs.lemmas.List.Sums.{sum_by-cons, length-filter, count_by-le-length}
 use Rattle.std.proofs.lemmas.List.Elements.{All-head, All-tail}
 
@@ -42,12 +41,3 @@ find-All P p (x ∷ xs) y all is = found-here P p x xs y (p x) (All-head P x xs 
 
 pub length-filter-le : {X : Type 0} (p : X → Bool) (xs : List X) → length (filter p xs) ≤ length xs
 length-filter-le p xs = omega (arith, length-filter p xs, count_by-le-length p xs)
-
--- what is found is what stands at the first place whose test holds
-pub find-at : {X : Type 0} (p : X → Bool) (xs : List X) (i : ℕ) (d : X) → i < length xs → p (get_or xs i d) ≡ true → ((k : ℕ) → k < i → p (get_or xs k d) ≡ false) → find p xs ≡ Some (get_or xs i d)
-find-at p [] i d lt is before = absurd (omega arith)
-find-at p (x ∷ xs) zero d lt is before = ap (λ (b : Bool). cond b (Some x) (find p xs)) is
-find-at p (x ∷ xs) (suc i) d lt is before = ap (λ (b : Bool). cond b (Some x) (find p xs)) (before 0 (omega arith)) ∙ find-at p xs i d (omega arith) is (λ k l. before (suc k) (omega arith))
-
-pub found-at : {X : Type 0} (p : X → Bool) (xs : List X) (i : ℕ) (x : X) → position p xs ≡ Some i → x ≡ get_or xs i x → find p xs ≡ Some x
-found-at p xs i x at is = let h = position-Some p xs i x at in find-at p xs i x h.0 h.1 h.2 ∙ ap Some (sym is)

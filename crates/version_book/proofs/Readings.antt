@@ -1,5 +1,5 @@
 -- What the book reads of where it stands, as the machine says it.
-use Rattle.std.proofs.Common.{◌≡◌, ℕ, ◌+◌, ◌≤◌, ◌<◌, ◌==◌, ◌&&◌, List, [], ◌∷◌, ◌++◌, length, map, drop, suc, zero, refl, sym, ◌∙◌, ap, ap₂, subst, Bool, true, false, not, cond, arith}
+use Rattle.std.proofs.Common.{◌≡◌, ℕ, ◌+◌, ◌≤◌, ◌<◌, ◌==◌, ◌&&◌, List, [], ◌∷◌, ◌++◌, length, map, drop, refl, sym, ◌∙◌, ap, ap₂, subst, Bool, true, false, not, cond, arith}
 use Rattle.std.specs.Prelude.{Option, None, Some, Ok, Err, IfSome, find, count_by, nat_le}
 use Rattle.std.specs.List.{list_any}
 use Rattle.std.specs.Option.{option_map}
@@ -10,15 +10,15 @@ use Rattle.swf_text.specs.Entry.{LogEntry}
 use Rattle.job_table.specs.Edit.{LogEdit, log_after}
 use Rattle.job_table.specs.Accepted.{AreAccepted}
 use Rattle.scenarios.specs.Scenario.{Setting}
-use Rattle.checkpoints.specs.RunView.{RunView}
 use Rattle.book_machine.specs.declared.settle_state.SettleState.{SettleState}
 use Rattle.book_machine.specs.declared.settle_state.SettleState.TheVariants as settle
 use Rattle.book_machine.specs.Machine.{Progress, is_good, is_waiting, settled}
-use Rattle.version_book.specs.Book.{PublishedView, ShownView, TicketView, StateView, machine_at, progress_of_shown, ticket_of_view}
+use Rattle.tasks.specs.Published.{PublishedView}
+use Rattle.tasks.specs.Tasks.{BaseView, IsTask, LeadsTo, TaskView, base_since, bases_since, ticket_for}
+use Rattle.tasks.specs.Tickets.{TicketView}
+use Rattle.version_book.specs.Book.{ShownView, StateView, machine_at, progress_of_shown, ticket_of_view}
 use Rattle.version_book.specs.Sound.{IsSound, IsOfItsVersion}
-use Rattle.version_book.specs.Tasks.{BaseView, TaskView, IsTask, LeadsTo, base_since, bases_since, due_shown, free_due, task_for, ticket_for, IsNext, IsMade}
-use Rattle.scenarios.specs.Plan.{plan_of}
-use Rattle.checkpoints.specs.Cut.{IsShortCut}
+use Rattle.version_book.specs.Tasks.{due_shown, free_due, task_for, IsNext}
 use Rattle.version_book.specs.Steps.{Does, IsStep}
 use Rattle.version_book.specs.Answers.{claim_answer}
 use Rattle.version_book.specs.declared.faults.TooManyTickets.{TooManyTickets}
@@ -30,11 +30,6 @@ use Rattle.version_book.specs.Lookups.{is_mark, is_behind, is_awaited, is_due_at
 use Rattle.version_book.proofs.Lists.{list_any-map, count-map}
 use Rattle.version_book.proofs.Logs.{AreAccepted-since, log_after-since}
 use Rattle.version_book.proofs.WorkerSteps.{due-shown, found-run, claim-idle, claim-busy, claim-given}
-
-pub drop-map : {X Y : Type 0} (f : X → Y) (n : ℕ) (xs : List X) → drop n (map f xs) ≡ map f (drop n xs)
-drop-map f zero xs = refl
-drop-map f (suc n) [] = refl
-drop-map f (suc n) (x ∷ xs) = drop-map f n xs
 
 -- ---- how far all scenarios are
 
@@ -88,9 +83,6 @@ pub free-with : {s w : StateView} (v : ℕ) (o : Option ShownView) (r : Option �
 free-with {s} {w} v o r is lt v_is find_is r_is = subst (λ (u : StateView). r ≡ free_due u) is (r_is ∙ free-due s o lt (ap (λ (n : ℕ). find (is_due_at n s.tickets) s.shown) (sym v_is) ∙ find_is))
 
 -- ---- a task
-
-pub base-is : (p : PublishedView) (es : List LogEdit) (v : ℕ) (run : RunView) (fs : List LogEdit) → v ≡ p.version → run ≡ p.run → fs ≡ drop p.version es → record { version = v; run = run; edits = fs } ≡ base_since es p
-base-is p es v run fs v_is run_is fs_is = cc
 
 base-leads : (s : StateView) (under : Setting) (p : PublishedView) → IsSound s → IsOfItsVersion s.opening s.edits under p → LeadsTo s.current under (base_since s.edits p)
 base-leads s under p h of = record {
@@ -159,10 +151,3 @@ claim-left {s} {new} task left is step = subst (λ (k : TaskView). IsStep s new 
 
 pub next-none : {s w : StateView} (v : ℕ) → s ≡ w → v ≡ length s.edits → find (is_due_at v s.tickets) s.shown ≡ None → due_shown w ≡ None
 next-none {s} {w} v seen v_is is = subst (λ (u : StateView). due_shown u ≡ None) seen (due-with s v None v_is is)
-
--- ---- the run of a task
-
-pub made-anew : {s w : TaskView} (log : List LogEntry) (run : RunView) → s ≡ w → s.base ≡ None → log ≡ s.log → IsShortCut (plan_of log s.setting) s.spacing run.segments → IsMade w w.base run None
-made-anew {s} {w} log run seen none log_is cut =
-    let there : IsShortCut (plan_of s.log s.setting) s.spacing run.segments = subst (λ (l : List LogEntry). IsShortCut (plan_of l s.setting) s.spacing run.segments) log_is cut in
-    subst (λ (t : TaskView). IsMade t t.base run None) seen (subst (λ (o : Option BaseView). IsMade s o run None) (sym none) there)

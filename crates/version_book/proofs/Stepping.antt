@@ -16,10 +16,11 @@ use Rattle.scenarios.specs.Name.{is_name}
 use Rattle.book_machine.specs.declared.reply.Reply.{Reply}
 use Rattle.book_machine.specs.Call.{BookCall}
 use Rattle.book_machine.specs.Machine.{Progress, Ticket, changed, progress_of, published_of, ticket_of, reply_to, changed_by}
-use Rattle.version_book.specs.Book.{ShownView, TicketView, StateView, machine_at, progress_of_shown, ticket_of_view, published_version}
+use Rattle.tasks.specs.Tickets.{TicketView, has_number}
+use Rattle.version_book.specs.Book.{ShownView, StateView, machine_at, progress_of_shown, ticket_of_view, published_version}
 use Rattle.version_book.specs.Sound.{IsSound, IsOfItsVersion, IsTicketOfItsVersion, IsTicketOfItsScenario, AreListed, Under, under_of_listed, under_of_shown}
 use Rattle.version_book.specs.Steps.{Answer, Does, IsStep, opening_state}
-use Rattle.version_book.specs.Lookups.{has_id, has_number, with_change, version_shown}
+use Rattle.version_book.specs.Lookups.{has_id, with_change, version_shown}
 use Rattle.version_book.proofs.Keeping.{keeps-same}
 use Rattle.version_book.proofs.Lists.{find-map}
 

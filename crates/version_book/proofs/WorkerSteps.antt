@@ -12,7 +12,9 @@ use Rattle.book_machine.specs.declared.reply.Reply.{Reply}
 use Rattle.book_machine.specs.declared.reply.Reply.TheVariants as reply
 use Rattle.book_machine.specs.Call.{Claim, Finish, GiveUp}
 use Rattle.book_machine.specs.Machine.{Machine, Progress, Ticket, version, is_below, is_due, due, are_all_out, changed, closed, publish, marked, finish_reply_at, ticket_of}
-use Rattle.version_book.specs.Book.{PublishedView, ShownView, TicketView, StateView, machine_at, progress_of_shown, ticket_of_view, published_version}
+use Rattle.tasks.specs.Published.{PublishedView}
+use Rattle.tasks.specs.Tickets.{HasThoseOf, TicketView, has_number}
+use Rattle.version_book.specs.Book.{ShownView, StateView, machine_at, progress_of_shown, ticket_of_view, published_version}
 use Rattle.version_book.specs.Sound.{IsSound, IsOfItsVersion, IsTicketOfItsVersion, IsTicketOfItsScenario}
 use Rattle.version_book.specs.Steps.{Does, IsStep, Publishes}
 use Rattle.version_book.specs.Answers.{TellsFit, TellsStanding, finish_answer, fitted, told_of_run}
@@ -20,8 +22,8 @@ use Rattle.version_book.specs.declared.faults.FinishFault.{FinishFault}
 use Rattle.version_book.specs.declared.faults.FinishFault.TheVariants as finish
 use Rattle.version_book.specs.declared.refusal.Refusal.{Refusal}
 use Rattle.version_book.specs.declared.refusal.Refusal.TheVariants as why
-use Rattle.version_book.specs.Tasks.{Fits, HasThoseOf, PublishesFitting, Stands, due_shown}
-use Rattle.version_book.specs.Lookups.{has_id, has_number, is_mark, is_due_at, marking, publishing, version_shown, with_change}
+use Rattle.version_book.specs.Tasks.{Fits, PublishesFitting, Stands, due_shown}
+use Rattle.version_book.specs.Lookups.{has_id, is_mark, is_due_at, marking, publishing, version_shown, with_change}
 use Rattle.version_book.proofs.Keeping.{keeps-change, keeps-put, keeps-same}
 use Rattle.version_book.proofs.Lists.{find-map, filter-map, list_any-map, find-All, length-filter-le}
 use Rattle.version_book.proofs.Logs.{log_at-now}

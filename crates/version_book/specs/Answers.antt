@@ -10,6 +10,8 @@ use Rattle.book_machine.specs.declared.reply.Reply.{Reply}
 use Rattle.book_machine.specs.declared.reply.Reply.TheVariants as reply
 use Rattle.book_machine.specs.Call.{Finish}
 use Rattle.book_machine.specs.Machine.{note_limit}
+use Rattle.tasks.specs.Published.{PublishedView}
+use Rattle.tasks.specs.Tasks.{TaskView}
 use Rattle.version_book.specs.declared.refusal.Refusal.{Refusal}
 use Rattle.version_book.specs.declared.refusal.Refusal.TheVariants as why
 use Rattle.version_book.specs.declared.faults.ViewFault.{ViewFault}
@@ -18,9 +20,8 @@ use Rattle.version_book.specs.declared.faults.TooManyTickets.{TooManyTickets}
 use Rattle.version_book.specs.declared.faults.FinishFault.{FinishFault}
 use Rattle.version_book.specs.declared.faults.FinishFault.TheVariants as finish
 use Rattle.version_book.specs.declared.faults.UnknownTicket.{UnknownTicket}
-use Rattle.version_book.specs.Book.{PublishedView, BookView}
+use Rattle.version_book.specs.Book.{BookView}
 use Rattle.version_book.specs.Steps.{Answer, Answers, full, memory, told}
-use Rattle.version_book.specs.Tasks.{TaskView}
 
 -- what a call returns, by the replies for its value and for its fault
 abbrev pub answer_of : {T F : Type 0} → (T → Reply) → (F → Reply) → Result T (Refusal F) → Answer

@@ -5,14 +5,10 @@ use Rattle.swf_text.specs.Entry.{LogEntry}
 use Rattle.job_table.specs.Edit.{LogEdit}
 use Rattle.scenarios.specs.Scenario.{Setting}
 use Rattle.scenarios.specs.ScenarioList.{Listing}
-use Rattle.checkpoints.specs.RunView.{RunView}
 use Rattle.book_machine.specs.Machine.{Machine, Progress, Ticket}
 use Rattle.book_machine.specs.History.{Noted}
-
--- a run, and the version of whose log it is
-pub record PublishedView : Type 0 where
-  pub version : ℕ
-  pub run : RunView
+use Rattle.tasks.specs.Published.{PublishedView}
+use Rattle.tasks.specs.Tickets.{TicketView}
 
 -- a scenario: its id, what a log is simulated under, what is published for it, and the version at which it was given up
 pub record ShownView : Type 0 where
@@ -20,14 +16,6 @@ pub record ShownView : Type 0 where
   pub setting : Setting
   pub published : Option PublishedView
   pub mark : Option ℕ
-
--- a standing ticket, with the log and the setting that its run is to have
-pub record TicketView : Type 0 where
-  pub number : ℕ
-  pub id : ℕ
-  pub version : ℕ
-  pub log : List LogEntry
-  pub setting : Setting
 
 -- The spacing of runs; the log that was opened, that of the current version, and the edits between them; the scenarios
 -- by name, and what is shown of each; the standing tickets, and the number of the next.

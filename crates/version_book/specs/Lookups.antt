@@ -4,22 +4,17 @@ use Rattle.std.specs.List.{list_any, AllPairs}
 use Rattle.book_machine.specs.declared.settle_state.SettleState.{SettleState}
 use Rattle.book_machine.specs.declared.settle_state.SettleState.TheVariants as settle
 use Rattle.book_machine.specs.Machine.{is_below}
-use Rattle.version_book.specs.Book.{PublishedView, ShownView, TicketView, published_version}
+use Rattle.tasks.specs.Published.{PublishedView}
+use Rattle.tasks.specs.Tickets.{TicketView, is_out}
+use Rattle.version_book.specs.Book.{ShownView, published_version}
 
 abbrev pub has_id : ℕ → ShownView → Bool
 has_id id x = x.id == id
-
-abbrev pub has_number : ℕ → TicketView → Bool
-has_number number t = t.number == number
 
 -- a mark of this version
 abbrev pub is_mark : Option ℕ → ℕ → Bool
 is_mark None v = false
 is_mark (Some mark) v = mark == v
-
--- a ticket of the scenario with this id stands at this version
-abbrev pub is_out : ℕ → ℕ → List TicketView → Bool
-is_out id v tickets = list_any (λ (t : TicketView). t.id == id && t.version == v) tickets
 
 -- the version is neither published, nor given up, nor claimed
 abbrev pub is_due_at : ℕ → List TicketView → ShownView → Bool

@@ -11,7 +11,9 @@ use Rattle.checkpoints.specs.RunView.{IsRun}
 use Rattle.checkpoints.specs.Spacing.{IsSpacing}
 use Rattle.book_machine.specs.Machine.{opened, note_limit}
 use Rattle.book_machine.specs.History.{IsLegal, after_all}
-use Rattle.version_book.specs.Book.{PublishedView, ShownView, TicketView, StateView, BookView, machine_of}
+use Rattle.tasks.specs.Published.{PublishedView}
+use Rattle.tasks.specs.Tickets.{TicketView}
+use Rattle.version_book.specs.Book.{ShownView, StateView, BookView, machine_of}
 
 -- ---- the runs
 

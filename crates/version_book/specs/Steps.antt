@@ -9,8 +9,10 @@ use Rattle.book_machine.specs.Call.{BookCall}
 use Rattle.book_machine.specs.Machine.{reply_to, changed_by, after, note_limit}
 use Rattle.book_machine.specs.History.{Noted}
 use Rattle.checkpoints.specs.RunView.{RunView}
-use Rattle.version_book.specs.Book.{PublishedView, TicketView, StateView, BookView, machine_at, machine_of}
-use Rattle.version_book.specs.Lookups.{has_number, published_for, publishing, with_change}
+use Rattle.tasks.specs.Published.{PublishedView}
+use Rattle.tasks.specs.Tickets.{TicketView, has_number}
+use Rattle.version_book.specs.Book.{StateView, BookView, machine_at, machine_of}
+use Rattle.version_book.specs.Lookups.{published_for, publishing, with_change}
 use Rattle.version_book.specs.Sound.{IsSound}
 
 -- what a call returns: the journal is full, a growth was refused, or the reply that is noted

@@ -13,19 +13,18 @@ ghost use Rattle.version_book.specs.Tasks.{Fits, IsOut, IsShownFor, PublishesFit
 
 use crate::book::Book;
 use crate::journal::{is_full, note, reserve_note};
-use crate::published::Published;
 use crate::refusal::{
     AddRefusal, ClaimRefusal, DropRefusal, EditRefusal, FinishRefusal, GiveUpRefusal, RetryRefusal,
     ViewRefusal,
 };
 use crate::replies;
-use crate::task::Task;
 use book_machine::{Call, Caller, NotedEdit, NotedName};
 use checkpoints::Run;
 use job_table::Edit;
 use scenarios::{Scenario, ScenarioId};
 use std::alloc::Allocator;
 use std::sync::Arc;
+use tasks::{Published, Task};
 
 // The result of a call that finished a run which its task had left.
 fn of_left(told: Result<u64, FinishRefusal>) -> Result<Option<u64>, FinishRefusal>

@@ -4,19 +4,15 @@
 
 mod book;
 mod calls;
-mod delivery;
 mod faults;
 mod journal;
 mod lookups;
 mod named;
-mod published;
 mod refusal;
 mod replies;
 mod session_steps;
 mod shown;
 mod state;
-mod task;
-mod ticket;
 mod worker_steps;
 
 pub use book::Book;
@@ -24,9 +20,8 @@ pub use book_machine::{Call, Caller, Note, Reply, SettleState};
 pub use checkpoints::RunFault as BookFault;
 pub use faults::{FinishFault, TooManyTickets, UnknownTicket, ViewFault};
 pub use named::Named;
-pub use published::Published;
 pub use refusal::{
     AddRefusal, ClaimRefusal, DropRefusal, EditRefusal, FinishRefusal, GiveUpRefusal, Refusal,
     RetryRefusal, ViewRefusal,
 };
-pub use task::{Base, Task};
+pub use tasks::{Base, Published, Task};

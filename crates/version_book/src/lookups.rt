@@ -1,41 +1,20 @@
-// Look-ups among the scenarios and tickets of a book, of which there are at most 64 and 256.
-ghost use Rattle.std.specs.Prelude.{◌≡◌, ◌==◌, ◌&&◌, find, filter, count_by, not, IfSome, None, Some, option_copied, vec_capacity};
-ghost use Rattle.std.specs.Arc.{arc_value};
+// Look-ups among the scenarios of a book, of which there are at most 64.
+ghost use Rattle.std.specs.Prelude.{◌≡◌, find, filter, count_by, not, option_copied, vec_capacity};
 ghost use Rattle.std.specs.List.{list_any, position};
-ghost use Rattle.version_book.specs.Lookups.{AreApart, has_id, has_number, is_awaited, is_behind, is_due_at, is_out, marking, publishing, settled_at, unmarking, version_shown, with_change};
-ghost use Rattle.version_book.specs.Tasks.{HasThoseOf};
+ghost use Rattle.version_book.specs.Lookups.{AreApart, has_id, is_awaited, is_behind, is_due_at, marking, publishing, settled_at, unmarking, version_shown, with_change};
 
-use crate::published::Published;
 use crate::shown::Shown;
-use crate::ticket::Ticket;
 use book_machine::SettleState;
-use checkpoints::Run;
 use scenarios::ScenarioId;
 use std::alloc::Allocator;
-use std::sync::Arc;
+use tasks::tickets::is_out;
+use tasks::{Published, Ticket};
 
 // The scenario with this id.
 pub(crate) fn shown_of<A: Allocator + Copy>(shown: &[Shown<A>], id: ScenarioId) -> Option<&Shown<A>>
     ensures { option_copied result ≡ find (has_id id) shown.now }
 {
     shown.iter().find(move |x| x.has_id(id))
-}
-
-// The standing ticket with this number.
-pub(crate) fn ticket_of<A: Allocator + Copy>(
-    tickets: &[Ticket<A>],
-    number: u64,
-) -> Option<&Ticket<A>>
-    ensures { option_copied result ≡ find (has_number number) tickets.now }
-{
-    tickets.iter().find(move |t| t.has_number(number))
-}
-
-// Whether a ticket of the scenario stands at this version.
-fn is_out<A: Allocator + Copy>(tickets: &[Ticket<A>], id: ScenarioId, version: u64) -> bool
-    ensures { result ≡ is_out id version tickets.now }
-{
-    tickets.iter().any(move |t| t.is_of(id, version))
 }
 
 // Whether a run of the scenario is to be made at this version.
@@ -143,42 +122,6 @@ pub(crate) fn unmark<A: Allocator + Copy>(shown: &mut Vec<Shown<A>, A>, id: Scen
     if let Some(place) = place_of(shown, id) {
         shown[place].unmark();
     }
-}
-
-// The place of the ticket with this number.
-fn place_of_ticket<A: Allocator + Copy>(tickets: &[Ticket<A>], number: u64) -> Option<usize>
-    ensures { result ≡ position (has_number number) tickets.now }
-{
-    tickets.iter().position(move |t| t.has_number(number))
-}
-
-// The run that the task of the ticket with this number has left there.
-pub(crate) fn take_run<A: Allocator + Copy>(
-    tickets: &mut Vec<Ticket<A>, A>,
-    number: u64,
-) -> Option<Arc<Run<A>, A>>
-    ensures run { IfSome result (λ run. HasThoseOf (find (has_number number) tickets.old.items) (arc_value run)) }
-    ensures tickets { tickets.new.items ≡ tickets.old.items }
-    ensures capacity { vec_capacity tickets.new ≡ vec_capacity tickets.old }
-{
-    let place = place_of_ticket(tickets, number)?;
-    tickets[place].take_run()
-}
-
-// Closes the ticket with this number.
-pub(crate) fn close<A: Allocator + Copy>(tickets: &mut Vec<Ticket<A>, A>, number: u64)
-    ensures tickets { tickets.new.items ≡ filter (λ t. not (has_number number t)) tickets.old.items }
-    ensures capacity { vec_capacity tickets.new ≡ vec_capacity tickets.old }
-{
-    tickets.retain(move |t| !t.has_number(number));
-}
-
-// Closes the tickets of the scenario with this id.
-pub(crate) fn close_all<A: Allocator + Copy>(tickets: &mut Vec<Ticket<A>, A>, id: ScenarioId)
-    ensures tickets { tickets.new.items ≡ filter (λ t. not (t.id == id)) tickets.old.items }
-    ensures capacity { vec_capacity tickets.new ≡ vec_capacity tickets.old }
-{
-    tickets.retain(move |t| !t.is_for(id));
 }
 
 // Takes the scenario with this id out.

@@ -5,15 +5,14 @@ ghost use Rattle.version_book.specs.Answers.{edit_answer, add_answer, drop_answe
 ghost use Rattle.version_book.specs.Steps.{reply_in};
 
 use crate::faults::{FinishFault, TooManyTickets, UnknownTicket, ViewFault};
-use crate::published::Published;
 use crate::refusal::{
     AddRefusal, ClaimRefusal, DropRefusal, EditRefusal, FinishRefusal, GiveUpRefusal, RetryRefusal,
     ViewRefusal,
 };
-use crate::task::Task;
 use book_machine::Reply;
 use scenarios::{NoSuchScenario, ScenarioId};
 use std::alloc::Allocator;
+use tasks::{Published, Task};
 
 pub(crate) fn edit_reply(told: &Result<u64, EditRefusal>) -> Option<Reply>
     ensures { result ≡ reply_in (edit_answer told.now) }

@@ -9,8 +9,7 @@ ghost use Rattle.version_book.specs.Steps.{Does};
 ghost use Rattle.version_book.specs.Tasks.{IsShownFor};
 
 use crate::faults::ViewFault;
-use crate::lookups::{close_all, hide, shown_of, unmark};
-use crate::published::Published;
+use crate::lookups::{hide, shown_of, unmark};
 use crate::refusal::{AddRefusal, DropRefusal, EditRefusal, RetryRefusal, ViewRefusal};
 use crate::shown::Shown;
 use crate::state::State;
@@ -19,6 +18,8 @@ use scenarios::{NoSuchScenario, Scenario, ScenarioId};
 use std::alloc::Allocator;
 use std::sync::Arc;
 use swf_text::Memory;
+use tasks::Published;
+use tasks::tickets::close_all;
 
 // The table after an edit that is accepted. It shares all chunks of entries but those that the edit
 // touches.

@@ -3,10 +3,10 @@ ghost use Rattle.book_machine.specs.Machine.{is_below};
 ghost use Rattle.version_book.specs.Book.{published_version};
 ghost use Rattle.version_book.specs.Lookups.{has_id, is_mark, is_behind, is_awaited};
 
-use crate::published::Published;
 use scenarios::{Scenario, ScenarioId};
 use std::alloc::Allocator;
 use std::marker::Model;
+use tasks::Published;
 
 /// A scenario of the book: what is published for it, and the version at which its run was given up.
 #[derive(Drop)]

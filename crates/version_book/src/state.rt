@@ -7,7 +7,6 @@ ghost use Rattle.version_book.specs.Sound.{IsSound};
 
 use crate::lookups::{first_due, settled};
 use crate::shown::Shown;
-use crate::ticket::Ticket;
 use book_machine::SettleState;
 use checkpoints::{MAX_SPACING, RunFault};
 use job_table::{Edit, JobTable};
@@ -16,6 +15,7 @@ use std::alloc::Allocator;
 use std::marker::Model;
 use std::sync::Arc;
 use swf_text::ENTRY_LIMIT;
+use tasks::Ticket;
 
 /// The most tickets that stand at once.
 pub(crate) const TICKET_LIMIT: usize = 256;

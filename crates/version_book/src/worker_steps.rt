@@ -1,68 +1,26 @@
 // What the workers' calls change in the state of a book, and what they return.
-ghost use Rattle.std.specs.Prelude.{◌≡◌, ◌≤◌, ◌<◌, [], ◌∷◌, ◌++◌, length, map, option_copied, IfNone, IfOk, IfSome, Some, None, true};
+ghost use Rattle.std.specs.Prelude.{◌≡◌, ◌<◌, [], ◌∷◌, ◌++◌, IfNone, IfOk, IfSome, true};
 ghost use Rattle.std.specs.Option.{option_map};
 ghost use Rattle.std.specs.Arc.{arc_value};
-ghost use Rattle.job_table.specs.Edit.{edit_of};
 ghost use Rattle.book_machine.specs.Call.{Claim, Finish, GiveUp};
+ghost use Rattle.tasks.specs.Tasks.{ticket_for};
 ghost use Rattle.version_book.specs.Answers.{TellsFit, TellsStanding, claim_answer, finish_answer, fitted, give_up_answer};
 ghost use Rattle.version_book.specs.Sound.{IsOfItsVersion};
 ghost use Rattle.version_book.specs.Steps.{Does, Publishes};
-ghost use Rattle.version_book.specs.Tasks.{Fits, IsNext, PublishesFitting, Stands, base_since, bases_since, due_shown, task_for, ticket_for};
+ghost use Rattle.version_book.specs.Tasks.{Fits, IsNext, PublishesFitting, Stands, due_shown, task_for};
 
 use crate::faults::{FinishFault, TooManyTickets, UnknownTicket};
-use crate::lookups::{close, first_due, mark, publish, published_version, take_run, ticket_of};
-use crate::published::Published;
+use crate::lookups::{first_due, mark, publish, published_version};
 use crate::refusal::{ClaimRefusal, FinishRefusal, GiveUpRefusal};
 use crate::shown::{Shown, is_below};
 use crate::state::{State, TICKET_LIMIT};
-use crate::task::{Base, Task};
 use checkpoints::Run;
-use job_table::Edit;
-use scenarios::MAX_PROCS;
+use scenarios::{MAX_PROCS, Plan};
 use std::alloc::Allocator;
 use std::sync::Arc;
 use swf_text::Memory;
-
-// A copy of these edits.
-fn copies<A: Allocator + Copy>(alloc: A, edits: &[Edit<A>]) -> Result<Vec<Edit<A>, A>, Memory>
-    ensures { IfOk result (λ copies. map edit_of copies.items ≡ map edit_of edits.now) }
-{
-    let mut copies = Vec::with_capacity(alloc, edits.len())?;
-    for edit in edits {
-        copies.push(edit.copy()?)?;
-    }
-    Ok(copies)
-}
-
-// The base that a published run makes, with the edits since its version.
-fn base_since<A: Allocator + Copy>(
-    alloc: A,
-    published: &Published<A>,
-    edits: &[Edit<A>],
-) -> Result<Base<A>, Memory>
-    requires { published.now.version ≤ length edits.now }
-    ensures { IfOk result (λ base. base ≡ base_since (map edit_of edits.now) published.now) }
-{
-    let version = published.version();
-    let (_, later) = edits.split_at(version as usize);
-    let since = copies(alloc, later)?;
-    Ok(Base::new(version, published.run().clone()?, since))
-}
-
-// The same, where a run is published.
-fn base_of<A: Allocator + Copy>(
-    alloc: A,
-    published: Option<&Published<A>>,
-    edits: &[Edit<A>],
-) -> Result<Option<Base<A>>, Memory>
-    requires { IfSome (option_copied published) (λ p. p.version ≤ length edits.now) }
-    ensures { IfOk result (λ base. base ≡ bases_since (map edit_of edits.now) (option_copied published.entry)) }
-{
-    match published {
-        Some(published) => Ok(Some(base_since(alloc, published, edits)?)),
-        None => Ok(None),
-    }
-}
+use tasks::tickets::{close, take_run, ticket_of};
+use tasks::{Base, Published, Task};
 
 impl<A: Allocator + Copy> State<A> {
     // The task of a scenario at the current version.
@@ -70,14 +28,14 @@ impl<A: Allocator + Copy> State<A> {
         requires { IfSome shown.now.published (IsOfItsVersion self.now.opening self.now.edits shown.now.setting) }
         ensures { IfOk result (λ task. task ≡ task_for self.now shown.now) }
     {
-        let base = base_of(self.alloc, shown.published(), self.edits.as_slice())?;
+        let base = Base::since(self.alloc, shown.published(), self.edits.as_slice())?;
+        let plan = Plan::new(self.current.clone()?, shown.scenario());
         Ok(Task::new(
             self.alloc,
             self.next_ticket,
             shown.id(),
             self.edits.len() as u64,
-            self.current.clone()?,
-            shown.scenario(),
+            plan,
             self.spacing,
             base,
         ))

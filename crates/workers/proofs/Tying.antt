@@ -17,11 +17,12 @@ use Rattle.book_machine.specs.History.{Noted, after_all}
 use Rattle.book_machine.specs.Machine.{Machine, after}
 use Rattle.chronicle.specs.Events.{Happened, Called, IsAccepted, note_in, notes_of, state_after}
 use Rattle.chronicle.specs.Fronts.{Seen, Adds, Follows, nothing_yet}
+use Rattle.tasks.specs.Published.{PublishedView}
 use Rattle.version_book.specs.declared.faults.ViewFault.{ViewFault}
 use Rattle.version_book.specs.declared.refusal.Refusal.{Refusal}
 use Rattle.version_book.specs.declared.refusal.Refusal.TheVariants as why
 use Rattle.version_book.specs.Answers.{view_answer}
-use Rattle.version_book.specs.Book.{BookView, PublishedView, machine_of}
+use Rattle.version_book.specs.Book.{BookView, machine_of}
 use Rattle.version_book.specs.Sound.{IsBook}
 use Rattle.version_book.specs.Steps.{Answer, Answers, full, memory, told, note_of}
 use Rattle.version_book.specs.Tasks.{IsShownFor}

@@ -9,11 +9,12 @@ use Rattle.book_machine.specs.Call.{BookCall, View}
 use Rattle.book_machine.specs.Machine.{Machine, current, note_limit, reply_to, settled, version}
 use Rattle.chronicle.specs.Events.{Happened, Called, Opened, state_after}
 use Rattle.chronicle.specs.Fronts.{Seen}
+use Rattle.tasks.specs.Published.{PublishedView}
 use Rattle.version_book.specs.declared.faults.ViewFault.{ViewFault}
 use Rattle.version_book.specs.declared.refusal.Refusal.{Refusal}
 use Rattle.version_book.specs.declared.refusal.Refusal.TheVariants as why
 use Rattle.version_book.specs.Answers.{view_answer}
-use Rattle.version_book.specs.Book.{BookView, PublishedView, machine_of}
+use Rattle.version_book.specs.Book.{BookView, machine_of}
 use Rattle.version_book.specs.Sound.{IsBook}
 use Rattle.version_book.specs.Steps.{Answer, full, memory, told, note_of}
 use Rattle.version_book.specs.Tasks.{IsShownFor}

@@ -6,7 +6,8 @@ use Rattle.book_machine.specs.declared.caller.Caller.{Caller}
 use Rattle.book_machine.specs.declared.caller.Caller.TheVariants as caller
 use Rattle.book_machine.specs.Call.{BookCall}
 use Rattle.book_machine.specs.Machine.{note_limit}
-use Rattle.version_book.specs.Book.{BookView, PublishedView, StateView}
+use Rattle.tasks.specs.Published.{PublishedView}
+use Rattle.version_book.specs.Book.{BookView, StateView}
 use Rattle.version_book.specs.Sound.{IsBook}
 use Rattle.version_book.specs.Steps.{Answers, memory}
 use Rattle.version_book.specs.Tasks.{IsShownFor, free_due}

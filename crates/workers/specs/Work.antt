@@ -6,10 +6,11 @@ use Rattle.book_machine.specs.Call.{BookCall, Claim, Finish, GiveUp}
 use Rattle.book_machine.specs.declared.reply.Reply.{Reply}
 use Rattle.book_machine.specs.declared.reply.Reply.TheVariants as reply
 use Rattle.checkpoints.specs.RunView.{RunView}
+use Rattle.tasks.specs.Tasks.{TaskView}
 use Rattle.version_book.specs.Answers.{claim_answer, finish_answer, fitted, give_up_answer}
 use Rattle.version_book.specs.Book.{BookView}
 use Rattle.version_book.specs.Steps.{Answers, full, memory}
-use Rattle.version_book.specs.Tasks.{TaskView, due_shown, free_due, task_for}
+use Rattle.version_book.specs.Tasks.{due_shown, free_due, task_for}
 use Rattle.version_book.specs.declared.faults.FinishFault.{FinishFault}
 use Rattle.version_book.specs.declared.faults.UnknownTicket.{UnknownTicket}
 use Rattle.version_book.specs.declared.refusal.Refusal.{Refusal}

@@ -3,9 +3,10 @@ use Rattle.std.specs.Prelude.{Option, Some, Ok, is_some}
 use Rattle.std.specs.Option.{option_map}
 use Rattle.book_machine.specs.declared.caller.Caller.TheVariants as caller
 use Rattle.book_machine.specs.Call.{Claim}
+use Rattle.tasks.specs.Tasks.{TaskView}
 use Rattle.version_book.specs.Answers.{claim_answer}
 use Rattle.version_book.specs.Steps.{Answers as Answered}
-use Rattle.version_book.specs.Tasks.{TaskView, due_shown, free_due, task_for}
+use Rattle.version_book.specs.Tasks.{due_shown, free_due, task_for}
 use Rattle.scripts.proofs.Settlings.{at-rest, is-none, turn-of}
 use Rattle.scripts.proofs.settling.work_next.Goals as goal
 

@@ -3,8 +3,9 @@ use Rattle.std.specs.Prelude.{None, Some, true, false, unwrap_or}
 use Rattle.std.specs.Arc.{arc_value}
 use Rattle.checkpoints.specs.RunView.{IsRun}
 use Rattle.book_machine.specs.Machine.{is_below}
-use Rattle.version_book.specs.Book.{PublishedView}
-use Rattle.version_book.specs.Lookups.{has_number, publishing, version_shown, with_change}
+use Rattle.tasks.specs.Published.{PublishedView}
+use Rattle.tasks.specs.Tickets.{has_number}
+use Rattle.version_book.specs.Lookups.{publishing, version_shown, with_change}
 use Rattle.version_book.proofs.Ids.{ids-apart}
 use Rattle.version_book.proofs.Stepping.{seen-as}
 use Rattle.version_book.proofs.WorkerSteps.{finish-with, publishes, stale-with, none-fits, those-of}

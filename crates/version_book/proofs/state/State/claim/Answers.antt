@@ -1,6 +1,7 @@
 use Rattle.std.proofs.Common.{rules, ◌≡◌, refl, sym, ap, subst, arith}
 use Rattle.std.specs.Prelude.{Option, None, Some, Ok, Err}
-use Rattle.version_book.specs.Tasks.{IsNext, TaskView}
+use Rattle.tasks.specs.Tasks.{TaskView}
+use Rattle.version_book.specs.Tasks.{IsNext}
 use Rattle.version_book.proofs.Readings.{claim-left, claim-none, claim-refused, claim-with}
 use Rattle.version_book.proofs.Stepping.{seen-as, does-as}
 use Rattle.version_book.specs.Sound.{IsSound}

@@ -1,8 +1,7 @@
 use Rattle.std.proofs.Common.{rules, ◌≡◌, find, sym, subst}
 use Rattle.std.specs.Prelude.{None, Some}
 use Rattle.std.specs.Arc.{arc_value}
-use Rattle.version_book.specs.Lookups.{has_number}
-use Rattle.version_book.specs.Tasks.{HasThoseOf}
+use Rattle.tasks.specs.Tickets.{HasThoseOf, has_number}
 use Rattle.version_book.proofs.Stepping.{not-both, still-as}
 use Rattle.version_book.proofs.WorkerSteps.{does-fitted, finish-stranger, finish-unknown, fits-of, none-fits, tells-fit, those-of}
 use Rattle.version_book.proofs.state.State.finish.Goals as goal

@@ -2,10 +2,10 @@ use Rattle.std.proofs.Common.{rules, ◌≡◌, List, find, map, sym, ◌∙◌,
 use Rattle.std.specs.Prelude.{None, true, false, is_none, option_copied}
 use Rattle.std.specs.Arc.{arc_value}
 use Rattle.job_table.specs.Edit.{edit_of}
+use Rattle.tasks.specs.Tickets.{HasThoseOf, TicketView, has_number}
 use Rattle.version_book.specs.Answers.{TellsStanding}
-use Rattle.version_book.specs.Book.{StateView, TicketView}
-use Rattle.version_book.specs.Lookups.{has_number}
-use Rattle.version_book.specs.Tasks.{HasThoseOf, Stands}
+use Rattle.version_book.specs.Book.{StateView}
+use Rattle.version_book.specs.Tasks.{Stands}
 use Rattle.version_book.proofs.Stepping.{still-as}
 use Rattle.version_book.proofs.WorkerSteps.{finish-unknown, fitting-some, none-found, none-stands, some-found, stands-as, stands-told}
 use Rattle.version_book.proofs.state.State.finish_delivered.Goals as goal

@@ -2,7 +2,7 @@ use Rattle.std.proofs.Common.{rules, ◌≡◌, length, map, find, arith}
 use Rattle.std.specs.Prelude.{None, Some}
 use Rattle.job_table.specs.Edit.{edit_of}
 use Rattle.std.proofs.lemmas.List.{length-map}
-use Rattle.version_book.specs.Lookups.{has_number}
+use Rattle.tasks.specs.Tickets.{has_number}
 use Rattle.version_book.proofs.Ids.{ids-apart}
 use Rattle.version_book.proofs.Stepping.{seen-as, still-as}
 use Rattle.version_book.proofs.WorkerSteps.{give_up-unknown, now-with, other-with}

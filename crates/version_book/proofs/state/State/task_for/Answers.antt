@@ -1,18 +1,23 @@
 use Rattle.std.proofs.Common.{rules, ◌≡◌, length, map, refl, sym, ◌∙◌}
 use Rattle.std.proofs.lemmas.List.{length-map}
+use Rattle.std.specs.Arc.{arc_value}
 use Rattle.job_table.specs.Edit.{edit_of}
-use Rattle.version_book.specs.Tasks.{bases_since}
+use Rattle.tasks.specs.Tasks.{bases_since}
 use Rattle.version_book.proofs.Readings.{task-sound, task-is}
 use Rattle.version_book.proofs.state.State.task_for.Goals as goal
 
 pub new-requires : goal.new-requires
 new-requires g c =
+    let log : c.new-plan.result.log ≡ arc_value c.self.inside.current = search rules in
+    let setting : c.new-plan.result.setting ≡ c.args.shown.now.setting = search rules in
     let base : c.in_ok-base.base ≡ bases_since (map edit_of c.self.inside.edits.items) c.args.shown.now.published = search rules in
-    task-sound _ _ _ _ c.args.shown.now _ _ c.self.view_is c.self.invariant.0 c.requires c.in_ok-clone.ensures.cases c.scenario.ensures base
+    task-sound _ _ _ _ c.args.shown.now _ _ c.self.view_is c.self.invariant.0 c.requires log setting base
 
 pub returns : goal.returns
 returns g c =
+    let log : c.new-plan.result.log ≡ arc_value c.self.inside.current = search rules in
+    let setting : c.new-plan.result.setting ≡ c.args.shown.now.setting = search rules in
     let base : c.in_ok-base.base ≡ bases_since (map edit_of c.self.inside.edits.items) c.args.shown.now.published = search rules in
     let count : c.len.result ≡ length c.self.inside.edits.items = search rules in
     let v : c.len.result ≡ length (map edit_of c.self.inside.edits.items) = count ∙ sym (length-map c.self.inside.edits.items edit_of) in
-    c.new.ensures ∙ task-is _ _ _ _ c.args.shown.now _ _ _ c.self.view_is refl c.id.ensures v c.in_ok-clone.ensures.cases c.scenario.ensures refl base
+    c.new.ensures ∙ task-is _ _ _ _ c.args.shown.now _ _ _ c.self.view_is refl c.id.ensures v log setting refl base

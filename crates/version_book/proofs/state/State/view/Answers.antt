@@ -1,6 +1,6 @@
 use Rattle.std.proofs.Common.{rules, ◌≡◌, ◌≤◌, find, ap, arith}
 use Rattle.std.specs.Prelude.{None, Some}
-use Rattle.version_book.specs.Book.{PublishedView}
+use Rattle.tasks.specs.Published.{PublishedView}
 use Rattle.version_book.specs.Lookups.{has_id}
 use Rattle.version_book.proofs.Stepping.{still-as}
 use Rattle.version_book.proofs.SessionSteps.{view-missing, view-empty, view-behind, view-shown, view-is}

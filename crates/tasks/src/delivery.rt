@@ -1,0 +1,55 @@
+//! How a task delivers its run to its ticket. The run needs no comparison with what the ticket asks for.
+
+use checkpoints::Run;
+use handover::{Receiver, Response, Sender};
+use scenarios::Plan;
+use std::alloc::Allocator;
+use std::marker::Model;
+use std::sync::Arc;
+
+// A run that a task has made.
+#[derive(Drop)]
+pub(crate) struct MadeRun<A: Allocator + Copy> {
+    run: Arc<Run<A>, A>,
+}
+
+impl<A: Allocator + Copy> Model for MadeRun<A> {
+    ghost use Rattle.std.specs.Arc.{arc_value};
+    ghost use Rattle.checkpoints.specs.RunView.{RunView};
+
+    ghost Value = { RunView };
+
+    ghost view = { λ m. arc_value m.run };
+}
+
+impl<A: Allocator + Copy> MadeRun<A> {
+    ghost use Rattle.std.specs.Prelude.{◌≡◌};
+    ghost use Rattle.std.specs.Arc.{arc_value};
+
+    // This run.
+    pub(crate) fn new(run: Arc<Run<A>, A>) -> MadeRun<A>
+        ensures { result ≡ arc_value run }
+    {
+        MadeRun { run }
+    }
+
+    // The run.
+    pub(crate) fn into_run(self) -> Arc<Run<A>, A>
+        ensures { arc_value result ≡ self }
+    {
+        let MadeRun { run } = self;
+        run
+    }
+}
+
+impl<A: Allocator + Copy> Response<Plan<A>> for MadeRun<A> {
+    ghost use Rattle.tasks.specs.Tickets.{IsRunOf};
+
+    ghost answers = { IsRunOf };
+}
+
+// Where a task leaves its run.
+pub(crate) type RunSender<A> = Sender<Plan<A>, MadeRun<A>, A>;
+
+// Where a ticket finds it; its request is the plan of which a run is requested.
+pub(crate) type RunReceiver<A> = Receiver<Plan<A>, MadeRun<A>, A>;
