@@ -17,7 +17,8 @@ use std::sync::Arc;
 use std::thread::Threads;
 
 // Writes the schedule of a table under a scenario of this name.
-fn write_under<W: Write, A: Allocator + Copy>(
+fn write_under<W: Write, T: Threads + Sync, A: Allocator + Copy>(
+    rt: &T,
     alloc: A,
     writer: &mut W,
     name: &str,
@@ -28,12 +29,13 @@ fn write_under<W: Write, A: Allocator + Copy>(
 {
     let plan = Plan::new(Arc::new(alloc, table)?, scenario);
     let report = plan_report(alloc, name, 0, &plan)?;
-    report.write(writer)?;
+    report.write(rt, writer)?;
     Ok(())
 }
 
 // Writes the schedule of an opened log's first scenario.
-pub(crate) fn write_first<W: Write, A: Allocator + Copy>(
+pub(crate) fn write_first<W: Write, T: Threads + Sync, A: Allocator + Copy>(
+    rt: &T,
     alloc: A,
     writer: &mut W,
     opening: Opening<A>,
@@ -50,7 +52,7 @@ pub(crate) fn write_first<W: Write, A: Allocator + Copy>(
     let Some(first) = scenarios.at(0) else {
         unreachable!()
     };
-    write_under(alloc, writer, first.0, first.2, table)
+    write_under(rt, alloc, writer, first.0, first.2, table)
 }
 
 /// Writes the schedule of a log's first scenario: the start and the end that EASY backfilling gives
@@ -73,5 +75,5 @@ pub fn run_plain<W: Write, T: Threads + Sync, A: Allocator + Copy>(
     ensures { Answers log.now options.procs (W.contents writer.old) (W.contents writer.new) result }
 {
     let opening = opening_of(rt, alloc, log, options.procs)?;
-    write_first(alloc, writer, opening)
+    write_first(rt, alloc, writer, opening)
 }

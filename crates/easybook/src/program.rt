@@ -56,7 +56,7 @@ fn run_log<W: Write, T: Threads + Sync, A: Allocator + Copy>(
 {
     let opening = opening_of(rt, alloc, log.as_slice(), options.procs)?;
     drop(log);
-    write_first(alloc, writer, opening)
+    write_first(rt, alloc, writer, opening)
 }
 
 // Reads an input, at most 1,200,000,000 bytes, and runs the log that it holds, with the script

@@ -1,3 +1,4 @@
 mod Joins
 mod Lines
+mod Prints
 mod Writings

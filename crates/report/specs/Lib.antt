@@ -1,4 +1,5 @@
 pub mod Pieces
+pub mod Pieced
 pub mod Heading
 pub mod Schedule
 pub mod Table

@@ -2,14 +2,17 @@
 //! and a log.
 #![tactic(auto)]
 
+mod batch;
 mod days;
 mod entries;
 mod heading;
 mod line;
+mod piece;
 mod pieces;
 mod printing;
 mod schedule;
 mod side;
+mod source;
 mod table;
 mod texts;
 mod users;

@@ -1,42 +1,69 @@
-//! The report on a schedule, whose lines are made as they are written.
+//! The report on a schedule, whose lines are printed as they are written.
 
-ghost use Rattle.std.specs.Prelude.{◌≡◌, ◌+◌, ◌≤◌, ◌++◌, IfOk, length};
+ghost use Rattle.std.specs.Prelude.{◌≡◌, ◌<◌, IfOk, length};
 ghost use Rattle.std.specs.List.{flat_map};
 ghost use Rattle.swf_text.specs.Writing.{Writes};
 ghost use Rattle.report.specs.Schedule.{row_line, rows_text};
 
+use crate::batch::Batch;
 use crate::heading::push_heading;
-use crate::pieces::verdict;
-use crate::schedule::row_numbers;
-use arrayvec::ArrayVec;
-use checkpoints::{Row, Rows};
+use crate::piece::MOST_ROWS;
+use checkpoints::Rows;
 use std::alloc::{AllocError, Allocator};
 use std::io::Write;
-use std::marker::Model;
+use std::marker::{Model, Sync};
+use std::mem::swap;
+use std::thread::Threads;
 use swf_text::{WriteFault, write_bytes};
 
-/// How many bytes of lines are put together before they are written.
-const BUFFER: usize = 32_768;
+/// The most pieces that are printed at once.
+const MOST_PIECES: usize = 64;
 
-/// The most bytes of a line: five numbers, each of up to 20 digits and behind a blank, and whether
-/// the job was killed.
-const LONGEST: usize = 111;
-
-/// The report on a schedule. It takes no memory to write it: each line is made when it is written.
+/// The report on a schedule. Lines are printed by several threads while those before them are written;
+/// it takes no memory to write it.
 #[derive(Drop)]
 pub struct ScheduleReport<'a, A: Allocator + Copy> {
     heading: Vec<u8, A>,
     rows: Rows<'a, A>,
+    // One is printed while the other is written and takes the next rows.
+    printed: Batch<A>,
+    next: Batch<A>,
 }
 
 impl<'a, A: Allocator + Copy> Model for ScheduleReport<'a, A> {
-    ghost use Rattle.std.specs.Prelude.{ℕ, List, ◌++◌};
+    ghost use Rattle.std.specs.Prelude.{ℕ, List, ◌++◌, ◌<◌, length};
     ghost use Rattle.std.specs.List.{flat_map};
     ghost use Rattle.report.specs.Schedule.{row_line};
 
     ghost Value = { List ℕ };
 
     ghost view = { λ s. s.heading.items ++ flat_map row_line s.rows };
+
+    ghost invariant = { λ s. (0 < length s.printed.pieces.items) × (0 < length s.next.pieces.items) };
+}
+
+// Writes the lines of these rows.
+fn write_rows<R: Threads + Sync, W: Write, A: Allocator + Copy>(
+    rt: &R,
+    writer: &mut W,
+    mut rows: Rows<'_, A>,
+    mut printed: Batch<A>,
+    mut next: Batch<A>,
+) -> Result<(), WriteFault>
+    requires printed { 0 < length printed.pieces.items }
+    requires next { 0 < length next.pieces.items }
+    ensures { Writes result (W.contents writer.old) (W.contents writer.new) (flat_map row_line rows.entry) }
+{
+    printed.take(&mut rows);
+    printed.print(rt);
+    next.take(&mut rows);
+    'rows: while 0 < rows.left() {
+        next.print_beside(rt, writer, &mut rows, &mut printed)?;
+        swap(&mut printed, &mut next);
+    }
+    printed.write(writer)?;
+    next.print(rt);
+    next.write(writer)
 }
 
 impl<'a, A: Allocator + Copy> ScheduleReport<'a, A> {
@@ -51,54 +78,31 @@ impl<'a, A: Allocator + Copy> ScheduleReport<'a, A> {
     {
         let mut heading = Vec::new(alloc);
         push_heading(&mut heading, "schedule", name, version, "jobs", rows.left())?;
-        Ok(ScheduleReport { heading, rows })
+        let count = rows.left().div_ceil(MOST_ROWS).clamp(1, MOST_PIECES);
+        Ok(ScheduleReport {
+            heading,
+            rows,
+            printed: Batch::new(alloc, count)?,
+            next: Batch::new(alloc, count)?,
+        })
     }
 
     /// Writes the report's text, by several writes one after another. Device where the writer
     /// answers an error, or takes no byte; what was written then is a beginning of the text.
-    pub fn write<W: Write>(self, writer: &mut W) -> Result<(), WriteFault>
+    pub fn write<R: Threads + Sync, W: Write>(
+        self,
+        rt: &R,
+        writer: &mut W,
+    ) -> Result<(), WriteFault>
         ensures { Writes result (W.contents writer.old) (W.contents writer.new) self.entry }
     {
-        let ScheduleReport { heading, rows } = self;
+        let ScheduleReport {
+            heading,
+            rows,
+            printed,
+            next,
+        } = self;
         write_bytes(writer, heading.as_slice())?;
-        write_rows(writer, rows)
+        write_rows(rt, writer, rows, printed, next)
     }
-}
-
-// Adds all of the bytes.
-fn put_all(buffer: &mut ArrayVec<u8, BUFFER>, bytes: &[u8])
-    requires { length buffer.old.items + length bytes.now ≤ 32768 }
-    ensures { buffer.new.items ≡ buffer.old.items ++ bytes.now }
-{
-    let Ok(()) = buffer.try_extend_from_slice(bytes) else {
-        unreachable!()
-    };
-}
-
-// The line of a job.
-fn put_row(buffer: &mut ArrayVec<u8, BUFFER>, row: &Row)
-    requires { length buffer.old.items + 111 ≤ 32768 }
-    ensures { buffer.new.items ≡ buffer.old.items ++ row_line row.now }
-{
-    let numbers = row_numbers(row);
-    put_all(buffer, &numbers.line[numbers.begin..]);
-    put_all(buffer, verdict(row.killed));
-}
-
-// Writes the lines of these rows.
-fn write_rows<W: Write, A: Allocator + Copy>(
-    writer: &mut W,
-    mut rows: Rows<'_, A>,
-) -> Result<(), WriteFault>
-    ensures { Writes result (W.contents writer.old) (W.contents writer.new) (flat_map row_line rows.entry) }
-{
-    let mut buffer = ArrayVec::new();
-    'lines: while let Some(row) = rows.next() {
-        if buffer.remaining_capacity() < LONGEST {
-            write_bytes(writer, buffer.as_slice())?;
-            buffer.clear();
-        }
-        put_row(&mut buffer, &row);
-    }
-    write_bytes(writer, buffer.as_slice())
 }

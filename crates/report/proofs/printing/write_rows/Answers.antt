@@ -1,27 +1,42 @@
-use Rattle.std.proofs.Common.{ap}
-use Rattle.std.specs.List.{flat_map}
+use Rattle.std.proofs.Common.{◌≡◌, length, ap, arith}
+use Rattle.std.proofs.KnownBytes.{Appends-nil}
+use Rattle.std.proofs.lemmas.List.{nil_from_length}
 use Rattle.std.proofs.lemmas.Result.{err_from_is_err_and}
-use Rattle.report.specs.Schedule.{row_line}
-use Rattle.report.proofs.Writings.{IsUnderWay, emptied, ended, grown, stopped}
-use Rattle.report.proofs.printing.write_rows.Goals.{then-remaining_capacity-lt-LONGEST+in_ok-write_bytes, else-remaining_capacity-lt-LONGEST}
+use Rattle.report.proofs.Prints.{begun, ended, failed, print-lines, turned}
 use Rattle.report.proofs.printing.write_rows.Goals as goal
 
-pub returns-in_err-write_bytes : goal.returns-in_err-write_bytes
-returns-in_err-write_bytes g c =
-    let p = err_from_is_err_and c.from_residual.result c.from_residual.ensures.1 in
-    rw (p.1) (stopped _ _ _ c.lines.buffer.items c.as_slice.result.now (flat_map row_line c.lines.rows) (flat_map row_line c.args.rows) c.lines.invariant c.as_slice.ensures.value c.in_err-write_bytes.ensures)
+pub rows-init : goal.rows-init
+rows-init g c =
+    let prints = print-lines c.take.new.self.pieces.items c.print.new.self.pieces.items c.print.ensures in
+    record {
+      printed = omega (arith, c.requires.printed, c.take.ensures.same, c.print.ensures.count);
+      next = omega (arith, c.requires.next, c.take-2.ensures.same);
+      under_way = begun _ c.take.new.self.pieces.items c.print.new.self.pieces.items c.take-2.new.self.pieces.items c.take.new.rows c.take-2.new.rows c.args.rows (Appends-nil _) prints c.take.ensures.rows c.take-2.ensures.rows;
+    }
 
-pub lines-preserved : goal.lines-preserved
-lines-preserved g c =
-    let whole = flat_map row_line c.args.rows in
-    let rest = flat_map row_line c.lines.rows in
-    let before : IsUnderWay (g.W.Write.contents c.args.writer.now) (g.W.Write.contents c.if-remaining_capacity-lt-LONGEST.writer) c.if-remaining_capacity-lt-LONGEST.buffer.items rest whole =
-    elim c.if-remaining_capacity-lt-LONGEST.branch [
-      | then-remaining_capacity-lt-LONGEST+in_ok-write_bytes w ↦ rw (w.writer-is, w.buffer-is) (emptied _ _ _ c.lines.buffer.items w.as_slice.result.now _ rest whole c.lines.invariant w.as_slice.ensures.value w.clear.ensures w.in_ok-write_bytes.ensures)
-      | else-remaining_capacity-lt-LONGEST w ↦ rw (w.writer-is, w.buffer-is) (c.lines.invariant)
-    ] in
-    grown _ _ c.if-remaining_capacity-lt-LONGEST.buffer.items c.put_row.new.buffer.items (row_line c.in-Some.row) rest (flat_map row_line c.next.new.self) whole before (ap (flat_map row_line) c.in-Some.ensures.steps) c.put_row.ensures
+pub returns-in_err-print_beside : goal.returns-in_err-print_beside
+returns-in_err-print_beside g c =
+    let p = err_from_is_err_and c.from_residual.result c.from_residual.ensures.1 in
+    rw (p.1) (failed _ _ _ c.rows.printed.pieces.items c.rows.next.pieces.items c.rows.rows c.args.rows c.rows.invariant.under_way c.in_err-print_beside.ensures.writes)
+
+pub rows-preserved : goal.rows-preserved
+rows-preserved g c =
+    let h = c.rows.invariant in
+    let prints = print-lines c.rows.next.pieces.items c.print_beside.new.self.pieces.items c.print_beside.ensures.prints in
+    let under = turned _ _ _ c.rows.printed.pieces.items c.rows.next.pieces.items c.print_beside.new.printed.pieces.items c.print_beside.new.self.pieces.items c.rows.rows c.print_beside.new.rows c.args.rows h.under_way c.in_ok-print_beside.ensures.writes c.in_ok-print_beside.ensures.rows prints in
+    record {
+      printed = omega (arith, h.next, c.print_beside.ensures.prints.count, ap (λ b. length b.pieces.items) c.swap.ensures.x_after);
+      next = omega (arith, h.printed, c.print_beside.ensures.same, ap (λ b. length b.pieces.items) c.swap.ensures.y_after);
+      under_way = rw (c.swap.ensures.x_after, c.swap.ensures.y_after) under;
+    }
+
+pub returns-in_err-write : goal.returns-in_err-write
+returns-in_err-write g c =
+    let p = err_from_is_err_and c.from_residual-in_err-write.result c.from_residual-in_err-write.ensures.1 in
+    rw (p.1) (failed _ _ _ c.rows.printed.pieces.items c.rows.next.pieces.items c.rows.rows c.args.rows c.rows.invariant.under_way c.in_err-write.ensures)
 
 pub returns : goal.returns
 returns g c =
-    ended c.write_bytes-2.result _ _ _ c.lines.buffer.items c.as_slice-2.result.now (flat_map row_line c.lines.rows) (flat_map row_line c.args.rows) c.lines.invariant (ap (flat_map row_line) c.in_default.ensures.steps.0) c.as_slice-2.ensures.value c.write_bytes-2.ensures
+    let prints = print-lines c.rows.next.pieces.items c.print-2.new.self.pieces.items c.print-2.ensures in
+    let none : length c.rows.rows ≡ 0 = omega (arith, c.left.ensures, c.rows-test.false) in
+    ended c.write-2.result _ _ _ _ c.rows.printed.pieces.items c.rows.next.pieces.items c.print-2.new.self.pieces.items c.rows.rows c.args.rows c.rows.invariant.under_way (nil_from_length c.rows.rows none) c.in_ok-write.ensures prints c.write-2.ensures

@@ -1,11 +1,13 @@
-use Rattle.std.proofs.Common.{length}
-use Rattle.std.specs.List.{flat_map}
-use Rattle.report.specs.Schedule.{row_line}
-use Rattle.report.proofs.Writings.{IsUnderWay}
+use Rattle.std.proofs.Common.{◌<◌, length}
+use Rattle.report.proofs.Prints.{IsPrinting}
 use Rattle.report.proofs.printing.write_rows.Given as goal
 
-abbrev pub invariant-lines : goal.invariant-lines
-invariant-lines g l = IsUnderWay (g.W.Write.contents l.fn.writer) (g.W.Write.contents l.writer) l.buffer.items (flat_map row_line l.rows) (flat_map row_line l.fn.rows)
+abbrev pub invariant-rows : goal.invariant-rows
+invariant-rows g l = record {
+  printed : 0 < length l.printed.pieces.items;
+  next : 0 < length l.next.pieces.items;
+  under_way : IsPrinting (g.W.Write.contents l.fn.writer) (g.W.Write.contents l.writer) l.printed.pieces.items l.next.pieces.items l.rows l.fn.rows;
+}
 
-abbrev pub decreases-lines : goal.decreases-lines
-decreases-lines g l = length l.rows
+abbrev pub decreases-rows : goal.decreases-rows
+decreases-rows g l = length l.rows

@@ -1,0 +1,127 @@
+-- What is printed of pieces, and written of it.
+use Rattle.std.proofs.Common.{◌≡◌, ℕ, suc, ◌+◌, ◌<◌, List, [], ◌∷◌, ◌++◌, length, get_or, take, drop, set, Option, Result, refl, sym, ap, subst, ◌∙◌, append_assoc, arith}
+use Rattle.std.specs.List.{flat_map}
+use Rattle.std.specs.Io.KnownBytes.{Appends}
+use Rattle.std.proofs.KnownBytes.{Appends-trans}
+use Rattle.std.proofs.lemmas.Grind.{flat_map-append, take-set_at}
+use Rattle.std.proofs.lemmas.List.{append-nil, take_more, take-append-drop}
+use Rattle.swf_text.specs.Writing.{Writes}
+use Rattle.checkpoints.specs.declared.row.Row.{Row}
+use Rattle.report.specs.declared.piece.Piece.{Piece}
+use Rattle.report.specs.Pieced.{rows_in, lines_in, all_rows, all_lines, IsPrint, ArePrints}
+use Rattle.report.specs.Schedule.{row_line}
+use Rattle.report.proofs.Writings.{front_after, front_more, writes_then}
+
+-- one more of a list
+flat-next : {X Y : Type 0} (f : X → List Y) (xs : List X) (k : ℕ) (d : X) → k < length xs → flat_map f (take (k + 1) xs) ≡ flat_map f (take k xs) ++ f (get_or xs k d)
+flat-next f xs k d lt =
+    ap (flat_map f) (take_more xs k d lt) ∙ flat_map-append f (take k xs) (get_or xs k d ∷ []) ∙ ap (λ l. flat_map f (take k xs) ++ l) (append-nil (f (get_or xs k d)))
+
+-- the lines of one row more, and how long they are at most
+pub lines-next : (rows : List Row) (k : ℕ) (d : Row) (old new : List ℕ) → k < length rows → old ≡ flat_map row_line (take k rows) → new ≡ old ++ row_line (get_or rows k d) → new ≡ flat_map row_line (take (k + 1) rows)
+lines-next rows k d old new lt is more = more ∙ ap (λ l. l ++ row_line (get_or rows k d)) is ∙ sym (flat-next row_line rows k d lt)
+
+-- a row was taken to its place
+pub row-taken : (taken : List Row) (k : ℕ) (row : Row) (rest rows all : List Row) → k < length taken → take k taken ++ rows ≡ all → rows ≡ row ∷ rest → take (k + 1) (set taken k row) ++ rest ≡ all
+row-taken taken k row rest rows all lt before is =
+    ap (λ l. l ++ rest) (take-set_at taken k (k + 1) row refl lt) ∙ append_assoc (take k taken) (row ∷ []) rest ∙ ap (λ l. take k taken ++ l) (sym is) ∙ before
+
+-- one piece more took rows
+pub piece-taken : (pieces : List Piece) (k : ℕ) (piece : Piece) (rows rest all : List Row) → k < length pieces → all_rows (take k pieces) ++ rows ≡ all → rows_in piece ++ rest ≡ rows → all_rows (take (k + 1) (set pieces k piece)) ++ rest ≡ all
+piece-taken pieces k piece rows rest all lt before is =
+    let one : all_rows (take (k + 1) (set pieces k piece)) ≡ all_rows (take k pieces) ++ rows_in piece =
+    ap all_rows (take-set_at pieces k (k + 1) piece refl lt) ∙ flat_map-append rows_in (take k pieces) (piece ∷ []) ∙ ap (λ l. all_rows (take k pieces) ++ l) (append-nil (rows_in piece)) in
+    ap (λ l. l ++ rest) one ∙ append_assoc (all_rows (take k pieces)) (rows_in piece) rest ∙ ap (λ l. all_rows (take k pieces) ++ l) is ∙ before
+
+-- ---- all pieces were printed
+
+-- the rows are the same, and their lines stand in them
+pub record AreLines (old new : List Piece) : Type 0 where
+  pub rows : all_rows new ≡ all_rows old
+  pub lines : all_lines new ≡ flat_map row_line (all_rows old)
+
+joined-lines : (x y : Piece) (xs ys : List Piece) → IsPrint x y → AreLines xs ys → AreLines (x ∷ xs) (y ∷ ys)
+joined-lines x y xs ys p q = record {
+  rows = ap (λ l. l ++ all_rows ys) p.rows ∙ ap (λ l. rows_in x ++ l) q.rows;
+  lines = ap (λ l. l ++ all_lines ys) p.lines ∙ ap (λ l. flat_map row_line (rows_in x) ++ l) q.lines ∙ sym (flat_map-append row_line (rows_in x) (all_rows xs));
+}
+
+pub are-lines : (old new : List Piece) → length new ≡ length old → ((place : ℕ) (d : Piece) → place < length old → IsPrint (get_or old place d) (get_or new place d)) → AreLines old new
+are-lines [] [] count each = record { rows = refl; lines = refl }
+are-lines [] (y ∷ ys) count each = absurd (omega (arith, count))
+are-lines (x ∷ xs) [] count each = absurd (omega (arith, count))
+are-lines (x ∷ xs) (y ∷ ys) count each =
+    joined-lines x y xs ys (each 0 x (omega arith)) (are-lines xs ys (omega (arith, count)) (λ place d lt. each (suc place) d (omega (arith, lt))))
+
+pub print-lines : (old new : List Piece) → ArePrints old new → AreLines old new
+print-lines old new p = are-lines old new p.count p.each
+
+-- ---- what was written of pieces
+
+-- the lines of one piece more were written
+pub piece-written : (a b c : Option (List ℕ)) (pieces : List Piece) (k : ℕ) (d : Piece) (bytes : List ℕ) → k < length pieces → bytes ≡ lines_in (get_or pieces k d) → Appends a b (all_lines (take k pieces)) → Appends b c bytes → Appends a c (all_lines (take (k + 1) pieces))
+piece-written a b c pieces k d bytes lt is before more =
+    subst (Appends a c) (sym (flat-next lines_in pieces k d lt)) (Appends-trans a b c (all_lines (take k pieces)) (lines_in (get_or pieces k d)) before (subst (Appends b c) is more))
+
+-- the writer failed at a piece
+pub piece-failed : (a b c : Option (List ℕ)) (pieces : List Piece) (k : ℕ) (d : Piece) (bytes : List ℕ) → k < length pieces → bytes ≡ lines_in (get_or pieces k d) → Appends a b (all_lines (take k pieces)) → (n : ℕ) × Appends b c (take n bytes) → (n : ℕ) × Appends a c (take n (all_lines pieces))
+piece-failed a b c pieces k d bytes lt is before q =
+    let front = all_lines (take k pieces) in
+    let here = lines_in (get_or pieces k d) in
+    let told : (n : ℕ) × Appends b c (take n here) = subst (λ (l : List ℕ). (n : ℕ) × Appends b c (take n l)) is q in
+    let both : (n : ℕ) × Appends a c (take n (front ++ here)) = front_after a b c front here before told in
+    let all : all_lines pieces ≡ (front ++ here) ++ all_lines (drop (k + 1) pieces) =
+    ap all_lines (sym (take-append-drop (k + 1) pieces)) ∙ flat_map-append lines_in (take (k + 1) pieces) (drop (k + 1) pieces) ∙ ap (λ l. l ++ all_lines (drop (k + 1) pieces)) (flat-next lines_in pieces k d lt) in
+    subst (λ (l : List ℕ). (n : ℕ) × Appends a c (take n l)) (sym all) (front_more a c (front ++ here) (all_lines (drop (k + 1) pieces)) both)
+
+-- Of these rows the first are written; behind them come those of the pieces that were printed, those of the next ones,
+-- and the rest.
+pub record IsPrinting (old now : Option (List ℕ)) (ready next : List Piece) (rows whole : List Row) : Type 0 where
+  pub done : List Row
+  pub told : Appends old now (flat_map row_line done)
+  pub all : done ++ (all_rows ready ++ (all_rows next ++ rows)) ≡ whole
+  pub lines : all_lines ready ≡ flat_map row_line (all_rows ready)
+
+-- before the first line
+pub begun : (a : Option (List ℕ)) (first ready next : List Piece) (behind rows whole : List Row) → Appends a a [] → AreLines first ready → all_rows first ++ behind ≡ whole → all_rows next ++ rows ≡ behind → IsPrinting a a ready next rows whole
+begun a first ready next behind rows whole none p is more = record {
+  done = [];
+  told = none;
+  all = ap (λ l. l ++ (all_rows next ++ rows)) p.rows ∙ ap (λ l. all_rows first ++ l) more ∙ is;
+  lines = p.lines ∙ ap (flat_map row_line) (sym p.rows);
+}
+
+-- the lines of those that were printed, behind those of the rows before them
+lines-of : (a b : Option (List ℕ)) (ready next : List Piece) (rows whole : List Row) → (u : IsPrinting a b ready next rows whole) → flat_map row_line u.done ++ all_lines ready ≡ flat_map row_line (u.done ++ all_rows ready)
+lines-of a b ready next rows whole u = ap (λ l. flat_map row_line u.done ++ l) u.lines ∙ sym (flat_map-append row_line u.done (all_rows ready))
+
+-- they were written
+lines-told : (a b c : Option (List ℕ)) (ready next : List Piece) (rows whole : List Row) → (u : IsPrinting a b ready next rows whole) → Appends b c (all_lines ready) → Appends a c (flat_map row_line (u.done ++ all_rows ready))
+lines-told a b c ready next rows whole u w = subst (Appends a c) (lines-of a b ready next rows whole u) (Appends-trans a b c (flat_map row_line u.done) (all_lines ready) u.told w)
+
+-- they were written, and took the next rows; the others were printed
+pub turned : (a b c : Option (List ℕ)) (ready next took prints : List Piece) (rows rest whole : List Row) → IsPrinting a b ready next rows whole → Appends b c (all_lines ready) → all_rows took ++ rest ≡ rows → AreLines next prints → IsPrinting a c prints took rest whole
+turned a b c ready next took prints rows rest whole u w is p = record {
+  done = u.done ++ all_rows ready;
+  told = lines-told a b c ready next rows whole u w;
+  all = append_assoc u.done (all_rows ready) (all_rows prints ++ (all_rows took ++ rest))
+      ∙ ap (λ l. u.done ++ (all_rows ready ++ l)) (ap (λ l. l ++ (all_rows took ++ rest)) p.rows ∙ ap (λ l. all_rows next ++ l) is) ∙ u.all;
+  lines = p.lines ∙ ap (flat_map row_line) (sym p.rows);
+}
+
+-- the writer failed at them
+pub failed : (a b c : Option (List ℕ)) (ready next : List Piece) (rows whole : List Row) → IsPrinting a b ready next rows whole → (n : ℕ) × Appends b c (take n (all_lines ready)) → (n : ℕ) × Appends a c (take n (flat_map row_line whole))
+failed a b c ready next rows whole u w =
+    let front = flat_map row_line (u.done ++ all_rows ready) in
+    let all : (u.done ++ all_rows ready) ++ (all_rows next ++ rows) ≡ whole = append_assoc u.done (all_rows ready) (all_rows next ++ rows) ∙ u.all in
+    let lines : front ++ flat_map row_line (all_rows next ++ rows) ≡ flat_map row_line whole = sym (flat_map-append row_line (u.done ++ all_rows ready) (all_rows next ++ rows)) ∙ ap (flat_map row_line) all in
+    let here : (n : ℕ) × Appends a c (take n front) = subst (λ (l : List ℕ). (n : ℕ) × Appends a c (take n l)) (lines-of a b ready next rows whole u) (front_after a b c (flat_map row_line u.done) (all_lines ready) u.told w) in
+    subst (λ (l : List ℕ). (n : ℕ) × Appends a c (take n l)) lines (front_more a c front (flat_map row_line (all_rows next ++ rows)) here)
+
+-- no rows are left: those that were printed are written, and then the others
+pub ended : {X E : Type 0} (r : Result X E) (a b c d : Option (List ℕ)) (ready next prints : List Piece) (rows whole : List Row) → IsPrinting a b ready next rows whole → rows ≡ [] → Appends b c (all_lines ready) → AreLines next prints → Writes r c d (all_lines prints) → Writes r a d (flat_map row_line whole)
+ended r a b c d ready next prints rows whole u none w p v =
+    let front = u.done ++ all_rows ready in
+    let all : front ++ all_rows next ≡ whole = append_assoc u.done (all_rows ready) (all_rows next) ∙ ap (λ l. u.done ++ (all_rows ready ++ l)) (sym (append-nil (all_rows next)) ∙ ap (λ l. all_rows next ++ l) (sym none)) ∙ u.all in
+    let lines : flat_map row_line front ++ all_lines prints ≡ flat_map row_line whole = ap (λ l. flat_map row_line front ++ l) p.lines ∙ sym (flat_map-append row_line front (all_rows next)) ∙ ap (flat_map row_line) all in
+    subst (Writes r a d) lines (writes_then r a c d (flat_map row_line front) (all_lines prints) (lines-told a b c ready next rows whole u w) v)
