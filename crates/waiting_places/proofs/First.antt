@@ -1,5 +1,5 @@
 -- The first place that passes, in two parts of the places.
-use Rattle.std.proofs.Common.{◌≡◌, ℕ, ◌≤◌, ◌<◌, Bool, false, List, length, Option, None, Some, ap, sym, ◌∙◌, arith, ⊎_elim}
+use Rattle.std.proofs.Common.{◌≡◌, ℕ, ◌+◌, ◌*◌, ◌/◌, ◌≤◌, ◌<◌, Bool, false, List, length, Option, None, Some, max, ap, sym, ◌∙◌, arith, ⊎_elim}
 use Rattle.std.proofs.lemmas.Bool.{cases_lt, true≢false}
 use Rattle.std.proofs.lemmas.List.{get_or_past}
 use Rattle.waiting_places.specs.Places.{IsFirst, NonePasses}
@@ -28,3 +28,11 @@ module _ {X : Type 0} (test : Option X → Bool) (places : List (Option X)) (pas
   pub ends : (r : Option ℕ) → length places ≤ end → IsFirst test places from end r → IsFirst test places from (length places) r
   ends None l none = λ p low high. none p low (omega arith)
   ends (Some k) l found = ends_some k found
+
+-- no place of a leaf passes from one on: then it is the first of those behind the leaf
+module _ {X : Type 0} (test : Option X → Bool) (places : List (Option X)) (past : test None ≡ false) (from span : ℕ) (room : length places ≤ 64 * span) where
+  pub behind_leaf : (r : Option ℕ) → NonePasses test places (max from (64 * (from / 64))) (64 * (from / 64 + 1)) → IsFirst test places (max (64 * (from / 64 + 1)) (64 * 0)) (64 * (0 + span)) r → IsFirst test places from (length places) r
+  behind_leaf r none rest =
+      let edge = 64 * (from / 64 + 1) in
+      let end = 64 * (0 + span) in
+      ends test places past from end r (omega (arith, room)) (in_second test places from edge (max edge (64 * 0)) end r (λ p l m. omega arith) (omega arith) (λ p low high. none p (omega arith) high) rest)

@@ -1,4 +1,4 @@
-ghost use Rattle.std.specs.Prelude.{◌≡◌, ◌≤◌, ◌+◌, ◌*◌, is_some, length, max};
+ghost use Rattle.std.specs.Prelude.{◌≡◌, ◌≤◌, ◌+◌, ◌*◌, is_some, length, max, nat_le};
 ghost use Rattle.waiting_places.specs.Classes.{class_of};
 ghost use Rattle.waiting_places.specs.Offers.{fits, holds};
 ghost use Rattle.waiting_places.specs.Places.{IsFirst};
@@ -39,6 +39,16 @@ pub(crate) struct Search {
     pub(crate) class: usize,
 }
 
+// Whether one waits at this place, and takes no more than this.
+fn takes_at_most<T: Waits>(place: &Option<T>, most: u64) -> bool
+    ensures { result ≡ holds (λ item. nat_le (T.size item) most) place.now }
+{
+    match place {
+        Some(item) => item.size() <= most,
+        None => false,
+    }
+}
+
 // The first place from one to another where one waits who fits the offer.
 pub(crate) fn first_in<T: Waits>(
     places: &[Option<T>],
@@ -48,8 +58,9 @@ pub(crate) fn first_in<T: Waits>(
 ) -> Option<usize>
     ensures { IsFirst (holds (fits T.size T.estimate offer.now)) places.now from to result }
 {
+    let most = offer.free.max(offer.extra);
     for place in from..to.min(places.len()) {
-        if holds(&places[place], offer) {
+        if takes_at_most(&places[place], most) && holds(&places[place], offer) {
             return Some(place);
         }
     }
@@ -77,8 +88,8 @@ fn first_in_leaf<T: Waits>(
     None
 }
 
-/// The first place of those below a node; where there is none, its bounds are made anew, unless they
-/// told so.
+/// The first place of those below a node, unless its bounds told that there is none.
+#[cycle(first_below)]
 pub(crate) fn first_below<T: Waits>(
     nodes: &mut [Leasts],
     places: &[Option<T>],
@@ -98,6 +109,24 @@ pub(crate) fn first_below<T: Waits>(
     if !nodes[part.node].may_fit(&search.offer, search.class) {
         return None;
     }
+    first_within(nodes, places, part, search)
+}
+
+// The first place of those below a node; where there is none, its bounds are made anew.
+#[cycle(first_below)]
+fn first_within<T: Waits>(
+    nodes: &mut [Leasts],
+    places: &[Option<T>],
+    part: Part,
+    search: &Search,
+) -> Option<usize>
+    requires tree { IsTree T.size T.estimate nodes.old places.now }
+    requires part { IsPart (length nodes.old) part.node part.low part.span }
+    requires class { search.now.class ≡ class_of search.now.offer.free }
+    ensures tree { IsTree T.size T.estimate nodes.new places.now }
+    ensures len { length nodes.new ≡ length nodes.old }
+    ensures first { IsFirst (holds (fits T.size T.estimate search.now.offer)) places.now (max search.now.from (64 * part.low)) (64 * (part.low + part.span)) result }
+{
     if part.span == 1 {
         return first_in_leaf(nodes, places, part.low, search);
     }
@@ -163,5 +192,8 @@ pub(crate) fn first_in_tree<T: Waits>(
         offer: *offer,
         class: rest.class,
     };
-    first_below(nodes, places, root, &search)
+    if !nodes[root.node].may_fit(offer, search.class) {
+        return None;
+    }
+    first_within(nodes, places, root, &search)
 }
