@@ -3,24 +3,37 @@ use Rattle.std.proofs.Common.{◌≡◌, ℕ, zero, suc, [], ◌∷◌, ◌+◌,
 use Rattle.std.proofs.lemmas.Bool.{cases_lt}
 use Rattle.std.proofs.lemmas.List.{get_or_default}
 use Rattle.waiting_places.specs.Bounds.{IsBelow, Keeps, LeastsView}
+use Rattle.waiting_places.specs.Classes.{class_of}
 
-module _ {X : Type 0} (size estimate : X → ℕ) where
-  abbrev pub FirstAreBelow : LeastsView → List (Option X) → ℕ → Type 0
-  FirstAreBelow l places count = (p : ℕ) (x : X) → p < count → slice_index_or places p None ≡ Some x → IsBelow l (size x) (estimate x)
+module _ {X : Type 0} where
+  abbrev pub FirstAre : (X → Type 0) → List (Option X) → ℕ → Type 0
+  FirstAre P places count = (p : ℕ) (x : X) → p < count → slice_index_or places p None ≡ Some x → P x
 
   -- one place more
-  pub one_more : (l m : LeastsView) (places : List (Option X)) (count : ℕ) → FirstAreBelow l places count → Keeps l m → (place : Option X) → count < length places → place ≡ slice_index_or places count place → IfSome place (λ x. IsBelow m (size x) (estimate x)) → FirstAreBelow m places (count + 1)
-  one_more l m places count first kept place short e here p x lt is =
+  pub one_of : (P Q : X → Type 0) (places : List (Option X)) (count : ℕ) → FirstAre P places count → ((x : X) → P x → Q x) → (place : Option X) → count < length places → place ≡ slice_index_or places count place → IfSome place Q → FirstAre Q places (count + 1)
+  one_of P Q places count first kept place short e here p x lt is =
       ⊎_elim
-      (λ (before : p < count). kept (size x) (estimate x) (first p x before is))
+      (λ (before : p < count). kept x (first p x before is))
       (λ (after : count ≤ p).
       let same : p ≡ count = omega arith in
       let at : place ≡ Some x = e ∙ get_or_default places count place None short ∙ subst (λ (n : ℕ). slice_index_or places n None ≡ Some x) same is in
-      met place x at here)
+      subst (λ (q : Option X). IfSome q Q) at here)
       (cases_lt p count)
-    where
-      met : (o : Option X) (y : X) → o ≡ Some y → IfSome o (λ z. IsBelow m (size z) (estimate z)) → IsBelow m (size y) (estimate y)
-      met o y at h = subst (λ (q : Option X). IfSome q (λ z. IsBelow m (size z) (estimate z))) at h
+
+module _ {X : Type 0} (size estimate : X → ℕ) where
+  abbrev pub FirstAreBelow : LeastsView → List (Option X) → ℕ → Type 0
+  FirstAreBelow l places count = FirstAre (λ x. IsBelow l (size x) (estimate x)) places count
+
+  pub one_more : (l m : LeastsView) (places : List (Option X)) (count : ℕ) → FirstAreBelow l places count → Keeps l m → (place : Option X) → count < length places → place ≡ slice_index_or places count place → IfSome place (λ x. IsBelow m (size x) (estimate x)) → FirstAreBelow m places (count + 1)
+  one_more l m places count first kept place short e here = one_of (λ x. IsBelow l (size x) (estimate x)) (λ x. IsBelow m (size x) (estimate x)) places count first (λ x. kept (size x) (estimate x)) place short e here
+
+  -- the estimates of their classes are no longer than they are
+  abbrev pub FirstAreShort : List ℕ → List (Option X) → ℕ → Type 0
+  FirstAreShort estimates places count = FirstAre (λ x. slice_index_or estimates (class_of (size x)) 0 ≤ estimate x) places count
+
+  pub one_shorter : (old new : List ℕ) (places : List (Option X)) (count : ℕ) → FirstAreShort old places count → ((c : ℕ) → slice_index_or new c 0 ≤ slice_index_or old c 0) → (place : Option X) → count < length places → place ≡ slice_index_or places count place → IfSome place (λ x. slice_index_or new (class_of (size x)) 0 ≤ estimate x) → FirstAreShort new places (count + 1)
+  one_shorter old new places count first kept place short e here =
+      one_of (λ x. slice_index_or old (class_of (size x)) 0 ≤ estimate x) (λ x. slice_index_or new (class_of (size x)) 0 ≤ estimate x) places count first (λ x below. let less = kept (class_of (size x)) in omega (arith, below, less)) place short e here
 
   -- who waits has a place
   pub within : (xs : List (Option X)) (n : ℕ) (y : X) → slice_index_or xs n None ≡ Some y → n < length xs

@@ -23,3 +23,12 @@ falls_all (suc n) v zero zero l = omega arith
 falls_all (suc n) v zero (suc j) l = at_most n v j
 falls_all (suc n) v (suc i) zero l = absurd (omega arith)
 falls_all (suc n) v (suc i) (suc j) l = falls_all n v i j (omega arith)
+
+-- those before a place are each the least of the old ones up to it; none of these is below the last of them
+pub record IsFallen (old new : List ℕ) (to least : ℕ) : Type 0 where
+  pub len : length new ≡ length old
+  pub falls : (i j : ℕ) → i ≤ j → j < to → slice_index_or new j 0 ≤ slice_index_or new i 0
+  pub low : (b c : ℕ) → b ≤ c → c < to → slice_index_or new c 0 ≤ slice_index_or old b 0
+  pub last : (c : ℕ) → c < to → least ≤ slice_index_or new c 0
+  pub none : (b : ℕ) → b < to → least ≤ slice_index_or old b 0
+  pub behind : (c : ℕ) → to ≤ c → slice_index_or new c 0 ≡ slice_index_or old c 0

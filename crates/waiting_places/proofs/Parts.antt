@@ -5,7 +5,7 @@ use Rattle.std.proofs.lemmas.List.{get_or_default}
 use Rattle.std.proofs.lemmas.Nat.{pow_pos}
 use Rattle.std.proofs.Math.Nat.{pow-suc, mul-le-mul_left}
 use Rattle.waiting_places.specs.declared.offer.Offer.{Offer}
-use Rattle.waiting_places.specs.Bounds.{IsBelow, Keeps, LeastsView, may_fit}
+use Rattle.waiting_places.specs.Bounds.{IsBelow, LeastsView, may_fit}
 use Rattle.waiting_places.specs.Offers.{fits, holds}
 use Rattle.waiting_places.specs.Places.{NonePasses}
 use Rattle.waiting_places.specs.Tree.{IsPart, IsTree, IsWhole, halved, leaf_of, node_at}

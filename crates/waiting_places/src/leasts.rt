@@ -59,6 +59,32 @@ fn lower(estimates: &mut [u32], class: usize, estimate: u32)
     }
 }
 
+// Lowers the estimate of the class of who waits at a place, and of no other.
+fn shorten<T: Waits>(estimates: &mut [u32], place: &Option<T>)
+    requires { length estimates.old ≡ 100 }
+    ensures kept { (c : ℕ) → slice_index_or estimates.new c 0 ≤ slice_index_or estimates.old c 0 }
+    ensures met { IfSome place.now (λ item. slice_index_or estimates.new (class_of (T.size item)) 0 ≤ T.estimate item) }
+    ensures len { length estimates.new ≡ length estimates.old }
+{
+    if let Some(item) = place {
+        let class = class_of(item.size());
+        estimates[class] = estimates[class].min(short(item.estimate()));
+    }
+}
+
+// Lowers each estimate to the least of those up to its class.
+fn fall(estimates: &mut [u32])
+    ensures falls { Falls estimates.new }
+    ensures low { (b c : ℕ) → b ≤ c → slice_index_or estimates.new c 0 ≤ slice_index_or estimates.old b 0 }
+    ensures len { length estimates.new ≡ length estimates.old }
+{
+    let mut least = u32::MAX;
+    for class in 0..estimates.len() {
+        least = least.min(estimates[class]);
+        estimates[class] = least;
+    }
+}
+
 // The lesser of two sizes, where the second counts.
 fn size_of_both(size: u64, other: u64, counts: bool) -> u64
     ensures least { result ≤ size }
@@ -176,25 +202,18 @@ impl Leasts {
         lower(&mut self.estimates, class, short(estimate));
     }
 
-    // Of who waits at one place more.
-    fn add_place<T: Waits>(&mut self, place: &Option<T>)
-        ensures kept { Keeps self.old self.new }
-        ensures met { IfSome place.now (λ item. IsBelow self.new (T.size item) (T.estimate item)) }
-    {
-        if let Some(item) = place {
-            self.add(item, class_of(item.size()));
-        }
-    }
-
     // Of all who wait at these places, once they were asked for those who are at most so long.
     pub(crate) fn of<T: Waits>(places: &[Option<T>], window: u64) -> Leasts
         ensures { AreBelow T.size T.estimate result places.now }
     {
-        let mut leasts = Leasts::new(window);
+        let mut sizes = Sizes::new(window);
+        let mut estimates = [u32::MAX; CLASSES];
         for place in places {
-            leasts.add_place(place);
+            sizes.add_place(place);
+            shorten(&mut estimates, place);
         }
-        leasts
+        fall(&mut estimates);
+        Leasts { sizes, estimates }
     }
 
     // The bounds on the sizes of those of two nodes, once they were asked for those who are at most so

@@ -1,4 +1,4 @@
-use Rattle.std.proofs.Common.{◌≡◌, ◌+◌, ◌*◌, ◌/◌, length, max, arith, refl, None}
+use Rattle.std.proofs.Common.{◌+◌, ◌*◌, ◌/◌, length, max, arith, refl, None}
 use Rattle.waiting_places.specs.Offers.{fits, holds}
 use Rattle.waiting_places.proofs.First.{behind_leaf}
 use Rattle.waiting_places.proofs.Parts.{is_node, none_fits, refused, root}
