@@ -70,13 +70,13 @@ in_parts rest k h =
 -- ---- one line more, of the bytes from a place on
 
 -- these are the bytes from a place on
-abbrev IsRest : List ℕ → ℕ → List ℕ → Type 0
+abbrev pub IsRest : List ℕ → ℕ → List ℕ → Type 0
 IsRest input at rest = rest ≡ take (length input - at) (drop at input)
 
 all_of_rest : (input : List ℕ) (at : ℕ) (rest : List ℕ) → IsRest input at rest → rest ≡ drop at input
 all_of_rest input at rest is = is ∙ take_all (length input - at) (drop at input) (omega (arith, length-drop at input))
 
-input_is : (input : List ℕ) (at : ℕ) (rest : List ℕ) → IsRest input at rest → input ≡ take at input ++ rest
+pub input_is : (input : List ℕ) (at : ℕ) (rest : List ℕ) → IsRest input at rest → input ≡ take at input ++ rest
 input_is input at rest is = sym (take-append-drop at input) ∙ ap (λ (xs : List ℕ). take at input ++ xs) (sym (all_of_rest input at rest is))
 
 pub passed : (input : List ℕ) (at : ℕ) (rest : List ℕ) (k : ℕ) → IsWhole (take at input) → IsRest input at rest → IsFirstByte (is_byte 10) rest (Some k) → is_mark (take k rest) ≡ false → IsWhole (take (at + (k + 1)) input)

@@ -18,8 +18,16 @@ pub fn split_input(input: &[u8]) -> (&[u8], Option<&[u8]>)
     ensures { IsCut input.now result.0.now (option_map (λ script. script.now) result.1) }
 {
     let mut at = 0;
+    // The place of a percent sign, the next one when it was looked for.
+    let mut percent = 0;
     'lines: while at < input.len() {
         let rest = &input[at..];
+        if percent <= at {
+            let Some(place) = memchr(b'%', rest) else {
+                return (input, None);
+            };
+            percent = at.saturating_add(place);
+        }
         let Some(end) = memchr(b'\n', rest) else {
             if is_mark(rest) {
                 return (&input[..at], Some(&[]));
