@@ -13,11 +13,15 @@ pub(crate) struct Runner {
 }
 
 impl Model for Runner {
+    ghost use Rattle.std.specs.Prelude.{◌<◌};
+    ghost use Rattle.scenarios.specs.Limits.{seconds_end};
     ghost use Rattle.scenarios.specs.declared.placed.Placed.{Placed};
 
     ghost Value = { Placed };
 
     ghost view = { λ r. r.placed };
+
+    ghost invariant = { λ r. r.placed.start < seconds_end };
 
     ghost inverse = { λ p. record { placed = p } };
 }
@@ -29,9 +33,8 @@ impl Ranked for Runner {
 
     ghost weight = { λ r. r.job.size };
 
-    // The sum of two numbers, which is within this type for each start.
     fn major(&self) -> u128 {
-        u128::from(self.placed.start) + u128::from(self.placed.job.estimate())
+        u128::from(self.placed.expected_end())
     }
 
     fn minor(&self) -> u64 {
