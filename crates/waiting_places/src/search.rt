@@ -93,15 +93,15 @@ fn first_in_leaf<T: Waits>(
 pub(crate) fn first_below<T: Waits>(
     nodes: &mut [Leasts],
     places: &[Option<T>],
-    part: Part,
+    part: &Part,
     search: &Search,
 ) -> Option<usize>
     requires tree { IsTree T.size T.estimate nodes.old places.now }
-    requires part { IsPart (length nodes.old) part.node part.low part.span }
+    requires part { IsPart (length nodes.old) part.now.node part.now.low part.now.span }
     requires class { search.now.class ≡ class_of search.now.offer.free }
     ensures tree { IsTree T.size T.estimate nodes.new places.now }
     ensures len { length nodes.new ≡ length nodes.old }
-    ensures first { IsFirst (holds (fits T.size T.estimate search.now.offer)) places.now (max search.now.from (64 * part.low)) (64 * (part.low + part.span)) result }
+    ensures first { IsFirst (holds (fits T.size T.estimate search.now.offer)) places.now (max search.now.from (64 * part.now.low)) (64 * (part.now.low + part.now.span)) result }
 {
     if SPAN * (part.low + part.span) <= search.from {
         return None;
@@ -117,15 +117,15 @@ pub(crate) fn first_below<T: Waits>(
 fn first_within<T: Waits>(
     nodes: &mut [Leasts],
     places: &[Option<T>],
-    part: Part,
+    part: &Part,
     search: &Search,
 ) -> Option<usize>
     requires tree { IsTree T.size T.estimate nodes.old places.now }
-    requires part { IsPart (length nodes.old) part.node part.low part.span }
+    requires part { IsPart (length nodes.old) part.now.node part.now.low part.now.span }
     requires class { search.now.class ≡ class_of search.now.offer.free }
     ensures tree { IsTree T.size T.estimate nodes.new places.now }
     ensures len { length nodes.new ≡ length nodes.old }
-    ensures first { IsFirst (holds (fits T.size T.estimate search.now.offer)) places.now (max search.now.from (64 * part.low)) (64 * (part.low + part.span)) result }
+    ensures first { IsFirst (holds (fits T.size T.estimate search.now.offer)) places.now (max search.now.from (64 * part.now.low)) (64 * (part.now.low + part.now.span)) result }
 {
     if part.span == 1 {
         return first_in_leaf(nodes, places, part.low, search);
@@ -136,7 +136,7 @@ fn first_within<T: Waits>(
         low: part.low,
         span,
     };
-    if let Some(place) = first_below(nodes, places, first, search) {
+    if let Some(place) = first_below(nodes, places, &first, search) {
         return Some(place);
     }
     let second = Part {
@@ -144,7 +144,7 @@ fn first_within<T: Waits>(
         low: part.low + span,
         span,
     };
-    if let Some(place) = first_below(nodes, places, second, search) {
+    if let Some(place) = first_below(nodes, places, &second, search) {
         return Some(place);
     }
     raise(nodes, part.node, &search.offer);
@@ -178,7 +178,7 @@ pub(crate) fn first_in_tree<T: Waits>(
         offer: *offer,
         class: class_of(offer.free),
     };
-    if let Some(place) = first_below(nodes, places, here, &rest) {
+    if let Some(place) = first_below(nodes, places, &here, &rest) {
         return Some(place);
     }
     let edge = SPAN * (leaf + 1);
@@ -195,5 +195,5 @@ pub(crate) fn first_in_tree<T: Waits>(
     if !nodes[root.node].may_fit(offer, search.class) {
         return None;
     }
-    first_within(nodes, places, root, &search)
+    first_within(nodes, places, &root, &search)
 }

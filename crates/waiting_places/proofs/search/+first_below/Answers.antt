@@ -8,27 +8,27 @@ use Rattle.waiting_places.proofs.search.+first_below.Goals as goal
 
 pub first_below-returns-then-not-may_fit-clause-first : goal.first_below-returns-then-not-may_fit-clause-first
 first_below-returns-then-not-may_fit-clause-first g t c =
-    let part = c.args.part in
+    let part = c.args.part.now in
     let there = (is_node (length c.args.nodes.now) part.node part.low part.span c.requires.part).1 in
     let no = refused c.args.search.now.offer c.args.nodes.now part.node c.index-nodes-part.result c.may_fit.result there c.may_fit.ensures c.if-not-may_fit.true in
     none_fits g.T.Waits.size g.T.Waits.estimate c.args.nodes.now c.args.places.now c.requires.tree c.args.search.now.offer part.node part.low part.span (max c.args.search.now.from (64 * part.low)) c.requires.part no (omega arith)
 
 pub first_within-first_below-requires : goal.first_within-first_below-requires
 first_within-first_below-requires g t c κs within =
-    let half = halves (length c.args.nodes.now) c.args.part.node c.args.part.low c.args.part.span c.requires.part c.if-part-eq1.false in
+    let half = halves (length c.args.nodes.now) c.args.part.now.node c.args.part.now.low c.args.part.now.span c.requires.part c.if-part-eq1.false in
     let less = half.less in
     (omega arith, (within, (c.requires.tree, (half.first, c.requires.class))))
 
 pub first_within-first_below-requires-2 : goal.first_within-first_below-requires-2
 first_within-first_below-requires-2 g t c κs within =
-    let half = halves (length c.args.nodes.now) c.args.part.node c.args.part.low c.args.part.span c.requires.part c.if-part-eq1.false in
+    let half = halves (length c.args.nodes.now) c.args.part.now.node c.args.part.now.low c.args.part.now.span c.requires.part c.if-part-eq1.false in
     let less = half.less in
-    let second = subst (λ n. IsPart n (2 * c.args.part.node + 1) (c.args.part.low + c.args.part.span / 2) (c.args.part.span / 2)) (sym c.first_below.ensures.len) half.second in
+    let second = subst (λ n. IsPart n (2 * c.args.part.now.node + 1) (c.args.part.now.low + c.args.part.now.span / 2) (c.args.part.now.span / 2)) (sym c.first_below.ensures.len) half.second in
     (omega arith, (within, (c.first_below.ensures.tree, (second, c.requires.class))))
 
 pub first_within-returns-in-Some-first_below-clause-first : goal.first_within-returns-in-Some-first_below-clause-first
 first_within-returns-in-Some-first_below-clause-first g t c =
-    let part = c.args.part in
+    let part = c.args.part.now in
     let from = c.args.search.now.from in
     let test = holds (fits g.T.Waits.size g.T.Waits.estimate c.args.search.now.offer) in
     let half = halves (length c.args.nodes.now) part.node part.low part.span c.requires.part c.if-part-eq1.false in
@@ -40,21 +40,21 @@ first_within-returns-in-Some-first_below-clause-first g t c =
 
 pub first_within-raise-requires : goal.first_within-raise-requires
 first_within-raise-requires g t c =
-    let half = halves (length c.args.nodes.now) c.args.part.node c.args.part.low c.args.part.span c.requires.part c.if-part-eq1.false in
+    let half = halves (length c.args.nodes.now) c.args.part.now.node c.args.part.now.low c.args.part.now.span c.requires.part c.if-part-eq1.false in
     let inner = half.inner in
     let len = c.first_below-2.ensures.len ∙ c.first_below.ensures.len in
     omega (arith, inner, len)
 
 pub first_within-returns-clause-tree : goal.first_within-returns-clause-tree
 first_within-returns-clause-tree g t c =
-    let half = halves (length c.args.nodes.now) c.args.part.node c.args.part.low c.args.part.span c.requires.part c.if-part-eq1.false in
+    let half = halves (length c.args.nodes.now) c.args.part.now.node c.args.part.now.low c.args.part.now.span c.requires.part c.if-part-eq1.false in
     let inner = half.inner in
     let len = c.first_below-2.ensures.len ∙ c.first_below.ensures.len in
-    raised g.T.Waits.size g.T.Waits.estimate c.first_below-2.new.nodes c.args.places.now c.first_below-2.ensures.tree c.args.part.node c.raise.new.nodes (omega (arith, inner, len)) c.raise.ensures.len c.raise.ensures.first c.raise.ensures.second c.raise.ensures.others
+    raised g.T.Waits.size g.T.Waits.estimate c.first_below-2.new.nodes c.args.places.now c.first_below-2.ensures.tree c.args.part.now.node c.raise.new.nodes (omega (arith, inner, len)) c.raise.ensures.len c.raise.ensures.first c.raise.ensures.second c.raise.ensures.others
 
 pub first_within-returns-clause-first : goal.first_within-returns-clause-first
 first_within-returns-clause-first g t c =
-    let part = c.args.part in
+    let part = c.args.part.now in
     let from = c.args.search.now.from in
     let test = holds (fits g.T.Waits.size g.T.Waits.estimate c.args.search.now.offer) in
     let half = halves (length c.args.nodes.now) part.node part.low part.span c.requires.part c.if-part-eq1.false in
