@@ -125,3 +125,36 @@ ended r a b c d ready next prints rows whole u none w p v =
     let all : front ++ all_rows next ≡ whole = append_assoc u.done (all_rows ready) (all_rows next) ∙ ap (λ l. u.done ++ (all_rows ready ++ l)) (sym (append-nil (all_rows next)) ∙ ap (λ l. all_rows next ++ l) (sym none)) ∙ u.all in
     let lines : flat_map row_line front ++ all_lines prints ≡ flat_map row_line whole = ap (λ l. flat_map row_line front ++ l) p.lines ∙ sym (flat_map-append row_line front (all_rows next)) ∙ ap (flat_map row_line) all in
     subst (Writes r a d) lines (writes_then r a c d (flat_map row_line front) (all_lines prints) (lines-told a b c ready next rows whole u w) v)
+
+-- ---- pieces that are printed and written one after another
+
+-- Of these rows the first are written, and behind them come these.
+pub record IsWriting (old now : Option (List ℕ)) (rows whole : List Row) : Type 0 where
+  pub done : List Row
+  pub told : Appends old now (flat_map row_line done)
+  pub all : done ++ rows ≡ whole
+
+pub none-done : (a : Option (List ℕ)) (rows : List Row) → Appends a a [] → IsWriting a a rows rows
+none-done a rows none = record { done = []; told = none; all = refl }
+
+-- the bytes are the lines of a piece's rows
+bytes-of : (done : List Row) (piece : List Row) (bytes : List ℕ) → bytes ≡ flat_map row_line piece → flat_map row_line done ++ bytes ≡ flat_map row_line (done ++ piece)
+bytes-of done piece bytes is = ap (λ l. flat_map row_line done ++ l) is ∙ sym (flat_map-append row_line done piece)
+
+pub more-done : (a b c : Option (List ℕ)) (piece rows rest whole : List Row) (bytes : List ℕ) → IsWriting a b rows whole → piece ++ rest ≡ rows → bytes ≡ flat_map row_line piece → Appends b c bytes → IsWriting a c rest whole
+more-done a b c piece rows rest whole bytes u is lines w = record {
+  done = u.done ++ piece;
+  told = subst (Appends a c) (bytes-of u.done piece bytes lines) (Appends-trans a b c (flat_map row_line u.done) bytes u.told w);
+  all = append_assoc u.done piece rest ∙ ap (λ l. u.done ++ l) is ∙ u.all;
+}
+
+pub not-done : (a b c : Option (List ℕ)) (piece rows rest whole : List Row) (bytes : List ℕ) → IsWriting a b rows whole → piece ++ rest ≡ rows → bytes ≡ flat_map row_line piece → (n : ℕ) × Appends b c (take n bytes) → (n : ℕ) × Appends a c (take n (flat_map row_line whole))
+not-done a b c piece rows rest whole bytes u is lines w =
+    let front = flat_map row_line (u.done ++ piece) in
+    let all : (u.done ++ piece) ++ rest ≡ whole = append_assoc u.done piece rest ∙ ap (λ l. u.done ++ l) is ∙ u.all in
+    let text : front ++ flat_map row_line rest ≡ flat_map row_line whole = sym (flat_map-append row_line (u.done ++ piece) rest) ∙ ap (flat_map row_line) all in
+    let here : (n : ℕ) × Appends a c (take n front) = subst (λ (l : List ℕ). (n : ℕ) × Appends a c (take n l)) (bytes-of u.done piece bytes lines) (front_after a b c (flat_map row_line u.done) bytes u.told w) in
+    subst (λ (l : List ℕ). (n : ℕ) × Appends a c (take n l)) text (front_more a c front (flat_map row_line rest) here)
+
+pub all-done : (a b : Option (List ℕ)) (rows whole : List Row) → IsWriting a b rows whole → rows ≡ [] → Appends a b (flat_map row_line whole)
+all-done a b rows whole u none = subst (Appends a b) (ap (flat_map row_line) (sym (append-nil u.done) ∙ ap (λ l. u.done ++ l) (sym none) ∙ u.all)) u.told

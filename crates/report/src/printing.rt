@@ -7,8 +7,9 @@ ghost use Rattle.report.specs.Schedule.{row_line, rows_text};
 
 use crate::batch::Batch;
 use crate::heading::push_heading;
-use crate::piece::MOST_ROWS;
+use crate::piece::{MOST_ROWS, Piece};
 use checkpoints::Rows;
+use rayon::current_num_threads;
 use std::alloc::{AllocError, Allocator};
 use std::io::Write;
 use std::marker::{Model, Sync};
@@ -40,6 +41,22 @@ impl<'a, A: Allocator + Copy> Model for ScheduleReport<'a, A> {
     ghost view = { λ s. s.heading.items ++ flat_map row_line s.rows };
 
     ghost invariant = { λ s. (0 < length s.printed.pieces.items) × (0 < length s.next.pieces.items) };
+}
+
+// Writes the lines of these rows, a piece after another, on this thread alone.
+fn write_alone<W: Write, A: Allocator + Copy>(
+    writer: &mut W,
+    mut rows: Rows<'_, A>,
+) -> Result<(), WriteFault>
+    ensures { Writes result (W.contents writer.old) (W.contents writer.new) (flat_map row_line rows.entry) }
+{
+    let mut piece = Piece::new();
+    'rows: while 0 < rows.left() {
+        piece.take(&mut rows);
+        piece.print();
+        write_bytes(writer, piece.lines.as_slice())?;
+    }
+    Ok(())
 }
 
 // Writes the lines of these rows.
@@ -87,8 +104,9 @@ impl<'a, A: Allocator + Copy> ScheduleReport<'a, A> {
         })
     }
 
-    /// Writes the report's text, by several writes one after another. Device where the writer
-    /// answers an error, or takes no byte; what was written then is a beginning of the text.
+    /// Writes the report's text, by several writes one after another; on one processor no thread is
+    /// started. Device where the writer answers an error, or takes no byte; what was written then is a
+    /// beginning of the text.
     pub fn write<R: Threads + Sync, W: Write>(
         self,
         rt: &R,
@@ -103,6 +121,9 @@ impl<'a, A: Allocator + Copy> ScheduleReport<'a, A> {
             next,
         } = self;
         write_bytes(writer, heading.as_slice())?;
+        if current_num_threads(rt) == 1 {
+            return write_alone(writer, rows);
+        }
         write_rows(rt, writer, rows, printed, next)
     }
 }

@@ -14,6 +14,12 @@ returns-in_err-write_bytes g c =
     rw (p.1) (subst (λ (l : List ℕ). (n : ℕ) × Appends (g.W.Write.contents c.args.writer.now) (g.W.Write.contents c.write_bytes.new.writer) (take n l)) c.self.view_is
     (front_more _ _ c.self.inside.heading.items (flat_map row_line c.self.inside.rows) told))
 
+pub returns-then-current_num_threads-eq1 : goal.returns-then-current_num_threads-eq1
+returns-then-current_num_threads-eq1 g c =
+    let told = subst (Appends (g.W.Write.contents c.args.writer.now) (g.W.Write.contents c.write_bytes.new.writer)) c.as_slice.ensures.value c.in_ok-write_bytes.ensures in
+    subst (Writes c.write_alone.result (g.W.Write.contents c.args.writer.now) (g.W.Write.contents c.write_alone.new.writer)) c.self.view_is
+    (writes_then c.write_alone.result _ _ _ c.self.inside.heading.items (flat_map row_line c.self.inside.rows) told c.write_alone.ensures)
+
 pub returns : goal.returns
 returns g c =
     let told = subst (Appends (g.W.Write.contents c.args.writer.now) (g.W.Write.contents c.write_bytes.new.writer)) c.as_slice.ensures.value c.in_ok-write_bytes.ensures in
