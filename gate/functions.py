@@ -146,3 +146,16 @@ def named_alone(crate, texts, homes):
                 if function and is_known and "#[cycle" not in text[: it.start()].rpartition("\n\n")[2]:
                     found.add("/".join(function))
     return {it for it in found - named - {"", "main"} if not re.search(r"(^|/)(fn/|\+)", it)}
+
+
+def cycles(texts, homes):
+    """For each function in a cycle of calls, which `#[cycle(NAME)]` names, all that are in it, as `function_at` gives them. They
+    are proved together, so that where one is refused all are."""
+    found = collections.defaultdict(set)
+    for path, text in texts.items():
+        for it in FUNCTION.finditer(text) if path.startswith("src/") else ():
+            named = re.search(r"#\[cycle\((\w+)\)\]", text[: it.start()].rpartition("\n\n")[2])
+            function = named and function_at(path, text, it.start(1), homes)
+            if function:
+                found[path, named[1]].add(function)
+    return {function: together for together in found.values() for function in together}
