@@ -11,7 +11,7 @@ pub record IsLowered (old new : List ℕ) (from to number : ℕ) : Type 0 where
   pub before : (c : ℕ) → c < from → slice_index_or new c 0 ≡ slice_index_or old c 0
   pub behind : (c : ℕ) → to ≤ c → slice_index_or new c 0 ≡ slice_index_or old c 0
 
-pub at_most : (n v j : ℕ) → slice_index_or (replicate n v) j 0 ≤ v
+at_most : (n v j : ℕ) → slice_index_or (replicate n v) j 0 ≤ v
 at_most zero v j = omega arith
 at_most (suc n) v zero = omega arith
 at_most (suc n) v (suc j) = at_most n v j

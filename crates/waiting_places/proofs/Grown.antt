@@ -1,13 +1,13 @@
 -- Where one comes and where one leaves.
-use Rattle.std.proofs.Common.{◌≡◌, ◌≢◌, ℕ, ◌+◌, ◌-◌, ◌*◌, ◌^◌, ◌≤◌, ◌<◌, List, [], ◌∷◌, ◌++◌, length, is_some, true, map, slice_index_or, set, Option, None, Some, sym, ◌∙◌, ap, arith, subst, ⊎_elim}
+use Rattle.std.proofs.Common.{◌≡◌, ◌≢◌, ℕ, ◌+◌, ◌-◌, ◌*◌, ◌^◌, ◌≤◌, ◌<◌, List, [], ◌∷◌, ◌++◌, length, slice_index_or, set, Option, None, Some, sym, ◌∙◌, ap, arith, subst, ⊎_elim}
 use Rattle.std.proofs.lemmas.Bool.{cases_eq, cases_lt}
-use Rattle.std.proofs.lemmas.List.{length-append, length-map, length-set, get_or-set_same, get_or-set_other, get_or_append_left, get_or_push}
+use Rattle.std.proofs.lemmas.List.{length-append, length-set, get_or-set_same, get_or-set_other, get_or_append_left, get_or_push}
 use Rattle.waiting_places.specs.Bounds.{IsBelow, Keeps, LeastsView}
 use Rattle.waiting_places.specs.Places.{IsHead, IsPlaces, at_place, room_of, waiting}
-use Rattle.waiting_places.specs.Tree.{IsTree, IsWhole, KnowNothing, halved, leaf_of, node_at}
+use Rattle.waiting_places.specs.Tree.{IsTree, halved, leaf_of, node_at}
 use Rattle.waiting_places.proofs.Below.{within}
 use Rattle.waiting_places.proofs.Heads.{head_comes}
-use Rattle.waiting_places.proofs.Standing.{all_wait, no_more, one_comes, one_less}
+use Rattle.waiting_places.proofs.Standing.{no_more, one_comes, one_less}
 
 module _ {X : Type 0} (size estimate : X → ℕ) (nodes : List LeastsView) (places : List (Option X)) (tree : IsTree size estimate nodes places) where
   -- one comes, and the bounds above its place are lowered
@@ -105,24 +105,3 @@ module _ {X : Type 0} (size estimate : X → ℕ) (places : List (Option X)) (no
 
   pub somebody : (place : ℕ) (item : X) → at_place places place ≡ Some item → 1 ≤ len
   somebody place item is = let count = kept.count in omega (arith, count, one_less places place item (within size estimate places place item is) is)
-
--- those who wait, each at a place of a list, beside nodes of which nothing is known
-pub closed : {X : Type 0} (size estimate : X → ℕ) (items : List X) (places : List (Option X)) (nodes : List LeastsView) (len room capacity : ℕ) → places ≡ map (λ item. Some item) items → len ≡ length places → length items ≤ room → room ≤ capacity → room ≤ room_of (length nodes)
-    → (1 ≤ length nodes → IsWhole (length nodes)) → (1 ≤ length nodes → 4 ≤ length nodes) → length nodes ≤ 2 ^ 40 → KnowNothing nodes → IsPlaces size estimate places nodes len 0 capacity
-closed {X} size estimate items places nodes len room capacity all is short fit enough whole many most unknown =
-    let long : length places ≡ length items = ap length all ∙ length-map items (λ (item : X). Some item) in
-    let stand : length (waiting places) ≡ length items = ap (λ (ys : List (Option X)). length (waiting ys)) all ∙ ap length (all_wait items) in
-    record {
-      count = omega (arith, is, long, stand);
-      first = record { front = omega arith; ahead = λ place l. absurd (omega (arith, l)); met = met items all };
-      fit = omega (arith, long);
-      list = omega (arith, long);
-      few = most;
-      tree = λ some.
-          let four = many some in
-          record { whole = whole some; many = four; few = most; room = omega (arith, long, four); below = λ times place x at one. unknown (halved times (leaf_of (length nodes) place)) (size x) (estimate x) };
-    }
-  where
-    met : (ys : List X) → places ≡ map (λ item. Some item) ys → 0 < length places → is_some (at_place places 0) ≡ true
-    met [] e l = absurd (omega (arith, l, ap length e))
-    met (y ∷ ys) e l = ap (λ (zs : List (Option X)). is_some (at_place zs 0)) e

@@ -1,24 +1,13 @@
 -- A node is written.
-use Rattle.std.proofs.Common.{◌≡◌, ◌≢◌, ℕ, zero, suc, replicate, ◌+◌, ◌-◌, ◌*◌, ◌/◌, ◌≤◌, ◌<◌, min, List, [], length, take, drop, get_or, set, slice_index_or, Option, None, Some, arith, ⊎_elim, ap, sym, subst, ◌∙◌}
+use Rattle.std.proofs.Common.{◌≡◌, ◌≢◌, ℕ, ◌+◌, ◌-◌, ◌*◌, ◌/◌, ◌≤◌, ◌<◌, min, List, [], length, take, drop, get_or, set, slice_index_or, Option, None, Some, arith, ⊎_elim, ap, sym, subst, ◌∙◌}
 use Rattle.std.proofs.lemmas.Bool.{cases_eq}
 use Rattle.std.proofs.lemmas.List.{get_or_default, get_or-set_same, get_or-set_other, get_or-take, get_or-drop}
 use Rattle.waiting_places.specs.Bounds.{IsBelow, Keeps, LeastsView}
-use Rattle.waiting_places.specs.Tree.{KnowNothing, node_at}
+use Rattle.waiting_places.specs.Tree.{node_at}
 use Rattle.waiting_places.proofs.Below.{within}
-use Rattle.waiting_places.proofs.Sizes.{none}
 
 abbrev pub no_node : LeastsView
 no_node = record { size = 0; window = 0; size_within = 0; estimates = [] }
-
--- nodes of which nothing is known
-nothing : (size estimate : ℕ) → IsBelow no_node size estimate
-nothing size estimate = record { least = omega arith; within = λ short. omega arith; short = λ c after. none c estimate }
-
-pub know_nothing : (n : ℕ) (l : LeastsView) → ((size estimate : ℕ) → IsBelow l size estimate) → KnowNothing (replicate n l)
-know_nothing zero l unknown zero = nothing
-know_nothing zero l unknown (suc k) = nothing
-know_nothing (suc n) l unknown zero = unknown
-know_nothing (suc n) l unknown (suc k) = know_nothing n l unknown k
 
 -- what is read of a node that there is
 pub read : (nodes : List LeastsView) (k : ℕ) (l : LeastsView) → k < length nodes → l ≡ get_or nodes k l → node_at nodes k ≡ l

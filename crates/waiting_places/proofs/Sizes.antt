@@ -10,7 +10,7 @@ use Rattle.waiting_places.specs.Bounds.{IsBelow, Keeps, LeastsView, sizes_known}
 abbrev pub known_with : Sizes → List ℕ → LeastsView
 known_with s estimates = record { size = s.size; window = s.window; size_within = s.size_within; estimates = estimates }
 
-pub none : (c n : ℕ) → slice_index_or [] c 0 ≤ n
+none : (c n : ℕ) → slice_index_or [] c 0 ≤ n
 none zero n = omega arith
 none (suc c) n = omega arith
 

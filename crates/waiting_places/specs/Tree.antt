@@ -12,10 +12,6 @@ halved (suc times) n = halved times n / 2
 abbrev pub node_at : List LeastsView → ℕ → LeastsView
 node_at nodes k = slice_index_or nodes k (record { size = 0; window = 0; size_within = 0; estimates = [] })
 
--- of those below each node nothing is known
-abbrev pub KnowNothing : List LeastsView → Type 0
-KnowNothing nodes = (k size estimate : ℕ) → IsBelow (node_at nodes k) size estimate
-
 -- the leaf of a place, by how many nodes there are
 abbrev pub leaf_of : ℕ → ℕ → ℕ
 leaf_of count place = count / 2 + place / 64

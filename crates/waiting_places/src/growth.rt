@@ -1,6 +1,6 @@
 ghost use Rattle.std.specs.Prelude.{◌≡◌, ◌+◌, ◌*◌, ◌≤◌, ◌^◌, IfOk, length};
 ghost use Rattle.waiting_places.specs.Places.{room_of};
-ghost use Rattle.waiting_places.specs.Tree.{IsWhole, KnowNothing};
+ghost use Rattle.waiting_places.specs.Tree.{IsWhole};
 
 use crate::leasts::Leasts;
 use crate::tree::SPAN;
@@ -24,13 +24,12 @@ fn power_from(count: usize) -> usize
     power
 }
 
-// Nodes of a tree over so many places, of which nothing is known; none where the places are few.
+// Nodes of a tree over so many places, which know of nobody; none where the places are few.
 pub(crate) fn nodes_for<A: Allocator + Copy>(
     alloc: A,
     room: usize,
 ) -> Result<Vec<Leasts, A>, Memory>
     requires { room ≤ 2 ^ 40 }
-    ensures unknown { IfOk result (λ nodes. KnowNothing nodes.items) }
     ensures enough { IfOk result (λ nodes. room ≤ room_of (length nodes.items)) }
     ensures whole { IfOk result (λ nodes. 1 ≤ length nodes.items → IsWhole (length nodes.items)) }
     ensures many { IfOk result (λ nodes. 1 ≤ length nodes.items → 4 ≤ length nodes.items) }
@@ -40,5 +39,5 @@ pub(crate) fn nodes_for<A: Allocator + Copy>(
         return Ok(Vec::new(alloc));
     }
     let leaves = power_from(room.div_ceil(SPAN));
-    Ok(vec![in alloc; Leasts::unknown(); 2 * leaves]?)
+    Ok(vec![in alloc; Leasts::new(0); 2 * leaves]?)
 }

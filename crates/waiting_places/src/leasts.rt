@@ -94,17 +94,6 @@ fn size_of_both(size: u64, other: u64, counts: bool) -> u64
 }
 
 impl Sizes {
-    // Nothing.
-    fn unknown() -> Sizes
-        ensures { (size estimate : ℕ) → IsBelow (sizes_known result) size estimate }
-    {
-        Sizes {
-            size: 0,
-            window: 0,
-            size_within: 0,
-        }
-    }
-
     // Of nobody, once it was asked for those who are at most so long.
     fn new(window: u64) -> Sizes {
         Sizes {
@@ -177,13 +166,11 @@ impl Sizes {
 }
 
 impl Leasts {
-    // Nothing.
-    pub(crate) fn unknown() -> Leasts
-        ensures { (size estimate : ℕ) → IsBelow result size estimate }
-    {
+    // Of nobody, once it was asked for those who are at most so long.
+    pub(crate) fn new(window: u64) -> Leasts {
         Leasts {
-            sizes: Sizes::unknown(),
-            estimates: [0; CLASSES],
+            sizes: Sizes::new(window),
+            estimates: [u32::MAX; CLASSES],
         }
     }
 

@@ -1,4 +1,4 @@
-ghost use Rattle.std.specs.Prelude.{◌≡◌, ◌⊎◌, ◌↔◌, ℕ, ◌+◌, ◌*◌, ◌/◌, ◌^◌, ◌≤◌, ◌<◌, [], ◌∷◌, ◌++◌, IfOk, IfSome, IsOk, IsTrue, None, OnErr, OnOk, Some, drop, find, is_some, length, map, option_copied, slice_get, slice_set, take, vec_capacity};
+ghost use Rattle.std.specs.Prelude.{◌≡◌, ◌⊎◌, ◌↔◌, ℕ, ◌+◌, ◌*◌, ◌/◌, ◌^◌, ◌≤◌, ◌<◌, [], ◌∷◌, ◌++◌, IfOk, IfSome, IsOk, IsTrue, None, OnErr, OnOk, Some, drop, find, is_some, length, map, option_copied, slice_get, slice_set, take};
 ghost use Rattle.std.specs.List.{remove};
 ghost use Rattle.waiting_places.specs.Bounds.{IsBelow, Keeps};
 ghost use Rattle.waiting_places.specs.Offers.{fits, holds};
@@ -84,28 +84,7 @@ fn place_before<T: Waits>(places: &[Option<T>], count: usize) -> usize
     place
 }
 
-// Those who wait at these places, at places of their own, with room for so many.
-fn listed<T: Waits, A: Allocator + Copy>(
-    alloc: A,
-    places: &[Option<T>],
-    room: usize,
-) -> Result<Vec<Option<T>, A>, Memory>
-    requires few { room ≤ 2 ^ 40 }
-    requires enough { length (waiting places.now) ≤ room }
-    ensures places { IfOk result (λ list. list.items ≡ map (λ item. Some item) (waiting places.now)) }
-    ensures room { IfOk result (λ list. room ≤ vec_capacity list) }
-{
-    let mut list = Vec::with_capacity(alloc, room)?;
-    for item in Waiting::at(places) {
-        let Ok(()) = list.push(Some(*item)) else {
-            unreachable!()
-        };
-    }
-    Ok(list)
-}
-
-// Those who wait at these places, at the first places of others, of which there are so many at least. Of
-// their sizes and estimates nothing is known then.
+// Those who wait at these places, at the first places of others, of which there are so many at least.
 fn closed_up<T: Waits, A: Allocator + Copy>(
     alloc: A,
     places: &[Option<T>],
@@ -116,15 +95,11 @@ fn closed_up<T: Waits, A: Allocator + Copy>(
     ensures places { IfOk result (λ closed. closed.places ≡ map (λ item. Some item) (waiting places.now)) }
     ensures spare { IfOk result (λ closed. room ≤ closed.spare + length (waiting places.now)) }
 {
-    let nodes = nodes_for(alloc, room)?;
-    let list = listed(alloc, places, room)?;
-    let len = list.len();
-    Ok(Places {
-        places: list,
-        nodes,
-        len,
-        head: 0,
-    })
+    let mut closed = Places::with_room(alloc, room)?;
+    for item in Waiting::at(places) {
+        closed.push(*item);
+    }
+    Ok(closed)
 }
 
 impl<T: Waits, A: Allocator + Copy> Places<T, A> {
@@ -138,6 +113,21 @@ impl<T: Waits, A: Allocator + Copy> Places<T, A> {
             len: 0,
             head: 0,
         }
+    }
+
+    // Nobody, with room for so many.
+    fn with_room(alloc: A, room: usize) -> Result<Places<T, A>, Memory>
+        requires { room ≤ 2 ^ 40 }
+        ensures places { IfOk result (λ p. p.places ≡ []) }
+        ensures spare { IfOk result (λ p. room ≤ p.spare) }
+    {
+        let nodes = nodes_for(alloc, room)?;
+        Ok(Places {
+            places: Vec::with_capacity(alloc, room)?,
+            nodes,
+            len: 0,
+            head: 0,
+        })
     }
 
     /// How many wait.
