@@ -126,6 +126,31 @@ def body_of(text, function):
     return None
 
 
+def span_of(path, text, function, homes):
+    """Where a function of a file of src/ begins, with the attributes and comments above it, where its name stands, and where it
+    ends; None where it is of a trait's impl, or isn't found or laid out on lines of its own."""
+    for it in FUNCTION.finditer(text):
+        body = body_of(text, it)
+        if not body or (function_at(path, text, it.start(1), homes) or (None,))[0] != function:
+            continue
+        impl, depth, start = block_at(IMPL, text, it.start()), re.match(" *", it[0])[0], it.start()
+        if impl and parts_of(impl[1])[0]:
+            return None
+        lines = text[:start].split("\n")[:-1]
+        while lines and re.match(rf"{depth}(//|#\[)", lines[-1]):
+            start -= len(lines.pop()) + 1
+        return start, it.start(1), text.index("\n", body[1]) + 1
+    return None
+
+
+def folders_of(function, texts, homes):
+    """The folders below proofs/ that have a proof of a function; None where one of a closure of it does, or one that is for some
+    arguments of its type."""
+    folders = {it.removeprefix("proofs/").rpartition("/")[0] for it in texts if it.startswith("proofs/")} - {""}
+    found = {it for it in folders if function_of(it.split("/"), homes) == function}
+    return None if any(re.search(r"(^|/)fn/|\+", it) for it in found) else found
+
+
 def named_alone(crate, texts, homes):
     """The folders below proofs/ of a crate's functions of which no proof can see more than the statement: those that have such
     a folder, and those of src/ whose name is known, but no closure, no function in a cycle of calls, and none of whose
