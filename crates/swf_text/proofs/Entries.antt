@@ -1,7 +1,6 @@
 -- What the tests of an entry's lines say of it.
-use Rattle.std.proofs.Common.{◌≡◌, ℕ, zero, suc, ◌+◌, ◌<◌, ◌≤◌, Bool, true, false, cond, eqb, ltb, leb, ◌||◌, List, [], ◌∷◌, ◌++◌, length, Option, Some, None, Result, Ok, Err, ℤ, refl, sym, ap, subst, ◌∙◌, arith, inl, inr}
-use Rattle.std.specs.Prelude.{nat_abs, if◌then◌else◌, OnErr, OnOk}
-use Rattle.std.specs.Result.{is_ok}
+use Rattle.std.proofs.Common.{◌≡◌, ℕ, zero, suc, ◌+◌, ◌<◌, ◌≤◌, Bool, true, false, cond, eqb, ltb, leb, ◌||◌, List, [], ◌∷◌, ◌++◌, length, Some, Ok, Err, ℤ, refl, sym, ap, subst, ◌∙◌, arith, inl, inr}
+use Rattle.std.specs.Prelude.{nat_abs}
 use Rattle.std.proofs.Math.ListN.{set}
 use Rattle.std.specs.List.{AllByRecursion, list_all, list_any, count_by}
 use Rattle.std.proofs.lemmas.Bool.{cases_Bool, lt-ltb, eqb-true, eq-eqb, le-leb, lt-leb, true≢false}
@@ -11,8 +10,7 @@ use Rattle.std.proofs.lemmas.List.Folds.{list_any-append}
 use Rattle.swf_text.specs.declared.fault.EntryFault.TheVariants as faults
 use Rattle.swf_text.specs.declared.fault.FaultKind.TheVariants as kinds
 use Rattle.swf_text.specs.declared.line.Fields.{Fields}
-use Rattle.swf_text.specs.declared.packed.PackedLine.{PackedLine}
-use Rattle.swf_text.specs.Packed.{entry_of, unpacked}
+use Rattle.swf_text.specs.Kept.{entry_of_lines}
 use Rattle.swf_text.specs.Number.{greatest, is_below_zero}
 use Rattle.swf_text.specs.Entry.{LogEntry, IsEntry, IsPart, field, has_number, is_part, is_partial, is_some_number, values, whole_number, entry_made, entry_numbered}
 use Rattle.swf_text.specs.Log.{IsLog}
@@ -181,10 +179,9 @@ module _ (main : List ℤ) (parts : List (List ℤ)) (number : ℕ) (numbered : 
 
 -- ---- a partial line behind those of an entry
 
-with_behind : (part : Fields) (packed : Option PackedLine) (lines : List Fields) → IsEntry (entry_of packed lines) → entry_of packed (lines ++ part ∷ []) ≡ record (entry_of packed lines) { parts = (entry_of packed lines).parts ++ values part ∷ [] }
-with_behind part (Some line) lines entry = ap (λ (ps : List (List ℤ)). record { main = unpacked line; parts = ps }) (map-append values lines (part ∷ []))
-with_behind part None [] entry = absurd (omega (arith, entry.eighteen))
-with_behind part None (line ∷ lines) entry = ap (λ (ps : List (List ℤ)). record { main = values line; parts = ps }) (map-append values lines (part ∷ []))
+with_behind : (part : Fields) (lines : List Fields) → IsEntry (entry_of_lines lines) → entry_of_lines (lines ++ part ∷ []) ≡ record (entry_of_lines lines) { parts = (entry_of_lines lines).parts ++ values part ∷ [] }
+with_behind part [] entry = absurd (omega (arith, entry.eighteen))
+with_behind part (line ∷ lines) entry = ap (λ (ps : List (List ℤ)). record { main = values line; parts = ps }) (map-append values lines (part ∷ []))
 
 part_sound : (now : LogEntry) (part : List ℤ) → IsEntry now → field part 1 ≡ field now.main 1 → is_partial (field part 11) ≡ true → IsEntry (record now { parts = now.parts ++ part ∷ [] })
 part_sound now part entry same partial = record {
@@ -198,19 +195,5 @@ part_sound now part entry same partial = record {
   parts = all_end (IsPart entry.number) now.parts part entry.parts (record { numbered = same ∙ entry.numbered; partial = partial });
 }
 
-module _ {X Y : Type 0} (part : Fields) (packed : Option PackedLine) (old : List Fields) (now : LogEntry) (seen : entry_of packed old ≡ now) (entry : IsEntry (entry_of packed old)) where
-  pub push_main : (r : Result X Y) → (entry_of packed (if is_ok r then old ++ part ∷ [] else old)).main ≡ now.main
-  push_main (Ok x) = ap (λ (e : LogEntry). e.main) (with_behind part packed old entry ∙ ap (λ (e : LogEntry). record e { parts = e.parts ++ values part ∷ [] }) seen)
-  push_main (Err y) = ap (λ (e : LogEntry). e.main) seen
-
-  pub push_added : (r : Result X Y) → OnOk r (entry_of packed (if is_ok r then old ++ part ∷ [] else old) ≡ record now { parts = now.parts ++ values part ∷ [] })
-  push_added (Ok x) = with_behind part packed old entry ∙ ap (λ (e : LogEntry). record e { parts = e.parts ++ values part ∷ [] }) seen
-  push_added (Err y) = tt
-
-  pub push_kept : (r : Result X Y) → OnErr r (entry_of packed (if is_ok r then old ++ part ∷ [] else old) ≡ now)
-  push_kept (Ok x) = tt
-  push_kept (Err y) = seen
-
-  pub push_sound : field (values part) 1 ≡ field now.main 1 → is_partial (field (values part) 11) ≡ true → (r : Result X Y) → IsEntry (entry_of packed (if is_ok r then old ++ part ∷ [] else old))
-  push_sound same partial (Ok x) = subst IsEntry (sym (with_behind part packed old entry)) (part_sound (entry_of packed old) (values part) entry (same ∙ ap (λ (e : LogEntry). field e.main 1) (sym seen)) partial)
-  push_sound same partial (Err y) = entry
+pub more_sound : (part : Fields) (lines : List Fields) (now : LogEntry) → entry_of_lines lines ≡ now → IsEntry (entry_of_lines lines) → field (values part) 1 ≡ field now.main 1 → is_partial (field (values part) 11) ≡ true → IsEntry (entry_of_lines (lines ++ part ∷ []))
+more_sound part lines now seen entry same partial = subst IsEntry (sym (with_behind part lines entry)) (part_sound (entry_of_lines lines) (values part) entry (same ∙ ap (λ (e : LogEntry). field e.main 1) (sym seen)) partial)

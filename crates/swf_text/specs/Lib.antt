@@ -4,6 +4,7 @@ pub mod Line
 pub mod Fault
 pub mod Names
 pub mod Entry
+pub mod Kept
 pub mod Packed
 pub mod Log
 pub mod Text

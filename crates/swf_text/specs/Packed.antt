@@ -1,9 +1,7 @@
 -- Job lines in codes: a code for each value.
-use Rattle.std.specs.Prelude.{ℕ, ◌-◌, ◌*◌, ◌==◌, nat_lt, true, false, if◌then◌else◌, List, [], ◌∷◌, map, Option, Some, None, ℤ}
-use Rattle.swf_text.specs.declared.line.Fields.{Fields}
+use Rattle.std.specs.Prelude.{ℕ, ◌-◌, ◌*◌, ◌==◌, nat_lt, true, false, if◌then◌else◌, List, map, ℤ}
 use Rattle.swf_text.specs.declared.packed.PackedLine.{PackedLine}
 use Rattle.swf_text.specs.Number.{signed}
-use Rattle.swf_text.specs.Entry.{LogEntry, values}
 
 -- the value of a code, in millionths: -1, then the whole numbers from 0 on, and from 4,000,000,000 on the numbers of hundredths
 abbrev pub value_of : ℕ → ℤ
@@ -14,9 +12,3 @@ value_of code =
 -- the values of a packed line
 abbrev pub unpacked : PackedLine → List ℤ
 unpacked line = map value_of line.0
-
--- the entry whose summary line is packed, or the first of the lines
-abbrev pub entry_of : Option PackedLine → List Fields → LogEntry
-entry_of (Some packed) lines = record { main = unpacked packed; parts = map values lines }
-entry_of None [] = record { main = []; parts = [] }
-entry_of None (line ∷ lines) = record { main = values line; parts = map values lines }

@@ -8,29 +8,36 @@ use crate::line::Fields;
 use crate::memory::Memory;
 use crate::packed::PackedLine;
 use crate::value::Value;
-use std::alloc::{AllocFailed, Allocator};
+use std::alloc::Allocator;
 use std::marker::Model;
 
 /// A job of a log: its summary line, and the lines of its partial executions, in order.
 ///
-/// A summary line is packed, into 72 bytes in place of 144, if a `PackedLine` can hold its values. Any
-/// other one takes memory, as partial lines do.
+/// A summary line without partial ones is packed, into 72 bytes in place of 144, if a `PackedLine` can
+/// hold its values. The lines of any other entry take memory.
 #[derive(Drop)]
 pub struct Entry<A: Allocator + Copy> {
-    // the summary line, if it is packed: otherwise it is the first of the lines
-    packed: Option<PackedLine>,
-    lines: Vec<Fields, A>,
+    kept: Kept<A>,
+}
+
+// How the lines of an entry are kept.
+#[derive(Drop)]
+enum Kept<A: Allocator + Copy> {
+    // a summary line alone, and the allocator for lines that may come
+    Packed(PackedLine, A),
+    // the summary line, and behind it the partial ones
+    Lines(Vec<Fields, A>),
 }
 
 impl<A: Allocator + Copy> Model for Entry<A> {
     ghost use Rattle.swf_text.specs.Entry.{LogEntry, IsEntry};
-    ghost use Rattle.swf_text.specs.Packed.{entry_of};
+    ghost use Rattle.swf_text.specs.Kept.{entry_in};
 
     ghost Value = { LogEntry };
 
-    ghost view = { λ e. entry_of e.packed e.lines.items };
+    ghost view = { λ e. entry_in e.kept };
 
-    ghost invariant = { λ e. IsEntry (entry_of e.packed e.lines.items) };
+    ghost invariant = { λ e. IsEntry (entry_in e.kept) };
 }
 
 // A line and those behind it.
@@ -53,18 +60,14 @@ impl<A: Allocator + Copy> Entry<A> {
         requires { IsEntry (record { main = main.now.0; parts = map values parts.now }) }
         ensures { IfOk result (λ entry. entry ≡ record { main = main.now.0; parts = map values parts.now }) }
     {
-        let Some(packed) = PackedLine::of(main) else {
-            let lines = with_first(alloc, main, parts)?;
-            return Ok(Entry {
-                packed: None,
-                lines,
-            });
-        };
-        let lines = Vec::from_slice(alloc, parts)?;
-        Ok(Entry {
-            packed: Some(packed),
-            lines,
-        })
+        if parts.is_empty() {
+            if let Some(packed) = PackedLine::of(main) {
+                let kept = Kept::Packed(packed, alloc);
+                return Ok(Entry { kept });
+            }
+        }
+        let kept = Kept::Lines(with_first(alloc, main, parts)?);
+        Ok(Entry { kept })
     }
 
     /// The entry of these lines, on the allocator that they keep. Memory where the growth for the
@@ -80,10 +83,8 @@ impl<A: Allocator + Copy> Entry<A> {
         requires { IsEntry (record { main = unpacked main.now; parts = [] }) }
         ensures { result ≡ record { main = unpacked main.now; parts = [] } }
     {
-        Entry {
-            packed: Some(*main),
-            lines: Vec::new(alloc),
-        }
+        let kept = Kept::Packed(*main, alloc);
+        Entry { kept }
     }
 
     // An entry of a summary line alone.
@@ -132,9 +133,9 @@ impl<A: Allocator + Copy> Entry<A> {
         ensures value { result ≡ field self.now.main place }
         ensures entry { IsEntry self.now }
     {
-        match &self.packed {
-            Some(packed) => packed.value(place - 1),
-            None => self.lines[0].0[place - 1],
+        match &self.kept {
+            Kept::Packed(packed, _) => packed.value(place - 1),
+            Kept::Lines(lines) => lines[0].0[place - 1],
         }
     }
 
@@ -147,9 +148,9 @@ impl<A: Allocator + Copy> Entry<A> {
         ensures within { nat_abs result ≤ 1000000000000 }
         ensures entry { IsEntry self.now }
     {
-        match &self.packed {
-            Some(packed) => packed.whole(place - 1),
-            None => self.lines[0].0[place - 1].whole(),
+        match &self.kept {
+            Kept::Packed(packed, _) => packed.whole(place - 1),
+            Kept::Lines(lines) => lines[0].0[place - 1].whole(),
         }
     }
 
@@ -158,9 +159,9 @@ impl<A: Allocator + Copy> Entry<A> {
         ensures main { result.0 ≡ self.now.main }
         ensures entry { IsEntry self.now }
     {
-        match &self.packed {
-            Some(packed) => packed.fields(),
-            None => self.lines[0],
+        match &self.kept {
+            Kept::Packed(packed, _) => packed.fields(),
+            Kept::Lines(lines) => lines[0],
         }
     }
 
@@ -168,10 +169,9 @@ impl<A: Allocator + Copy> Entry<A> {
     pub fn parts(&self) -> &[Fields]
         ensures { map values result.now ≡ self.now.parts }
     {
-        let lines = self.lines.as_slice();
-        match &self.packed {
-            Some(_) => lines,
-            None => &lines[1..],
+        match &self.kept {
+            Kept::Packed(_, _) => &[],
+            Kept::Lines(lines) => &lines.as_slice()[1..],
         }
     }
 
@@ -180,24 +180,34 @@ impl<A: Allocator + Copy> Entry<A> {
     pub fn lines(&self) -> Result<EntryLines<A>, Memory>
         ensures { IfOk result (λ lines. lines ≡ self.now) }
     {
-        let parts = Vec::from_slice(*self.lines.allocator(), self.parts())?;
+        let parts = Vec::from_slice(self.allocator(), self.parts())?;
         Ok(EntryLines::of_parts(self.main(), parts))
     }
 
+    // The allocator that it keeps.
+    fn allocator(&self) -> A {
+        match &self.kept {
+            Kept::Packed(_, alloc) => *alloc,
+            Kept::Lines(lines) => *lines.allocator(),
+        }
+    }
+
     /// The same entry once more, on the allocator that this one keeps; Memory where the growth for
-    /// its partial lines, or for a summary line that isn't packed, is refused.
+    /// lines that aren't packed is refused.
     pub fn copy(&self) -> Result<Entry<A>, Memory>
         ensures { IfOk result (λ entry. entry ≡ self.now) }
     {
-        let lines = Vec::from_slice(*self.lines.allocator(), self.lines.as_slice())?;
-        Ok(Entry {
-            packed: self.packed,
-            lines,
-        })
+        let kept = match &self.kept {
+            Kept::Packed(packed, alloc) => Kept::Packed(*packed, *alloc),
+            Kept::Lines(lines) => {
+                Kept::Lines(Vec::from_slice(*lines.allocator(), lines.as_slice())?)
+            }
+        };
+        Ok(Entry { kept })
     }
 
     // Adds a partial line.
-    pub(crate) fn add_part(&mut self, part: Fields) -> Result<(), AllocFailed<Fields>>
+    pub(crate) fn add_part(&mut self, part: Fields) -> Result<(), Memory>
         requires same { field part.0 1 ≡ field self.old.main 1 }
         requires partial { is_partial (field part.0 11) ≡ true }
         ensures main { self.new.main ≡ self.old.main }
@@ -205,6 +215,13 @@ impl<A: Allocator + Copy> Entry<A> {
         ensures added { OnOk result (self.new ≡ record self.old { parts = self.old.parts ++ part.0 ∷ [] }) }
         ensures kept { OnErr result (self.new ≡ self.old) }
     {
-        self.lines.push(part)
+        match &mut self.kept {
+            Kept::Packed(packed, alloc) => {
+                let lines = with_first(*alloc, &packed.fields(), &[part])?;
+                self.kept = Kept::Lines(lines);
+            }
+            Kept::Lines(lines) => lines.push(part)?,
+        }
+        Ok(())
     }
 }
