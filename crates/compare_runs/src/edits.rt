@@ -23,21 +23,6 @@ enum Kind {
     OfSkipped(u8),
 }
 
-/// Besides insertion and removal, changes of submit and run time, estimate, size and user, of a
-/// field that touches no job, and of the user and the size of a skipped entry.
-const KINDS: [Kind; 10] = [
-    Kind::Insertion,
-    Kind::Removal,
-    Kind::Change(2),
-    Kind::Change(4),
-    Kind::Change(9),
-    Kind::Change(8),
-    Kind::Change(12),
-    Kind::Change(13),
-    Kind::OfSkipped(12),
-    Kind::OfSkipped(8),
-];
-
 /// How many kinds there are.
 const KIND_COUNT: u64 = 10;
 
@@ -49,6 +34,23 @@ struct Aim {
     place: u64,
 }
 
+// Besides insertion and removal, changes of submit and run time, estimate, size and user, of a field that
+// touches no job, and of the user and the size of a skipped entry.
+fn kind_of(place: u64) -> Kind {
+    match place {
+        0 => Kind::Insertion,
+        1 => Kind::Removal,
+        2 => Kind::Change(2),
+        3 => Kind::Change(4),
+        4 => Kind::Change(9),
+        5 => Kind::Change(8),
+        6 => Kind::Change(12),
+        7 => Kind::Change(13),
+        8 => Kind::OfSkipped(12),
+        _ => Kind::OfSkipped(8),
+    }
+}
+
 // A generated table.
 pub(crate) fn made_table(alloc: Global, chance: &mut Chance) -> Option<JobTable<Global>> {
     let mut log = String::new(alloc);
@@ -58,7 +60,11 @@ pub(crate) fn made_table(alloc: Global, chance: &mut Chance) -> Option<JobTable<
 
 // The last second in which a job is submitted.
 fn last_second(table: &JobTable<Global>) -> u64 {
-    table.from_second(0).fold(0, |_: u64, entry| entry.submit())
+    let mut last = 0;
+    for entry in table.from_second(0) {
+        last = entry.submit();
+    }
+    last
 }
 
 // The second of a place.
@@ -161,7 +167,7 @@ fn aim_of(chance: &mut Chance, seed: u64, is_first: bool) -> Aim {
         (chance.below(KIND_COUNT), chance.below(4))
     };
     Aim {
-        kind: KINDS[kind as usize],
+        kind: kind_of(kind),
         place,
     }
 }

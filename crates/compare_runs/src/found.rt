@@ -19,16 +19,14 @@ impl Found {
             self.differences = self.differences.saturating_add(1);
             return;
         };
-        for (all, count) in self.counts.iter_mut().zip(&counts) {
-            *all = all.saturating_add(*count);
+        for place in 0..3 {
+            self.counts[place] = self.counts[place].saturating_add(counts[place]);
         }
     }
 
     // Whether so much was counted of each kind.
     pub(crate) fn has(&self, fewest: &[u64; 3]) -> bool {
-        self.counts
-            .iter()
-            .zip(fewest)
-            .all(|(count, least)| count >= least)
+        let [first, second, third] = self.counts;
+        first >= fewest[0] && second >= fewest[1] && third >= fewest[2]
     }
 }

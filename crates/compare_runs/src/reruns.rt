@@ -3,6 +3,7 @@ use crate::found::Found;
 use crate::work_set::{Counts, counts_of};
 use checking::Chance;
 use checkpoints::{Row, Run, simulate};
+use easy_rule::Start;
 use job_table::{Edit, JobTable};
 use rejoin::{Work, rerun};
 use scenarios::{Order, Scenario};
@@ -25,14 +26,23 @@ fn rerun_of(
 
 // Whether a run has these rows, and tells each row's start by its number.
 fn has_rows(run: &Run<Global>, rows: &[Row]) -> bool {
-    rows.iter()
-        .all(|row| run.start_of(row.number) == Some(row.start))
-        && run.schedule().is_ok_and(|others| others.as_slice() == rows)
+    for row in rows {
+        if run.start_of(row.number) != Some(row.start) {
+            return false;
+        }
+    }
+    match run.schedule() {
+        Ok(others) => others.as_slice() == rows,
+        Err(_) => false,
+    }
 }
 
 // Whether two runs have equal schedules, and the second tells each row's start by its number.
 fn same_schedules(a: &Run<Global>, b: &Run<Global>) -> bool {
-    a.schedule().is_ok_and(|rows| has_rows(b, rows.as_slice()))
+    match a.schedule() {
+        Ok(rows) => has_rows(b, rows.as_slice()),
+        Err(_) => false,
+    }
 }
 
 // Whether two runs have equal tables.
@@ -42,19 +52,30 @@ fn same_tables(a: &Run<Global>, b: &Run<Global>) -> bool {
         && a.tables().days() == b.tables().days()
 }
 
-// Whether two runs have equal starts, in order.
-fn same_starts(a: &Run<Global>, b: &Run<Global>) -> bool {
-    let others = b.segments().iter().flat_map(|segment| segment.starts());
-    a.segments()
-        .iter()
-        .flat_map(|segment| segment.starts())
-        .eq(others)
+// Adds the starts of a run, in order.
+fn add_starts(starts: &mut Vec<Start>, run: &Run<Global>) -> Option<()> {
+    for segment in run.segments() {
+        starts.extend_from_slice(segment.starts()).ok()?;
+    }
+    Some(())
+}
+
+// Whether two runs have equal starts, in order; none where memory is short.
+fn same_starts(alloc: Global, a: &Run<Global>, b: &Run<Global>) -> Option<bool> {
+    let mut starts = Vec::new(alloc);
+    add_starts(&mut starts, a)?;
+    let count = starts.len();
+    add_starts(&mut starts, b)?;
+    let (first, second) = starts.as_slice().split_at(count.min(starts.len()));
+    Some(first == second)
 }
 
 // Whether a run is that of its table from nothing; none where memory is short.
 fn is_from_nothing(alloc: Global, run: &Run<Global>, spacing: u32) -> Option<bool> {
     let plain = simulate(alloc, run.table().clone().ok()?, run.scenario(), spacing).ok()?;
-    Some(same_schedules(&plain, run) && same_tables(&plain, run) && same_starts(&plain, run))
+    Some(
+        same_schedules(&plain, run) && same_tables(&plain, run) && same_starts(alloc, &plain, run)?,
+    )
 }
 
 // Whether a rerun that took this work took over old segments, worked a part of the event seconds, and took

@@ -8,15 +8,6 @@ use scenarios::{Job, Scenario, effective};
 use std::alloc::Global;
 use std::sync::Arc;
 
-/// A number whose job is another one after the edits, and the seconds at which it is submitted
-/// before and after them.
-#[derive(Clone, Copy)]
-struct Touched {
-    number: u64,
-    was: Option<u64>,
-    is: Option<u64>,
-}
-
 /// A stretch of seconds: from its first one to before the next stretch's, or all later ones.
 #[derive(Clone, Copy)]
 struct Stretch {
@@ -24,12 +15,13 @@ struct Stretch {
     next: Option<u64>,
 }
 
-/// What is known of a new plan: its schedule, its event seconds, and the touched numbers.
+/// What is known of a new plan: its schedule, its event seconds, and the jobs that the edits touched, as they
+/// were before and as they are after them.
 #[derive(Clone, Copy)]
 struct Plan<'a> {
     rows: &'a [Row],
     events: &'a [u64],
-    touched: &'a [Touched],
+    touched: &'a [Job],
 }
 
 /// What there is to be worked and to be kept.
@@ -66,21 +58,27 @@ fn waits_so(rows: &[Row], there: &Snapshot<Global>, second: u64) -> bool {
 
 // Whether a job of a schedule runs before a second, since this start.
 fn runs_since(rows: &[Row], number: u64, start: u64, second: u64) -> bool {
-    rows.iter().any(|row| row.number == number && row.start == start && runs(row, second))
+    for row in rows {
+        if row.number == number && row.start == start && runs(row, second) {
+            return true;
+        }
+    }
+    false
 }
 
 // Whether just the jobs of a schedule that run before a second run there, since the same starts.
 fn runs_so(rows: &[Row], there: &Snapshot<Global>, second: u64) -> bool {
-    let are_known = there.running().all(|running| runs_since(
-        rows,
-        running.number,
-        running.start,
-        second,
-    ));
-    let count = there
-        .running()
-        .fold(0, |count: usize, _| count.saturating_add(1));
-    are_known && count == rows.iter().filter(|row| runs(row, second)).count()
+    let mut count = 0u64;
+    for running in there.running() {
+        if !runs_since(rows, running.number, running.start, second) {
+            return false;
+        }
+        count = count.wrapping_add(1);
+    }
+    for row in rows {
+        count = count.wrapping_sub(u64::from(runs(row, second)));
+    }
+    count == 0
 }
 
 // Whether a snapshot is what a schedule has before a second.
@@ -90,8 +88,17 @@ fn is_before(rows: &[Row], there: &Snapshot<Global>, second: u64) -> bool {
 
 // Whether a number waits or runs there.
 fn stands(there: &Snapshot<Global>, number: u64) -> bool {
-    there.running().any(|running| running.number == number)
-        || there.waiting().any(|waiting| *waiting == number)
+    for running in there.running() {
+        if running.number == number {
+            return true;
+        }
+    }
+    for waiting in there.waiting() {
+        if *waiting == number {
+            return true;
+        }
+    }
+    false
 }
 
 // The job of a number in a table.
@@ -99,28 +106,41 @@ fn job_of(table: &JobTable<Global>, scenario: &Scenario, number: u64) -> Option<
     effective(table.get(number)?, scenario).ok()
 }
 
-// The second in which a job is submitted.
-fn submit_of(job: Option<Job>) -> Option<u64> {
-    Some(job?.submit())
+// Adds a job, if there is one.
+fn add_job(jobs: &mut Vec<Job>, job: Option<Job>) -> Option<()> {
+    match job {
+        Some(job) => jobs.push(job).ok(),
+        None => Some(()),
+    }
 }
 
-// Adds the numbers whose jobs differ in the tables of two runs.
-fn add_touched(touched: &mut Vec<Touched>, was: &Run<Global>, is: &Run<Global>) -> Option<()> {
+// Adds the jobs that differ in the tables of two runs.
+fn add_touched(touched: &mut Vec<Job>, was: &Run<Global>, is: &Run<Global>) -> Option<()> {
     let scenario = was.scenario();
     for number in 0..NUMBERS {
         let old = job_of(was.table(), &scenario, number);
         let new = job_of(is.table(), &scenario, number);
         if old != new {
-            let (was, is) = (submit_of(old), submit_of(new));
-            touched.push(Touched { number, was, is }).ok()?;
+            add_job(touched, old)?;
+            add_job(touched, new)?;
         }
     }
     Some(())
 }
 
+// Whether a second is one of these.
+fn is_among(seconds: &[u64], second: u64) -> bool {
+    for known in seconds {
+        if *known == second {
+            return true;
+        }
+    }
+    false
+}
+
 // Adds a second that is not yet there.
 fn add(seconds: &mut Vec<u64>, second: u64) -> Option<()> {
-    if seconds.as_slice().contains(&second) {
+    if is_among(seconds.as_slice(), second) {
         return Some(());
     }
     seconds.push(second).ok()
@@ -137,30 +157,27 @@ fn add_events(events: &mut Vec<u64>, rows: &[Row]) -> Option<()> {
 
 // Whether a segment of the plan may begin at a second.
 fn may_begin(events: &[u64], first: u64) -> bool {
-    first == 0 || events.contains(&(first - 1))
+    first == 0 || is_among(events, first - 1)
 }
 
 impl Stretch {
     // Whether a second lies in the stretch.
     fn has(self, second: u64) -> bool {
-        second >= self.first && self.next.is_none_or(|next| second < next)
-    }
-
-    // Whether a touched number is submitted in the stretch, before or after the edits.
-    fn has_submit(self, one: &Touched) -> bool {
-        one.was.is_some_and(|second| self.has(second))
-            || one.is.is_some_and(|second| self.has(second))
-    }
-
-    // Whether it ends behind its first second.
-    fn is_filled(self) -> bool {
-        self.next.is_none_or(|next| self.first < next)
+        match self.next {
+            Some(next) => second >= self.first && second < next,
+            None => second >= self.first,
+        }
     }
 }
 
-// Whether a touched number stands before an old segment, or is submitted in its stretch.
-fn is_touched(old: &Segment<Global>, stretch: Stretch, touched: &[Touched]) -> bool {
-    touched.iter().any(|one| stands(old.before(), one.number) || stretch.has_submit(one))
+// Whether a touched job stands before an old segment, or is submitted in its stretch.
+fn is_touched(old: &Segment<Global>, stretch: Stretch, touched: &[Job]) -> bool {
+    for job in touched {
+        if stands(old.before(), job.number()) || stretch.has(job.submit()) {
+            return true;
+        }
+    }
+    false
 }
 
 // Whether an old segment with this stretch is kept.
@@ -174,9 +191,13 @@ fn is_kept(old: &Segment<Global>, stretch: Stretch, plan: &Plan<'_>) -> bool {
 fn stretch_at(segments: &[Arc<Segment<Global>, Global>], place: usize) -> Stretch
     requires { place < length segments.now }
 {
-    Stretch {
-        first: segments[place].first(),
-        next: segments.get(place + 1).map(|segment| segment.first()),
+    let first = segments[place].first();
+    match segments.get(place + 1) {
+        Some(segment) => Stretch {
+            first,
+            next: Some(segment.first()),
+        },
+        None => Stretch { first, next: None },
     }
 }
 
@@ -195,12 +216,31 @@ fn add_kept(
     Some(())
 }
 
+// Whether a second lies in one of these stretches.
+fn is_within(stretches: &[Stretch], second: u64) -> bool {
+    for stretch in stretches {
+        if stretch.has(second) {
+            return true;
+        }
+    }
+    false
+}
+
 // How many seconds lie in none of these stretches.
-fn count_outside(seconds: &[u64], kept: &[Stretch]) -> usize {
-    seconds
-        .iter()
-        .filter(|second| !kept.iter().any(|stretch| stretch.has(**second)))
-        .count()
+fn count_outside(seconds: &[u64], kept: &[Stretch]) -> u64 {
+    let mut count = 0u64;
+    for second in seconds {
+        count = count.wrapping_add(u64::from(!is_within(kept, *second)));
+    }
+    count
+}
+
+// Whether the last one of these stretches has all later seconds.
+fn is_open(stretches: &[Stretch]) -> bool {
+    match stretches.last() {
+        Some(stretch) => stretch.next.is_none(),
+        None => false,
+    }
 }
 
 // What there is to be worked and to be kept of an old run, by a new plan.
@@ -209,20 +249,23 @@ fn counts_by(alloc: Global, was: &Run<Global>, plan: &Plan<'_>) -> Option<Counts
     add_kept(&mut kept, was.segments(), plan)?;
     Some(Counts {
         events: plan.events.len() as u64,
-        work: count_outside(plan.events, kept.as_slice()) as u64,
+        work: count_outside(plan.events, kept.as_slice()),
         kept: kept.len() as u64,
-        rejoins: kept.len() < was.segments().len()
-            && kept.last().is_some_and(|stretch| stretch.next.is_none()),
+        rejoins: kept.len() < was.segments().len() && is_open(kept.as_slice()),
     })
 }
 
-// Whether a segment of the new plan may begin where it does, tells who waits and runs before it, and
-// has starts of its stretch alone.
+// Whether a segment of the new plan may begin where it does, tells who waits and runs before it, has
+// starts of its stretch alone, and ends behind its first second.
 fn is_segment(segment: &Segment<Global>, stretch: Stretch, plan: &Plan<'_>) -> bool {
+    for start in segment.starts() {
+        if !stretch.has(start.at) {
+            return false;
+        }
+    }
     may_begin(plan.events, stretch.first)
         && is_before(plan.rows, segment.before(), stretch.first)
-        && segment.starts().iter().all(|start| stretch.has(start.at))
-        && stretch.is_filled()
+        && stretch.has(stretch.first)
 }
 
 // Whether the new plan is cut into these segments: the first begins at 0, each later one a second
