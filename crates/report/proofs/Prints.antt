@@ -1,4 +1,4 @@
--- What is printed of pieces, and written of it.
+-- What is printed of pages, and written of it.
 use Rattle.std.proofs.Common.{◌≡◌, ℕ, suc, ◌+◌, ◌<◌, List, [], ◌∷◌, ◌++◌, length, get_or, take, drop, set, Option, Result, refl, sym, ap, subst, ◌∙◌, append_assoc, arith}
 use Rattle.std.specs.List.{flat_map}
 use Rattle.std.specs.Io.KnownBytes.{Appends}
@@ -7,8 +7,8 @@ use Rattle.std.proofs.lemmas.Grind.{flat_map-append, take-set_at}
 use Rattle.std.proofs.lemmas.List.{append-nil, take_more, take-append-drop}
 use Rattle.swf_text.specs.Writing.{Writes}
 use Rattle.checkpoints.specs.declared.row.Row.{Row}
-use Rattle.report.specs.declared.piece.Piece.{Piece}
-use Rattle.report.specs.Pieced.{rows_in, lines_in, all_rows, all_lines, IsPrint, ArePrints}
+use Rattle.report.specs.declared.page.Page.{Page}
+use Rattle.report.specs.Pages.{rows_in, lines_in, all_rows, all_lines, IsPrint, ArePrints}
 use Rattle.report.specs.Schedule.{row_line}
 use Rattle.report.proofs.Writings.{front_after, front_more, writes_then}
 
@@ -26,64 +26,64 @@ pub row-taken : (taken : List Row) (k : ℕ) (row : Row) (rest rows all : List R
 row-taken taken k row rest rows all lt before is =
     ap (λ l. l ++ rest) (take-set_at taken k (k + 1) row refl lt) ∙ append_assoc (take k taken) (row ∷ []) rest ∙ ap (λ l. take k taken ++ l) (sym is) ∙ before
 
--- one piece more took rows
-pub piece-taken : (pieces : List Piece) (k : ℕ) (piece : Piece) (rows rest all : List Row) → k < length pieces → all_rows (take k pieces) ++ rows ≡ all → rows_in piece ++ rest ≡ rows → all_rows (take (k + 1) (set pieces k piece)) ++ rest ≡ all
-piece-taken pieces k piece rows rest all lt before is =
-    let one : all_rows (take (k + 1) (set pieces k piece)) ≡ all_rows (take k pieces) ++ rows_in piece =
-    ap all_rows (take-set_at pieces k (k + 1) piece refl lt) ∙ flat_map-append rows_in (take k pieces) (piece ∷ []) ∙ ap (λ l. all_rows (take k pieces) ++ l) (append-nil (rows_in piece)) in
-    ap (λ l. l ++ rest) one ∙ append_assoc (all_rows (take k pieces)) (rows_in piece) rest ∙ ap (λ l. all_rows (take k pieces) ++ l) is ∙ before
+-- one page more took rows
+pub page-taken : (pages : List Page) (k : ℕ) (page : Page) (rows rest all : List Row) → k < length pages → all_rows (take k pages) ++ rows ≡ all → rows_in page ++ rest ≡ rows → all_rows (take (k + 1) (set pages k page)) ++ rest ≡ all
+page-taken pages k page rows rest all lt before is =
+    let one : all_rows (take (k + 1) (set pages k page)) ≡ all_rows (take k pages) ++ rows_in page =
+    ap all_rows (take-set_at pages k (k + 1) page refl lt) ∙ flat_map-append rows_in (take k pages) (page ∷ []) ∙ ap (λ l. all_rows (take k pages) ++ l) (append-nil (rows_in page)) in
+    ap (λ l. l ++ rest) one ∙ append_assoc (all_rows (take k pages)) (rows_in page) rest ∙ ap (λ l. all_rows (take k pages) ++ l) is ∙ before
 
--- ---- all pieces were printed
+-- ---- all pages were printed
 
 -- the rows are the same, and their lines stand in them
-pub record AreLines (old new : List Piece) : Type 0 where
+pub record AreLines (old new : List Page) : Type 0 where
   pub rows : all_rows new ≡ all_rows old
   pub lines : all_lines new ≡ flat_map row_line (all_rows old)
 
-joined-lines : (x y : Piece) (xs ys : List Piece) → IsPrint x y → AreLines xs ys → AreLines (x ∷ xs) (y ∷ ys)
+joined-lines : (x y : Page) (xs ys : List Page) → IsPrint x y → AreLines xs ys → AreLines (x ∷ xs) (y ∷ ys)
 joined-lines x y xs ys p q = record {
   rows = ap (λ l. l ++ all_rows ys) p.rows ∙ ap (λ l. rows_in x ++ l) q.rows;
   lines = ap (λ l. l ++ all_lines ys) p.lines ∙ ap (λ l. flat_map row_line (rows_in x) ++ l) q.lines ∙ sym (flat_map-append row_line (rows_in x) (all_rows xs));
 }
 
-pub are-lines : (old new : List Piece) → length new ≡ length old → ((place : ℕ) (d : Piece) → place < length old → IsPrint (get_or old place d) (get_or new place d)) → AreLines old new
+pub are-lines : (old new : List Page) → length new ≡ length old → ((place : ℕ) (d : Page) → place < length old → IsPrint (get_or old place d) (get_or new place d)) → AreLines old new
 are-lines [] [] count each = record { rows = refl; lines = refl }
 are-lines [] (y ∷ ys) count each = absurd (omega (arith, count))
 are-lines (x ∷ xs) [] count each = absurd (omega (arith, count))
 are-lines (x ∷ xs) (y ∷ ys) count each =
     joined-lines x y xs ys (each 0 x (omega arith)) (are-lines xs ys (omega (arith, count)) (λ place d lt. each (suc place) d (omega (arith, lt))))
 
-pub print-lines : (old new : List Piece) → ArePrints old new → AreLines old new
+pub print-lines : (old new : List Page) → ArePrints old new → AreLines old new
 print-lines old new p = are-lines old new p.count p.each
 
--- ---- what was written of pieces
+-- ---- what was written of pages
 
--- the lines of one piece more were written
-pub piece-written : (a b c : Option (List ℕ)) (pieces : List Piece) (k : ℕ) (d : Piece) (bytes : List ℕ) → k < length pieces → bytes ≡ lines_in (get_or pieces k d) → Appends a b (all_lines (take k pieces)) → Appends b c bytes → Appends a c (all_lines (take (k + 1) pieces))
-piece-written a b c pieces k d bytes lt is before more =
-    subst (Appends a c) (sym (flat-next lines_in pieces k d lt)) (Appends-trans a b c (all_lines (take k pieces)) (lines_in (get_or pieces k d)) before (subst (Appends b c) is more))
+-- the lines of one page more were written
+pub page-written : (a b c : Option (List ℕ)) (pages : List Page) (k : ℕ) (d : Page) (bytes : List ℕ) → k < length pages → bytes ≡ lines_in (get_or pages k d) → Appends a b (all_lines (take k pages)) → Appends b c bytes → Appends a c (all_lines (take (k + 1) pages))
+page-written a b c pages k d bytes lt is before more =
+    subst (Appends a c) (sym (flat-next lines_in pages k d lt)) (Appends-trans a b c (all_lines (take k pages)) (lines_in (get_or pages k d)) before (subst (Appends b c) is more))
 
--- the writer failed at a piece
-pub piece-failed : (a b c : Option (List ℕ)) (pieces : List Piece) (k : ℕ) (d : Piece) (bytes : List ℕ) → k < length pieces → bytes ≡ lines_in (get_or pieces k d) → Appends a b (all_lines (take k pieces)) → (n : ℕ) × Appends b c (take n bytes) → (n : ℕ) × Appends a c (take n (all_lines pieces))
-piece-failed a b c pieces k d bytes lt is before q =
-    let front = all_lines (take k pieces) in
-    let here = lines_in (get_or pieces k d) in
+-- the writer failed at a page
+pub page-failed : (a b c : Option (List ℕ)) (pages : List Page) (k : ℕ) (d : Page) (bytes : List ℕ) → k < length pages → bytes ≡ lines_in (get_or pages k d) → Appends a b (all_lines (take k pages)) → (n : ℕ) × Appends b c (take n bytes) → (n : ℕ) × Appends a c (take n (all_lines pages))
+page-failed a b c pages k d bytes lt is before q =
+    let front = all_lines (take k pages) in
+    let here = lines_in (get_or pages k d) in
     let told : (n : ℕ) × Appends b c (take n here) = subst (λ (l : List ℕ). (n : ℕ) × Appends b c (take n l)) is q in
     let both : (n : ℕ) × Appends a c (take n (front ++ here)) = front_after a b c front here before told in
-    let all : all_lines pieces ≡ (front ++ here) ++ all_lines (drop (k + 1) pieces) =
-    ap all_lines (sym (take-append-drop (k + 1) pieces)) ∙ flat_map-append lines_in (take (k + 1) pieces) (drop (k + 1) pieces) ∙ ap (λ l. l ++ all_lines (drop (k + 1) pieces)) (flat-next lines_in pieces k d lt) in
-    subst (λ (l : List ℕ). (n : ℕ) × Appends a c (take n l)) (sym all) (front_more a c (front ++ here) (all_lines (drop (k + 1) pieces)) both)
+    let all : all_lines pages ≡ (front ++ here) ++ all_lines (drop (k + 1) pages) =
+    ap all_lines (sym (take-append-drop (k + 1) pages)) ∙ flat_map-append lines_in (take (k + 1) pages) (drop (k + 1) pages) ∙ ap (λ l. l ++ all_lines (drop (k + 1) pages)) (flat-next lines_in pages k d lt) in
+    subst (λ (l : List ℕ). (n : ℕ) × Appends a c (take n l)) (sym all) (front_more a c (front ++ here) (all_lines (drop (k + 1) pages)) both)
 
--- Of these rows the first are written; behind them come those of the pieces that were printed, those of the next ones,
+-- Of these rows the first are written; behind them come those of the pages that were printed, those of the next ones,
 -- and the rest.
-pub record IsPrinting (old now : Option (List ℕ)) (ready next : List Piece) (rows whole : List Row) : Type 0 where
+pub record IsPrinting (old now : Option (List ℕ)) (ready next : List Page) (rows whole : List Row) : Type 0 where
   pub done : List Row
   pub told : Appends old now (flat_map row_line done)
   pub all : done ++ (all_rows ready ++ (all_rows next ++ rows)) ≡ whole
   pub lines : all_lines ready ≡ flat_map row_line (all_rows ready)
 
 -- before the first line
-pub begun : (a : Option (List ℕ)) (first ready next : List Piece) (behind rows whole : List Row) → Appends a a [] → AreLines first ready → all_rows first ++ behind ≡ whole → all_rows next ++ rows ≡ behind → IsPrinting a a ready next rows whole
+pub begun : (a : Option (List ℕ)) (first ready next : List Page) (behind rows whole : List Row) → Appends a a [] → AreLines first ready → all_rows first ++ behind ≡ whole → all_rows next ++ rows ≡ behind → IsPrinting a a ready next rows whole
 begun a first ready next behind rows whole none p is more = record {
   done = [];
   told = none;
@@ -92,15 +92,15 @@ begun a first ready next behind rows whole none p is more = record {
 }
 
 -- the lines of those that were printed, behind those of the rows before them
-lines-of : (a b : Option (List ℕ)) (ready next : List Piece) (rows whole : List Row) → (u : IsPrinting a b ready next rows whole) → flat_map row_line u.done ++ all_lines ready ≡ flat_map row_line (u.done ++ all_rows ready)
+lines-of : (a b : Option (List ℕ)) (ready next : List Page) (rows whole : List Row) → (u : IsPrinting a b ready next rows whole) → flat_map row_line u.done ++ all_lines ready ≡ flat_map row_line (u.done ++ all_rows ready)
 lines-of a b ready next rows whole u = ap (λ l. flat_map row_line u.done ++ l) u.lines ∙ sym (flat_map-append row_line u.done (all_rows ready))
 
 -- they were written
-lines-told : (a b c : Option (List ℕ)) (ready next : List Piece) (rows whole : List Row) → (u : IsPrinting a b ready next rows whole) → Appends b c (all_lines ready) → Appends a c (flat_map row_line (u.done ++ all_rows ready))
+lines-told : (a b c : Option (List ℕ)) (ready next : List Page) (rows whole : List Row) → (u : IsPrinting a b ready next rows whole) → Appends b c (all_lines ready) → Appends a c (flat_map row_line (u.done ++ all_rows ready))
 lines-told a b c ready next rows whole u w = subst (Appends a c) (lines-of a b ready next rows whole u) (Appends-trans a b c (flat_map row_line u.done) (all_lines ready) u.told w)
 
 -- they were written, and took the next rows; the others were printed
-pub turned : (a b c : Option (List ℕ)) (ready next took prints : List Piece) (rows rest whole : List Row) → IsPrinting a b ready next rows whole → Appends b c (all_lines ready) → all_rows took ++ rest ≡ rows → AreLines next prints → IsPrinting a c prints took rest whole
+pub turned : (a b c : Option (List ℕ)) (ready next took prints : List Page) (rows rest whole : List Row) → IsPrinting a b ready next rows whole → Appends b c (all_lines ready) → all_rows took ++ rest ≡ rows → AreLines next prints → IsPrinting a c prints took rest whole
 turned a b c ready next took prints rows rest whole u w is p = record {
   done = u.done ++ all_rows ready;
   told = lines-told a b c ready next rows whole u w;
@@ -110,7 +110,7 @@ turned a b c ready next took prints rows rest whole u w is p = record {
 }
 
 -- the writer failed at them
-pub failed : (a b c : Option (List ℕ)) (ready next : List Piece) (rows whole : List Row) → IsPrinting a b ready next rows whole → (n : ℕ) × Appends b c (take n (all_lines ready)) → (n : ℕ) × Appends a c (take n (flat_map row_line whole))
+pub failed : (a b c : Option (List ℕ)) (ready next : List Page) (rows whole : List Row) → IsPrinting a b ready next rows whole → (n : ℕ) × Appends b c (take n (all_lines ready)) → (n : ℕ) × Appends a c (take n (flat_map row_line whole))
 failed a b c ready next rows whole u w =
     let front = flat_map row_line (u.done ++ all_rows ready) in
     let all : (u.done ++ all_rows ready) ++ (all_rows next ++ rows) ≡ whole = append_assoc u.done (all_rows ready) (all_rows next ++ rows) ∙ u.all in
@@ -119,14 +119,14 @@ failed a b c ready next rows whole u w =
     subst (λ (l : List ℕ). (n : ℕ) × Appends a c (take n l)) lines (front_more a c front (flat_map row_line (all_rows next ++ rows)) here)
 
 -- no rows are left: those that were printed are written, and then the others
-pub ended : {X E : Type 0} (r : Result X E) (a b c d : Option (List ℕ)) (ready next prints : List Piece) (rows whole : List Row) → IsPrinting a b ready next rows whole → rows ≡ [] → Appends b c (all_lines ready) → AreLines next prints → Writes r c d (all_lines prints) → Writes r a d (flat_map row_line whole)
+pub ended : {X E : Type 0} (r : Result X E) (a b c d : Option (List ℕ)) (ready next prints : List Page) (rows whole : List Row) → IsPrinting a b ready next rows whole → rows ≡ [] → Appends b c (all_lines ready) → AreLines next prints → Writes r c d (all_lines prints) → Writes r a d (flat_map row_line whole)
 ended r a b c d ready next prints rows whole u none w p v =
     let front = u.done ++ all_rows ready in
     let all : front ++ all_rows next ≡ whole = append_assoc u.done (all_rows ready) (all_rows next) ∙ ap (λ l. u.done ++ (all_rows ready ++ l)) (sym (append-nil (all_rows next)) ∙ ap (λ l. all_rows next ++ l) (sym none)) ∙ u.all in
     let lines : flat_map row_line front ++ all_lines prints ≡ flat_map row_line whole = ap (λ l. flat_map row_line front ++ l) p.lines ∙ sym (flat_map-append row_line front (all_rows next)) ∙ ap (flat_map row_line) all in
     subst (Writes r a d) lines (writes_then r a c d (flat_map row_line front) (all_lines prints) (lines-told a b c ready next rows whole u w) v)
 
--- ---- pieces that are printed and written one after another
+-- ---- pages that are printed and written one after another
 
 -- Of these rows the first are written, and behind them come these.
 pub record IsWriting (old now : Option (List ℕ)) (rows whole : List Row) : Type 0 where
@@ -137,23 +137,23 @@ pub record IsWriting (old now : Option (List ℕ)) (rows whole : List Row) : Typ
 pub none-done : (a : Option (List ℕ)) (rows : List Row) → Appends a a [] → IsWriting a a rows rows
 none-done a rows none = record { done = []; told = none; all = refl }
 
--- the bytes are the lines of a piece's rows
-bytes-of : (done : List Row) (piece : List Row) (bytes : List ℕ) → bytes ≡ flat_map row_line piece → flat_map row_line done ++ bytes ≡ flat_map row_line (done ++ piece)
-bytes-of done piece bytes is = ap (λ l. flat_map row_line done ++ l) is ∙ sym (flat_map-append row_line done piece)
+-- the bytes are the lines of a page's rows
+bytes-of : (done : List Row) (page : List Row) (bytes : List ℕ) → bytes ≡ flat_map row_line page → flat_map row_line done ++ bytes ≡ flat_map row_line (done ++ page)
+bytes-of done page bytes is = ap (λ l. flat_map row_line done ++ l) is ∙ sym (flat_map-append row_line done page)
 
-pub more-done : (a b c : Option (List ℕ)) (piece rows rest whole : List Row) (bytes : List ℕ) → IsWriting a b rows whole → piece ++ rest ≡ rows → bytes ≡ flat_map row_line piece → Appends b c bytes → IsWriting a c rest whole
-more-done a b c piece rows rest whole bytes u is lines w = record {
-  done = u.done ++ piece;
-  told = subst (Appends a c) (bytes-of u.done piece bytes lines) (Appends-trans a b c (flat_map row_line u.done) bytes u.told w);
-  all = append_assoc u.done piece rest ∙ ap (λ l. u.done ++ l) is ∙ u.all;
+pub more-done : (a b c : Option (List ℕ)) (page rows rest whole : List Row) (bytes : List ℕ) → IsWriting a b rows whole → page ++ rest ≡ rows → bytes ≡ flat_map row_line page → Appends b c bytes → IsWriting a c rest whole
+more-done a b c page rows rest whole bytes u is lines w = record {
+  done = u.done ++ page;
+  told = subst (Appends a c) (bytes-of u.done page bytes lines) (Appends-trans a b c (flat_map row_line u.done) bytes u.told w);
+  all = append_assoc u.done page rest ∙ ap (λ l. u.done ++ l) is ∙ u.all;
 }
 
-pub not-done : (a b c : Option (List ℕ)) (piece rows rest whole : List Row) (bytes : List ℕ) → IsWriting a b rows whole → piece ++ rest ≡ rows → bytes ≡ flat_map row_line piece → (n : ℕ) × Appends b c (take n bytes) → (n : ℕ) × Appends a c (take n (flat_map row_line whole))
-not-done a b c piece rows rest whole bytes u is lines w =
-    let front = flat_map row_line (u.done ++ piece) in
-    let all : (u.done ++ piece) ++ rest ≡ whole = append_assoc u.done piece rest ∙ ap (λ l. u.done ++ l) is ∙ u.all in
-    let text : front ++ flat_map row_line rest ≡ flat_map row_line whole = sym (flat_map-append row_line (u.done ++ piece) rest) ∙ ap (flat_map row_line) all in
-    let here : (n : ℕ) × Appends a c (take n front) = subst (λ (l : List ℕ). (n : ℕ) × Appends a c (take n l)) (bytes-of u.done piece bytes lines) (front_after a b c (flat_map row_line u.done) bytes u.told w) in
+pub not-done : (a b c : Option (List ℕ)) (page rows rest whole : List Row) (bytes : List ℕ) → IsWriting a b rows whole → page ++ rest ≡ rows → bytes ≡ flat_map row_line page → (n : ℕ) × Appends b c (take n bytes) → (n : ℕ) × Appends a c (take n (flat_map row_line whole))
+not-done a b c page rows rest whole bytes u is lines w =
+    let front = flat_map row_line (u.done ++ page) in
+    let all : (u.done ++ page) ++ rest ≡ whole = append_assoc u.done page rest ∙ ap (λ l. u.done ++ l) is ∙ u.all in
+    let text : front ++ flat_map row_line rest ≡ flat_map row_line whole = sym (flat_map-append row_line (u.done ++ page) rest) ∙ ap (flat_map row_line) all in
+    let here : (n : ℕ) × Appends a c (take n front) = subst (λ (l : List ℕ). (n : ℕ) × Appends a c (take n l)) (bytes-of u.done page bytes lines) (front_after a b c (flat_map row_line u.done) bytes u.told w) in
     subst (λ (l : List ℕ). (n : ℕ) × Appends a c (take n l)) text (front_more a c front (flat_map row_line rest) here)
 
 pub all-done : (a b : Option (List ℕ)) (rows whole : List Row) → IsWriting a b rows whole → rows ≡ [] → Appends a b (flat_map row_line whole)

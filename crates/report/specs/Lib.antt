@@ -1,5 +1,5 @@
 pub mod Pieces
-pub mod Pieced
+pub mod Pages
 pub mod Heading
 pub mod Schedule
 pub mod Table

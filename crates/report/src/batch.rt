@@ -1,11 +1,11 @@
-//! Pieces of a schedule that are printed at once.
+//! Pages of a schedule that are printed at once.
 
 ghost use Rattle.std.specs.Prelude.{◌≡◌, ◌<◌, ◌++◌, IfOk, OnOk, length};
 ghost use Rattle.std.specs.Thread.{IsSync};
 ghost use Rattle.swf_text.specs.Writing.{Writes};
-ghost use Rattle.report.specs.Pieced.{ArePrints, IsPrint, all_lines, all_rows};
+ghost use Rattle.report.specs.Pages.{ArePrints, IsPrint, all_lines, all_rows};
 
-use crate::piece::Piece;
+use crate::page::Page;
 use crate::source::Source;
 use rayon::prelude::*;
 use std::alloc::{AllocError, Allocator};
@@ -14,53 +14,53 @@ use std::marker::Sync;
 use std::thread::{Threads, join_mut};
 use swf_text::{WriteFault, write_bytes};
 
-/// Some pieces that follow one another. Their memory is used again by the rows behind theirs.
+/// Some pages that follow one another. Their memory is used again by the rows behind theirs.
 #[derive(Drop)]
 pub(crate) struct Batch<A: Allocator + Copy> {
-    pub(crate) pieces: Vec<Piece, A>,
+    pub(crate) pages: Vec<Page, A>,
 }
 
-// Each piece takes the next rows in the place of those that it had.
-fn take_all<S: Source>(pieces: &mut [Piece], rows: &mut S)
-    ensures same { length pieces.new ≡ length pieces.old }
-    ensures rows { all_rows pieces.new ++ S.rows rows.new ≡ S.rows rows.old }
-    ensures some { 0 < length pieces.old → 0 < length (S.rows rows.old) → length (S.rows rows.new) < length (S.rows rows.old) }
+// Each page takes the next rows in the place of those that it had.
+fn take_all<S: Source>(pages: &mut [Page], rows: &mut S)
+    ensures same { length pages.new ≡ length pages.old }
+    ensures rows { all_rows pages.new ++ S.rows rows.new ≡ S.rows rows.old }
+    ensures some { 0 < length pages.old → 0 < length (S.rows rows.old) → length (S.rows rows.new) < length (S.rows rows.old) }
 {
-    for place in 0..pieces.len() {
-        pieces[place].take(rows);
+    for place in 0..pages.len() {
+        pages[place].take(rows);
     }
 }
 
-// Prints the pieces, side by side.
-fn print_all<R: Threads + Sync>(rt: &R, pieces: &mut [Piece])
-    ensures { ArePrints pieces.old pieces.new }
+// Prints the pages, side by side.
+fn print_all<R: Threads + Sync>(rt: &R, pages: &mut [Page])
+    ensures { ArePrints pages.old pages.new }
 {
     par_for_each_mut(
         rt,
-        pieces,
-        |_place: usize, piece: &mut Piece|
-            ensures { IsPrint piece.old piece.new }
-        { piece.print() },
+        pages,
+        |_place: usize, page: &mut Page|
+            ensures { IsPrint page.old page.new }
+        { page.print() },
     );
 }
 
-// Writes what was printed of the pieces, one after another.
-fn write_all<W: Write>(writer: &mut W, pieces: &[Piece]) -> Result<(), WriteFault>
-    ensures { Writes result (W.contents writer.old) (W.contents writer.new) (all_lines pieces.now) }
+// Writes what was printed of the pages, one after another.
+fn write_all<W: Write>(writer: &mut W, pages: &[Page]) -> Result<(), WriteFault>
+    ensures { Writes result (W.contents writer.old) (W.contents writer.new) (all_lines pages.now) }
 {
-    for piece in pieces {
-        write_bytes(writer, piece.lines.as_slice())?;
+    for page in pages {
+        write_bytes(writer, page.lines.as_slice())?;
     }
     Ok(())
 }
 
-// Prints pieces while others are written, which then take the next rows.
+// Prints pages while others are written, which then take the next rows.
 fn print_beside<R: Threads + Sync, W: Write, S: Source>(
     rt: &R,
     writer: &mut W,
     rows: &mut S,
-    next: &mut [Piece],
-    printed: &mut [Piece],
+    next: &mut [Page],
+    printed: &mut [Page],
 ) -> Result<(), WriteFault>
     ensures prints { ArePrints next.old next.new }
     ensures same { length printed.new ≡ length printed.old }
@@ -87,41 +87,41 @@ fn print_beside<R: Threads + Sync, W: Write, S: Source>(
 }
 
 impl<A: Allocator + Copy> Batch<A> {
-    // So many pieces without rows.
+    // So many pages without rows.
     pub(crate) fn new(alloc: A, count: usize) -> Result<Batch<A>, AllocError>
         requires { 0 < count }
-        ensures { IfOk result (λ batch. 0 < length batch.pieces.items) }
+        ensures { IfOk result (λ batch. 0 < length batch.pages.items) }
     {
-        let mut pieces = Vec::with_capacity(alloc, count)?;
-        while pieces.len() < count {
-            pieces.push(Piece::new())?;
+        let mut pages = Vec::with_capacity(alloc, count)?;
+        while pages.len() < count {
+            pages.push(Page::new())?;
         }
-        Ok(Batch { pieces })
+        Ok(Batch { pages })
     }
 
     // Takes the next rows in the place of those that it had.
     pub(crate) fn take<S: Source>(&mut self, rows: &mut S)
-        ensures same { length self.new.pieces.items ≡ length self.old.pieces.items }
-        ensures rows { all_rows self.new.pieces.items ++ S.rows rows.new ≡ S.rows rows.old }
+        ensures same { length self.new.pages.items ≡ length self.old.pages.items }
+        ensures rows { all_rows self.new.pages.items ++ S.rows rows.new ≡ S.rows rows.old }
     {
-        take_all(self.pieces.as_mut_slice(), rows);
+        take_all(self.pages.as_mut_slice(), rows);
     }
 
-    // Prints its pieces, side by side.
+    // Prints its pages, side by side.
     pub(crate) fn print<R: Threads + Sync>(&mut self, rt: &R)
-        ensures { ArePrints self.old.pieces.items self.new.pieces.items }
+        ensures { ArePrints self.old.pages.items self.new.pages.items }
     {
-        print_all(rt, self.pieces.as_mut_slice());
+        print_all(rt, self.pages.as_mut_slice());
     }
 
     // Writes what was printed of it.
     pub(crate) fn write<W: Write>(&self, writer: &mut W) -> Result<(), WriteFault>
-        ensures { Writes result (W.contents writer.old) (W.contents writer.new) (all_lines self.now.pieces.items) }
+        ensures { Writes result (W.contents writer.old) (W.contents writer.new) (all_lines self.now.pages.items) }
     {
-        write_all(writer, self.pieces.as_slice())
+        write_all(writer, self.pages.as_slice())
     }
 
-    // Prints its pieces while those of another batch are written, which then takes the next rows.
+    // Prints its pages while those of another batch are written, which then takes the next rows.
     pub(crate) fn print_beside<R: Threads + Sync, W: Write, S: Source>(
         &mut self,
         rt: &R,
@@ -129,14 +129,14 @@ impl<A: Allocator + Copy> Batch<A> {
         rows: &mut S,
         printed: &mut Batch<A>,
     ) -> Result<(), WriteFault>
-        ensures prints { ArePrints self.old.pieces.items self.new.pieces.items }
-        ensures same { length printed.new.pieces.items ≡ length printed.old.pieces.items }
-        ensures writes { Writes result (W.contents writer.old) (W.contents writer.new) (all_lines printed.old.pieces.items) }
-        ensures rows { OnOk result (all_rows printed.new.pieces.items ++ S.rows rows.new ≡ S.rows rows.old) }
-        ensures some { OnOk result (0 < length printed.old.pieces.items → 0 < length (S.rows rows.old) → length (S.rows rows.new) < length (S.rows rows.old)) }
+        ensures prints { ArePrints self.old.pages.items self.new.pages.items }
+        ensures same { length printed.new.pages.items ≡ length printed.old.pages.items }
+        ensures writes { Writes result (W.contents writer.old) (W.contents writer.new) (all_lines printed.old.pages.items) }
+        ensures rows { OnOk result (all_rows printed.new.pages.items ++ S.rows rows.new ≡ S.rows rows.old) }
+        ensures some { OnOk result (0 < length printed.old.pages.items → 0 < length (S.rows rows.old) → length (S.rows rows.new) < length (S.rows rows.old)) }
     {
-        let next = self.pieces.as_mut_slice();
-        let printed = printed.pieces.as_mut_slice();
+        let next = self.pages.as_mut_slice();
+        let printed = printed.pages.as_mut_slice();
         print_beside(rt, writer, rows, next, printed)
     }
 }

@@ -7,7 +7,7 @@ mod days;
 mod entries;
 mod heading;
 mod line;
-mod piece;
+mod page;
 mod pieces;
 mod printing;
 mod schedule;

@@ -7,7 +7,7 @@ ghost use Rattle.report.specs.Schedule.{row_line, rows_text};
 
 use crate::batch::Batch;
 use crate::heading::push_heading;
-use crate::piece::{MOST_ROWS, Piece};
+use crate::page::{MOST_ROWS, Page};
 use checkpoints::Rows;
 use rayon::current_num_threads;
 use std::alloc::{AllocError, Allocator};
@@ -17,8 +17,8 @@ use std::mem::swap;
 use std::thread::Threads;
 use swf_text::{WriteFault, write_bytes};
 
-/// The most pieces that are printed at once.
-const MOST_PIECES: usize = 64;
+/// The most pages that are printed at once.
+const MOST_PAGES: usize = 64;
 
 /// The report on a schedule. Lines are printed by several threads while those before them are written;
 /// it takes no memory to write it.
@@ -40,21 +40,21 @@ impl<'a, A: Allocator + Copy> Model for ScheduleReport<'a, A> {
 
     ghost view = { λ s. s.heading.items ++ flat_map row_line s.rows };
 
-    ghost invariant = { λ s. (0 < length s.printed.pieces.items) × (0 < length s.next.pieces.items) };
+    ghost invariant = { λ s. (0 < length s.printed.pages.items) × (0 < length s.next.pages.items) };
 }
 
-// Writes the lines of these rows, a piece after another, on this thread alone.
+// Writes the lines of these rows, a page after another, on this thread alone.
 fn write_alone<W: Write, A: Allocator + Copy>(
     writer: &mut W,
     mut rows: Rows<'_, A>,
 ) -> Result<(), WriteFault>
     ensures { Writes result (W.contents writer.old) (W.contents writer.new) (flat_map row_line rows.entry) }
 {
-    let mut piece = Piece::new();
+    let mut page = Page::new();
     'rows: while 0 < rows.left() {
-        piece.take(&mut rows);
-        piece.print();
-        write_bytes(writer, piece.lines.as_slice())?;
+        page.take(&mut rows);
+        page.print();
+        write_bytes(writer, page.lines.as_slice())?;
     }
     Ok(())
 }
@@ -67,8 +67,8 @@ fn write_rows<R: Threads + Sync, W: Write, A: Allocator + Copy>(
     mut printed: Batch<A>,
     mut next: Batch<A>,
 ) -> Result<(), WriteFault>
-    requires printed { 0 < length printed.pieces.items }
-    requires next { 0 < length next.pieces.items }
+    requires printed { 0 < length printed.pages.items }
+    requires next { 0 < length next.pages.items }
     ensures { Writes result (W.contents writer.old) (W.contents writer.new) (flat_map row_line rows.entry) }
 {
     printed.take(&mut rows);
@@ -95,7 +95,7 @@ impl<'a, A: Allocator + Copy> ScheduleReport<'a, A> {
     {
         let mut heading = Vec::new(alloc);
         push_heading(&mut heading, "schedule", name, version, "jobs", rows.left())?;
-        let count = rows.left().div_ceil(MOST_ROWS).clamp(1, MOST_PIECES);
+        let count = rows.left().div_ceil(MOST_ROWS).clamp(1, MOST_PAGES);
         Ok(ScheduleReport {
             heading,
             rows,

@@ -1,8 +1,8 @@
 use Rattle.std.proofs.Common.{◌≤◌, ◌-◌, length}
 use Rattle.report.proofs.batch.Batch.new.Given as goal
 
-abbrev pub invariant-loop-pieces : goal.invariant-loop-pieces
-invariant-loop-pieces g l = length l.pieces.items ≤ l.count
+abbrev pub invariant-loop-pages : goal.invariant-loop-pages
+invariant-loop-pages g l = length l.pages.items ≤ l.count
 
-abbrev pub decreases-loop-pieces : goal.decreases-loop-pieces
-decreases-loop-pieces g l = l.count - length l.pieces.items
+abbrev pub decreases-loop-pages : goal.decreases-loop-pages
+decreases-loop-pages g l = l.count - length l.pages.items

@@ -1,8 +1,8 @@
-//! A piece of a schedule: some rows that follow one another, and their lines.
+//! A page of a schedule: some rows that follow one another, and their lines.
 
 ghost use Rattle.std.specs.Prelude.{◌≡◌, ◌+◌, ◌<◌, ◌≤◌, ◌++◌, length, take};
 ghost use Rattle.std.specs.List.{flat_map};
-ghost use Rattle.report.specs.Pieced.{rows_in, lines_in};
+ghost use Rattle.report.specs.Pages.{rows_in, lines_in};
 ghost use Rattle.report.specs.Schedule.{row_line};
 
 use crate::pieces::verdict;
@@ -11,7 +11,7 @@ use crate::source::Source;
 use arrayvec::ArrayVec;
 use checkpoints::Row;
 
-/// The most rows of a piece.
+/// The most rows of a page.
 pub(crate) const MOST_ROWS: usize = 256;
 
 /// The bytes of 256 lines. A line has at most 111: five numbers, each of up to 20 digits and behind a
@@ -31,7 +31,7 @@ const NO_ROW: Row = Row {
 
 /// Some rows of a schedule that follow one another, and what was printed of those that it had.
 #[derive(Drop)]
-pub(crate) struct Piece {
+pub(crate) struct Page {
     pub(crate) rows: [Row; MOST_ROWS],
     pub(crate) count: usize,
     pub(crate) lines: ArrayVec<u8, MOST_BYTES>,
@@ -87,10 +87,10 @@ fn take_rows<S: Source>(taken: &mut [Row], rows: &mut S) -> usize
     count
 }
 
-impl Piece {
+impl Page {
     // No rows, and no lines.
-    pub(crate) fn new() -> Piece {
-        Piece {
+    pub(crate) fn new() -> Page {
+        Page {
             rows: [NO_ROW; MOST_ROWS],
             count: 0,
             lines: ArrayVec::new(),

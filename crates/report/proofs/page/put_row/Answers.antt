@@ -3,7 +3,7 @@ use Rattle.report.specs.Pieces.{verdict}
 use Rattle.report.specs.Schedule.{row_numbers}
 use Rattle.report.proofs.Joins.{begun, joined_as}
 use Rattle.report.proofs.Lines.{slice-rest}
-use Rattle.report.proofs.piece.put_row.Goals as goal
+use Rattle.report.proofs.page.put_row.Goals as goal
 
 pub returns-clause-line : goal.returns-clause-line
 returns-clause-line c =

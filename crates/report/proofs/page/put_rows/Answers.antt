@@ -1,6 +1,6 @@
 use Rattle.std.proofs.Common.{arith}
 use Rattle.report.proofs.Prints.{lines-next}
-use Rattle.report.proofs.piece.put_rows.Goals as goal
+use Rattle.report.proofs.page.put_rows.Goals as goal
 
 pub loop-row-preserved : goal.loop-row-preserved
 loop-row-preserved c = record {
