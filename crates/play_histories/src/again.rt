@@ -2,7 +2,7 @@
 use crate::desk_handle::DeskHandle;
 use crate::known_log::{book_of, ten};
 use crate::session_call::SessionCall;
-use crate::threads::{Callers, Script, book_after};
+use crate::threads::{Callers, Script, is_right_with};
 use crate::wrong::{Wrong, right_if};
 use book_machine::Reply;
 use checking::Flags;
@@ -74,33 +74,28 @@ impl Script<Global> for AddedAgain {
         let _ = handle.settle(session);
         found
     }
+
+    // A ticket was handed in that is unknown; it is wrong too where a flag did not come in time.
+    fn judge(&self, book: &mut Book<Global>) -> Result<(), Wrong> {
+        right_if(self.flags.are_in_time(), Wrong::Thread)?;
+        right_if(has_unknown_ticket(book), Wrong::Journal)
+    }
 }
 
 // Whether a ticket was handed in that is unknown.
 fn has_unknown_ticket(book: &Book<Global>) -> bool {
-    book.journal()
-        .iter()
-        .any(|note| note.reply == Reply::UnknownTicket)
-}
-
-// The book after all that; wrong where a flag did not come in time.
-fn played<R: Threads + Wait + Sync>(rt: &R, alloc: Global) -> Result<Book<Global>, Wrong> {
-    let again = AddedAgain {
-        flags: Flags::new(),
-    };
-    let book = book_after(
-        rt,
-        alloc,
-        book_of(alloc, 1)?,
-        Callers::stopped(1, 1),
-        &again,
-        &again,
-    )?;
-    right_if(again.flags.are_in_time(), Wrong::Thread)?;
-    Ok(book)
+    let mut is_found = false;
+    for note in book.journal() {
+        is_found = is_found || matches!(note.reply, Reply::UnknownTicket);
+    }
+    is_found
 }
 
 /// The ticket of a scenario that was dropped meanwhile is unknown, and its id too.
 pub(crate) fn is_right<R: Threads + Wait + Sync>(rt: &R, alloc: Global) -> Result<(), Wrong> {
-    right_if(has_unknown_ticket(&played(rt, alloc)?), Wrong::Journal)
+    let book = book_of(alloc, 1)?;
+    let again = AddedAgain {
+        flags: Flags::new(),
+    };
+    is_right_with(rt, alloc, book, Callers::stopped(1, 1), &again, &again)
 }

@@ -2,7 +2,8 @@
 // seen when the desk is closed and its journal judged.
 use crate::answers::{Answer, Unanswered};
 use crate::desk_handle::{DeskHandle, is_seen};
-use crate::known_log::ten;
+use crate::growing::Growing;
+use crate::known_log::{Looks, ten};
 use crate::session_call::SessionCall;
 use crate::wrong::{Wrong, right_if};
 use book_machine::Reply;
@@ -11,7 +12,7 @@ use job_table::Edit;
 use scenarios::ScenarioId;
 use std::alloc::Allocator;
 use std::sync::Wait;
-use std::sync::atomic::{AtomicU64, Ordering};
+use std::sync::atomic::Ordering;
 use workers::{Session, Settled};
 
 /// What meets the first growths at the desk.
@@ -29,16 +30,7 @@ pub(crate) enum First {
     Run,
 }
 
-/// A desk whose growths are refused one by one, with the edit by which the fifth job joins, and how often a
-/// session was told want of memory.
-#[derive(Drop)]
-pub(crate) struct Analyst<'a, 'b, R, A: Allocator + Copy, J: Naming> {
-    pub(crate) handle: DeskHandle<'a, R, A, J>,
-    pub(crate) joins: &'b Edit<A>,
-    pub(crate) wants: &'b AtomicU64,
-}
-
-impl<R: Wait, A: Allocator + Copy, J: Naming> Analyst<'_, '_, R, A, J> {
+impl<A: Allocator + Copy> Growing<'_, A> {
     // Notes a want of memory, by which nothing may have changed.
     fn notes_want(&self, is_unchanged: bool) -> Result<(), Wrong> {
         self.wants.fetch_add(1, Ordering::SeqCst);
@@ -46,32 +38,34 @@ impl<R: Wait, A: Allocator + Copy, J: Naming> Analyst<'_, '_, R, A, J> {
     }
 
     // What a call answers, which is made once more where memory is wanting.
-    fn answer(
+    fn answer<R: Wait, J: Naming>(
         &self,
+        handle: &DeskHandle<'_, R, A, J>,
         session: &mut Session<A, J>,
         call: &SessionCall<'_, A>,
     ) -> Result<Answer, Wrong> {
-        let before = self.handle.looks(session);
-        let answer = self.handle.known(session, call);
-        if answer != Err(Unanswered::Memory) {
+        let before = handle.looks(session);
+        let answer = handle.known(session, call);
+        if !matches!(answer, Err(Unanswered::Memory)) {
             return Ok(answer);
         }
-        let is_unchanged = self.handle.looks(session) == before;
-        self.notes_want(is_unchanged && self.handle.reads(session) == Some(true))?;
-        Ok(self.handle.known(session, call))
+        let is_unchanged = handle.looks(session) == before;
+        self.notes_want(is_unchanged && handle.is_read(session))?;
+        Ok(handle.known(session, call))
     }
 
     // Makes a call, which is listed once, and tells its reply.
-    fn reply(
+    fn reply<R: Wait, J: Naming>(
         &self,
+        handle: &DeskHandle<'_, R, A, J>,
         session: &mut Session<A, J>,
         call: &SessionCall<'_, A>,
     ) -> Result<Reply, Wrong> {
-        let before = self.handle.looks(session);
-        let Ok(reply) = self.answer(session, call)? else {
+        let before = handle.looks(session);
+        let Ok(reply) = self.answer(handle, session, call)? else {
             return Err(Wrong::Reply);
         };
-        let after = self.handle.looks(session);
+        let after = handle.looks(session);
         right_if(is_seen(before.seen, after.seen, &reply), Wrong::Seen)?;
         right_if(
             after.listed == before.listed.saturating_add(1),
@@ -80,28 +74,50 @@ impl<R: Wait, A: Allocator + Copy, J: Naming> Analyst<'_, '_, R, A, J> {
         Ok(reply)
     }
 
+    // Reads where the book stands once more, after memory was wanting.
+    fn reads_again<R: Wait, J: Naming>(
+        &self,
+        handle: &DeskHandle<'_, R, A, J>,
+        session: &Session<A, J>,
+        before: Looks,
+    ) -> Result<(), Wrong> {
+        self.notes_want(handle.looks(session) == before)?;
+        right_if(handle.is_read(session), Wrong::Reply)
+    }
+
     // Reads where the book stands, once more where memory is wanting.
-    fn reads(&self, session: &Session<A, J>) -> Result<(), Wrong> {
-        let before = self.handle.looks(session);
-        let mut is_right = self.handle.reads(session);
-        if is_right.is_none() {
-            self.notes_want(self.handle.looks(session) == before)?;
-            is_right = self.handle.reads(session);
+    fn reads<R: Wait, J: Naming>(
+        &self,
+        handle: &DeskHandle<'_, R, A, J>,
+        session: &Session<A, J>,
+    ) -> Result<(), Wrong> {
+        let before = handle.looks(session);
+        match handle.reads(session) {
+            Some(is_right) => right_if(is_right, Wrong::Reply),
+            None => self.reads_again(handle, session, before),
         }
-        right_if(is_right == Some(true), Wrong::Reply)
     }
 
     // The id of `base`.
-    fn base(&self, session: &Session<A, J>) -> Result<ScenarioId, Wrong> {
-        match self.handle.find(session, "base") {
+    fn base<R: Wait, J: Naming>(
+        &self,
+        handle: &DeskHandle<'_, R, A, J>,
+        session: &Session<A, J>,
+    ) -> Result<ScenarioId, Wrong> {
+        match handle.find(session, "base") {
             Some(base) => Ok(base),
             None => Err(Wrong::Reply),
         }
     }
 
     /// Makes the call that comes first, if a session makes it.
-    pub(crate) fn begins(&self, session: &mut Session<A, J>, first: First) -> Result<(), Wrong> {
-        let (id, scenario) = (self.base(session)?, ten()?);
+    pub(crate) fn begins<R: Wait, J: Naming>(
+        &self,
+        handle: &DeskHandle<'_, R, A, J>,
+        session: &mut Session<A, J>,
+        first: First,
+    ) -> Result<(), Wrong> {
+        let (id, scenario) = (self.base(handle, session)?, ten()?);
         let none = Edit::Remove(99);
         let call = match first {
             First::Edit => SessionCall::Edit(&none),
@@ -112,59 +128,80 @@ impl<R: Wait, A: Allocator + Copy, J: Naming> Analyst<'_, '_, R, A, J> {
             First::Drop => SessionCall::Drop { name: "more" },
             First::Retry => SessionCall::Retry { id },
             First::View => SessionCall::View { id },
-            First::Read | First::Work | First::Run => return self.reads(session),
+            First::Read | First::Work | First::Run => return self.reads(handle, session),
         };
-        self.reply(session, &call)?;
+        self.reply(handle, session, &call)?;
         Ok(())
     }
 
     // Waits for the runs, after what was given up is tried again.
-    fn settles(&self, session: &mut Session<A, J>, id: ScenarioId) -> Result<Settled, Wrong> {
-        let settled = self.handle.settle(session);
-        if settled != Settled::Failed(1) {
-            return Ok(settled);
+    fn settles<R: Wait, J: Naming>(
+        &self,
+        handle: &DeskHandle<'_, R, A, J>,
+        session: &mut Session<A, J>,
+        id: ScenarioId,
+    ) -> Result<Settled, Wrong> {
+        match handle.settle(session) {
+            Settled::Failed(1) => {
+                self.reply(handle, session, &SessionCall::Retry { id })?;
+                Ok(handle.settle(session))
+            }
+            settled => Ok(settled),
         }
-        self.reply(session, &SessionCall::Retry { id })?;
-        Ok(self.handle.settle(session))
     }
 
     // Settles, and looks: this version is shown, unless the desk is stopped; whether it was not.
-    fn sees(&self, session: &mut Session<A, J>, version: u64) -> Result<bool, Wrong> {
-        let id = self.base(session)?;
-        let settled = self.settles(session, id)?;
-        let reply = self.reply(session, &SessionCall::View { id })?;
-        let is_shown = reply == Reply::Shown { version };
-        right_if(settled == Settled::Stopped || is_shown, Wrong::Settled)?;
-        Ok(settled == Settled::Done)
+    fn sees<R: Wait, J: Naming>(
+        &self,
+        handle: &DeskHandle<'_, R, A, J>,
+        session: &mut Session<A, J>,
+        version: u64,
+    ) -> Result<bool, Wrong> {
+        let id = self.base(handle, session)?;
+        let settled = self.settles(handle, session, id)?;
+        let reply = self.reply(handle, session, &SessionCall::View { id })?;
+        let is_right = matches!(settled, Settled::Stopped) || reply == Reply::Shown { version };
+        right_if(is_right, Wrong::Settled)?;
+        Ok(matches!(settled, Settled::Done))
     }
 
     // The scenario `more`, the second of the book, joins, and leaves after an edit; it is then no scenario.
-    fn adds_and_drops(&self, session: &mut Session<A, J>) -> Result<(), Wrong> {
+    fn adds_and_drops<R: Wait, J: Naming>(
+        &self,
+        handle: &DeskHandle<'_, R, A, J>,
+        session: &mut Session<A, J>,
+    ) -> Result<(), Wrong> {
         let (name, scenario) = ("more", ten()?);
-        let Reply::Added { id } = self.reply(session, &SessionCall::Add { name, scenario })? else {
+        let Reply::Added { id } = self.reply(handle, session, &SessionCall::Add { name, scenario })?
+        else {
             return Err(Wrong::Reply);
         };
-        self.reply(session, &SessionCall::Edit(&Edit::Remove(4)))?;
-        self.reply(session, &SessionCall::Drop { name })?;
-        self.reply(session, &SessionCall::Retry { id })?;
-        self.reply(session, &SessionCall::View { id })?;
+        self.reply(handle, session, &SessionCall::Edit(&Edit::Remove(4)))?;
+        self.reply(handle, session, &SessionCall::Drop { name })?;
+        self.reply(handle, session, &SessionCall::Retry { id })?;
+        self.reply(handle, session, &SessionCall::View { id })?;
         Ok(())
     }
 
     /// Makes all calls beside a worker; whether all runs were there.
-    pub(crate) fn plays(&self, session: &mut Session<A, J>) -> Result<bool, Wrong> {
-        self.reply(session, &SessionCall::Edit(self.joins))?;
-        let one = self.sees(session, 1)?;
-        self.adds_and_drops(session)?;
-        let two = self.sees(session, 2)?;
-        self.reads(session)?;
+    pub(crate) fn plays<R: Wait, J: Naming>(
+        &self,
+        handle: &DeskHandle<'_, R, A, J>,
+        session: &mut Session<A, J>,
+    ) -> Result<bool, Wrong> {
+        self.reply(handle, session, &SessionCall::Edit(self.joins))?;
+        let one = self.sees(handle, session, 1)?;
+        self.adds_and_drops(handle, session)?;
+        let two = self.sees(handle, session, 2)?;
+        self.reads(handle, session)?;
         Ok(one && two)
     }
 
     /// Looks after a worker that was told this last has made one run and the desk was stopped, and once more
     /// after an edit.
-    pub(crate) fn looks_after(
+    pub(crate) fn looks_after<R: Wait, J: Naming>(
         &self,
+        handle: &DeskHandle<'_, R, A, J>,
         session: &mut Session<A, J>,
         last: Option<Reply>,
     ) -> Result<(), Wrong> {
@@ -173,14 +210,11 @@ impl<R: Wait, A: Allocator + Copy, J: Naming> Analyst<'_, '_, R, A, J> {
             Some(Reply::GivenUp) => Settled::Failed(1),
             _ => Settled::Stopped,
         };
-        let id = self.base(session)?;
-        right_if(self.handle.settle(session) == settled, Wrong::Settled)?;
-        self.reply(session, &SessionCall::View { id })?;
-        self.reply(session, &SessionCall::Edit(self.joins))?;
-        self.reply(session, &SessionCall::View { id })?;
-        right_if(
-            self.handle.settle(session) == Settled::Stopped,
-            Wrong::Settled,
-        )
+        let id = self.base(handle, session)?;
+        right_if(handle.settle(session) == settled, Wrong::Settled)?;
+        self.reply(handle, session, &SessionCall::View { id })?;
+        self.reply(handle, session, &SessionCall::Edit(self.joins))?;
+        self.reply(handle, session, &SessionCall::View { id })?;
+        right_if(handle.is_stopped(session), Wrong::Settled)
     }
 }

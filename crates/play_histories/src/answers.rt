@@ -9,7 +9,7 @@ use version_book::{
 };
 
 /// Why a call has no reply.
-#[derive(Clone, Copy, Debug, PartialEq, Eq)]
+#[derive(Clone, Copy)]
 pub(crate) enum Unanswered {
     /// The journal is full.
     JournalFull,

@@ -6,6 +6,7 @@ use crate::session_call::SessionCall;
 use crate::wrong::Wrong;
 use book_machine::Reply;
 use chronicle::Naming;
+use job_table::Edit;
 use scenarios::ScenarioId;
 use std::alloc::Allocator;
 use std::sync::Wait;
@@ -46,6 +47,16 @@ impl<R: Wait, A: Allocator + Copy, J: Naming> DeskHandle<'_, R, A, J> {
         session.settle(self.rt, self.desk)
     }
 
+    /// Whether all is there that the session settles for.
+    pub(crate) fn is_done(&self, session: &Session<A, J>) -> bool {
+        matches!(self.settle(session), Settled::Done)
+    }
+
+    /// Whether the session waits for nothing, since the desk is stopped.
+    pub(crate) fn is_stopped(&self, session: &Session<A, J>) -> bool {
+        matches!(self.settle(session), Settled::Stopped)
+    }
+
     /// What the session sees of the book and of itself.
     pub(crate) fn looks(&self, session: &Session<A, J>) -> Looks {
         Looks {
@@ -62,6 +73,19 @@ impl<R: Wait, A: Allocator + Copy, J: Naming> DeskHandle<'_, R, A, J> {
         match session.current(self.rt, self.desk) {
             Ok(current) => Some(is_current(&current, self.looks(session))),
             Err(_) => None,
+        }
+    }
+
+    /// Whether the session reads that the book stands as it looks.
+    pub(crate) fn is_read(&self, session: &Session<A, J>) -> bool {
+        matches!(self.reads(session), Some(true))
+    }
+
+    /// Edits; whether that makes this version.
+    pub(crate) fn makes(&self, session: &mut Session<A, J>, edit: &Edit<A>, version: u64) -> bool {
+        match session.edit(self.rt, self.desk, edit) {
+            Ok(made) => made == version,
+            Err(_) => false,
         }
     }
 

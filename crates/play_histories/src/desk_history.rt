@@ -4,7 +4,7 @@ use crate::inputs;
 use crate::known_log::{book_of, opening, ten};
 use crate::session_call::SessionCall;
 use crate::tally::Tally;
-use crate::threads::{Callers, Script, book_after};
+use crate::threads::{Callers, Script, is_right_with};
 use crate::wrong::{Wrong, right_if};
 use book_machine::{Note, Reply};
 use checking::Chance;
@@ -14,7 +14,8 @@ use scenarios::ScenarioId;
 use std::alloc::{Allocator, Global};
 use std::sync::Wait;
 use std::thread::Threads;
-use workers::{NoGate, Session, Settled};
+use version_book::Book;
+use workers::{NoGate, Session};
 
 /// How many sessions and workers there are.
 const SESSIONS: usize = 8;
@@ -98,7 +99,7 @@ impl<R: Wait, J: Naming> DeskHandle<'_, R, Global, J> {
     // Settles, and looks at a scenario that stood before: it shows a run of what was seen, unless another
     // session dropped it.
     fn sees(&self, session: &mut Session<Global, J>, id: ScenarioId) -> Result<Reply, Wrong> {
-        right_if(self.settle(session) == Settled::Done, Wrong::Settled)?;
+        right_if(self.is_done(session), Wrong::Settled)?;
         match self.reply(session, &SessionCall::View { id })? {
             Reply::NotYet | Reply::Behind { .. } => Err(Wrong::Settled),
             reply => Ok(reply),
@@ -154,6 +155,14 @@ impl Script<Global> for Chances {
         }
         right_if(session.list().len() == CALLS, Wrong::Listed)
     }
+
+    // The journal is legal, and has the calls of all sessions and what comes of them.
+    fn judge(&self, book: &mut Book<Global>) -> Result<(), Wrong> {
+        let notes = book.journal();
+        right_if(notes.len() >= SESSIONS * CALLS, Wrong::Listed)?;
+        right_if(fewest(notes) >= FEWEST, Wrong::Seldom)?;
+        is_legal(self.alloc, notes)
+    }
 }
 
 /// Whether the plain program goes over the notes of the known log as the book did.
@@ -162,25 +171,16 @@ pub(crate) fn is_legal<A: Allocator + Copy>(alloc: A, notes: &[Note<A>]) -> Resu
     right_if(wrong.is_none(), Wrong::Journal)
 }
 
-// Judges a journal: it is legal, and has the calls of all sessions and what comes of them.
-fn judge(alloc: Global, notes: &[Note<Global>]) -> Result<(), Wrong> {
+// How often the rarest of these kinds of replies came.
+fn fewest(notes: &[Note<Global>]) -> u64 {
     let mut tally = Tally::NONE;
     tally.add(notes);
-    right_if(notes.len() >= SESSIONS * CALLS, Wrong::Listed)?;
-    right_if(tally.fewest(KINDS) >= FEWEST, Wrong::Seldom)?;
-    is_legal(alloc, notes)
+    tally.fewest(KINDS)
 }
 
 /// Plays all sessions beside all workers, closes the desk and judges its journal.
 pub(crate) fn is_right<R: Threads + Wait + Sync>(rt: &R, alloc: Global) -> Result<(), Wrong> {
+    let book = book_of(alloc, 3)?;
     let callers = Callers::stopped(SESSIONS, WORKERS);
-    let book = book_after(
-        rt,
-        alloc,
-        book_of(alloc, 3)?,
-        callers,
-        &NoGate,
-        &Chances { alloc },
-    )?;
-    judge(alloc, book.journal())
+    is_right_with(rt, alloc, book, callers, &NoGate, &Chances { alloc })
 }

@@ -4,7 +4,7 @@ use crate::desk_handle::DeskHandle;
 use crate::desk_history::is_legal;
 use crate::known_log::{Looks, ten, with_base};
 use crate::session_call::SessionCall;
-use crate::threads::{Callers, Script, book_after};
+use crate::threads::{Callers, Script, is_right_with};
 use crate::wrong::{Wrong, right_if};
 use chronicle::Naming;
 use job_table::Edit;
@@ -13,7 +13,7 @@ use std::alloc::Global;
 use std::sync::Wait;
 use std::thread::Threads;
 use version_book::Book;
-use workers::{NoGate, Session, Settled, WorkerEnd};
+use workers::{NoGate, Session, WorkerEnd};
 
 /// So many notes a journal has at most.
 const NOTES: u64 = 1_000_000;
@@ -36,7 +36,7 @@ fn nearly_full(alloc: Global) -> Result<Book<Global>, Wrong> {
 impl<R: Wait, J: Naming> DeskHandle<'_, R, Global, J> {
     // Whether a call is refused for the journal.
     fn is_full(&self, session: &mut Session<Global, J>, call: &SessionCall<'_, Global>) -> bool {
-        self.answer(session, call) == Err(Unanswered::JournalFull)
+        matches!(self.answer(session, call), Err(Unanswered::JournalFull))
     }
 
     // Whether each call is refused for the journal.
@@ -72,7 +72,10 @@ impl<R: Wait, J: Naming> DeskHandle<'_, R, Global, J> {
 }
 
 /// A session waits until a worker has filled the journal by its claim, and has so ended.
-struct Refused;
+#[derive(Drop)]
+struct Refused {
+    alloc: Global,
+}
 
 impl Script<Global> for Refused {
     fn play<R: Wait, J: Naming>(
@@ -80,9 +83,15 @@ impl Script<Global> for Refused {
         handle: &DeskHandle<'_, R, Global, J>,
         session: &mut Session<Global, J>,
     ) -> Result<(), Wrong> {
-        right_if(handle.settle(session) == Settled::Stopped, Wrong::Settled)?;
+        right_if(handle.is_stopped(session), Wrong::Settled)?;
         handle.is_refused(session)?;
-        right_if(handle.settle(session) == Settled::Stopped, Wrong::Settled)
+        right_if(handle.is_stopped(session), Wrong::Settled)
+    }
+
+    // The journal is full and legal.
+    fn judge(&self, book: &mut Book<Global>) -> Result<(), Wrong> {
+        right_if(book.journal().len() as u64 == NOTES, Wrong::Listed)?;
+        is_legal(self.alloc, book.journal())
     }
 }
 
@@ -93,7 +102,6 @@ pub(crate) fn is_right<R: Threads + Wait + Sync>(rt: &R, alloc: Global) -> Resul
         workers: 1,
         end: WorkerEnd::Full,
     };
-    let book = book_after(rt, alloc, nearly_full(alloc)?, callers, &NoGate, &Refused)?;
-    right_if(book.journal().len() as u64 == NOTES, Wrong::Listed)?;
-    is_legal(alloc, book.journal())
+    let book = nearly_full(alloc)?;
+    is_right_with(rt, alloc, book, callers, &NoGate, &Refused { alloc })
 }

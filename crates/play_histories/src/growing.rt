@@ -1,9 +1,10 @@
 // What a session and a worker play at a desk on an allocator that may refuse a growth.
-use crate::analyst::{Analyst, First};
+use crate::analyst::First;
 use crate::desk_handle::DeskHandle;
+use crate::desk_history::is_legal;
 use crate::threads::{Script, plays, works};
 use crate::wrong::{Wrong, right_if};
-use book_machine::Reply;
+use book_machine::{Call, Note, Reply};
 use chronicle::Naming;
 use job_table::Edit;
 use std::alloc::Allocator;
@@ -11,16 +12,19 @@ use std::sync::Wait;
 use std::sync::atomic::{AtomicBool, AtomicU64, Ordering};
 use std::thread;
 use std::thread::Threads;
+use version_book::Book;
 use workers::{Desk, Gate, NoGate, Session, Worker, WorkerEnd};
 
 /// What a session plays beside a worker: the edit by which the fifth job joins, how often it was told want of
-/// memory, and whether a run was not there. Beside the allocator that refuses there is one that has enough.
+/// memory, whether a run was not there, and how often a ticket was given up. Beside the allocator that refuses
+/// there is one that has enough.
 #[derive(Drop)]
 pub(crate) struct Growing<'a, A: Allocator + Copy> {
-    pub(crate) enough: A,
-    joins: &'a Edit<A>,
-    wants: AtomicU64,
+    enough: A,
+    pub(crate) joins: &'a Edit<A>,
+    pub(crate) wants: AtomicU64,
     misses: AtomicBool,
+    given_up: AtomicU64,
 }
 
 impl<'a, A: Allocator + Copy> Growing<'a, A> {
@@ -30,24 +34,24 @@ impl<'a, A: Allocator + Copy> Growing<'a, A> {
             joins,
             wants: AtomicU64::new(0),
             misses: AtomicBool::new(false),
+            given_up: AtomicU64::new(0),
         }
     }
 }
 
+// How often a ticket was given up.
+fn given_up<A: Allocator + Copy>(notes: &[Note<A>]) -> u64 {
+    let mut count = 0u64;
+    for note in notes {
+        count = count.saturating_add(u64::from(matches!(note.call, Call::GiveUp { .. })));
+    }
+    count
+}
+
 impl<A: Allocator + Copy> Growing<'_, A> {
-    // A session of these wants.
-    fn analyst<'a, 'b, R: Wait, J: Naming>(
-        &'b self,
-        handle: &DeskHandle<'a, R, A, J>,
-    ) -> Analyst<'a, 'b, R, A, J> {
-        Analyst {
-            handle: DeskHandle {
-                rt: handle.rt,
-                desk: handle.desk,
-            },
-            joins: self.joins,
-            wants: &self.wants,
-        }
+    /// How often a ticket was given up, once the journal was judged.
+    pub(crate) fn given_up(&self) -> u64 {
+        self.given_up.load(Ordering::SeqCst)
     }
 }
 
@@ -57,10 +61,17 @@ impl<A: Allocator + Copy> Script<A> for Growing<'_, A> {
         handle: &DeskHandle<'_, R, A, J>,
         session: &mut Session<A, J>,
     ) -> Result<(), Wrong> {
-        if !self.analyst(handle).plays(session)? {
+        if !self.plays(handle, session)? {
             self.misses.store(true, Ordering::SeqCst);
         }
         Ok(())
+    }
+
+    // Judges the journal with memory enough, and counts the tickets that were given up.
+    fn judge(&self, book: &mut Book<A>) -> Result<(), Wrong> {
+        self.given_up
+            .store(given_up(book.journal()), Ordering::SeqCst);
+        is_legal(self.enough, book.journal())
     }
 }
 
@@ -98,15 +109,19 @@ fn last_reply<A: Allocator + Copy>(worker: &Worker<A>) -> Option<Reply> {
 // Has the worker make one run, for which it stops the desk, and a session look then; whether the worker
 // ended for want of memory.
 fn works_once<R: Wait, A: Allocator + Copy, J: Naming>(
-    analyst: &Analyst<'_, '_, R, A, J>,
+    handle: &DeskHandle<'_, R, A, J>,
     session: &mut Session<A, J>,
     worker: &mut Worker<A>,
+    script: &Growing<'_, A>,
 ) -> Result<bool, Wrong> {
-    let (rt, desk) = (analyst.handle.rt, analyst.handle.desk);
+    let (rt, desk) = (handle.rt, handle.desk);
     let end = worker.run(rt, desk, &Stopping { rt, desk });
-    analyst.looks_after(session, last_reply(worker))?;
-    right_if(end != WorkerEnd::Full, Wrong::Ended)?;
-    Ok(end == WorkerEnd::Memory)
+    script.looks_after(handle, session, last_reply(worker))?;
+    match end {
+        WorkerEnd::Full => Err(Wrong::Ended),
+        WorkerEnd::Memory => Ok(true),
+        WorkerEnd::Stopped => Ok(false),
+    }
 }
 
 // Has the session make all calls while the worker runs, each on a thread of its own.
@@ -185,15 +200,14 @@ pub(crate) fn played<
     script: &Growing<'_, A>,
     first: First,
 ) -> Result<Wants, Wrong> {
-    let analyst = script.analyst(handle);
     let (Some(session), Some(worker)) = (sessions.first_mut(), workers.first_mut()) else {
         return Err(Wrong::Input);
     };
     if matches!(first, First::Work | First::Run) {
-        let has_ended = works_once(&analyst, session, worker)?;
+        let has_ended = works_once(handle, session, worker, script)?;
         return Ok(wants_of(script, has_ended, has_ended && first == First::Work));
     }
-    analyst.begins(session, first)?;
+    script.begins(handle, session, first)?;
     let was_told = script.wants.load(Ordering::SeqCst) > 0;
     let has_ended = plays_beside(handle, sessions, workers, script)?;
     Ok(wants_of(script, has_ended, was_told))

@@ -4,12 +4,11 @@ ghost use Rattle.version_book.specs.Book.{machine_of};
 
 use crate::analyst::First;
 use crate::desk_handle::DeskHandle;
-use crate::desk_history::is_legal;
 use crate::growing::{Growing, Wants, played};
 use crate::known_log::{fifth, with_base};
 use crate::open_desk::OpenDesk;
+use crate::threads::closes;
 use crate::wrong::{Wrong, right_if};
-use book_machine::{Call, Note};
 use chronicle::{Naming, Unnamed};
 use refusing::Refusing;
 use std::alloc::{Allocator, Global};
@@ -30,29 +29,12 @@ const FIRSTS: [First; 8] = [
     First::Run,
 ];
 
-// How often a ticket was given up.
-fn given_up<A: Allocator + Copy>(notes: &[Note<A>]) -> u64 {
-    let count = notes
-        .iter()
-        .filter(|note| matches!(note.call, Call::GiveUp { .. }))
-        .count();
-    count as u64
-}
-
-// Closes the desk, of which the journal is judged with memory enough, and tells all wants.
-fn closed<A: Allocator + Copy, J: Naming>(
-    enough: A,
-    open: OpenDesk<A, J>,
-    wants: Wants,
-    first: First,
-) -> Result<Wants, Wrong> {
-    let book = open.close()?;
-    is_legal(enough, book.journal())?;
-    let given_up = given_up(book.journal());
-    Ok(Wants {
+// All wants of a history whose desk is closed: also those of the tickets that were given up.
+fn with_given_up(wants: Wants, given_up: u64, first: First) -> Wants {
+    Wants {
         all: wants.all.saturating_add(given_up),
         was_first: wants.was_first || (first == First::Run && given_up > 0),
-    })
+    }
 }
 
 // Plays a history with the callers of a desk.
@@ -91,26 +73,37 @@ fn history_on<J: Naming + Send + Sync, R: Threads + Wait + Sync, A: Allocator + 
     let Ok(mut open) = OpenDesk::<A, J>::new(rt, alloc, book, unnamed, 1, 1) else {
         return Ok(None);
     };
-    let wants = played_at(rt, &mut open, script, first)?;
-    let wants = closed(script.enough, open, wants, first)?;
-    Ok(Some(wants))
+    let played = played_at(rt, &mut open, script, first);
+    let closed = closes(open, script);
+    let wants = played?;
+    closed?;
+    Ok(Some(with_given_up(wants, script.given_up(), first)))
 }
 
 // The same of the book with the scenario `base`.
+fn history_with<R: Threads + Wait + Sync, A: Allocator + Copy + Send + Sync>(
+    rt: &R,
+    alloc: A,
+    script: &Growing<'_, A>,
+    first: First,
+) -> Result<Option<Wants>, Wrong> {
+    match with_base(alloc) {
+        Ok(book) => history_on::<Brand, R, A>(rt, alloc, book, Unnamed::new(), script, first),
+        Err(_) => Ok(None),
+    }
+}
+
+// The same with the edit by which the fifth job joins.
 fn history_of<R: Threads + Wait + Sync, A: Allocator + Copy + Send + Sync>(
     rt: &R,
     alloc: A,
     enough: A,
     first: First,
 ) -> Result<Option<Wants>, Wrong> {
-    let Ok(joins) = fifth(alloc) else {
-        return Ok(None);
-    };
-    let Ok(book) = with_base(alloc) else {
-        return Ok(None);
-    };
-    let script = Growing::new(enough, &joins);
-    history_on::<Brand, R, A>(rt, alloc, book, Unnamed::new(), &script, first)
+    match fifth(alloc) {
+        Ok(joins) => history_with(rt, alloc, &Growing::new(enough, &joins), first),
+        Err(_) => Ok(None),
+    }
 }
 
 /// What came of a history while the growth of a number was refused.

@@ -87,11 +87,19 @@ fn has_jobs<A: Allocator + Copy>(table: &JobTable<A>, version: u64) -> bool {
     }
 }
 
+// Whether what is shown has these starts.
+fn has_starts<A: Allocator + Copy>(shown: &Published<A>, starts: &[(u64, u64)]) -> bool {
+    let mut all = true;
+    for start in starts {
+        all = all && shown.run().start_of(start.0) == Some(start.1);
+    }
+    all
+}
+
 /// Whether what is shown has the starts of its version.
 pub(crate) fn is_right<A: Allocator + Copy>(shown: &Published<A>) -> bool {
     match STARTS.get(shown.version() as usize) {
-        Some(starts) => starts.iter().all(|(number, start)| shown.run().start_of(*number)
-            == Some(*start)),
+        Some(starts) => has_starts(shown, starts),
         None => false,
     }
 }

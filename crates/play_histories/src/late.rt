@@ -1,9 +1,9 @@
 // Two workers run, and the one that was given the older ticket hands in last.
 use crate::desk_handle::DeskHandle;
 use crate::known_log::with_base;
-use crate::threads::{Callers, Script, book_after};
+use crate::threads::{Callers, Script, is_right_with};
 use crate::wrong::{Wrong, right_if};
-use book_machine::{Call, Reply};
+use book_machine::{Call, Note, Reply};
 use checking::Flags;
 use chronicle::Naming;
 use job_table::Edit;
@@ -11,7 +11,7 @@ use std::alloc::Global;
 use std::sync::Wait;
 use std::thread::Threads;
 use version_book::Book;
-use workers::{Gate, Session, Settled};
+use workers::{Gate, Session};
 
 /// The first ticket was claimed.
 const CLAIMED: u64 = 2;
@@ -58,42 +58,44 @@ impl Script<Global> for Held {
         session: &mut Session<Global, J>,
     ) -> Result<(), Wrong> {
         self.flags.wait(CLAIMED);
-        let is_edited = session.edit(handle.rt, handle.desk, &Edit::Remove(4)) == Ok(1);
+        let is_edited = handle.makes(session, &Edit::Remove(4), 1);
         self.flags.set(EDITED);
-        let is_settled = handle.settle(session) == Settled::Done;
+        let is_settled = handle.is_done(session);
         self.flags.set(PUBLISHED);
         right_if(is_edited && is_settled, Wrong::Reply)
     }
+
+    // The first finish was stale; it is wrong too where a flag did not come in time.
+    fn judge(&self, book: &mut Book<Global>) -> Result<(), Wrong> {
+        right_if(self.flags.are_in_time(), Wrong::Thread)?;
+        right_if(is_first_stale(book), Wrong::Journal)
+    }
 }
 
-// Whether the finish of the first ticket was told that a newer run is published.
+// Whether this is the finish of the first ticket, which was told that a newer run is published.
+fn is_stale(note: &Note<Global>) -> bool {
+    match (&note.call, &note.reply) {
+        (Call::Finish { ticket, fits }, Reply::Stale { published }) => {
+            *ticket == 1 && *fits && *published == 1
+        }
+        _ => false,
+    }
+}
+
+// Whether a journal has that note.
 fn is_first_stale(book: &Book<Global>) -> bool {
-    let first = Call::Finish {
-        ticket: 1,
-        fits: true,
-    };
-    book.journal().iter().any(|note| note.reply == Reply::Stale { published: 1 }
-        && note.call.same(&first))
-}
-
-// The book after all that; wrong where a flag did not come in time.
-fn played<R: Threads + Wait + Sync>(rt: &R, alloc: Global) -> Result<Book<Global>, Wrong> {
-    let held = Held {
-        flags: Flags::new(),
-    };
-    let book = book_after(
-        rt,
-        alloc,
-        with_base(alloc)?,
-        Callers::stopped(1, 2),
-        &held,
-        &held,
-    )?;
-    right_if(held.flags.are_in_time(), Wrong::Thread)?;
-    Ok(book)
+    let mut is_found = false;
+    for note in book.journal() {
+        is_found = is_found || is_stale(note);
+    }
+    is_found
 }
 
 /// A late run is stale.
 pub(crate) fn is_right<R: Threads + Wait + Sync>(rt: &R, alloc: Global) -> Result<(), Wrong> {
-    right_if(is_first_stale(&played(rt, alloc)?), Wrong::Journal)
+    let book = with_base(alloc)?;
+    let held = Held {
+        flags: Flags::new(),
+    };
+    is_right_with(rt, alloc, book, Callers::stopped(1, 2), &held, &held)
 }

@@ -99,7 +99,8 @@ fn run_lists<R: AllocGlobal + Print + Eprint>(rt: &R) -> Result<bool> {
             Ok(true)
         }
         Err(Difference { seed, calls, wrong }) => {
-            eprintln!(rt; "play_histories: list {seed} differs after {calls} calls: {wrong}")?;
+            let text = wrong.text();
+            eprintln!(rt; "play_histories: list {seed} differs after {calls} calls: {text}")?;
             Ok(false)
         }
     }
@@ -129,6 +130,7 @@ fn tell<R: Print + Eprint>(rt: &R, found: Result<(), Wrong>, text: &str) -> Resu
             Ok(true)
         }
         Err(wrong) => {
+            let wrong = wrong.text();
             eprintln!(rt; "play_histories: not {text}: {wrong}")?;
             Ok(false)
         }

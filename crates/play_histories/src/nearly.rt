@@ -75,17 +75,23 @@ impl Player<'_> {
         }
         self.end();
     }
+
+    // Plays so, and tells what is wrong.
+    fn is_right_nearly(&mut self, scenario: Scenario) -> Result<(), Wrong> {
+        self.play_nearly(scenario);
+        match self.wrong {
+            Some(wrong) => Err(wrong),
+            None => Ok(()),
+        }
+    }
 }
 
 /// Runs of logs with another field are strangers, and tickets that never stood, or stand no more, unknown.
 pub(crate) fn is_right(alloc: Global) -> Result<(), Wrong> {
+    let scenario = ten()?;
     let opening = Arc::new(alloc, opening(alloc)?)?;
-    let Some(mut player) = player_of(alloc, opening, &[], 1) else {
-        return Err(Wrong::Memory);
-    };
-    player.play_nearly(ten()?);
-    match player.wrong {
-        Some(wrong) => Err(wrong),
-        None => Ok(()),
+    match player_of(alloc, opening, &[], 1) {
+        Some(mut player) => player.is_right_nearly(scenario),
+        None => Err(Wrong::Memory),
     }
 }

@@ -80,6 +80,11 @@ pub(crate) fn player_of(
     })
 }
 
+// A log that is made up.
+fn made_up(alloc: Global, chance: &mut Chance) -> Option<Arc<JobTable<Global>, Global>> {
+    Arc::new(alloc, inputs::opening(alloc, chance)?).ok()
+}
+
 // A book of a log that is made up, at this spacing; none where memory is short.
 pub(crate) fn new_player<'a>(
     alloc: Global,
@@ -87,8 +92,7 @@ pub(crate) fn new_player<'a>(
     ids: &'a [ScenarioId],
     spacing: u32,
 ) -> Option<Player<'a>> {
-    let opening = Arc::new(alloc, inputs::opening(alloc, chance)?).ok()?;
-    player_of(alloc, opening, ids, spacing)
+    player_of(alloc, made_up(alloc, chance)?, ids, spacing)
 }
 
 impl Player<'_> {

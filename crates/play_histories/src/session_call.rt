@@ -3,7 +3,7 @@ use scenarios::{Scenario, ScenarioId};
 use std::alloc::Allocator;
 
 /// A call that a session makes at a desk.
-#[derive(Drop)]
+#[derive(Clone, Copy)]
 pub(crate) enum SessionCall<'a, A: Allocator + Copy> {
     Edit(&'a Edit<A>),
     Add { name: &'a str, scenario: Scenario },

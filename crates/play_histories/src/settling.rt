@@ -2,11 +2,13 @@
 ghost use Rattle.std.specs.Prelude.{◌≡◌};
 ghost use Rattle.version_book.specs.Book.{machine_of};
 
+use crate::answers;
 use crate::desk_handle::DeskHandle;
 use crate::known_log::with_base;
 use crate::open_desk::OpenDesk;
-use crate::threads::{Callers, Script, book_after};
+use crate::threads::{Callers, Script, is_right_with};
 use crate::wrong::{Wrong, right_if};
+use book_machine::Reply;
 use chronicle::{Naming, Unnamed};
 use std::alloc::Global;
 use std::marker::Brand;
@@ -17,8 +19,8 @@ use workers::{NoGate, Session, Settled, Worker, WorkerEnd};
 
 // Gives up the ticket of the scenario that is due.
 fn gives_up(book: &mut Book<Global>) -> bool {
-    match book.claim(0) {
-        Ok(Some(task)) => book.give_up(0, task.ticket()).is_ok(),
+    match answers::of_claim(&book.claim(0)) {
+        Ok(Reply::Claimed { ticket, .. }) => book.give_up(0, ticket).is_ok(),
         _ => false,
     }
 }
@@ -48,7 +50,7 @@ impl<R: Wait, J: Naming> DeskHandle<'_, R, Global, J> {
         let is_due = self.retries(session);
         self.desk.stop(self.rt);
         is_due
-            && self.settle(session) == Settled::Stopped
+            && self.is_stopped(session)
             && worker.run(self.rt, self.desk, &NoGate) == WorkerEnd::Stopped
             && worker.list().is_empty()
     }
@@ -64,11 +66,16 @@ impl Script<Global> for TriesAgain {
         session: &mut Session<Global, J>,
     ) -> Result<(), Wrong> {
         right_if(
-            handle.settle(session) == Settled::Failed(1)
+            matches!(handle.settle(session), Settled::Failed(1))
                 && handle.retries(session)
-                && handle.settle(session) == Settled::Done,
+                && handle.is_done(session),
             Wrong::Settled,
         )
+    }
+
+    // Something was called.
+    fn judge(&self, book: &mut Book<Global>) -> Result<(), Wrong> {
+        right_if(!book.journal().is_empty(), Wrong::Journal)
     }
 }
 
@@ -108,15 +115,9 @@ fn is_left<R: Wait>(rt: &R, alloc: Global) -> Result<(), Wrong> {
 
 // Whether what was given up settles once it is tried again while a worker runs.
 fn is_settled<R: Threads + Wait + Sync>(rt: &R, alloc: Global) -> Result<(), Wrong> {
-    let book = book_after(
-        rt,
-        alloc,
-        given_up(alloc)?,
-        Callers::stopped(1, 1),
-        &NoGate,
-        &TriesAgain,
-    )?;
-    right_if(!book.journal().is_empty(), Wrong::Journal)
+    let book = given_up(alloc)?;
+    let callers = Callers::stopped(1, 1);
+    is_right_with(rt, alloc, book, callers, &NoGate, &TriesAgain)
 }
 
 /// What was given up settles once it is tried again; a stopped desk leaves what is due.

@@ -6,6 +6,27 @@ use std::alloc::Global;
 /// How many kinds of replies are counted.
 pub(crate) const KINDS: usize = 24;
 
+// The kind of an edit's fault.
+fn kind_of_edit(fault: EditFault) -> usize {
+    match fault {
+        EditFault::NoSuchJob => 7,
+        EditFault::DuplicateJob => 9,
+        EditFault::BadField => 10,
+        EditFault::BadValue => 11,
+        _ => KINDS,
+    }
+}
+
+// The kind of a fault where a scenario is added.
+fn kind_of_add(fault: AddFault) -> usize {
+    match fault {
+        AddFault::NameTaken => 8,
+        AddFault::BadName => 12,
+        AddFault::TooMany => 13,
+        _ => KINDS,
+    }
+}
+
 // The kind of a reply, from 0; that of faults that can't come is the number of kinds.
 fn kind_of(reply: &Reply) -> usize {
     match reply {
@@ -16,13 +37,8 @@ fn kind_of(reply: &Reply) -> usize {
         Reply::Shown { .. } => 4,
         Reply::Claimed { base: Some(_), .. } => 5,
         Reply::Finished { .. } => 6,
-        Reply::EditRefused(EditFault::NoSuchJob) => 7,
-        Reply::AddRefused(AddFault::NameTaken) => 8,
-        Reply::EditRefused(EditFault::DuplicateJob) => 9,
-        Reply::EditRefused(EditFault::BadField) => 10,
-        Reply::EditRefused(EditFault::BadValue) => 11,
-        Reply::AddRefused(AddFault::BadName) => 12,
-        Reply::AddRefused(AddFault::TooMany) => 13,
+        Reply::EditRefused(fault) => kind_of_edit(*fault),
+        Reply::AddRefused(fault) => kind_of_add(*fault),
         Reply::NoSuchScenario => 14,
         Reply::NoneDue => 15,
         Reply::Claimed { .. } => 16,
@@ -33,7 +49,6 @@ fn kind_of(reply: &Reply) -> usize {
         Reply::GivenUp => 21,
         Reply::NotYet => 22,
         Reply::Behind { .. } => 23,
-        _ => KINDS,
     }
 }
 

@@ -23,6 +23,9 @@ pub(crate) trait Script<A: Allocator + Copy> {
         handle: &DeskHandle<'_, R, A, J>,
         session: &mut Session<A, J>,
     ) -> Result<(), Wrong>;
+
+    /// Judges the book, once all have played and the desk is closed; the first thing that is wrong.
+    fn judge(&self, book: &mut Book<A>) -> Result<(), Wrong>;
 }
 
 /// Has a session play.
@@ -143,8 +146,19 @@ impl Callers {
     }
 }
 
-// The book after all callers of a desk over it have played, and the desk is closed.
-fn book_on<
+/// Closes a desk, and has the book judged.
+pub(crate) fn closes<A: Allocator + Copy, S: Script<A>, J: Naming>(
+    open: OpenDesk<A, J>,
+    script: &S,
+) -> Result<(), Wrong> {
+    match open.close() {
+        Ok(mut book) => script.judge(&mut book),
+        Err(wrong) => Err(wrong),
+    }
+}
+
+// Has all callers of a desk over a book play, closes it and has the book judged.
+fn is_right_on<
     J: Naming + Send + Sync,
     R: Threads + Wait + Sync,
     G: Gate + Sync,
@@ -157,24 +171,24 @@ fn book_on<
     callers: Callers,
     gate: &G,
     script: &S,
-) -> Result<Book<Global>, Wrong>
+) -> Result<(), Wrong>
     requires name { unnamed ≡ J.book }
     requires opening { J.opening ≡ machine_of book }
 {
     let (sessions, workers) = (callers.sessions, callers.workers);
     let mut open = OpenDesk::<Global, J>::new(rt, alloc, book, unnamed, sessions, workers)?;
-    play_all(rt, alloc, &mut open, gate, script, callers.end)?;
-    open.close()
+    let found = play_all(rt, alloc, &mut open, gate, script, callers.end);
+    found.and(closes(open, script))
 }
 
-/// The book, after these callers have played at a desk over it, and the desk is closed.
-pub(crate) fn book_after<R: Threads + Wait + Sync, G: Gate + Sync, S: Script<Global> + Sync>(
+/// Has these callers play at a desk over a book, closes it and has the book judged; the first thing that is wrong.
+pub(crate) fn is_right_with<R: Threads + Wait + Sync, G: Gate + Sync, S: Script<Global> + Sync>(
     rt: &R,
     alloc: Global,
     book: Book<Global>,
     callers: Callers,
     gate: &G,
     script: &S,
-) -> Result<Book<Global>, Wrong> {
-    book_on::<Brand, R, G, S>(rt, alloc, book, Unnamed::new(), callers, gate, script)
+) -> Result<(), Wrong> {
+    is_right_on::<Brand, R, G, S>(rt, alloc, book, Unnamed::new(), callers, gate, script)
 }

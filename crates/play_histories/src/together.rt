@@ -6,7 +6,7 @@ use crate::desk_handle::DeskHandle;
 use crate::known_log::{fifth, with_base};
 use crate::open_desk::OpenDesk;
 use crate::session_call::SessionCall;
-use crate::threads::{Script, play_all};
+use crate::threads::{Script, closes, play_all};
 use crate::wrong::{Wrong, right_if};
 use book_machine::Reply;
 use chronicle::{Naming, Unnamed};
@@ -16,14 +16,16 @@ use std::marker::Brand;
 use std::sync::Wait;
 use std::thread::Threads;
 use version_book::{Book, FinishFault, FinishRefusal};
-use workers::{NoGate, Session, Settled, WorkerEnd};
+use workers::{NoGate, Session, WorkerEnd};
 
 impl<R: Wait, J: Naming> DeskHandle<'_, R, Global, J> {
     // Whether the session is shown the second version.
     fn sees_second(&self, session: &mut Session<Global, J>) -> bool {
         match self.find(session, "base") {
-            Some(id) => self.known(session, &SessionCall::View { id })
-                == Ok(Reply::Shown { version: 2 }),
+            Some(id) => matches!(
+                self.known(session, &SessionCall::View { id }),
+                Ok(Reply::Shown { version: 2 })
+            ),
             None => false,
         }
     }
@@ -36,7 +38,7 @@ impl<R: Wait, J: Naming> DeskHandle<'_, R, Global, J> {
         version: u64,
     ) -> bool {
         match session {
-            Some(session) => session.edit(self.rt, self.desk, edit) == Ok(version),
+            Some(session) => self.makes(session, edit, version),
             None => false,
         }
     }
@@ -67,11 +69,20 @@ impl Script<Global> for Looking {
         handle: &DeskHandle<'_, R, Global, J>,
         session: &mut Session<Global, J>,
     ) -> Result<(), Wrong> {
-        right_if(handle.settle(session) == Settled::Done, Wrong::Settled)?;
+        right_if(handle.is_done(session), Wrong::Settled)?;
         right_if(handle.sees_second(session), Wrong::Seen)?;
         let looks = handle.looks(session);
         right_if(looks.version == 2 && looks.seen == 2, Wrong::Seen)?;
-        right_if(handle.reads(session) == Some(true), Wrong::Reply)
+        right_if(handle.is_read(session), Wrong::Reply)
+    }
+
+    // The book has a note of `base`, two edits, a claim with its finish, and two views, and the ticket is closed.
+    fn judge(&self, book: &mut Book<Global>) -> Result<(), Wrong> {
+        right_if(book.journal().len() == 7, Wrong::Journal)?;
+        match book.finish_delivered(0, 1) {
+            Err(FinishRefusal::Fault(FinishFault::UnknownTicket)) => Ok(()),
+            _ => Err(Wrong::Journal),
+        }
     }
 }
 
@@ -109,16 +120,9 @@ fn refused<J: Naming>(mut open: OpenDesk<Global, J>) -> Result<OpenDesk<Global, 
     }
 }
 
-// Whether the book has a note of `base`, two edits, a claim with its finish, and two views, and the ticket is
-// closed.
-fn is_whole(mut book: Book<Global>) -> bool {
-    book.journal().len() == 7
-        && book.finish_delivered(0, 1) == Err(FinishRefusal::Fault(FinishFault::UnknownTicket))
-}
-
-// Whether the desk doesn't close without a session, and closes with all callers, and the book is whole then.
-fn closes<J: Naming>(open: OpenDesk<Global, J>) -> Result<(), Wrong> {
-    right_if(is_whole(refused(open)?.close()?), Wrong::Journal)
+// Whether the desk doesn't close without a session, and closes with all callers.
+fn closes_whole<J: Naming>(open: OpenDesk<Global, J>) -> Result<(), Wrong> {
+    closes(refused(open)?, &Looking)
 }
 
 // Plays at a desk over this book, and closes it.
@@ -132,8 +136,8 @@ fn plays_on<J: Naming + Send + Sync, R: Threads + Wait + Sync>(
     requires opening { J.opening ≡ machine_of book }
 {
     let mut open = OpenDesk::<Global, J>::new(rt, alloc, book, unnamed, 2, 1)?;
-    plays(rt, alloc, &mut open)?;
-    closes(open)
+    let found = plays(rt, alloc, &mut open);
+    found.and(closes_whole(open))
 }
 
 /// Two sessions see one version, and the desk closes with both alone.

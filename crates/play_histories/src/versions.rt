@@ -60,8 +60,12 @@ type Shown = (ScenarioId, u64);
 
 // The scenario of a ticket, with a version.
 fn of_ticket(claims: &[Claimed], ticket: u64, version: u64) -> Option<Shown> {
-    let claim = claims.iter().find(|claim| claim.0 == ticket)?;
-    Some((claim.1, version))
+    for claim in claims {
+        if claim.0 == ticket {
+            return Some((claim.1, version));
+        }
+    }
+    None
 }
 
 // What a note tells of a scenario's published version, after these claims.
@@ -82,7 +86,11 @@ fn shown_in(note: &Note<Global>, claims: &[Claimed]) -> Option<Shown> {
 
 // Whether no version that is known of this scenario is newer.
 fn is_newest(known: &[Shown], id: ScenarioId, version: u64) -> bool {
-    known.iter().all(|each| each.0 != id || each.1 <= version)
+    let mut is_newest = true;
+    for each in known {
+        is_newest = is_newest && (each.0 != id || each.1 <= version);
+    }
+    is_newest
 }
 
 /// The claims and the published versions of a journal, up to some note.

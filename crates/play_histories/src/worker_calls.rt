@@ -142,7 +142,7 @@ impl Player<'_> {
     pub(crate) fn hand_in(&mut self, worker: u64, handed: HandedIn) -> bool {
         let HandedIn { ticket, run, fits } = handed;
         let answer = answers::of_finish(self.book.finish(worker, ticket, run));
-        let fits = fits && answer != Ok(Reply::UnknownTicket);
+        let fits = fits && !matches!(answer, Ok(Reply::UnknownTicket));
         self.judge(
             Caller::Worker(worker),
             &Call::Finish { ticket, fits },

@@ -1,60 +1,67 @@
 use std::alloc::{AllocError, AllocFailed};
 use swf_text;
-use thiserror::Error;
 
 /// What is wrong with what was played, or what kept it from being played.
-#[derive(Clone, Copy, Debug, PartialEq, Eq, Error)]
+#[derive(Clone, Copy)]
 pub(crate) enum Wrong {
-    #[error("a log, an edit, a scenario or a caller could not be made")]
     Input,
-    #[error("a growth was refused")]
     Memory,
-    #[error("refused for its journal or for memory")]
     Refused,
-    #[error("the journal did not grow by one note")]
     Growth,
-    #[error("the note is of another call")]
     Note,
-    #[error("the plain program replies otherwise")]
     Answer,
-    #[error("another scenario was due")]
     Due,
-    #[error("the plain program goes otherwise over the journal")]
     Journal,
-    #[error("the plain program finds it otherwise settled")]
     Unlike,
-    #[error("the log is not that of the accepted edits")]
     Log,
-    #[error("a published run is not that of its version")]
     Published,
-    #[error("a published version fell")]
     Fell,
-    #[error("a kind of replies came too seldom")]
     Seldom,
-    #[error("more callers were opened than a desk has")]
     Opened,
-    #[error("a thread could not be started, or a flag did not come in time")]
     Thread,
-    #[error("a call was answered otherwise than it should be")]
     Reply,
-    #[error("what a session has seen is not what it was told")]
     Seen,
-    #[error("a call was not listed once")]
     Listed,
-    #[error("a session did not settle")]
     Settled,
-    #[error("a worker ended otherwise than it should")]
     Ended,
-    #[error("something changed by a call without memory")]
     Changed,
-    #[error("a refused growth was not told once")]
     Wants,
-    #[error("a call was never told want of memory")]
     Untold,
-    #[error("there is no end of growths")]
     Endless,
-    #[error("the desk did not close")]
     Close,
+}
+
+impl Wrong {
+    /// The same in words.
+    pub(crate) fn text(self) -> &'static str {
+        match self {
+            Wrong::Input => "a log, an edit, a scenario or a caller could not be made",
+            Wrong::Memory => "a growth was refused",
+            Wrong::Refused => "refused for its journal or for memory",
+            Wrong::Growth => "the journal did not grow by one note",
+            Wrong::Note => "the note is of another call",
+            Wrong::Answer => "the plain program replies otherwise",
+            Wrong::Due => "another scenario was due",
+            Wrong::Journal => "the plain program goes otherwise over the journal",
+            Wrong::Unlike => "the plain program finds it otherwise settled",
+            Wrong::Log => "the log is not that of the accepted edits",
+            Wrong::Published => "a published run is not that of its version",
+            Wrong::Fell => "a published version fell",
+            Wrong::Seldom => "a kind of replies came too seldom",
+            Wrong::Opened => "more callers were opened than a desk has",
+            Wrong::Thread => "a thread could not be started, or a flag did not come in time",
+            Wrong::Reply => "a call was answered otherwise than it should be",
+            Wrong::Seen => "what a session has seen is not what it was told",
+            Wrong::Listed => "a call was not listed once",
+            Wrong::Settled => "a session did not settle",
+            Wrong::Ended => "a worker ended otherwise than it should",
+            Wrong::Changed => "something changed by a call without memory",
+            Wrong::Wants => "a refused growth was not told once",
+            Wrong::Untold => "a call was never told want of memory",
+            Wrong::Endless => "there is no end of growths",
+            Wrong::Close => "the desk did not close",
+        }
+    }
 }
 
 // All is right where this holds.
