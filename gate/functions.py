@@ -93,7 +93,8 @@ def function_at(path, text, place, homes):
 
 def function_of(names, homes):
     """The tuple of the function that a check, or a folder, names by this path; a closure stands for the function it is in, and
-    a type for itself at some arguments (`Type+Argument`). A type or an impl that `homes` doesn't have is left out."""
+    a type for itself at some arguments (`Type+Argument`). A type or an impl that `homes` doesn't have is left out. (A folder
+    has a `+` before a name that stands for something else beside it.)"""
     if "fn" in names:
         at = names.index("fn")
         inner = names[at + 1 :]
@@ -101,7 +102,7 @@ def function_of(names, homes):
         end = next((number for number, it in enumerate(inner) if "+Fn" in it), len(inner) - 1)
         names = names[:at] + inner[:end]
     heads = (it.partition("+")[0] for it in names[:-1])
-    return (*(it for it in heads if it[0].islower() or it in homes), names[-1])
+    return (*(it for it in heads if it[0].islower() or it in homes), names[-1].removeprefix("+"))
 
 
 def without_impl(function):
