@@ -9,6 +9,7 @@ mod edits;
 mod found;
 mod logs;
 mod reruns;
+mod standing;
 mod sums;
 mod work_set;
 mod worked;
