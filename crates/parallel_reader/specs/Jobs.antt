@@ -1,6 +1,6 @@
 -- Job lines that are read apart from those before them, and the entries that they add.
-use Rattle.std.specs.Prelude.{◌≡◌, ℕ, ◌<◌, ◌≤◌, List, [], ◌∷◌, length, map, take, true, Option, IfSome, Result, Ok, Err, slice_index_or}
-use Rattle.std.specs.List.{list_any, flat_map}
+use Rattle.std.specs.Prelude.{◌≡◌, ℕ, ◌+◌, ◌<◌, ◌≤◌, List, [], ◌∷◌, ◌++◌, length, map, take, true, Option, IfSome, Result, Ok, Err, slice_index_or}
+use Rattle.std.specs.List.{before_first, list_any, flat_map}
 use Rattle.swf_text.specs.declared.line.Fields.{Fields}
 use Rattle.swf_text.specs.declared.line.LineRead.{LineRead}
 use Rattle.swf_text.specs.declared.line.LineRead.TheVariants as read
@@ -11,7 +11,7 @@ use Rattle.parallel_reader.specs.declared.portion.JobLines.{JobLines}
 use Rattle.swf_text.specs.Entry.{LogEntry, has_number}
 use Rattle.swf_text.specs.Packed.{unpacked}
 use Rattle.swf_text.specs.Line.{line_of}
-use Rattle.swf_text.specs.Text.{LogText, lines}
+use Rattle.swf_text.specs.Text.{LogText, is_feed, lines}
 use Rattle.swf_text.specs.Reading.{with_job, with_lines}
 use Rattle.parallel_reader.specs.Adding.{texts}
 
@@ -36,6 +36,12 @@ job_of packed = record { 0 = unpacked packed }
 -- the first of these packed lines, as many as are counted, are the job lines of the lines
 abbrev pub IsReadOf : List (List ℕ) → List PackedLine → Option ℕ → Type 0
 IsReadOf ls jobs count = IfSome count (λ n. (n ≤ length jobs) × AreJobs ls (map job_of (take n jobs)))
+
+-- the bytes begin with a job line, which is now at this place, behind those that were read before
+abbrev pub TakesLine : List ℕ → List PackedLine → List PackedLine → ℕ → Type 0
+TakesLine bytes old new place =
+    (packed : PackedLine) × (place < length new) × (take (place + 1) new ≡ take place old ++ packed ∷ [])
+    × (line_of (before_first is_feed bytes) ≡ read.Job (job_of packed))
 
 -- ---- what job lines add
 

@@ -1,10 +1,11 @@
 ghost use Rattle.std.specs.Prelude.{◌≡◌, ◌++◌, ◌<◌, ◌≤◌, length, map, take, IfSome, IsTrue};
 ghost use Rattle.swf_text.specs.declared.line.LineRead.TheVariants.{Blank};
 ghost use Rattle.swf_text.specs.Line.{line_of};
-ghost use Rattle.swf_text.specs.Text.{lines};
-ghost use Rattle.parallel_reader.specs.Jobs.{AreJobs, IsReadOf, job_of};
+ghost use Rattle.std.specs.List.{after_first};
+ghost use Rattle.swf_text.specs.Text.{is_feed, lines};
+ghost use Rattle.parallel_reader.specs.Jobs.{AreJobs, IsReadOf, TakesLine, job_of};
 
-use swf_text::{LineRead, PackedLine, packed_line, read_line, split_line};
+use swf_text::{LineRead, PackedLine, packed_front, packed_line, read_line, split_line};
 
 /// The bytes behind which a portion of a log ends with its line.
 const LEAST_BYTES: usize = 16_384;
@@ -41,6 +42,20 @@ fn is_blank(line: &[u8]) -> bool
     matches!(read_line(line), LineRead::Blank)
 }
 
+// Reads the job line that some bytes begin with into the next place, if there is one: what follows the line.
+// None where it says nothing; places before that one stay.
+fn read_front<'a>(jobs: &mut [PackedLine], count: usize, bytes: &'a [u8]) -> Option<&'a [u8]>
+    ensures same { length jobs.new ≡ length jobs.old }
+    ensures kept { take count jobs.new ≡ take count jobs.old }
+    ensures line { IfSome result (λ rest. TakesLine bytes.now jobs.old jobs.new count) }
+    ensures rest { IfSome result (λ rest. rest.now ≡ after_first is_feed bytes.now) }
+{
+    if count >= jobs.len() {
+        return None;
+    }
+    packed_front(&mut jobs[count], bytes)
+}
+
 // Reads the job lines of some bytes into these places: how many they are.
 fn read_jobs(bytes: &[u8], jobs: &mut [PackedLine]) -> Option<usize>
     ensures same { length jobs.new ≡ length jobs.old }
@@ -49,6 +64,11 @@ fn read_jobs(bytes: &[u8], jobs: &mut [PackedLine]) -> Option<usize>
     let mut count = 0usize;
     let mut rest = bytes;
     'lines: while !rest.is_empty() {
+        if let Some(after) = read_front(jobs, count, rest) {
+            count += 1;
+            rest = after;
+            continue;
+        }
         let (line, after) = split_line(rest);
         match packed_line(line) {
             Some(job) => {

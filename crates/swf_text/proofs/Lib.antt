@@ -9,6 +9,7 @@ mod Faults
 mod Texts
 mod Entries
 mod Codes
+mod Fronts
 mod Spellings
 mod Writings
 mod Printed

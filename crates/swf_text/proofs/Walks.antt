@@ -5,12 +5,13 @@ use Rattle.std.specs.List.{list_all, list_any, prefix_len}
 use Rattle.std.specs.Char.{is_ascii_digit}
 use Rattle.std.proofs.lemmas.Grind.{common_steps}
 use Rattle.std.proofs.lemmas.Bool.{cases_Bool, lt-ltb}
-use Rattle.std.proofs.lemmas.List.{append-nil, take-append-drop, length-take-le, drop_more, nil_from_length}
+use Rattle.std.proofs.Math.ListN.{drop_of_length-le}
+use Rattle.std.proofs.lemmas.List.{append-nil, take-append-drop, take_all, length-take-le, drop_more, nil_from_length}
 use Rattle.std.proofs.lemmas.List.Folds.{list_any-append}
 use Rattle.swf_text.specs.Number.{digits_value, are_digits, begins_negative, unsigned_text, sign_text, signed, greatest, millionths_of}
 use Rattle.swf_text.specs.Line.{is_blank, is_high, fields, from_first, values_from, value_then, job_line, job_of_values}
 use Rattle.swf_text.specs.Packed.{value_of}
-use Rattle.swf_text.specs.Scan.{NextWord, Word, ends}
+use Rattle.swf_text.specs.Scan.{EndedWord, NextWord, Word, ends}
 use Rattle.swf_text.proofs.Codes.{low_code}
 use Rattle.swf_text.proofs.Numbers.{and_first, sign_again, number_of-Spells}
 use Rattle.swf_text.proofs.Words.{onto, onto-value_then, fields-from_first, values_end, fields-end}
@@ -92,24 +93,37 @@ front_space rest =
     let count : prefix_len is_blank (32 ∷ rest) ≡ suc (prefix_len is_blank rest) = omega arith in
     ap (λ (k : ℕ). drop k (32 ∷ rest)) count
 
--- the word `-1` and a space
-pub next_unknown : (bytes rest : List ℕ) → 3 ≤ length bytes → get_or bytes 0 0 ≡ 45 → get_or bytes 1 0 ≡ 49 → get_or bytes 2 0 ≡ 32 → rest ≡ drop 3 bytes → NextWord bytes (signed true 1000000) rest
-next_unknown [] rest long sign digit space is = absurd (omega arith)
-next_unknown (a ∷ []) rest long sign digit space is = absurd (omega arith)
-next_unknown (a ∷ b ∷ []) rest long sign digit space is = absurd (omega arith)
-next_unknown (a ∷ b ∷ c ∷ bs) rest long sign digit space is =
-    let whole : 45 ∷ 49 ∷ 32 ∷ rest ≡ a ∷ b ∷ c ∷ bs = ap (λ (l : List ℕ). 45 ∷ 49 ∷ 32 ∷ l) is ∙ ap (λ (x : ℕ). x ∷ 49 ∷ 32 ∷ bs) (sym sign) ∙ ap (λ (x : ℕ). a ∷ x ∷ 32 ∷ bs) (sym digit) ∙ ap (λ (x : ℕ). a ∷ b ∷ x ∷ bs) (sym space) in
-    subst (λ (l : List ℕ). NextWord l (signed true 1000000) rest) whole (record { after = 32 ∷ rest; word = word_unknown (45 ∷ 49 ∷ 32 ∷ rest) (49 ∷ 32 ∷ rest) (32 ∷ rest) refl refl refl; goes_on = front_space rest })
-
--- a word of digits that has a code, and a space
-pub next_digits : (bytes rest : List ℕ) (count value : ℕ) → 10 ≤ length bytes → count < 10 → 0 < count → list_all is_ascii_digit (take count bytes) ≡ true → value ≡ digits_value (take count bytes) → value < 1000000000 → get_or bytes count 0 ≡ 32 → rest ≡ drop (count + 1) bytes → NextWord bytes (value_of (value + 1)) rest
-next_digits bytes rest count value long within some digits value_is small space is =
-    let behind : drop count bytes ≡ 32 ∷ rest = drop_more bytes count 0 (omega arith) ∙ ap (λ (b : ℕ). b ∷ drop (count + 1) bytes) space ∙ ap (λ (l : List ℕ). 32 ∷ l) (sym is) in
+-- the word `-1` and the byte that ends it
+pub ended_unknown : (bytes rest : List ℕ) (end : ℕ) → 3 ≤ length bytes → get_or bytes 0 0 ≡ 45 → get_or bytes 1 0 ≡ 49 → get_or bytes 2 0 ≡ end → rest ≡ drop 3 bytes → EndedWord bytes (signed true 1000000) end rest
+ended_unknown [] rest end long sign digit stop is = absurd (omega arith)
+ended_unknown (a ∷ []) rest end long sign digit stop is = absurd (omega arith)
+ended_unknown (a ∷ b ∷ []) rest end long sign digit stop is = absurd (omega arith)
+ended_unknown (a ∷ b ∷ c ∷ bs) rest end long sign digit stop is =
+    let whole : 45 ∷ 49 ∷ end ∷ rest ≡ a ∷ b ∷ c ∷ bs = ap (λ (l : List ℕ). 45 ∷ 49 ∷ end ∷ l) is ∙ ap (λ (x : ℕ). x ∷ 49 ∷ end ∷ bs) (sym sign) ∙ ap (λ (x : ℕ). a ∷ x ∷ end ∷ bs) (sym digit) ∙ ap (λ (x : ℕ). a ∷ b ∷ x ∷ bs) (sym stop) in
+    let alone = word_unknown (45 ∷ 49 ∷ []) (49 ∷ []) [] refl refl refl in
     record {
-      after = 32 ∷ rest;
-      word = word_digits bytes (32 ∷ rest) count value (value_of (value + 1)) (omega arith) digits value_is some (omega arith) (sym behind) refl (sym (low_code (value + 1) (1000000 * value) (omega arith) (omega arith) (omega arith)));
-      goes_on = front_space rest;
+      word = alone.word;
+      is = sym whole ∙ ap (λ (w : List ℕ). w ++ end ∷ rest) (alone.is ∙ append-nil alone.word);
+      spells = alone.spells;
     }
+
+-- a word of digits that has a code, and the byte that ends it
+pub ended_digits : (bytes rest : List ℕ) (end count value : ℕ) → 10 ≤ length bytes → count < 10 → 0 < count → list_all is_ascii_digit (take count bytes) ≡ true → value ≡ digits_value (take count bytes) → value < 1000000000 → get_or bytes count 0 ≡ end → rest ≡ drop (count + 1) bytes → EndedWord bytes (value_of (value + 1)) end rest
+ended_digits bytes rest end count value long within some digits value_is small stop is =
+    let behind : drop count bytes ≡ end ∷ rest = drop_more bytes count 0 (omega arith) ∙ ap (λ (b : ℕ). b ∷ drop (count + 1) bytes) stop ∙ ap (λ (l : List ℕ). end ∷ l) (sym is) in
+    let len : length (take count bytes) ≡ count = length-take-le count bytes (omega arith) in
+    let whole : take count (take count bytes) ≡ take count bytes = take_all count (take count bytes) (omega (arith, len)) in
+    let alone = word_digits (take count bytes) [] count value (value_of (value + 1)) (omega (arith, len)) (ap (list_all is_ascii_digit) whole ∙ digits) (value_is ∙ ap digits_value (sym whole)) some (omega arith)
+    (sym (drop_of_length-le (take count bytes) (omega (arith, len)))) refl (sym (low_code (value + 1) (1000000 * value) (omega arith) (omega arith) (omega arith))) in
+    record {
+      word = alone.word;
+      is = sym (take-append-drop count bytes) ∙ ap (λ (l : List ℕ). take count bytes ++ l) behind ∙ ap (λ (w : List ℕ). w ++ end ∷ rest) (alone.is ∙ append-nil alone.word);
+      spells = alone.spells;
+    }
+
+-- a word before a space
+pub next_ended : (bytes rest : List ℕ) (v : ℤ) → EndedWord bytes v 32 rest → NextWord bytes v rest
+next_ended bytes rest v h = record { after = 32 ∷ rest; word = record { word = h.word; is = h.is; spells = h.spells; end = refl }; goes_on = front_space rest }
 
 plain_front : (w rest : List ℕ) → list_all is_plain w ≡ true → 0 < length w → from_first (w ++ rest) ≡ w ++ rest
 plain_front [] rest all some = absurd (omega arith)

@@ -22,6 +22,12 @@ pub record NextWord (bytes : List ℕ) (v : ℤ) (rest : List ℕ) : Type 0 wher
   pub word : Word bytes v after
   pub goes_on : from_first after ≡ from_first rest
 
+-- the bytes begin with a word that spells this value; this byte ends it, and then the rest follows
+pub record EndedWord (bytes : List ℕ) (v : ℤ) (end : ℕ) (rest : List ℕ) : Type 0 where
+  pub word : List ℕ
+  pub is : bytes ≡ word ++ end ∷ rest
+  pub spells : Spells word v
+
 -- ---- the words one after another
 
 -- the first word of the bytes

@@ -143,7 +143,7 @@ impl<A: Allocator + Copy> Builder<A> {
     }
 
     // Adds a job line in codes.
-    fn add_packed(&mut self, alloc: A, job: &PackedLine) -> Result<(), FaultKind>
+    pub(crate) fn add_packed(&mut self, alloc: A, job: &PackedLine) -> Result<(), FaultKind>
         ensures { Adds self.new result (with_job self.old (unpacked job.now)) }
     {
         if job.is_partial() {

@@ -3,10 +3,12 @@ ghost use Rattle.std.specs.List.{AllByRecursion, before_first, after_first};
 ghost use Rattle.swf_text.specs.Comment.{IsComment};
 ghost use Rattle.swf_text.specs.Grammar.{IsText, IsOkOf, IsFaultOf, HasReached};
 ghost use Rattle.swf_text.specs.Text.{LogText, lines, is_feed};
-ghost use Rattle.swf_text.specs.Reading.{text_of, Gives};
+ghost use Rattle.swf_text.specs.Reading.{text_of, with_line, Adds, Gives};
 
 use crate::builder::Builder;
-use crate::fault::SwfFault;
+use crate::fault::{FaultKind, SwfFault};
+use crate::front::packed_front;
+use crate::packed::PackedLine;
 use crate::text::SwfText;
 use memchr::memchr;
 use std::alloc::Allocator;
@@ -23,20 +25,41 @@ pub fn split_line(bytes: &[u8]) -> (&[u8], &[u8])
     }
 }
 
+// Adds what the first line of some bytes holds: what follows the line. The codes are those of a job line, or
+// say nothing.
+#[tactic(auto, unfolding(crate::specs::Reading::with_line))]
+fn add_first<'a, A: Allocator + Copy>(
+    alloc: A,
+    text: &mut Builder<A>,
+    job: &mut PackedLine,
+    bytes: &'a [u8],
+) -> Result<&'a [u8], FaultKind>
+    ensures adds { Adds text.new result (with_line text.old (before_first is_feed bytes.now)) }
+    ensures rest { IfOk result (λ rest. rest.now ≡ after_first is_feed bytes.now) }
+{
+    if let Some(rest) = packed_front(job, bytes) {
+        text.add_packed(alloc, job)?;
+        return Ok(rest);
+    }
+    let (line, rest) = split_line(bytes);
+    text.add_line(alloc, line)?;
+    Ok(rest)
+}
+
 // Reads line after line.
 fn read_all<A: Allocator + Copy>(alloc: A, bytes: &[u8]) -> Result<SwfText<A>, SwfFault>
     ensures exact { Gives result (text_of bytes.now) }
     ensures reached { IfErr result (λ fault. HasReached (lines bytes.now) fault.line) }
 {
     let mut text = Builder::new(alloc);
+    let mut job = PackedLine::UNKNOWN;
     let mut rest = bytes;
     let mut line = 1u64;
     while !rest.is_empty() {
-        let (front, after) = split_line(rest);
-        if let Err(kind) = text.add_line(alloc, front) {
-            return Err(SwfFault { line, kind });
+        match add_first(alloc, &mut text, &mut job, rest) {
+            Ok(after) => rest = after,
+            Err(kind) => return Err(SwfFault { line, kind }),
         }
-        rest = after;
         line += 1;
     }
     Ok(text.finish())

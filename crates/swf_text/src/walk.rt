@@ -8,6 +8,7 @@ ghost use Rattle.swf_text.specs.Header.{digit_len};
 ghost use Rattle.swf_text.specs.Line.{from_first, job_line, job_of_values};
 ghost use Rattle.std.specs.Prelude.{Ok};
 
+use crate::front::ended_word;
 use crate::number::{LIMIT, millionths, split_sign};
 use crate::packed::{PackedLine, UNKNOWN, code_of};
 use crate::scan::from_first;
@@ -113,50 +114,6 @@ fn word_at(bytes: &[u8]) -> Option<(Value, &[u8])>
     Some((signed_value(is_negative, magnitude), rest))
 }
 
-// The code of the number of at most nine digits that the bytes begin with, and what follows the space
-// behind it; None says nothing.
-fn short_number(bytes: &[u8]) -> Option<(u32, &[u8])>
-    requires { 10 ≤ length bytes.now }
-    ensures { IfSome result (λ r. NextWord bytes.now (value_of r.0) r.1.now) }
-{
-    let mut value = 0u64;
-    for place in 0..10usize {
-        let byte = bytes[place];
-        if !byte.is_ascii_digit() {
-            if place == 0 || byte != b' ' {
-                return None;
-            }
-            return Some(((value + 1) as u32, &bytes[place + 1..]));
-        }
-        value = value * 10 + u64::from(byte.saturating_sub(b'0'));
-    }
-    None
-}
-
-// What follows the word `-1` and a space, where the bytes begin with them.
-fn after_unknown_space(bytes: &[u8]) -> Option<&[u8]>
-    ensures { IfSome result (λ rest. NextWord bytes.now (value_of 0) rest.now) }
-{
-    if bytes.len() < 3 || bytes[0] != b'-' || bytes[1] != b'1' || bytes[2] != b' ' {
-        return None;
-    }
-    Some(&bytes[3..])
-}
-
-// The code of `-1` or of a short number that the bytes begin with, and what follows the space behind
-// it; None says nothing.
-fn short_word(bytes: &[u8]) -> Option<(u32, &[u8])>
-    ensures { IfSome result (λ r. NextWord bytes.now (value_of r.0) r.1.now) }
-{
-    if let Some(rest) = after_unknown_space(bytes) {
-        return Some((UNKNOWN, rest));
-    }
-    if bytes.len() < 10 {
-        return None;
-    }
-    short_number(bytes)
-}
-
 // The code of any word that has one, behind blanks, and what follows it; None says nothing.
 fn long_word(bytes: &[u8]) -> Option<(u32, &[u8])>
     ensures { IfSome result (λ r. NextWord (from_first bytes.now) (value_of r.0) r.1.now) }
@@ -176,7 +133,7 @@ fn next_code(bytes: &[u8]) -> Option<(u32, &[u8])>
 {
     let mut rest = bytes;
     loop {
-        if let Some(word) = short_word(rest) {
+        if let Some(word) = ended_word(b' ', rest) {
             return Some(word);
         }
         let front = from_first(rest);
