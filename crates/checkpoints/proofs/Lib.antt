@@ -18,4 +18,5 @@ mod Stood
 mod Walks
 mod Coming
 mod Alike
+mod Noted
 pub mod Lemmas

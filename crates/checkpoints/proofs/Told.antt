@@ -31,10 +31,6 @@ pub told-cut : (plan : Plan) (ss seen : List SegmentView) (known : KnownStarts) 
     → (n : ℕ) → known_start known n ≡ start_of (sim plan) n
 told-cut plan ss seen known p cut same gives n = gives n ∙ ap (λ (xs : List SegmentView). start_of (all_starts xs) n) same ∙ ap (λ xs. start_of xs n) (cut-told plan ss p cut)
 
--- where those of a list are known that is the simulation's
-pub told-list : (plan : Plan) (xs : List Start) (known : KnownStarts) → xs ≡ sim plan → ((n : ℕ) → known_start known n ≡ start_of xs n) → (n : ℕ) → known_start known n ≡ start_of (sim plan) n
-told-list plan xs known is gives n = gives n ∙ ap (λ (ys : List Start). start_of ys n) is
-
 module _ (plan : Plan) (known : KnownStarts) (p : IsPlan plan) (told : (n : ℕ) → known_start known n ≡ start_of (sim plan) n) where
   pub told-early : AreEarly known
   told-early = early-same known (sim plan) told (λ n. found-early (sim plan) n (all-start-early plan (sim plan) p refl))

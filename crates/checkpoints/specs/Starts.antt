@@ -1,5 +1,5 @@
 -- The starts of a schedule, looked up by number.
-use Rattle.std.specs.Prelude.{ℕ, ◌+◌, ◌/◌, ◌^◌, min, ◌<◌, ◌-◌, IfSome, ◌&&◌, nat_le, nat_lt, List, length, slice_index_or, Option, Some, None, if◌then◌else◌}
+use Rattle.std.specs.Prelude.{◌≡◌, ℕ, ◌<◌, ◌-◌, IfSome, ◌&&◌, nat_le, nat_lt, List, length, slice_index_or, Option, Some, None, if◌then◌else◌}
 use Rattle.std.specs.Option.{option_map}
 use Rattle.scenarios.specs.Limits.{seconds_end}
 use Rattle.scenarios.specs.Job.{EffectiveJob}
@@ -38,7 +38,6 @@ row_by known job = option_map (row_at job) (known_start known job.number)
 abbrev pub AreEarly : KnownStarts → Type 0
 AreEarly known = (n : ℕ) → IfSome (known_start known n) (λ at. at < seconds_end)
 
--- how many places so many starts have whose numbers lie between these two: one for each of these numbers, where they are
--- about four times the starts or fewer, and otherwise none
-abbrev pub place_count : ℕ → ℕ → ℕ → ℕ
-place_count least greatest count = if nat_lt ((greatest - least) / 4) count then min (greatest - least + 1) (2 ^ 64 - 1) else 0
+-- no number that may have one of so many places has a start among these
+abbrev pub AreApart : ℕ → ℕ → List Start → Type 0
+AreApart least most others = (n place : ℕ) → place_in least most n ≡ Some place → start_of others n ≡ None

@@ -10,6 +10,7 @@ mod groups;
 pub mod laws;
 mod levels;
 mod merged;
+mod noting;
 mod parts;
 mod piece;
 mod planned;

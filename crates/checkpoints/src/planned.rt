@@ -1,26 +1,85 @@
-ghost use Rattle.std.specs.Prelude.{◌≡◌, map, length, IfOk};
+ghost use Rattle.std.specs.Prelude.{◌≡◌, ℕ, ◌+◌, map, length, false, None, Some, IfOk, IfNone, IfSome};
 ghost use Rattle.scenarios.specs.PlanView.{plan_in};
-ghost use Rattle.easy_rule.specs.Simulation.{sim};
+ghost use Rattle.scenarios.specs.SoundPlan.{IsPlan};
+ghost use Rattle.easy_rule.specs.Simulation.{sim, start_of};
+ghost use Rattle.event_loop.specs.Events.{IsNextEvent};
+ghost use Rattle.event_loop.specs.Stepped.{StartIn};
 ghost use Rattle.checkpoints.specs.Schedule.{rows_of};
+ghost use Rattle.checkpoints.specs.Starts.{known_start};
 
+use crate::noting::{Noting, STEP};
 use crate::rows::Rows;
-use crate::starts::Starts;
-use easy_rule::Start;
+use crate::starts::{PLACES, Starts};
 use event_loop::{Engine, EngineFault};
-use scenarios::Plan;
+use scenarios::{Job, Plan};
 use std::alloc::Allocator;
 use swf_text::Memory;
 
-// All starts of a plan's simulation, in order of starting.
-fn starts_of<A: Allocator + Copy>(alloc: A, plan: &Plan<A>) -> Result<Vec<Start, A>, Memory>
-    ensures { IfOk result (λ starts. starts.items ≡ sim (plan_in plan.now)) }
+/// The jobs at the head of the log of which the least number has the first place.
+const HEAD: usize = 1_024;
+
+// When each job of a plan starts, and how many of them there are.
+#[derive(Drop)]
+struct Planned<A: Allocator + Copy> {
+    starts: Starts<A>,
+    count: usize,
+}
+
+// Works the next event second, where there is one: it leaves the jobs that start at it in the list.
+fn work_next<A: Allocator + Copy>(
+    engine: &mut Engine<A>,
+    started: &mut Vec<Job, A>,
+) -> Result<Option<u64>, Memory>
+    requires { engine.old.failed ≡ false }
+    ensures none { IfOk result (λ o. IfNone o (IsNextEvent engine.old.plan engine.old.position None × (engine.new ≡ engine.old))) }
+    ensures some { IfOk result (λ o. IfSome o (λ t. IsNextEvent engine.old.plan engine.old.position (Some t) × (engine.new ≡ record engine.old { position = t + 1; handled = engine.old.handled + 1 }))) }
+    ensures started { IfOk result (λ o. IfSome o (λ t. StartIn engine.old.plan t started.new.items)) }
+    ensures plan { IsPlan engine.old.plan }
 {
-    let mut engine = Engine::new(alloc, plan.table().clone()?, plan.scenario());
-    match engine.finish() {
-        Ok(starts) => Ok(starts),
+    match engine.step_into(started) {
+        Ok(second) => Ok(second),
         Err(EngineFault::Memory) => Err(Memory),
         Err(EngineFault::Failed) => unreachable!(),
     }
+}
+
+// The least number at the head of a plan's jobs. It decides only which starts have places.
+fn least_number<A: Allocator + Copy>(plan: &Plan<A>) -> u64 {
+    let mut jobs = plan.view().jobs();
+    let mut least = u64::MAX;
+    for _ in 0..HEAD {
+        let Some(job) = jobs.next() else {
+            return least;
+        };
+        least = least.min(job.number());
+    }
+    least
+}
+
+// No starts yet of a plan, with capacity for as many as its table has entries.
+fn none_of<A: Allocator + Copy>(alloc: A, plan: &Plan<A>) -> Result<Noting<A>, Memory>
+    ensures { IfOk result (λ noting. (n : ℕ) → known_start noting n ≡ None) }
+{
+    let len = plan.table().len();
+    let most = len.saturating_mul(PLACES);
+    Noting::new(alloc, least_number(plan), most, len.saturating_add(STEP))
+}
+
+// All starts of a plan's simulation.
+fn starts_of<A: Allocator + Copy>(alloc: A, plan: &Plan<A>) -> Result<Planned<A>, Memory>
+    ensures starts { IfOk result (λ planned. (n : ℕ) → known_start planned.starts n ≡ start_of (sim (plan_in plan.now)) n) }
+    ensures count { IfOk result (λ planned. planned.count ≡ length (sim (plan_in plan.now))) }
+{
+    let mut engine = Engine::new(alloc, plan.table().clone()?, plan.scenario());
+    let mut noting = none_of(alloc, plan)?;
+    let mut started = Vec::new(alloc);
+    let mut count = 0usize;
+    'events: while let Some(second) = work_next(&mut engine, &mut started)? {
+        noting.note_jobs(started.as_slice(), second)?;
+        count = count.saturating_add(started.len());
+    }
+    let starts = noting.finish()?;
+    Ok(Planned { starts, count })
 }
 
 /// Simulates a plan: the rows of its schedule, one for each job that is simulated, in the order of the
@@ -36,7 +95,6 @@ pub fn plan_rows<'a, A: Allocator + Copy>(
     ensures each { IfOk result (λ rows. map (λ r. r.number) rows ≡ map (λ j. j.number) (plan_in plan.now).jobs) }
     ensures count { IfOk result (λ rows. length rows ≡ length (plan_in plan.now).jobs) }
 {
-    let starts = starts_of(alloc, plan)?;
-    let known = Starts::of_list(alloc, starts.as_slice())?;
-    Ok(Rows::new(known, plan.view().jobs(), starts.len()))
+    let Planned { starts, count } = starts_of(alloc, plan)?;
+    Ok(Rows::new(starts, plan.view().jobs(), count))
 }

@@ -1,11 +1,11 @@
-ghost use Rattle.std.specs.Prelude.{◌≡◌, ◌==◌, if◌then◌else◌, ℕ, ◌∷◌, map, length, [], None, IfOk, OnOk};
+ghost use Rattle.std.specs.Prelude.{◌≡◌, ℕ, map, IfOk, OnOk};
 ghost use Rattle.std.specs.Arc.{arc_value};
-ghost use Rattle.std.specs.Option.{option_or};
 ghost use Rattle.std.specs.List.Sorted.{IsNonDecreasingBy};
 ghost use Rattle.easy_rule.specs.Simulation.{start_of};
 ghost use Rattle.checkpoints.specs.Cut.{all_starts};
-ghost use Rattle.checkpoints.specs.Starts.{known_start, place_count, place_in, start_in};
+ghost use Rattle.checkpoints.specs.Starts.{known_start, place_in, start_in};
 
+use crate::noting::Noting;
 use crate::segment::Segment;
 use easy_rule::Start;
 use std::alloc::{AllocError, Allocator};
@@ -14,7 +14,7 @@ use std::sync::Arc;
 use swf_text::Memory;
 
 /// How many places a start may cost, so that each number from the least to the greatest has one.
-const PLACES: u64 = 4;
+pub(crate) const PLACES: usize = 4;
 
 /// The starts of some segments, by number. Where the numbers lie dense, each has a place of its own;
 /// otherwise starts are sorted.
@@ -37,30 +37,14 @@ impl<A: Allocator + Copy> Model for Starts<A> {
 }
 
 impl<A: Allocator + Copy> Starts<A> {
-    // None yet, with capacity for those of these numbers.
-    fn none(alloc: A, numbers: &Numbers) -> Result<Starts<A>, Memory>
-        ensures { IfOk result (λ starts. (n : ℕ) → known_start starts n ≡ None) }
+    // These starts: of the numbers from the least on each at its place, and the others in any order.
+    pub(crate) fn new(
+        least: u64,
+        places: Vec<Option<u64>, A>,
+        mut others: Vec<Start, A>,
+    ) -> Result<Starts<A>, Memory>
+        ensures { IfOk result (λ starts. (n : ℕ) → known_start starts n ≡ start_in least places.items others.items n) }
     {
-        let mut places = Vec::new(alloc);
-        places.resize(numbers.places(), None)?;
-        let others = Vec::with_capacity(alloc, numbers.without_places())?;
-        Ok(Starts {
-            least: numbers.least,
-            places,
-            others,
-        })
-    }
-
-    // These starts.
-    pub(crate) fn of_list(alloc: A, starts: &[Start]) -> Result<Starts<A>, Memory>
-        ensures { IfOk result (λ known. (n : ℕ) → known_start known n ≡ start_of starts.now n) }
-    {
-        let Starts {
-            least,
-            mut places,
-            mut others,
-        } = Starts::none(alloc, &Numbers::among(starts))?;
-        note_all(least, &mut places, &mut others, starts)?;
         sort_by_number(&mut others)?;
         Ok(Starts {
             least,
@@ -73,20 +57,13 @@ impl<A: Allocator + Copy> Starts<A> {
     pub(crate) fn of(alloc: A, segments: &[Arc<Segment<A>, A>]) -> Result<Starts<A>, Memory>
         ensures { IfOk result (λ starts. (n : ℕ) → known_start starts n ≡ start_of (all_starts (map arc_value segments.now)) n) }
     {
-        let Starts {
-            least,
-            mut places,
-            mut others,
-        } = Starts::none(alloc, &Numbers::of(segments))?;
+        let numbers = Numbers::of(segments);
+        let places = numbers.places();
+        let mut noting = Noting::new(alloc, numbers.least, places, places)?;
         for segment in segments {
-            note_all(least, &mut places, &mut others, segment.starts())?;
+            noting.note_all(segment.starts())?;
         }
-        sort_by_number(&mut others)?;
-        Ok(Starts {
-            least,
-            places,
-            others,
-        })
+        noting.finish()
     }
 
     // The second at which a number starts.
@@ -119,13 +96,6 @@ impl Numbers {
         }
     }
 
-    // Those of these starts.
-    fn among(starts: &[Start]) -> Numbers {
-        let mut numbers = Numbers::none();
-        numbers.add(starts);
-        numbers
-    }
-
     // Those of the starts of these segments.
     fn of<A: Allocator + Copy>(segments: &[Arc<Segment<A>, A>]) -> Numbers {
         let mut numbers = Numbers::none();
@@ -145,61 +115,21 @@ impl Numbers {
     }
 
     // How many places the numbers have: one for each from the least to the greatest, or none.
-    fn places(&self) -> usize
-        ensures { result ≡ place_count self.now.least self.now.greatest self.now.count }
-    {
+    fn places(&self) -> usize {
         let span = self.greatest.saturating_sub(self.least);
-        if span / PLACES < self.count as u64 {
+        if span / (PLACES as u64) < self.count as u64 {
             return (span as usize).saturating_add(1);
         }
         0
     }
-
-    // How many starts have no place.
-    fn without_places(&self) -> usize
-        ensures { result ≡ (if place_count self.now.least self.now.greatest self.now.count == 0 then self.now.count else 0) }
-    {
-        if self.places() == 0 { self.count } else { 0 }
-    }
 }
 
 // The place of a number among so many, of which the first is that of the least.
-fn place_of(least: u64, len: usize, number: u64) -> Option<usize>
+pub(crate) fn place_of(least: u64, len: usize, number: u64) -> Option<usize>
     ensures { result ≡ place_in least len number }
 {
     let place = number.checked_sub(least)? as usize;
     if place < len { Some(place) } else { None }
-}
-
-// Notes a start, unless its number has one.
-fn note<A: Allocator + Copy>(
-    least: u64,
-    places: &mut Vec<Option<u64>, A>,
-    others: &mut Vec<Start, A>,
-    start: Start,
-) -> Result<(), Memory>
-    ensures { OnOk result ((n : ℕ) → start_in least places.new.items others.new.items n ≡ option_or (start_in least places.old.items others.old.items n) (start_of (start ∷ []) n)) }
-{
-    match place_of(least, places.len(), start.number) {
-        Some(place) => places[place] = places[place].or(Some(start.at)),
-        None => others.push(start)?,
-    }
-    Ok(())
-}
-
-// Notes starts, each unless its number has one.
-fn note_all<A: Allocator + Copy>(
-    least: u64,
-    places: &mut Vec<Option<u64>, A>,
-    others: &mut Vec<Start, A>,
-    starts: &[Start],
-) -> Result<(), Memory>
-    ensures { OnOk result ((n : ℕ) → start_in least places.new.items others.new.items n ≡ option_or (start_in least places.old.items others.old.items n) (start_of starts.now n)) }
-{
-    for start in starts {
-        note(least, places, others, *start)?;
-    }
-    Ok(())
 }
 
 // Puts starts in order of their numbers; those of one number stay as they stand.
