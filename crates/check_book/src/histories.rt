@@ -1,5 +1,5 @@
 // Histories of a book, each call of which is told what was worked by hand; where a growth is refused it
-// is told want of memory, has changed nothing, and is told the same when it is made once more.
+// is refused for memory, has changed nothing, and is told the same when it is made once more.
 use crate::player::Player;
 use crate::rows::{EACH, HISTORIES, LONG, RUNS, Said, Told};
 use book_machine::{Note, Reply};

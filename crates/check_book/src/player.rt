@@ -227,7 +227,7 @@ impl<A: Allocator + Copy> Player<A> {
         self.book.journal().len() == notes
     }
 
-    /// Says all this in turn, each once more where it is told want of memory.
+    /// Says all this in turn, each once more where memory runs out.
     pub(crate) fn plays(&mut self, rows: &[(Said, Told)]) -> Outcome {
         let mut outcome = Outcome::Right;
         for (said, want) in rows {

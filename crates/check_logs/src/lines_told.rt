@@ -8,7 +8,7 @@ use swf_text::{FaultKind, SwfFault, SwfText, read_swf};
 pub(crate) enum Told {
     /// It was read, with so many entries.
     Read(usize),
-    /// Want of memory at this line.
+    /// Out of memory at this line.
     MemoryAt(u64),
     /// Another fault.
     Faulty,

@@ -60,7 +60,7 @@ pub(crate) fn four_jobs<A: Allocator + Copy>(
     Some([jobs.next()?, jobs.next()?, jobs.next()?, jobs.next()?])
 }
 
-/// What came of a call that answers whether it went well, or whether it was told want of memory.
+/// What came of a call that answers whether it went well, or whether it was refused for memory.
 pub(crate) fn told(answer: Result<bool, bool>) -> Outcome {
     match answer {
         Ok(is_right) => Outcome::right_if(is_right),

@@ -66,7 +66,7 @@ impl<T: Drop> From<AllocFailed<T>> for RunFault {
     }
 }
 
-// An engine fails by want of memory alone.
+// An engine fails only where it runs out of memory.
 impl From<EngineFault> for RunFault {
     ghost from_gives = { λ _ fault. fault ≡ faults.Memory };
 

@@ -2,7 +2,7 @@ ghost use Rattle.std.specs.Prelude.{◌≡◌, ℕ, IfOk};
 
 use swf_text::Memory;
 
-/// What can be copied, where memory may be wanting.
+/// What can be copied, unless memory runs out.
 pub trait Copied: Drop {
     /// The same value once more.
     fn copied(&self) -> Result<Self, Memory>

@@ -50,7 +50,7 @@ abbrev pub base_on : Option ℕ → Result Listing OpenTextFault
 base_on None = Err NoMachine
 base_on (Some procs) = of_setting (setting_of procs 1000)
 
--- why there is no scenario `base`, or want of memory where there could be
+-- why there is no scenario `base`, or out of memory where there could be
 abbrev pub IsBaseFault : Option ℕ → OpenTextFault → Type 0
 IsBaseFault procs Memory = IsOk (base_on procs)
 IsBaseFault procs fault = base_on procs ≡ Err fault
@@ -59,7 +59,7 @@ IsBaseFault procs fault = base_on procs ≡ Err fault
 abbrev pub opened : Option ℕ → List (List ℕ) → Result Listing OpenTextFault
 opened procs comments = if length (told comments).scenarios == 0 then base_on (machine_of procs comments) else Ok (told comments)
 
--- why a log isn't opened: what `opened` tells, or want of memory where it could be
+-- why a log isn't opened: what `opened` tells, or out of memory where it could be
 abbrev pub IsOpenFault : Option ℕ → List (List ℕ) → OpenTextFault → Type 0
 IsOpenFault procs comments Memory = IsOk (opened procs comments)
 IsOpenFault procs comments fault = opened procs comments ≡ Err fault

@@ -25,7 +25,7 @@ unfoldable pub events_before : Plan → ℕ → ℕ
 events_before plan zero = 0
 events_before plan (suc t) = events_before plan t + (if has_event plan t then 1 else 0)
 
--- What callers see of an engine: what it simulates, the second before which it stands, the event seconds that it worked, and whether it met want of memory.
+-- What callers see of an engine: what it simulates, the second before which it stands, the event seconds that it worked, and whether it ran out of memory.
 pub record Progress : Type 0 where
   pub plan : Plan
   pub position : ℕ

@@ -9,7 +9,7 @@ use thiserror::Error;
 /// Why an engine does not go on.
 #[derive(Clone, Copy, Debug, PartialEq, Eq, Error)]
 pub enum EngineFault {
-    /// It met want of memory before.
+    /// It ran out of memory before.
     Failed,
     /// A growth was refused.
     Memory,

@@ -255,8 +255,8 @@ impl<A: Allocator + Copy> JobTable<A> {
         Ok(count)
     }
 
-    /// Applies an edit, or refuses it with its first fault in the order of `EditFault`; then, want
-    /// of memory among the faults, the table is as it was. A change to the value that is there is
+    /// Applies an edit, or refuses it with its first fault in the order of `EditFault`; then, with
+    /// Memory among the faults, the table is as it was. A change to the value that is there is
     /// accepted. A change of field 2 moves the entry to its place.
     pub fn apply(&mut self, edit: &Edit<A>) -> Result<(), EditFault>
         ensures accepted { OnOk result (fault_of (edit_of edit.now) self.old ≡ None) }

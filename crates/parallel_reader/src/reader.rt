@@ -53,7 +53,7 @@ fn read_batches<R: Threads + Sync, A: Allocator + Copy>(
 }
 
 /// Reads a log as `read_swf` does, with a thread for each processor: the same log, or the same
-/// fault, but that memory may be wanting in other places.
+/// fault, except that memory may run out in other places.
 ///
 /// A fault of kind `Memory` comes where a growth was refused, and has the line that was being
 /// added then, or line 1 where the growth was to hold lines that were cut, or what they are; all

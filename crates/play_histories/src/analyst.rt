@@ -31,13 +31,13 @@ pub(crate) enum First {
 }
 
 impl<A: Allocator + Copy> Growing<'_, A> {
-    // Notes a want of memory, by which nothing may have changed.
+    // Notes that memory ran out, by which nothing may have changed.
     fn notes_want(&self, is_unchanged: bool) -> Result<(), Wrong> {
         self.wants.fetch_add(1, Ordering::SeqCst);
         right_if(is_unchanged, Wrong::Changed)
     }
 
-    // What a call answers, which is made once more where memory is wanting.
+    // What a call answers, which is made once more where memory runs out.
     fn answer<R: Wait, J: Naming>(
         &self,
         handle: &DeskHandle<'_, R, A, J>,
@@ -74,7 +74,7 @@ impl<A: Allocator + Copy> Growing<'_, A> {
         Ok(reply)
     }
 
-    // Reads where the book stands once more, after memory was wanting.
+    // Reads where the book stands once more, after memory ran out.
     fn reads_again<R: Wait, J: Naming>(
         &self,
         handle: &DeskHandle<'_, R, A, J>,
@@ -85,7 +85,7 @@ impl<A: Allocator + Copy> Growing<'_, A> {
         right_if(handle.is_read(session), Wrong::Reply)
     }
 
-    // Reads where the book stands, once more where memory is wanting.
+    // Reads where the book stands, once more where memory runs out.
     fn reads<R: Wait, J: Naming>(
         &self,
         handle: &DeskHandle<'_, R, A, J>,

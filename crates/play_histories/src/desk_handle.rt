@@ -68,7 +68,7 @@ impl<R: Wait, A: Allocator + Copy, J: Naming> DeskHandle<'_, R, A, J> {
         }
     }
 
-    /// Whether the session reads that the book stands as it looks; None where memory is wanting.
+    /// Whether the session reads that the book stands as it looks; None where memory runs out.
     pub(crate) fn reads(&self, session: &Session<A, J>) -> Option<bool> {
         match session.current(self.rt, self.desk) {
             Ok(current) => Some(is_current(&current, self.looks(session))),

@@ -90,7 +90,7 @@ impl<R: Wait, A: Allocator + Copy, J: Naming> Gate for Stopping<'_, R, A, J> {
     fn before_finish(&self, _ticket: u64) {}
 }
 
-/// What came of a history: how often want of memory was told, and whether it was told by what came
+/// What came of a history: how often memory ran out, and whether it did at what came
 /// first.
 #[derive(Clone, Copy)]
 pub(crate) struct Wants {
@@ -107,7 +107,7 @@ fn last_reply<A: Allocator + Copy>(worker: &Worker<A>) -> Option<Reply> {
 }
 
 // Has the worker make one run, for which it stops the desk, and a session look then; whether the worker
-// ended for want of memory.
+// ended where memory ran out.
 fn works_once<R: Wait, A: Allocator + Copy, J: Naming>(
     handle: &DeskHandle<'_, R, A, J>,
     session: &mut Session<A, J>,
@@ -155,7 +155,7 @@ fn plays_with<R: Threads + Wait + Sync, A: Allocator + Copy + Send + Sync, J: Na
 }
 
 // Has the session make all calls while the worker runs; whether the worker ended before the desk was
-// stopped, as for want of memory. Runs are missing only then.
+// stopped, as where memory runs out. Runs are missing only then.
 fn plays_beside<
     R: Threads + Wait + Sync,
     A: Allocator + Copy + Send + Sync,
@@ -188,7 +188,7 @@ fn wants_of<A: Allocator + Copy>(
     }
 }
 
-/// Plays a history, and tells how often want of memory was told but by a given-up ticket.
+/// Plays a history, and returns how often memory ran out, except at a given-up ticket.
 pub(crate) fn played<
     R: Threads + Wait + Sync,
     A: Allocator + Copy + Send + Sync,

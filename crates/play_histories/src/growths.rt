@@ -113,7 +113,7 @@ enum Met {
     Nothing,
     /// It was refused before the history began.
     Before,
-    /// Want of memory was told once, by what came first or later.
+    /// Memory ran out once, at what came first or later.
     Once { by_first: bool },
 }
 
@@ -141,7 +141,7 @@ fn met_at<R: Threads + Wait + Sync>(
 /// More growths than are made.
 const MANY: u64 = 100_000;
 
-// Refuses each growth in turn; at one of them what comes first is told want of memory.
+// Refuses each growth in turn; at one of them what comes first runs out of memory.
 fn is_right_after<R: Threads + Wait + Sync>(
     rt: &R,
     alloc: Global,

@@ -57,7 +57,7 @@ impl Wrong {
             Wrong::Ended => "a worker ended otherwise than it should",
             Wrong::Changed => "something changed by a call without memory",
             Wrong::Wants => "a refused growth was not told once",
-            Wrong::Untold => "a call was never told want of memory",
+            Wrong::Untold => "a call never ran out of memory",
             Wrong::Endless => "there is no end of growths",
             Wrong::Close => "the desk did not close",
         }

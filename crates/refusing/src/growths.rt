@@ -25,7 +25,7 @@ impl Outcome {
         }
     }
 
-    /// Right where a call that may be told want of memory alone went well.
+    /// Right where a call that may be refused for memory alone went well.
     pub fn right_or_memory(went_well: bool) -> Outcome {
         if went_well {
             Outcome::Right
@@ -34,7 +34,7 @@ impl Outcome {
         }
     }
 
-    /// Want of memory where this holds: all is as it was.
+    /// Out of memory where this holds: all is as it was.
     pub fn memory_if(holds: bool) -> Outcome {
         if holds {
             Outcome::Memory

@@ -26,7 +26,7 @@ first-refusal : (log : List LogEntry) (front rest : List LogEdit) (e : LogEdit) 
 first-refusal log [] rest e fault a h = inl h
 first-refusal log (x ∷ xs) rest e fault (y, z, a) h = inr (z, first-refusal (applied x log) xs rest e fault a h)
 
--- want of memory, or that fault
+-- out of memory, or that fault
 refusal-is : (fault : EditFault) (e : LogEdit) (log : List LogEntry) → IsRefusal fault e log → (fault ≡ faults.Memory) ⊎ (fault_of e log ≡ Some fault)
 refusal-is faults.Memory e log h = inl refl
 refusal-is faults.DuplicateJob e log h = inr h

@@ -72,7 +72,7 @@ fn add_all<A: Allocator + Copy>(
 
 /// Puts a log together from the bounds of its lines, as `line_bounds` gives them, and what
 /// `read_line` tells of each: the same answer as `read_swf` gives of the bytes, but that memory
-/// may be wanting in other places. So lines may be read in any order, or side by side.
+/// may run out in other places. So lines may be read in any order, or side by side.
 ///
 /// A fault of kind `Memory` comes where a growth was refused, and has the line that was being
 /// added then; all lines before it are without faults.

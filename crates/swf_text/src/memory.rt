@@ -4,7 +4,7 @@ use std::alloc::{AllocError, AllocFailed};
 use std::fmt;
 use thiserror::Error;
 
-/// Want of memory: a growth was refused by the allocator.
+/// Out of memory: a growth was refused by the allocator.
 #[derive(Clone, Copy, Debug, PartialEq, Eq, Error)]
 pub struct Memory;
 
