@@ -108,7 +108,7 @@ ended_unknown (a ∷ b ∷ c ∷ bs) rest end long sign digit stop is =
     }
 
 -- a word of digits that has a code, and the byte that ends it
-pub ended_digits : (bytes rest : List ℕ) (end count value : ℕ) → 10 ≤ length bytes → count < 10 → 0 < count → list_all is_ascii_digit (take count bytes) ≡ true → value ≡ digits_value (take count bytes) → value < 1000000000 → get_or bytes count 0 ≡ end → rest ≡ drop (count + 1) bytes → EndedWord bytes (value_of (value + 1)) end rest
+pub ended_digits : (bytes rest : List ℕ) (end count value : ℕ) → 11 ≤ length bytes → count < 11 → 0 < count → list_all is_ascii_digit (take count bytes) ≡ true → value ≡ digits_value (take count bytes) → value < 3999999999 → get_or bytes count 0 ≡ end → rest ≡ drop (count + 1) bytes → EndedWord bytes (value_of (value + 1)) end rest
 ended_digits bytes rest end count value long within some digits value_is small stop is =
     let behind : drop count bytes ≡ end ∷ rest = drop_more bytes count 0 (omega arith) ∙ ap (λ (b : ℕ). b ∷ drop (count + 1) bytes) stop ∙ ap (λ (l : List ℕ). end ∷ l) (sym is) in
     let len : length (take count bytes) ≡ count = length-take-le count bytes (omega arith) in

@@ -7,20 +7,20 @@ ghost use Rattle.swf_text.specs.Scan.{EndedWord};
 ghost use Rattle.swf_text.specs.Text.{is_feed};
 
 use crate::limits::LINE_LIMIT;
-use crate::packed::{PackedLine, UNKNOWN};
+use crate::packed::{HUNDREDTHS, PackedLine, UNKNOWN};
 
-// The code of the number of at most nine digits that the bytes begin with, and what follows the byte that
+// The code of the number of at most ten digits that the bytes begin with, and what follows the byte that
 // ends it; None says nothing.
 #[inline(always)]
 fn short_number(end: u8, bytes: &[u8]) -> Option<(u32, &[u8])>
-    requires { 10 ≤ length bytes.now }
+    requires { 11 ≤ length bytes.now }
     ensures { IfSome result (λ r. EndedWord bytes.now (value_of r.0) end r.1.now) }
 {
     let mut value = 0u64;
-    for place in 0..10usize {
+    for place in 0..11usize {
         let byte = bytes[place];
         if !byte.is_ascii_digit() {
-            if place == 0 || byte != end {
+            if place == 0 || byte != end || value + 1 >= HUNDREDTHS {
                 return None;
             }
             return Some(((value + 1) as u32, &bytes[place + 1..]));
@@ -50,7 +50,7 @@ pub(crate) fn ended_word(end: u8, bytes: &[u8]) -> Option<(u32, &[u8])>
     if let Some(rest) = after_unknown(end, bytes) {
         return Some((UNKNOWN, rest));
     }
-    if bytes.len() < 10 {
+    if bytes.len() < 11 {
         return None;
     }
     short_number(end, bytes)

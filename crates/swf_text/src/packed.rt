@@ -12,7 +12,7 @@ pub(crate) const UNKNOWN: u32 = 0;
 
 /// The first code of a number of hundredths; those before it, but for UNKNOWN, are one above a whole
 /// number.
-const HUNDREDTHS: u64 = 4_000_000_000;
+pub(crate) const HUNDREDTHS: u64 = 4_000_000_000;
 
 // The code of so many millionths, if there is one.
 fn code_of_size(millionths: u64) -> Option<u32>
