@@ -20,7 +20,7 @@ or-right : (a b : Bool) → a || b ≡ false → b ≡ false
 or-right false b h = h
 or-right true b h = absurd cc
 
-both : (a b : Bool) → a ≡ false → b ≡ false → a || b ≡ false
+pub both : (a b : Bool) → a ≡ false → b ≡ false → a || b ≡ false
 both a b p q = rw p q
 
 -- a line that begins with another byte

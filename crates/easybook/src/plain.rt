@@ -16,7 +16,7 @@ use std::marker::Sync;
 use std::sync::Arc;
 use std::thread::Threads;
 
-// Writes the schedule of a table under a scenario of this name.
+// Writes the schedule of a table under a scenario of this name: the plan, which can go.
 fn write_under<W: Write, T: Threads + Sync, A: Allocator + Copy>(
     rt: &T,
     alloc: A,
@@ -24,22 +24,22 @@ fn write_under<W: Write, T: Threads + Sync, A: Allocator + Copy>(
     name: &str,
     scenario: Scenario,
     table: JobTable<A>,
-) -> Result<(), ProgramFault>
+) -> Result<Plan<A>, ProgramFault>
     ensures { Prints name.now (plan_of table scenario) (W.contents writer.old) (W.contents writer.new) result }
 {
     let plan = Plan::new(Arc::new(alloc, table)?, scenario);
     let report = plan_report(alloc, name, 0, &plan)?;
     report.write(rt, writer)?;
-    Ok(())
+    Ok(plan)
 }
 
-// Writes the schedule of an opened log's first scenario.
+// Writes the schedule of an opened log's first scenario: the plan, which can go.
 pub(crate) fn write_first<W: Write, T: Threads + Sync, A: Allocator + Copy>(
     rt: &T,
     alloc: A,
     writer: &mut W,
     opening: Opening<A>,
-) -> Result<(), ProgramFault>
+) -> Result<Plan<A>, ProgramFault>
     requires { slice_get opening.scenarios.scenarios 0 ≡ None → ⊥ }
     ensures { (log : List ℕ) (procs : Option ℕ) → IsOpened log procs (map (λ c. c.items) opening.comments.items) opening.table opening.scenarios
         → Answers log procs (W.contents writer.old) (W.contents writer.new) result }
@@ -75,5 +75,6 @@ pub fn run_plain<W: Write, T: Threads + Sync, A: Allocator + Copy>(
     ensures { Answers log.now options.procs (W.contents writer.old) (W.contents writer.new) result }
 {
     let opening = opening_of(rt, alloc, log, options.procs)?;
-    write_first(rt, alloc, writer, opening)
+    write_first(rt, alloc, writer, opening)?;
+    Ok(())
 }

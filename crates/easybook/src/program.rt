@@ -1,8 +1,10 @@
-ghost use Rattle.std.specs.Prelude.{◌≡◌, ◌<◌, ◌+◌, ◌^◌, IfErr, IfOk, IfSome, None, Some, map, take};
+ghost use Rattle.std.specs.Prelude.{◌≡◌, ◌<◌, ◌+◌, ◌^◌, IfErr, IfOk, IfSome, List, None, Option, Some, map, slice_get, take, ℕ};
 ghost use Rattle.std.specs.Option.{option_map};
 ghost use Rattle.easybook.specs.Input.{IsNotHad, IsReadFault};
+ghost use Rattle.easybook.specs.Opened.{IsOpened};
 ghost use Rattle.easybook.specs.Plain.{Answers};
 ghost use Rattle.easybook.specs.Program.{AreFronts, Ends, EndsFrom, EndsOnFile, EndsOnInput, EndsOnScripts, IsFront, log_known};
+ghost use Rattle.easybook.specs.Split.{IsCut};
 
 use crate::alone::{SCRIPT_LIMIT, run_alone, run_on_log};
 use crate::fault::ProgramFault;
@@ -16,15 +18,21 @@ use crate::sources::{NamedFiles, Sources};
 use crate::split::split_input;
 use crate::stop::Stop;
 use crate::words::{Words, read_words};
+use commands::Opening;
+use memchr::memchr;
 use std::alloc::{Allocator, Global};
 use std::io::{ErrorKind, Read, Write};
 use std::marker::Sync;
+use std::mem::forget;
 use std::rt::Files;
 use std::sync::Wait;
 use std::thread::Threads;
 
 /// The most bytes of standard input where it holds the log.
 const INPUT_LIMIT: u64 = 1_200_000_000;
+
+/// So many bytes at an input's end are looked at for a percent sign, before it is read as a log alone.
+const INPUT_END: usize = 1_048_576;
 
 // Reads a log, at most one byte past its limit, then a script likewise, and works the script on the
 // log, whose bytes are dropped once it is opened. Read where either cannot be read, whatever the other
@@ -44,6 +52,27 @@ fn run_file<L: Read + Drop, R: Read + Drop, W: Write, T: Threads + Sync, A: Allo
     run_on_log(rt, alloc, script.as_slice(), writer, log, options)
 }
 
+// Writes the schedule of an opened log's first scenario. Its jobs are not dropped one by one, since the process
+// ends behind it.
+fn write_last<W: Write, T: Threads + Sync, A: Allocator + Copy>(
+    rt: &T,
+    alloc: A,
+    writer: &mut W,
+    opening: Opening<A>,
+) -> Result<(), ProgramFault>
+    requires { slice_get opening.scenarios.scenarios 0 ≡ None → ⊥ }
+    ensures { (log : List ℕ) (procs : Option ℕ) → IsOpened log procs (map (λ c. c.items) opening.comments.items) opening.table opening.scenarios
+        → Answers log procs (W.contents writer.old) (W.contents writer.new) result }
+{
+    match write_first(rt, alloc, writer, opening) {
+        Ok(plan) => {
+            forget(plan);
+            Ok(())
+        }
+        Err(fault) => Err(fault),
+    }
+}
+
 // Runs a log alone, whose bytes are dropped once it is opened.
 fn run_log<W: Write, T: Threads + Sync, A: Allocator + Copy>(
     rt: &T,
@@ -56,11 +85,31 @@ fn run_log<W: Write, T: Threads + Sync, A: Allocator + Copy>(
 {
     let opening = opening_of(rt, alloc, log.as_slice(), options.procs)?;
     drop(log);
-    write_first(rt, alloc, writer, opening)
+    write_last(rt, alloc, writer, opening)
+}
+
+// Opens a long input that is a log alone, so that no line of it is looked at for a mark: none is one, since a
+// mark is no line of a log. None where a percent sign stands near its end, as before most scripts, and where
+// it can't be opened so.
+fn open_whole<T: Threads + Sync, A: Allocator + Copy>(
+    rt: &T,
+    alloc: A,
+    input: &[u8],
+    procs: Option<u64>,
+) -> Option<Opening<A>>
+    ensures opened { IfSome result (λ o. IsOpened input.now procs (map (λ c. c.items) o.comments.items) o.table o.scenarios) }
+    ensures some { IfSome result (λ o. slice_get o.scenarios.scenarios 0 ≡ None → ⊥) }
+    ensures cut { IfSome result (λ o. IsCut input.now input.now None) }
+{
+    let end = input.len().checked_sub(INPUT_END)?;
+    if memchr(b'%', &input[end..]).is_some() {
+        return None;
+    }
+    opening_of(rt, alloc, input, procs).ok()
 }
 
 // Reads an input, at most 1,200,000,000 bytes, and runs the log that it holds, with the script
-// behind it, if there is one.
+// behind it, if there is one. The bytes of a log alone are dropped once it is opened.
 fn run_input<R: Read + Drop, W: Write, T: Threads + Sync, A: Allocator + Copy>(
     rt: &T,
     alloc: A,
@@ -71,6 +120,10 @@ fn run_input<R: Read + Drop, W: Write, T: Threads + Sync, A: Allocator + Copy>(
     ensures { EndsOnInput A options.procs (R.remaining reader) (W.contents writer.old) (W.contents writer.new) result }
 {
     let input = read_input(alloc, reader, INPUT_LIMIT)?;
+    if let Some(opening) = open_whole(rt, alloc, input.as_slice(), options.procs) {
+        drop(input);
+        return write_last(rt, alloc, writer, opening);
+    }
     match split_input(input.as_slice()) {
         (log, Some(script)) => run_alone(rt, alloc, script, writer, log, options),
         (_, None) => run_log(rt, alloc, input, writer, options),
