@@ -1,4 +1,4 @@
-// The plain program of the definitions. Its starts of other worked logs the program `compare_runs` tells.
+// The plain program of the definitions. Its starts of other worked logs the program `workbench` tells.
 use crate::engines::are;
 use crate::logs::{NOTED, four_jobs, told};
 use checking::table_of;

@@ -1,7 +1,15 @@
-ghost use Rattle.std.specs.Prelude.{◌<◌, ◌≤◌};
+ghost use Rattle.std.specs.Prelude.{◌≡◌, ◌<◌, ◌≤◌, ◌%◌, length, slice_index_or};
 
 use rand_core::utils::NextWord;
 use rand_pcg::Pcg32;
+
+/// The item whose turn it is: they take turns in their order, over and over.
+pub fn of_turn<T: Copy>(items: &[T], turn: u64) -> T
+    requires { 0 < length items.now }
+    ensures { result ≡ slice_index_or items.now (turn % length items.now) result }
+{
+    items[(turn % items.len() as u64) as usize]
+}
 
 /// Numbers that a seed determines.
 #[derive(Drop)]
@@ -23,6 +31,14 @@ impl Chance {
         ensures { result < limit }
     {
         u64::from(self.source.next_word()) % limit
+    }
+
+    /// A place among so many.
+    pub fn place(&mut self, count: usize) -> usize
+        requires { 0 < count }
+        ensures { result < count }
+    {
+        self.below(count as u64) as usize
     }
 
     /// The next number from `low` to `high`.

@@ -9,7 +9,7 @@ mod logs;
 mod readers;
 mod writers;
 
-pub use chance::Chance;
+pub use chance::{Chance, of_turn};
 pub use edits::{Written, edit_of};
 pub use flags::Flags;
 pub use logs::{FOUR, entry_of, shared_table, table_of};

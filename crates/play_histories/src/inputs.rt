@@ -42,14 +42,6 @@ const VALUES: [&[u8]; 8] = [b"-1", b"0", b"1", b"2", b"3.5", b"7", b"20", b"35"]
 /// What the estimates are multiplied by, in thousandths.
 const FACTORS: [u64; 3] = [500, 1000, 1500];
 
-// A place below a limit.
-fn place_below(chance: &mut Chance, limit: usize) -> usize
-    requires { 0 < limit }
-    ensures { result < limit }
-{
-    chance.below(limit as u64) as usize
-}
-
 // Adds a line of the log.
 fn add_line(log: &mut String, chance: &mut Chance, number: u64) -> Option<()> {
     let submit = 5 * chance.below(8);
@@ -88,8 +80,8 @@ fn insertion(alloc: Global, chance: &mut Chance, number: u64) -> Option<Edit<Glo
 
 // A change of a field.
 fn change(chance: &mut Chance, number: u64) -> Option<Edit<Global>> {
-    let field = FIELDS[place_below(chance, 8)];
-    let value = Value::from_bytes(VALUES[place_below(chance, 8)])?;
+    let field = FIELDS[chance.place(8)];
+    let value = Value::from_bytes(VALUES[chance.place(8)])?;
     Some(Edit::Change {
         number,
         field,
@@ -112,16 +104,16 @@ pub(crate) fn edit(alloc: Global, chance: &mut Chance, limit: u64) -> Option<Edi
 // A name, good or bad; where there are to be many scenarios, one of eighty good ones.
 pub(crate) fn name(chance: &mut Chance, is_crowded: bool) -> &'static str {
     if is_crowded {
-        CROWD[place_below(chance, 80)]
+        CROWD[chance.place(80)]
     } else {
-        NAMES[place_below(chance, 8)]
+        NAMES[chance.place(8)]
     }
 }
 
 // A scenario on 4 to 16 processors.
 pub(crate) fn scenario(chance: &mut Chance) -> Option<Scenario> {
     let procs = 4 + chance.below(13);
-    let factor = FACTORS[place_below(chance, 3)];
+    let factor = FACTORS[chance.place(3)];
     let order = if chance.below(2) == 0 {
         Order::Arrival
     } else {
