@@ -9,6 +9,8 @@ mod batches;
 mod counts;
 pub mod example;
 #[cfg(test)]
+mod fronts;
+#[cfg(test)]
 mod growths;
 #[cfg(test)]
 mod lines_told;

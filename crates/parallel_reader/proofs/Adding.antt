@@ -3,7 +3,7 @@ use Rattle.std.proofs.Common.{◌≡◌, ℕ, zero, suc, ◌+◌, ◌-◌, ◌*�
 use Rattle.std.proofs.lemmas.List.{take_more, take-append-drop, length-take-le, length-drop, get_or-map, length-append, length-map, map-append}
 use Rattle.std.specs.List.{before_first, after_first}
 use Rattle.std.proofs.Math.Seq.{take-append_seam}
-use Rattle.std.specs.Prelude.{IsErrAnd, IfErr}
+use Rattle.std.specs.Prelude.{IsErrAnd}
 use denote.Ref.{Bor}
 use Rattle.swf_text.specs.declared.fault.FaultKind.{FaultKind}
 use Rattle.swf_text.specs.declared.fault.FaultKind.TheVariants as kinds
@@ -12,9 +12,9 @@ use Rattle.swf_text.specs.declared.line.LineRead.{LineRead}
 use Rattle.swf_text.specs.Line.{line_of}
 use Rattle.swf_text.specs.Grammar.{HasReached}
 use Rattle.swf_text.specs.Text.{LogText, empty, lines, is_feed}
-use Rattle.swf_text.specs.Reading.{with_line, with_lines, with_read, at_line, Fails, FailsAt, Gives}
+use Rattle.swf_text.specs.Reading.{with_line, with_lines, with_read, at_line, Fails, FailsAt}
 use Rattle.swf_text.proofs.Lemmas.{with_lines-append, lines_fault, reached, lines-next, at_end}
-use Rattle.parallel_reader.specs.Adding.{texts, read_texts, CanReach}
+use Rattle.parallel_reader.specs.Adding.{texts, read_texts, CanReach, AddsLines}
 
 -- ---- lines behind others
 
@@ -94,38 +94,34 @@ line_refused kind first old t ls k lt done fails =
       },
     )
 
--- ---- a batch of a log
+-- ---- a batch of lines behind others
 
-module _ (all front rest : List (List ℕ)) (t : LogText) (line : ℕ) (whole : all ≡ front ++ rest) (place : line ≡ 1 + length front) (done : with_lines 1 empty front ≡ Ok t) where
+module _ (first : ℕ) (old : LogText) (all front rest : List (List ℕ)) (t : LogText) (line : ℕ) (whole : all ≡ front ++ rest) (place : line ≡ first + length front) (done : with_lines first old front ≡ Ok t) where
   -- what is left to be read
-  pub left_over : with_lines 1 empty all ≡ with_lines line t rest
-  left_over = ap (with_lines 1 empty) whole ∙ lines_after 1 empty t front rest done ∙ ap (λ (n : ℕ). with_lines n t rest) (sym place)
+  pub left_over : with_lines first old all ≡ with_lines line t rest
+  left_over = ap (with_lines first old) whole ∙ lines_after first old t front rest done ∙ ap (λ (n : ℕ). with_lines n t rest) (sym place)
 
-  -- a line of the rest was reached
-  reached_behind : (number : ℕ) → CanReach line t rest number → HasReached all number
-  reached_behind number can =
-      let split : all ≡ (front ++ can.front) ++ can.behind = whole ∙ ap (λ (ls : List (List ℕ)). front ++ ls) can.whole ∙ sym (append_assoc front can.front can.behind) in
-      let count : length (front ++ can.front) ≡ number - 1 = omega (arith, length-append front can.front, can.place, place) in
-      let fronts : take (number - 1) all ≡ front ++ can.front = ap (λ (n : ℕ). take n all) (sym count) ∙ ap (take (length (front ++ can.front))) split ∙ take-append_seam (front ++ can.front) can.behind in
-      let added : with_lines line t can.front ≡ Ok can.before = can.added in
-      let read : with_lines 1 empty (front ++ can.front) ≡ Ok can.before = lines_after 1 empty t front can.front done ∙ ap (λ (n : ℕ). with_lines n t can.front) (sym place) ∙ added in
-      let sizes : length all ≡ length front + length can.front + length can.behind = omega (arith, ap length split, length-append (front ++ can.front) can.behind, length-append front can.front) in
-      reached all number can.before (omega (arith, can.place, place)) (omega (arith, can.place, can.some, place, sizes)) (ap (with_lines 1 empty) fronts ∙ read)
-
-  -- the first line of the rest was reached
-  pub reached_first : 0 < length rest → HasReached all line
-  unfolding with_lines
-  reached_first some = reached_behind line (record { front = []; behind = rest; before = t; whole = refl; some = some; place = omega arith; added = refl })
+  -- a line of the rest can be reached
+  reached_behind : (number : ℕ) → CanReach line t rest number → CanReach first old all number
+  reached_behind number can = record {
+    front = front ++ can.front;
+    behind = can.behind;
+    before = can.before;
+    whole = whole ∙ ap (λ (ls : List (List ℕ)). front ++ ls) can.whole ∙ sym (append_assoc front can.front can.behind);
+    some = can.some;
+    place = omega (arith, length-append front can.front, can.place, place);
+    added = lines_after first old t front can.front done ∙ ap (λ (n : ℕ). with_lines n t can.front) (sym place) ∙ can.added;
+  }
 
   module _ (batch others : List (List ℕ)) (split : rest ≡ batch ++ others) where
-    -- a fault in the batch is one of the log
-    pub batch_refused : (fault : SwfFault) → FailsAt fault.kind fault.line (with_lines line t batch) → FailsAt fault.kind fault.line (with_lines 1 empty all)
+    -- a fault in the batch is one of all
+    pub batch_refused : (fault : SwfFault) → FailsAt fault.kind fault.line (with_lines line t batch) → FailsAt fault.kind fault.line (with_lines first old all)
     batch_refused fault fails =
-        let behind : with_lines 1 empty all ≡ with_lines line t (batch ++ others) = left_over ∙ ap (with_lines line t) split in
+        let behind : with_lines first old all ≡ with_lines line t (batch ++ others) = left_over ∙ ap (with_lines line t) split in
         subst (FailsAt fault.kind fault.line) (sym behind) (fails_more fault.kind fault.line line t batch others fails)
 
-    -- a line of the batch was reached
-    pub batch_reached : (number : ℕ) → CanReach line t batch number → HasReached all number
+    -- a line of the batch can be reached
+    pub batch_reached : (number : ℕ) → CanReach line t batch number → CanReach first old all number
     batch_reached number can =
         reached_behind number
         (record {
@@ -139,11 +135,28 @@ module _ (all front rest : List (List ℕ)) (t : LogText) (line : ℕ) (whole : 
         })
 
     -- the batch was added
-    pub batch_added : (u : LogText) → with_lines line t batch ≡ Ok u → with_lines 1 empty (front ++ batch) ≡ Ok u
-    batch_added u is = lines_after 1 empty t front batch done ∙ ap (λ (n : ℕ). with_lines n t batch) (sym place) ∙ is
+    pub batch_added : (u : LogText) → with_lines line t batch ≡ Ok u → with_lines first old (front ++ batch) ≡ Ok u
+    batch_added u is = lines_after first old t front batch done ∙ ap (λ (n : ℕ). with_lines n t batch) (sym place) ∙ is
 
     pub batch_split : all ≡ (front ++ batch) ++ others
     batch_split = whole ∙ ap (λ (ls : List (List ℕ)). front ++ ls) split ∙ sym (append_assoc front batch others)
+
+-- the first line can be reached
+pub reached_first : (first : ℕ) (old : LogText) (all : List (List ℕ)) → 0 < length all → CanReach first old all first
+unfolding with_lines
+reached_first first old all some = record { front = []; behind = all; before = old; whole = refl; some = some; place = omega arith; added = refl }
+
+-- a line that can be reached behind the first lines of a log was reached
+pub reached_so : (before ls : List (List ℕ)) (t : LogText) (count line : ℕ) → with_lines 1 empty before ≡ Ok t → count ≡ length before → CanReach (count + 1) t ls line → HasReached (before ++ ls) line
+reached_so before ls t count line done counted can =
+    let all : List (List ℕ) = before ++ ls in
+    let split : all ≡ (before ++ can.front) ++ can.behind = ap (λ (l : List (List ℕ)). before ++ l) can.whole ∙ sym (append_assoc before can.front can.behind) in
+    let length_is : length (before ++ can.front) ≡ line - 1 = omega (arith, length-append before can.front, can.place, counted) in
+    let fronts : take (line - 1) all ≡ before ++ can.front = ap (λ (n : ℕ). take n all) (sym length_is) ∙ ap (take (length (before ++ can.front))) split ∙ take-append_seam (before ++ can.front) can.behind in
+    let place : count + 1 ≡ 1 + length before = omega (arith, counted) in
+    let read : with_lines 1 empty (before ++ can.front) ≡ Ok can.before = lines_after 1 empty t before can.front done ∙ ap (λ (n : ℕ). with_lines n t can.front) (sym place) ∙ can.added in
+    let sizes : length all ≡ length before + length can.front + length can.behind = omega (arith, ap length split, length-append (before ++ can.front) can.behind, length-append before can.front) in
+    reached all line can.before (omega (arith, can.place)) (omega (arith, can.place, can.some, counted, sizes)) (ap (with_lines 1 empty) fronts ∙ read)
 
 -- nothing is added at first
 pub none_added : (first : ℕ) (t : LogText) → with_lines first t [] ≡ Ok t
@@ -167,17 +180,17 @@ pub some_taken : (taken : List (Bor (List ℕ))) (rest bytes : List ℕ) → len
 some_taken taken [] bytes none is some = omega (arith, length-map taken (λ (l : Bor (List ℕ)). l.now), length-append (texts taken) (lines []), ap length is, ap length (lines-next bytes some))
 some_taken taken (b ∷ bs) bytes none is some = absurd (omega arith)
 
--- ---- what a reading answers that hands a fault on
+-- ---- what is answered that hands a fault on
 
-pub gives_same : (r : Result LogText SwfFault) (fault : SwfFault) (reading : Result LogText SwfFault) → IsErrAnd r (λ e. e ≡ fault) → FailsAt fault.kind fault.line reading → Gives r reading
-gives_same (Ok t) fault reading is fails = absurd is
-gives_same (Err e) fault reading is fails = subst (λ (f : SwfFault). FailsAt f.kind f.line reading) (sym is) fails
-
-pub reached_same : (r : Result LogText SwfFault) (fault : SwfFault) (all : List (List ℕ)) → IsErrAnd r (λ e. e ≡ fault) → HasReached all fault.line → IfErr r (λ f. HasReached all f.line)
-reached_same (Ok t) fault all is there = absurd is
-reached_same (Err e) fault all is there = subst (λ (f : SwfFault). HasReached all f.line) (sym is) there
+pub adds_same : (r : Result (Unit {0}) SwfFault) (fault : SwfFault) (first : ℕ) (old : LogText) (ls : List (List ℕ)) (new : LogText) → IsErrAnd r (λ e. e ≡ fault) → FailsAt fault.kind fault.line (with_lines first old ls) → CanReach first old ls fault.line → AddsLines first old ls new r
+adds_same (Ok done) fault first old ls new is fails can = absurd is
+adds_same (Err e) fault first old ls new is fails can = subst (λ (f : SwfFault). FailsAt f.kind f.line (with_lines first old ls) × CanReach first old ls f.line) (sym is) (fails, can)
 
 -- ---- the loop over batches
+
+-- bytes have a line
+pub lines_some : (bytes : List ℕ) → 0 < length bytes → 0 < length (lines bytes)
+lines_some bytes some = omega (arith, ap length (lines-next bytes some))
 
 -- a line is left where a line of the batch or a byte is
 pub some_left : (ready : List (Bor (List ℕ))) (rest : List ℕ) → 0 < length ready + length rest → 0 < length (texts ready ++ lines rest)

@@ -1,10 +1,10 @@
 -- Job lines that are read apart from those before them.
-use Rattle.std.proofs.Common.{◌≡◌, ℕ, zero, suc, ◌+◌, ◌-◌, ◌*◌, ◌<◌, ◌≤◌, Bool, true, false, ◌||◌, List, [], ◌∷◌, ◌++◌, length, get_or, take, drop, map, Option, Some, None, Result, Ok, Err, refl, sym, ap, subst, ◌∙◌, append_assoc, arith, inl, inr}
+use Rattle.std.proofs.Common.{◌≡◌, ℕ, ◌+◌, ◌-◌, ◌<◌, ◌≤◌, Bool, true, false, ◌||◌, List, [], ◌∷◌, ◌++◌, length, get_or, take, drop, map, Option, Some, None, Result, Ok, Err, refl, sym, ap, subst, ◌∙◌, append_assoc, arith, inl, inr}
 use Rattle.std.specs.Prelude.{unwrap_or, if◌then◌else◌, IfSome}
 use Rattle.std.specs.List.{list_any, before_first, after_first, position_or_len, slice_split, onto_first}
 use Rattle.std.proofs.lemmas.Bool.{cases_Bool, cases_lt, eqb-true, false_from_ne_true}
 use Rattle.std.proofs.Math.ListN.{drop_of_length-le}
-use Rattle.std.proofs.lemmas.List.{append-nil, take_more, take_all, take_at, drop_at, get_or-map, length-append, take-append-drop, map-append}
+use Rattle.std.proofs.lemmas.List.{append-nil, take_more, take_all, take_at, drop_at, length-append, take-append-drop, map-append}
 use Rattle.std.proofs.lemmas.List.Sums.{split_at_first, passes_at_first}
 use Rattle.std.proofs.lemmas.List.Splits.{slice_split-cons_yes, slice_split-cons_no, length-slice_split}
 use Rattle.std.proofs.lemmas.List.Folds.{list_any-append}
@@ -19,13 +19,14 @@ use Rattle.swf_text.specs.declared.line.LineRead.TheVariants as read
 use Rattle.swf_text.specs.Entry.{LogEntry, field, whole_number, is_partial, is_some_number, has_number, number_of_entry}
 use Rattle.swf_text.specs.Number.{is_below_zero}
 use Rattle.swf_text.specs.Line.{line_of}
-use Rattle.swf_text.specs.Grammar.{IsText}
-use Rattle.swf_text.specs.Log.{IsLog}
-use Rattle.swf_text.specs.Text.{LogText, empty, lines, is_feed, without_empty_end}
-use Rattle.swf_text.specs.Reading.{with_job, with_line, with_lines, with_read, at_line, text_of}
-use Rattle.swf_text.proofs.Lemmas.{job_more, lines-next, gives_text, text_sound, text_read}
+use Rattle.swf_text.specs.Text.{LogText, lines, is_feed, without_empty_end}
+use Rattle.swf_text.specs.Reading.{with_job, with_line, with_lines, with_read, at_line}
+use Rattle.swf_text.proofs.Lemmas.{job_more, lines-next}
 use Rattle.parallel_reader.specs.Adding.{texts}
-use Rattle.parallel_reader.specs.Jobs.{BeginsJobs, AreJobs, IsReadOf, job_of, after_job, with_jobs, AddsJobs, AddsAll, Below, portion_lines}
+use Rattle.parallel_reader.specs.declared.portion.Counts.{Counts}
+use Rattle.parallel_reader.specs.declared.portion.JobLines.{JobLines}
+use Rattle.parallel_reader.specs.Fronts.{AreJobsIn}
+use Rattle.parallel_reader.specs.Jobs.{BeginsJobs, AreCounted, AreJobs, AreRead, IsReadOf, job_of, after_job, with_jobs, AddsJobs, AddsAll, Below, Extends, portion_lines}
 use Rattle.parallel_reader.proofs.Adding.{lines_after}
 
 -- ---- what is read of lines by themselves
@@ -191,7 +192,7 @@ end_behind (l ∷ k ∷ ls) behind some = ap (λ (ms : List (List ℕ)). l ∷ m
 lines_closed : (p r : List ℕ) → lines (p ++ 10 ∷ r) ≡ closed p ++ lines r
 lines_closed p r = ap without_empty_end (split_closed p r) ∙ end_behind (closed p) (slice_split is_feed r) (omega (arith, length-slice_split is_feed r))
 
-cut_lines : (p r : List ℕ) → lines (p ++ 10 ∷ []) ++ lines r ≡ lines (p ++ 10 ∷ r)
+pub cut_lines : (p r : List ℕ) → lines (p ++ 10 ∷ []) ++ lines r ≡ lines (p ++ 10 ∷ r)
 cut_lines p r =
     let alone : lines (p ++ 10 ∷ []) ≡ closed p = lines_closed p [] ∙ append-nil (closed p) in
     ap (λ (ls : List (List ℕ)). ls ++ lines r) alone ∙ sym (lines_closed p r)
@@ -244,52 +245,74 @@ pub lines_taken : (bytes rest : List ℕ) (front : List (List ℕ)) (jobs : List
 lines_taken bytes [] front jobs whole none are = subst (λ (ls : List (List ℕ)). AreJobs ls jobs) (sym (whole ∙ append-nil front)) are
 lines_taken bytes (b ∷ bs) front jobs whole none are = absurd (omega arith)
 
--- ---- the log
+-- ---- portions that were read
 
-pub rest_added : (bytes head rest : List ℕ) (text : LogText) (new : List LogEntry) → lines head ++ lines rest ≡ lines bytes → with_lines 1 empty (lines head) ≡ Ok text → AddsAll text.entries (lines rest) new → text_of bytes ≡ Ok (record { comments = text.comments; entries = new })
-rest_added bytes head rest text new whole read added = ap (with_lines 1 empty) (sym whole) ∙ lines_after 1 empty text (lines head) (lines rest) read ∙ added (1 + length (lines head)) text.comments
-
-pub log_added : (bytes : List ℕ) (text : LogText) → text_of bytes ≡ Ok text → IsLog text.entries
-log_added bytes text read = (text_sound bytes text (gives_text (Ok text) (lines bytes) read)).log
-
--- what is added of the portions at hand
-pub portions_added : (old t new : List LogEntry) (all front batch rest : List (List ℕ)) → all ≡ front ++ (batch ++ rest) → AddsAll old front t → AddsAll t batch new → (all ≡ (front ++ batch) ++ rest) × AddsAll old (front ++ batch) new
-portions_added old t new all front batch rest whole done added = (whole ∙ sym (append_assoc front batch rest), all_then old t new front batch done added)
-
-pub all_added : (old t : List LogEntry) (all front : List (List ℕ)) (ready : List (Bor (List ℕ))) (rest : List ℕ) → all ≡ front ++ (portion_lines (texts ready) ++ lines rest) → length ready + length rest ≡ 0 → AddsAll old front t → AddsAll old all t
-all_added old t all front [] [] whole none done = subst (λ (ls : List (List ℕ)). AddsAll old ls t) (sym (whole ∙ append-nil front)) done
-all_added old t all front (p ∷ ps) rest whole none done = absurd (omega arith)
-all_added old t all front [] (b ∷ bs) whole none done = absurd (omega arith)
-
-pub fewer_left : (rest ready taken after : ℕ) → taken + after ≤ rest → (0 < rest → after < rest) → 0 < ready + rest → 2 * after + taken < 2 * rest + ready
-fewer_left zero ready taken after within less some = omega arith
-fewer_left (suc rest) ready taken after within less some = omega (arith, less (omega arith))
-
-pub read_counted : (ls : List (List ℕ)) (jobs : List PackedLine) (o : Option ℕ) (n : ℕ) → IsReadOf ls jobs o → o ≡ Some n → (n ≤ length jobs) × AreJobs ls (map job_of (take n jobs))
-read_counted ls jobs o n h is = subst (IsReadOf ls jobs) is h
+pub read_counted : (ls : List (List ℕ)) (jobs : List PackedLine) (o : Option Counts) (counts : Counts) → IsReadOf ls jobs o → o ≡ Some counts → AreCounted ls jobs counts
+read_counted ls jobs o counts h is = subst (IsReadOf ls jobs) is h
 
 -- one above the number of each entry that was looked at
 pub below_all : (next : ℕ) (entries : List LogEntry) (k : ℕ) → length entries ≤ k → Below next (take k entries) → Below next entries
 below_all next entries k le below = subst (Below next) (take_all k entries le) below
 
-pub portion_read : (old new : List LogEntry) (ls : List (List ℕ)) (jobs : List PackedLine) (o : Option ℕ) (n : ℕ) (result : Option ℕ) → IsReadOf ls jobs o → o ≡ Some n → (m : ℕ) → (n ≤ length jobs → m ≡ n) → IfSome result (λ later. AddsJobs old (map job_of (take m jobs)) new) → IfSome result (λ later. AddsAll old ls new)
-portion_read old new ls jobs o n None h is m same added = tt
-portion_read old new ls jobs o n (Some later) h is m same added =
-    let read = read_counted ls jobs o n h is in
-    portion_added old new ls (map job_of (take n jobs)) read.1 (subst (λ (k : ℕ). AddsJobs old (map job_of (take k jobs)) new) (same read.0) added)
+pub portion_read : (old new : List LogEntry) (jobs : List PackedLine) (o : Option Counts) (counts : Counts) (result : Option ℕ) → o ≡ Some counts → (m : ℕ) → (counts.jobs ≤ length jobs → m ≡ counts.jobs) → IfSome result (λ later. AddsJobs old (map job_of (take m jobs)) new) → IfSome result (λ later. (ls : List (List ℕ)) → IsReadOf ls jobs o → AddsAll old ls new)
+portion_read old new jobs o counts None is m same added = tt
+portion_read old new jobs o counts (Some later) is m same added = λ ls h.
+    let read = read_counted ls jobs o counts h is in
+    portion_added old new ls (map job_of (take counts.jobs jobs)) read.read (subst (λ (k : ℕ). AddsJobs old (map job_of (take k jobs)) new) (same read.within) added)
 
--- the lines of a portion, by its place
-pub lines_at : (ps : List (Bor (List ℕ))) (k : ℕ) (d : Bor (List ℕ)) (old new : List LogEntry) → k < length ps → AddsAll old (lines (get_or ps k d).now) new → AddsAll old (lines (get_or (texts ps) k [])) new
-lines_at ps k d old new lt added = subst (λ (l : List ℕ). AddsAll old (lines l) new) (sym (get_or-map (λ (p : Bor (List ℕ)). p.now) ps k d [] lt)) added
+-- the first portions of those that were read
+pub portions_at : (old t new : List LogEntry) (jobs : List JobLines) (k : ℕ) (d : JobLines) → k < length jobs
+    → ((ps : List (List ℕ)) → length jobs ≡ length ps → AreRead ps jobs → AddsAll old (portion_lines (take k ps)) t)
+    → ((ls : List (List ℕ)) → IsReadOf ls (get_or jobs k d).jobs (get_or jobs k d).count → AddsAll t ls new)
+    → (ps : List (List ℕ)) → length jobs ≡ length ps → AreRead ps jobs → AddsAll old (portion_lines (take (k + 1) ps)) new
+portions_at old t new jobs k d lt done step ps count read =
+    let within : k < length ps = omega (arith, lt, count) in
+    portions_next old t new ps k within (done ps count read) (step (lines (get_or ps k [])) (read k d within))
 
-pub log_made : (bytes head rest : List ℕ) (text : LogText) (inside new : List LogEntry) → lines head ++ lines rest ≡ lines bytes → IsText (lines head) text → inside ≡ text.entries → AddsAll inside (lines rest) new → text_of bytes ≡ Ok (record { comments = text.comments; entries = new })
-log_made bytes head rest text inside new whole is same added = rest_added bytes head rest text new whole (text_read 1 empty (lines head) text is) (subst (λ (es : List LogEntry). AddsAll es (lines rest) new) same added)
+-- all portions that were read
+pub portions_all : (old new : List LogEntry) (jobs : List JobLines) (k : ℕ) → length jobs ≤ k
+    → ((ps : List (List ℕ)) → length jobs ≡ length ps → AreRead ps jobs → AddsAll old (portion_lines (take k ps)) new)
+    → (ls : List (List ℕ)) → AreJobsIn ls jobs → AddsAll old ls new
+portions_all old new jobs k le done ls are =
+    let all : take k are.portions ≡ are.portions = take_all k are.portions (omega (arith, le, are.count)) in
+    subst (λ (l : List (List ℕ)). AddsAll old l new) (ap portion_lines all ∙ are.whole) (done are.portions are.count are.read)
 
-pub same_text : (r : LogText) (comments : List (List ℕ)) (entries : List LogEntry) → r.comments ≡ comments → r.entries ≡ entries → record { comments = comments; entries = entries } ≡ r
-same_text r comments entries p q = ap (with_comments entries) (sym p) ∙ ap (with_entries r.comments) (sym q)
-  where
-    with_comments : List LogEntry → List (List ℕ) → LogText
-    with_comments es cs = record { comments = cs; entries = es }
+-- the lines of the first portions, counted
+pub counted_at : (jobs : List JobLines) (k : ℕ) (d : JobLines) (n : ℕ) (counts : Counts) → k < length jobs → (get_or jobs k d).count ≡ Some counts
+    → ((ps : List (List ℕ)) → length jobs ≡ length ps → AreRead ps jobs → n ≡ length (portion_lines (take k ps)))
+    → (ps : List (List ℕ)) → length jobs ≡ length ps → AreRead ps jobs → n + counts.lines ≡ length (portion_lines (take (k + 1) ps))
+counted_at jobs k d n counts lt is done ps count read =
+    let within : k < length ps = omega (arith, lt, count) in
+    let here = read_counted (lines (get_or ps k [])) (get_or jobs k d).jobs (get_or jobs k d).count counts (read k d within) is in
+    let more : portion_lines (take (k + 1) ps) ≡ portion_lines (take k ps) ++ lines (get_or ps k []) =
+    ap portion_lines (take_more ps k [] within) ∙ flat_map-append lines (take k ps) (get_or ps k [] ∷ []) ∙ ap (λ (l : List (List ℕ)). portion_lines (take k ps) ++ l) (append-nil (lines (get_or ps k []))) in
+    omega (arith, done ps count read, here.lines, ap length more, length-append (portion_lines (take k ps)) (lines (get_or ps k [])))
 
-    with_entries : List (List ℕ) → List LogEntry → LogText
-    with_entries cs es = record { comments = cs; entries = es }
+pub counted_all : (jobs : List JobLines) (k n : ℕ) → length jobs ≤ k
+    → ((ps : List (List ℕ)) → length jobs ≡ length ps → AreRead ps jobs → n ≡ length (portion_lines (take k ps)))
+    → (ls : List (List ℕ)) → AreJobsIn ls jobs → n ≡ length ls
+counted_all jobs k n le done ls are =
+    let all : take k are.portions ≡ are.portions = take_all k are.portions (omega (arith, le, are.count)) in
+    done are.portions are.count are.read ∙ ap length (ap portion_lines all ∙ are.whole)
+
+-- ---- entries behind others
+
+pub extends_none : (old : List LogEntry) → Extends old old
+extends_none old = ([], sym (append-nil old))
+
+pub extends_then : (a b c : List LogEntry) → Extends a b → Extends b c → Extends a c
+extends_then a b c p q = (p.0 ++ q.0, q.1 ∙ ap (λ (l : List LogEntry). l ++ q.0) p.1 ∙ append_assoc a p.0 q.0)
+
+-- those that were there before
+pub cut_back : (old new : List LogEntry) → Extends old new → take (length old) new ≡ old
+cut_back old new p = ap (take (length old)) p.1 ∙ take_at old p.0 (length old) refl
+
+-- ---- lines, portion after portion
+
+-- what is added of the portion at hand
+pub portion_behind : (old t new : List LogEntry) (all front ls : List (List ℕ)) (rest : List ℕ) → all ≡ front ++ lines rest → AddsAll old front t → AddsAll t ls new → (after : List ℕ) → ls ++ lines after ≡ lines rest → (all ≡ (front ++ ls) ++ lines after) × AddsAll old (front ++ ls) new
+portion_behind old t new all front ls rest whole done added after cut = (whole ∙ ap (λ (l : List (List ℕ)). front ++ l) (sym cut) ∙ sym (append_assoc front ls (lines after)), all_then old t new front ls done added)
+
+pub all_behind : (old t : List LogEntry) (all front : List (List ℕ)) (rest : List ℕ) → all ≡ front ++ lines rest → length rest ≡ 0 → AddsAll old front t → AddsAll old all t
+all_behind old t all front [] whole none done = subst (λ (ls : List (List ℕ)). AddsAll old ls t) (sym (whole ∙ append-nil front)) done
+all_behind old t all front (b ∷ bs) whole none done = absurd (omega arith)

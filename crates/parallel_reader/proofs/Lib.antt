@@ -1,2 +1,4 @@
 mod Adding
+mod Fronts
 mod Jobs
+pub mod Lemmas

@@ -7,6 +7,7 @@ use Rattle.swf_text.specs.declared.line.LineRead.TheVariants as read
 use Rattle.swf_text.specs.declared.packed.PackedLine.{PackedLine}
 use Rattle.swf_text.specs.declared.fault.FaultKind.{FaultKind}
 use denote.Ref.{Bor}
+use Rattle.parallel_reader.specs.declared.portion.Counts.{Counts}
 use Rattle.parallel_reader.specs.declared.portion.JobLines.{JobLines}
 use Rattle.swf_text.specs.Entry.{LogEntry, has_number}
 use Rattle.swf_text.specs.Packed.{unpacked}
@@ -33,9 +34,14 @@ AreJobs (line ∷ ls) jobs = BeginsJobs (line_of line) (AreJobs ls) jobs
 abbrev pub job_of : PackedLine → Fields
 job_of packed = record { 0 = unpacked packed }
 
--- the first of these packed lines, as many as are counted, are the job lines of the lines
-abbrev pub IsReadOf : List (List ℕ) → List PackedLine → Option ℕ → Type 0
-IsReadOf ls jobs count = IfSome count (λ n. (n ≤ length jobs) × AreJobs ls (map job_of (take n jobs)))
+-- the first of these packed lines, as many as are counted, are the job lines of the lines, which are counted too
+pub record AreCounted (ls : List (List ℕ)) (jobs : List PackedLine) (counts : Counts) : Type 0 where
+  pub within : counts.jobs ≤ length jobs
+  pub read : AreJobs ls (map job_of (take counts.jobs jobs))
+  pub lines : counts.lines ≡ length ls
+
+abbrev pub IsReadOf : List (List ℕ) → List PackedLine → Option Counts → Type 0
+IsReadOf ls jobs counts = IfSome counts (AreCounted ls jobs)
 
 -- the bytes begin with a job line, which is now at this place, behind those that were read before
 abbrev pub TakesLine : List ℕ → List PackedLine → List PackedLine → ℕ → Type 0
@@ -62,6 +68,10 @@ AddsJobs old jobs new = (comments : List (List ℕ)) → with_jobs (record { com
 -- these lines lead from entries to others, whatever the comments, and wherever the lines stand
 abbrev pub AddsAll : List LogEntry → List (List ℕ) → List LogEntry → Type 0
 AddsAll old ls new = (number : ℕ) (comments : List (List ℕ)) → with_lines number (record { comments = comments; entries = old }) ls ≡ Ok (record { comments = comments; entries = new })
+
+-- some entries, and others behind them
+abbrev pub Extends : List LogEntry → List LogEntry → Type 0
+Extends old new = (more : List LogEntry) × (new ≡ old ++ more)
 
 -- all job numbers are below this one
 abbrev pub Below : ℕ → List LogEntry → Type 0

@@ -1,4 +1,4 @@
-ghost use Rattle.std.specs.Prelude.{◌≡◌, ◌+◌, ◌<◌, ◌≤◌, ◌^◌, ◌++◌, ◌==◌, [], length, map, slice_index_or, IfOk, OnOk};
+ghost use Rattle.std.specs.Prelude.{◌≡◌, ◌+◌, ◌-◌, ◌<◌, ◌≤◌, ◌^◌, ◌++◌, ◌==◌, [], length, map, slice_index_or, IfOk, OnOk};
 ghost use Rattle.std.specs.Thread.{IsSync};
 ghost use Rattle.swf_text.specs.Text.{lines};
 ghost use Rattle.parallel_reader.specs.Adding.{texts, read_texts, AddsLines};
@@ -6,8 +6,13 @@ ghost use Rattle.parallel_reader.specs.Adding.{texts, read_texts, AddsLines};
 use rayon::prelude::*;
 use std::alloc::Allocator;
 use std::marker::Sync;
+use std::mem::swap;
 use std::thread::{Threads, join_mut};
-use swf_text::{Builder, LineRead, Memory, SwfFault, read_line, split_line};
+use swf_text::{Builder, FaultKind, LineRead, Memory, SwfFault, read_line, split_line};
+
+/// The bytes of the shortest job line: eighteen words of a byte, a blank before each but the first,
+/// and a line feed.
+const LEAST_LINE: usize = 36;
 
 /// The most lines of a batch.
 const MOST_LINES: usize = 65_536;
@@ -176,4 +181,38 @@ impl<'a, A: Allocator + Copy> Batch<'a, A> {
         let readings = self.readings.as_mut_slice();
         read_and_add(rt, alloc, text, first, ready, lines, readings)
     }
+}
+
+// Adds the lines behind those of a text, which are so many: batch after batch is read, each while the one
+// before it is added.
+pub(crate) fn add_batches<R: Threads + Sync, A: Allocator + Copy>(
+    rt: &R,
+    alloc: A,
+    text: &mut Builder<A>,
+    count: u64,
+    bytes: &[u8],
+) -> Result<(), SwfFault>
+    requires { count + length bytes.now < 2 ^ 64 - 1 }
+    ensures { AddsLines (count + 1) text.old (lines bytes.now) text.new result }
+{
+    // Where this is refused, the capacity grows as entries come.
+    let _refused = text.make_room(bytes.len() / LEAST_LINE);
+    let mut ready = Batch::new(alloc);
+    let mut next = Batch::new(alloc);
+    let mut rest = bytes;
+    let first = count + 1;
+    let mut line = first;
+    'batches: while !ready.is_last(rest) {
+        let Ok(after) = next.take(rest) else {
+            return Err(SwfFault {
+                line: first,
+                kind: FaultKind::Memory,
+            });
+        };
+        next.read_beside(rt, alloc, text, line, &ready)?;
+        line += ready.count();
+        rest = after;
+        swap(&mut ready, &mut next);
+    }
+    Ok(())
 }

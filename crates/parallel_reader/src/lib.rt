@@ -3,10 +3,14 @@
 #![tactic(auto)]
 
 mod batch;
+mod filling;
+mod front;
+mod piece;
+mod pieces;
 mod portion;
-mod portions;
 mod reader;
-mod regular;
 mod rising;
 
+pub use front::LogFront;
+pub use pieces::{BegunLog, begin_log};
 pub use reader::read_parallel;

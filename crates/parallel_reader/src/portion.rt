@@ -1,9 +1,9 @@
-ghost use Rattle.std.specs.Prelude.{◌≡◌, ◌++◌, ◌<◌, ◌≤◌, length, map, take, IfSome, IsTrue};
+ghost use Rattle.std.specs.Prelude.{◌≡◌, ◌++◌, ◌<◌, length, take, IfSome, IsTrue};
 ghost use Rattle.swf_text.specs.declared.line.LineRead.TheVariants.{Blank};
 ghost use Rattle.swf_text.specs.Line.{line_of};
 ghost use Rattle.std.specs.List.{after_first};
 ghost use Rattle.swf_text.specs.Text.{is_feed, lines};
-ghost use Rattle.parallel_reader.specs.Jobs.{AreJobs, IsReadOf, TakesLine, job_of};
+ghost use Rattle.parallel_reader.specs.Jobs.{IsReadOf, TakesLine};
 
 use swf_text::{LineRead, PackedLine, packed_front, packed_line, read_line, split_line};
 
@@ -14,13 +14,20 @@ const LEAST_BYTES: usize = 16_384;
 /// long lines have no more.
 const MOST_JOBS: usize = 512;
 
+/// How many job lines were read, and how many lines they and the blank ones are.
+#[derive(Clone, Copy)]
+pub(crate) struct Counts {
+    pub(crate) jobs: usize,
+    pub(crate) lines: usize,
+}
+
 /// The job lines of a portion of a log, in codes, and how many they are; None where one of its lines
 /// is neither blank nor a job line without faults of its own that can be packed, or where there are
 /// too many.
 #[derive(Clone, Copy)]
 pub(crate) struct JobLines {
     pub(crate) jobs: [PackedLine; MOST_JOBS],
-    pub(crate) count: Option<usize>,
+    pub(crate) count: Option<Counts>,
 }
 
 // Cuts bytes behind a line that ends past so many of them: whole lines, and what follows.
@@ -57,13 +64,15 @@ fn read_front<'a>(jobs: &mut [PackedLine], count: usize, bytes: &'a [u8]) -> Opt
 }
 
 // Reads the job lines of some bytes into these places: how many they are.
-fn read_jobs(bytes: &[u8], jobs: &mut [PackedLine]) -> Option<usize>
+fn read_jobs(bytes: &[u8], jobs: &mut [PackedLine]) -> Option<Counts>
     ensures same { length jobs.new ≡ length jobs.old }
-    ensures read { IfSome result (λ count. (count ≤ length jobs.new) × AreJobs (lines bytes.now) (map job_of (take count jobs.new))) }
+    ensures read { IsReadOf (lines bytes.now) jobs.new result }
 {
     let mut count = 0usize;
+    let mut lines = 0usize;
     let mut rest = bytes;
     'lines: while !rest.is_empty() {
+        lines += 1;
         if let Some(after) = read_front(jobs, count, rest) {
             count += 1;
             rest = after;
@@ -86,7 +95,7 @@ fn read_jobs(bytes: &[u8], jobs: &mut [PackedLine]) -> Option<usize>
         }
         rest = after;
     }
-    Some(count)
+    Some(Counts { jobs: count, lines })
 }
 
 impl JobLines {

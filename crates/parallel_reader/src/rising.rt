@@ -1,9 +1,9 @@
-ghost use Rattle.std.specs.Prelude.{◌∷◌, [], map, IfSome};
+ghost use Rattle.std.specs.Prelude.{◌≡◌, ◌∷◌, ℕ, List, [], length, map, ◌<◌, IfNone, IfSome};
 ghost use Rattle.swf_text.specs.Text.{lines};
-ghost use Rattle.parallel_reader.specs.Adding.{texts};
-ghost use Rattle.parallel_reader.specs.Jobs.{Below, AddsJobs, AddsAll, AreJobsOf, IsReadOf, job_of, portion_lines};
+ghost use Rattle.parallel_reader.specs.Fronts.{AreJobsIn};
+ghost use Rattle.parallel_reader.specs.Jobs.{Below, AddsJobs, AddsAll, Extends, IsReadOf, job_of};
 
-use crate::portion::JobLines;
+use crate::portion::{JobLines, split_portion};
 use std::alloc::Allocator;
 use swf_text::{ENTRY_LIMIT, Entry, PackedLine};
 
@@ -27,6 +27,7 @@ fn add_job<A: Allocator + Copy>(
     job: &PackedLine,
 ) -> Option<u64>
     requires { Below next entries.old.items }
+    ensures kept { Extends entries.old.items entries.new.items }
     ensures below { IfSome result (λ later. Below later entries.new.items) }
     ensures added { IfSome result (λ later. AddsJobs entries.old.items (job_of job.now ∷ []) entries.new.items) }
 {
@@ -51,6 +52,7 @@ fn add_jobs<A: Allocator + Copy>(
     jobs: &[PackedLine],
 ) -> Option<u64>
     requires { Below next entries.old.items }
+    ensures kept { Extends entries.old.items entries.new.items }
     ensures below { IfSome result (λ later. Below later entries.new.items) }
     ensures added { IfSome result (λ later. AddsJobs entries.old.items (map job_of jobs.now) entries.new.items) }
 {
@@ -69,18 +71,16 @@ fn add_portion<A: Allocator + Copy>(
     alloc: A,
     entries: &mut Vec<Entry<A>, A>,
     next: u64,
-    portion: &[u8],
     jobs: &JobLines,
 ) -> Option<u64>
-    requires below { Below next entries.old.items }
-    requires read { IsReadOf (lines portion.now) jobs.now.jobs jobs.now.count }
+    requires { Below next entries.old.items }
+    ensures kept { Extends entries.old.items entries.new.items }
     ensures below { IfSome result (λ later. Below later entries.new.items) }
-    ensures added { IfSome result (λ later. AddsAll entries.old.items (lines portion.now) entries.new.items) }
+    ensures added { IfSome result (λ later. (ls : List (List ℕ)) → IsReadOf ls jobs.now.jobs jobs.now.count → AddsAll entries.old.items ls entries.new.items) }
 {
-    let _lines = portion;
     let read = jobs.jobs.as_slice();
     match jobs.count {
-        Some(count) => add_jobs(alloc, entries, next, &read[..count.min(read.len())]),
+        Some(counts) => add_jobs(alloc, entries, next, &read[..counts.jobs.min(read.len())]),
         None => None,
     }
 }
@@ -91,20 +91,56 @@ pub(crate) fn add_portions<A: Allocator + Copy>(
     alloc: A,
     entries: &mut Vec<Entry<A>, A>,
     next: u64,
-    portions: &[&[u8]],
     jobs: &[JobLines],
 ) -> Option<u64>
-    requires below { Below next entries.old.items }
-    requires read { AreJobsOf portions.now jobs.now }
+    requires { Below next entries.old.items }
+    ensures kept { Extends entries.old.items entries.new.items }
     ensures below { IfSome result (λ later. Below later entries.new.items) }
-    ensures added { IfSome result (λ later. AddsAll entries.old.items (portion_lines (texts portions.now)) entries.new.items) }
+    ensures added { IfSome result (λ later. (ls : List (List ℕ)) → AreJobsIn ls jobs.now → AddsAll entries.old.items ls entries.new.items) }
 {
     let mut next = next;
-    for (place, portion) in portions.iter().enumerate() {
-        match add_portion(alloc, entries, next, portion, &jobs[place]) {
+    for portion in jobs {
+        match add_portion(alloc, entries, next, portion) {
             Some(later) => next = later,
             None => return None,
         }
+    }
+    Some(next)
+}
+
+// How many lines were read in portions. None where one was not read.
+pub(crate) fn lines_of(jobs: &[JobLines]) -> Option<u64>
+    ensures { IfSome result (λ count. (ls : List (List ℕ)) → AreJobsIn ls jobs.now → count ≡ length ls) }
+{
+    let mut lines = 0u64;
+    for portion in jobs {
+        let counts = portion.count?;
+        lines = lines.checked_add(counts.lines as u64)?;
+    }
+    Some(lines)
+}
+
+// Adds the entries of some lines, portion after portion, if they are blank or summary lines whose numbers
+// rise from this one on.
+pub(crate) fn add_lines<A: Allocator + Copy>(
+    alloc: A,
+    entries: &mut Vec<Entry<A>, A>,
+    next: u64,
+    bytes: &[u8],
+) -> Option<u64>
+    requires { Below next entries.old.items }
+    ensures kept { Extends entries.old.items entries.new.items }
+    ensures added { IfSome result (λ later. AddsAll entries.old.items (lines bytes.now) entries.new.items) }
+    ensures some { IfNone result (0 < length bytes.now) }
+{
+    let mut jobs = JobLines::new();
+    let mut next = next;
+    let mut rest = bytes;
+    'portions: while !rest.is_empty() {
+        let (portion, after) = split_portion(rest);
+        jobs.read(portion);
+        next = add_portion(alloc, entries, next, &jobs)?;
+        rest = after;
     }
     Some(next)
 }

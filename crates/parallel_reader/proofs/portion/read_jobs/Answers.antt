@@ -1,7 +1,8 @@
 use Rattle.std.proofs.Common.{◌≡◌, ◌<◌, ◌+◌, set, ◌∷◌, ◌++◌, [], List, ℕ, length, map, take, ap, refl, subst, sym, ◌∙◌, arith, false-eqb, length-set}
 use Rattle.std.specs.List.{before_first}
 use Rattle.swf_text.specs.Text.{is_feed}
-use Rattle.std.proofs.lemmas.List.{take_more_set, map-append}
+use Rattle.std.proofs.lemmas.List.{take_more_set, map-append, length-append}
+use Rattle.swf_text.proofs.Lemmas.{after-shorter}
 use Rattle.swf_text.specs.declared.packed.PackedLine.{PackedLine}
 use Rattle.parallel_reader.specs.Jobs.{AreJobs, job_of}
 use Rattle.parallel_reader.proofs.Jobs.{line_taken, blank_more, job_line_more}
@@ -22,6 +23,8 @@ lines-preserved-else-count-jobs c =
       read = subst (AreJobs (h.front ++ line ∷ [])) (sym written) (job_line_more h.front line (map job_of (take c.lines.count c.lines.jobs)) (job_of job) h.read c.in-Some-packed_line.ensures);
       within = omega (arith, length-set {A = PackedLine});
       same = omega (arith, h.same, c.read_front.ensures.same, length-set {A = PackedLine});
+      counted = omega (arith, h.counted, length-append h.front (line ∷ []));
+      bound = omega (arith, h.bound, ap length c.split_line.ensures.rest, after-shorter c.lines.rest.now some);
     }
 
 pub lines-preserved : goal.lines-preserved
@@ -35,6 +38,8 @@ lines-preserved c =
           (blank_more h.front c.split_line.result.0.now (map job_of (take c.lines.count c.lines.jobs)) h.read (c.if-not-is_blank.ensures refl));
       within = omega (arith, h.within, c.read_front.ensures.same);
       same = omega (arith, h.same, c.read_front.ensures.same);
+      counted = omega (arith, h.counted, length-append h.front (c.split_line.result.0.now ∷ []));
+      bound = omega (arith, h.bound, ap length c.split_line.ensures.rest, after-shorter c.lines.rest.now some);
     }
 
 pub lines-preserved-in-Some : goal.lines-preserved-in-Some
@@ -52,4 +57,6 @@ lines-preserved-in-Some c =
       read = subst (AreJobs (h.front ++ line ∷ [])) (sym written) (job_line_more h.front line (map job_of (take c.lines.count c.lines.jobs)) (job_of job) h.read took.3);
       within = let l = took.1 in omega (arith, l);
       same = omega (arith, h.same, c.read_front.ensures.same);
+      counted = omega (arith, h.counted, length-append h.front (line ∷ []));
+      bound = omega (arith, h.bound, ap length c.in-Some.ensures.rest, after-shorter c.lines.rest.now some);
     }

@@ -1,25 +1,32 @@
-use Rattle.swf_text.specs.Text.{lines}
-use Rattle.std.proofs.Common.{Ok}
-use Rattle.swf_text.proofs.Lemmas.{gives_text, gives_only, gives_fault, gives_comments}
+use Rattle.std.proofs.Common.{ℕ, List, [], ◌++◌, drop, ap, subst, ◌∙◌}
+use Rattle.std.proofs.lemmas.List.{take_rest}
+use Rattle.parallel_reader.specs.Fronts.{IsReading}
+use Rattle.parallel_reader.proofs.Fronts.{memory_reading, split_front}
 use Rattle.parallel_reader.proofs.reader.read_parallel.Goals as goal
 
-pub returns-in-Some-clause-text : goal.returns-in-Some-clause-text
-returns-in-Some-clause-text g c = gives_text (Ok c.in-Some.text) (lines c.args.bytes.now) c.in-Some.ensures
+-- what was read behind the front is all
+read : (g : _) (c : goal.After-drop-read g) → IsReading c.args.bytes.now c.read_behind.result
+read g c =
+    let bytes = c.args.bytes.now in
+    let is = c.in-Ok.ensures.read in
+    let split = split_front bytes _ c.in-Ok.read.front c.in-Ok.read.rest.items is in
+    let whole = ap (λ (l : List ℕ). is.front ++ l) (take_rest bytes c.bytes-at.result ∙ ap (λ (n : ℕ). drop n bytes) c.bytes-at.ensures) ∙ split.0 in
+    subst (λ (l : List ℕ). IsReading l c.read_behind.result) whole (c.read_behind.ensures is.front is.is_front)
 
-pub returns-in-Some-clause-only : goal.returns-in-Some-clause-only
-returns-in-Some-clause-only g c = gives_only (Ok c.in-Some.text) (lines c.args.bytes.now) c.in-Some.ensures
+pub returns-in-Ok-clause-text : goal.returns-in-Ok-clause-text
+returns-in-Ok-clause-text g c = (read g c).text
 
-pub returns-in-Some-clause-comments : goal.returns-in-Some-clause-comments
-returns-in-Some-clause-comments g c = gives_comments c.args.bytes.now (Ok c.in-Some.text) (gives_text (Ok c.in-Some.text) (lines c.args.bytes.now) c.in-Some.ensures)
+pub returns-in-Ok-clause-only : goal.returns-in-Ok-clause-only
+returns-in-Ok-clause-only g c = (read g c).only
 
-pub returns-in-None-clause-text : goal.returns-in-None-clause-text
-returns-in-None-clause-text g c = gives_text c.read_batches.result (lines c.args.bytes.now) c.read_batches.ensures.exact
+pub returns-in-Ok-clause-fault : goal.returns-in-Ok-clause-fault
+returns-in-Ok-clause-fault g c = (read g c).fault
 
-pub returns-in-None-clause-only : goal.returns-in-None-clause-only
-returns-in-None-clause-only g c = gives_only c.read_batches.result (lines c.args.bytes.now) c.read_batches.ensures.exact
+pub returns-in-Ok-clause-reached : goal.returns-in-Ok-clause-reached
+returns-in-Ok-clause-reached g c = (read g c).reached
 
-pub returns-in-None-clause-fault : goal.returns-in-None-clause-fault
-returns-in-None-clause-fault g c = gives_fault c.read_batches.result (lines c.args.bytes.now) c.read_batches.ensures.exact
+pub returns-in-Ok-clause-comments : goal.returns-in-Ok-clause-comments
+returns-in-Ok-clause-comments g c = (read g c).comments
 
-pub returns-in-None-clause-comments : goal.returns-in-None-clause-comments
-returns-in-None-clause-comments g c = gives_comments c.args.bytes.now c.read_batches.result (gives_text c.read_batches.result (lines c.args.bytes.now) c.read_batches.ensures.exact)
+pub returns-in-Err-clause-reached : goal.returns-in-Err-clause-reached
+returns-in-Err-clause-reached g c = (memory_reading [] c.args.bytes.now (c.is_for_one.ensures c.if-is_for_one.false)).reached

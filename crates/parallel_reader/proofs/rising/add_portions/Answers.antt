@@ -1,17 +1,21 @@
-use Rattle.std.proofs.Common.{◌<◌, List, ℕ, Bor, arith, length}
-use Rattle.std.proofs.lemmas.List.{length-map}
-use Rattle.parallel_reader.specs.Adding.{texts}
-use Rattle.parallel_reader.proofs.Jobs.{all_none, portions_next, lines_at}
+use Rattle.std.proofs.Common.{arith}
+use Rattle.parallel_reader.proofs.Jobs.{all_none, extends_none, extends_then, portions_all, portions_at}
 use Rattle.parallel_reader.proofs.rising.add_portions.Goals as goal
 
-pub loop-place-init : goal.loop-place-init
-loop-place-init g c = record { below = c.requires.below; added = all_none c.args.entries.now.items }
+pub loop-portion-init : goal.loop-portion-init
+loop-portion-init g c = record { kept = extends_none c.args.entries.now.items; below = c.requires; added = λ ps count read. all_none c.args.entries.now.items }
 
-pub loop-place-preserved : goal.loop-place-preserved
-loop-place-preserved g c =
-    let ps = c.args.portions.now in
-    let within : c.loop-place.place < length (texts ps) = omega (arith, c.loop-place-test.true, length-map ps (λ (p : Bor (List ℕ)). p.now)) in
+pub loop-portion-preserved : goal.loop-portion-preserved
+loop-portion-preserved g c =
+    let h = c.loop-portion.invariant in
     record {
+      kept = extends_then c.args.entries.now.items c.loop-portion.entries.items c.add_portion.new.entries.items h.kept c.add_portion.ensures.kept;
       below = c.in-Some.ensures.below;
-      added = portions_next c.args.entries.now.items c.loop-place.entries.items c.add_portion.new.entries.items (texts ps) c.loop-place.place within c.loop-place.invariant.added (lines_at ps c.loop-place.place _ c.loop-place.entries.items c.add_portion.new.entries.items (omega (arith, c.loop-place-test.true)) c.in-Some.ensures.added);
+      added = portions_at c.args.entries.now.items c.loop-portion.entries.items c.add_portion.new.entries.items c.args.jobs.now c.loop-portion.portion-index _ (omega (arith, c.loop-portion-test.true)) h.added c.in-Some.ensures.added;
     }
+
+pub returns-in-None-clause-kept : goal.returns-in-None-clause-kept
+returns-in-None-clause-kept g c = extends_then c.args.entries.now.items c.loop-portion.entries.items c.add_portion.new.entries.items c.loop-portion.invariant.kept c.add_portion.ensures.kept
+
+pub returns-clause-added : goal.returns-clause-added
+returns-clause-added g c = portions_all c.args.entries.now.items c.loop-portion.entries.items c.args.jobs.now c.loop-portion.portion-index (omega (arith, c.loop-portion-test.false)) c.loop-portion.invariant.added

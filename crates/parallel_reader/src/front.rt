@@ -1,0 +1,194 @@
+ghost use Rattle.std.specs.Prelude.{◌≡◌, ◌<◌, ◌+◌, ◌-◌, ◌^◌, ◌++◌, ℕ, List, [], length, IfSome};
+ghost use Rattle.swf_text.specs.Text.{lines};
+ghost use Rattle.parallel_reader.specs.Fronts.{EndsLine, Grows, IsFront, IsReading};
+
+use crate::batch::add_batches;
+use crate::piece::Piece;
+use crate::reader::is_for_one;
+use crate::rising::{add_lines, add_portions, lines_of, number_behind};
+use std::alloc::Allocator;
+use std::marker::{Model, Sync};
+use std::thread::Threads;
+use swf_text::{
+    Builder, ENTRY_LIMIT, Entry, FaultKind, LineRead, SwfFault, SwfText, read_swf, split_line,
+};
+
+/// The front of a log: whole lines that were read. Contracts see what they hold, how many they are,
+/// and how many bytes they have with their line feeds.
+#[derive(Drop)]
+pub struct LogFront<A: Allocator + Copy> {
+    // The bytes of its first lines, behind which each is blank or the summary line of an entry.
+    head: Vec<u8, A>,
+    comments: Vec<Vec<u8, A>, A>,
+    entries: Vec<Entry<A>, A>,
+    // How many entries the first lines have.
+    headed: usize,
+    // One above the greatest job number.
+    next: u64,
+    lines: u64,
+    bytes: u64,
+}
+
+impl<A: Allocator + Copy> Model for LogFront<A> {
+    ghost use Rattle.std.specs.Prelude.{◌≡◌, ◌≤◌, Ok, length, map, take};
+    ghost use Rattle.swf_text.specs.Reading.{text_of};
+    ghost use Rattle.parallel_reader.specs.Fronts.{Progress};
+    ghost use Rattle.parallel_reader.specs.Jobs.{Below};
+
+    ghost Value = { Progress };
+
+    ghost view = { λ f. record { text = record { comments = map (λ c. c.items) f.comments.items; entries = f.entries.items }; lines = f.lines; bytes = f.bytes } };
+
+    ghost invariant = { λ f. record { below : Below f.next f.entries.items; within : f.headed ≤ length f.entries.items; head : text_of f.head.items ≡ Ok (record { comments = map (λ c. c.items) f.comments.items; entries = take f.headed f.entries.items }) } };
+}
+
+// How many lines some bytes are.
+fn count_lines(bytes: &[u8]) -> u64
+    ensures { result ≡ length (lines bytes.now) }
+{
+    let mut count = 0u64;
+    let mut rest = bytes;
+    'lines: while !rest.is_empty() {
+        let (_line, after) = split_line(rest);
+        rest = after;
+        count += 1;
+    }
+    count
+}
+
+impl<A: Allocator + Copy> LogFront<A> {
+    // No lines. Takes no memory.
+    pub(crate) fn new(alloc: A) -> LogFront<A>
+        ensures { IsFront [] result }
+    {
+        LogFront {
+            head: Vec::new(alloc),
+            comments: Vec::new(alloc),
+            entries: Vec::new(alloc),
+            headed: 0,
+            next: 0,
+            lines: 0,
+            bytes: 0,
+        }
+    }
+
+    // Reads the first lines of a log. None where one has a fault, or a growth was refused.
+    pub(crate) fn of_head(alloc: A, head: &[u8]) -> Option<LogFront<A>>
+        requires { EndsLine head.now }
+        ensures { IfSome result (IsFront head.now) }
+    {
+        let Ok(text) = read_swf(alloc, head) else {
+            return None;
+        };
+        let Ok(lines) = Vec::from_slice(alloc, head) else {
+            return None;
+        };
+        let (comments, mut entries) = text.into_parts();
+        let next = number_behind(entries.as_slice());
+        // Where this is refused, the entries are moved as they come.
+        let headed = entries.len();
+        let _refused = entries.reserve(ENTRY_LIMIT.saturating_sub(headed));
+        Some(LogFront {
+            head: lines,
+            comments,
+            entries,
+            headed,
+            next,
+            lines: count_lines(head),
+            bytes: head.len() as u64,
+        })
+    }
+
+    /// How many bytes its lines have.
+    pub fn bytes(&self) -> u64
+        ensures { result ≡ self.now.bytes }
+    {
+        self.bytes
+    }
+
+    // Adds the lines of a piece, if that can be by its job lines: whether it was. If not, it is as before.
+    pub(crate) fn add(&mut self, alloc: A, piece: &Piece<A>) -> bool
+        ensures { Grows self.old piece.now self.new result }
+    {
+        let jobs = piece.jobs();
+        let Some(more) = lines_of(jobs) else {
+            return false;
+        };
+        let Some(lines) = self.lines.checked_add(more) else {
+            return false;
+        };
+        let Some(bytes) = self.bytes.checked_add(piece.lines().len() as u64) else {
+            return false;
+        };
+        let count = self.entries.len();
+        match add_portions(alloc, &mut self.entries, self.next, jobs) {
+            Some(next) => {
+                self.next = next;
+                self.lines = lines;
+                self.bytes = bytes;
+                true
+            }
+            None => {
+                self.entries.truncate(count);
+                false
+            }
+        }
+    }
+
+    // What is known where lines behind it are read. None where a growth was refused.
+    fn builder<R: Threads + Sync>(&self, rt: &R, alloc: A) -> Option<Builder<A>>
+        ensures { IfSome result (λ text. text ≡ self.now.text) }
+    {
+        let mut text = Builder::new(alloc);
+        // Where this is refused, the capacity grows as entries come.
+        let _refused = text.make_room(self.entries.len());
+        let Ok(()) = add_batches(rt, alloc, &mut text, 0, self.head.as_slice()) else {
+            return None;
+        };
+        for entry in &self.entries[self.headed..] {
+            if !entry.parts().is_empty() {
+                return None;
+            }
+            let Ok(()) = text.add_read(alloc, &[], LineRead::Job(entry.main())) else {
+                return None;
+            };
+        }
+        Some(text)
+    }
+
+    /// Reads the bytes behind it: the log that both are, or its first faulty line, as `read_swf` reads
+    /// them in one.
+    ///
+    /// A fault of kind `Memory` comes where a growth was refused; all lines before its line are without
+    /// faults. The front is one that `begin_log` has read.
+    pub fn read_behind<R: Threads + Sync>(
+        self,
+        rt: &R,
+        alloc: A,
+        bytes: &[u8],
+    ) -> Result<SwfText<A>, SwfFault>
+        requires front { (front : List ℕ) × IsFront front self }
+        requires size { self.bytes + length bytes.now < 2 ^ 64 - 1 }
+        ensures { (front : List ℕ) → IsFront front self → IsReading (front ++ bytes.now) result }
+    {
+        if self.bytes == 0 && is_for_one(rt, bytes) {
+            return read_swf(alloc, bytes);
+        }
+        let mut front = self;
+        let count = front.entries.len();
+        match add_lines(alloc, &mut front.entries, front.next, bytes) {
+            Some(_next) => return Ok(SwfText::of_parts(front.comments, front.entries)),
+            None => front.entries.truncate(count),
+        }
+        let Some(mut text) = front.builder(rt, alloc) else {
+            return Err(SwfFault {
+                line: 1,
+                kind: FaultKind::Memory,
+            });
+        };
+        match add_batches(rt, alloc, &mut text, front.lines, bytes) {
+            Ok(()) => Ok(text.finish()),
+            Err(fault) => Err(fault),
+        }
+    }
+}
