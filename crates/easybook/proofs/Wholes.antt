@@ -62,8 +62,3 @@ text-unmarked (line ∷ ls) t u h =
 -- a log has no mark
 pub unmarked : (log : List ℕ) (t : LogText) → IsText (lines log) t → list_any is_mark (lines log) ≡ false
 unmarked log t h = text-unmarked (lines log) empty t h
-
--- so a log that was opened is all of its input
-pub whole-cut : (O E : Type 0) (P : O → Type 0) (input : List ℕ) (r : Result O E) (s : Option O) → ((o : O) → P o → list_any is_mark (lines input) ≡ false) → IfOk r P → s ≡ result_ok r → IfSome s (λ o. IsCut input input None)
-whole-cut O E P input (Ok o) s step p is = subst (λ (t : Option O). IfSome t (λ _. IsCut input input None)) (sym is) (refl, step o p)
-whole-cut O E P input (Err e) s step p is = subst (λ (t : Option O). IfSome t (λ _. IsCut input input None)) (sym is) tt

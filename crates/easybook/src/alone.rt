@@ -1,4 +1,6 @@
+ghost use Rattle.std.specs.Prelude.{ℕ, List, Option, map};
 ghost use Rattle.easybook.specs.Alone.{RunsAlone};
+ghost use Rattle.easybook.specs.Book.{IsBookOf};
 
 use crate::book::{OpenedBook, book_of, opened_book};
 use crate::fault::ProgramFault;
@@ -12,6 +14,22 @@ use std::thread::Threads;
 
 /// The most bytes of a script.
 pub(crate) const SCRIPT_LIMIT: u64 = 16_777_216;
+
+// Works a script on an opened log, and writes the response to each command.
+pub(crate) fn work_script<R: Read + Drop, W: Write, A: Allocator + Copy>(
+    alloc: A,
+    script: R,
+    writer: &mut W,
+    opened: OpenedBook<A>,
+) -> Result<(), ProgramFault>
+    ensures { (log : List ℕ) (procs : Option ℕ) (spacing : ℕ) → IsBookOf log procs spacing (map (λ c. c.items) opened.comments.items) opened.book
+        → RunsAlone A log procs (R.remaining script) (W.contents writer.old) (W.contents writer.new) result }
+{
+    let OpenedBook { book, comments } = opened;
+    let script = read_input(alloc, script, SCRIPT_LIMIT)?;
+    run_lines(alloc, book, comments.as_slice(), script.as_slice(), writer)?;
+    Ok(())
+}
 
 /// Works a script on a log, as one session with one worker, and writes the response to each command.
 /// The log's scenarios are those of its comments, as `commands::open_text` opens it with
@@ -34,10 +52,8 @@ pub fn run_alone<R: Read + Drop, W: Write, T: Threads + Sync, A: Allocator + Cop
 ) -> Result<(), ProgramFault>
     ensures { RunsAlone A log.now options.procs (R.remaining script) (W.contents writer.old) (W.contents writer.new) result }
 {
-    let OpenedBook { book, comments } = opened_book(rt, alloc, log, options)?;
-    let script = read_input(alloc, script, SCRIPT_LIMIT)?;
-    run_lines(alloc, book, comments.as_slice(), script.as_slice(), writer)?;
-    Ok(())
+    let opened = opened_book(rt, alloc, log, options)?;
+    work_script(alloc, script, writer, opened)
 }
 
 // As `run_alone`; the log's bytes are dropped once it is opened.
@@ -51,8 +67,6 @@ pub(crate) fn run_on_log<R: Read + Drop, W: Write, T: Threads + Sync, A: Allocat
 ) -> Result<(), ProgramFault>
     ensures { RunsAlone A log.items options.procs (R.remaining script) (W.contents writer.old) (W.contents writer.new) result }
 {
-    let OpenedBook { book, comments } = book_of(rt, alloc, log, options)?;
-    let script = read_input(alloc, script, SCRIPT_LIMIT)?;
-    run_lines(alloc, book, comments.as_slice(), script.as_slice(), writer)?;
-    Ok(())
+    let opened = book_of(rt, alloc, log, options)?;
+    work_script(alloc, script, writer, opened)
 }

@@ -1,10 +1,11 @@
-ghost use Rattle.std.specs.Prelude.{◌≡◌, IfErr, IfOk, OnOk, map};
+ghost use Rattle.std.specs.Prelude.{◌≡◌, ℕ, List, Option, IfErr, IfOk, OnOk, map};
 ghost use Rattle.book_machine.specs.Call.{AddScenario};
 ghost use Rattle.book_machine.specs.Machine.{after, opened};
 ghost use Rattle.checkpoints.specs.Spacing.{IsSpacing};
 ghost use Rattle.version_book.specs.Book.{machine_of};
 ghost use Rattle.scripts.specs.Transcript.{with_scenarios};
 ghost use Rattle.easybook.specs.Book.{IsBookOf};
+ghost use Rattle.easybook.specs.Opened.{IsOpened};
 ghost use Rattle.easybook.specs.Plain.{IsFaultOf};
 
 use crate::fault::ProgramFault;
@@ -77,7 +78,27 @@ fn add_all<A: Allocator + Copy>(
     Ok(())
 }
 
-// The book of a log. Memory also where a scenario cannot be noted.
+// The book of an opened log. Memory also where a scenario cannot be noted.
+pub(crate) fn book_over<A: Allocator + Copy>(
+    alloc: A,
+    opening: Opening<A>,
+    spacing: u32,
+) -> Result<OpenedBook<A>, Memory>
+    requires { IsSpacing spacing }
+    ensures { IfOk result (λ o. (log : List ℕ) (procs : Option ℕ) → IsOpened log procs (map (λ c. c.items) opening.comments.items) opening.table opening.scenarios
+        → IsBookOf log procs spacing (map (λ c. c.items) o.comments.items) o.book) }
+{
+    let Opening {
+        comments,
+        table,
+        scenarios,
+    } = opening;
+    let mut book = new_book(alloc, table, spacing)?;
+    add_all(&mut book, &scenarios)?;
+    Ok(OpenedBook { book, comments })
+}
+
+// The book of a log.
 pub(crate) fn opened_book<T: Threads + Sync, A: Allocator + Copy>(
     rt: &T,
     alloc: A,
@@ -87,14 +108,9 @@ pub(crate) fn opened_book<T: Threads + Sync, A: Allocator + Copy>(
     ensures book { IfOk result (λ o. IsBookOf log.now options.procs options.spacing (map (λ c. c.items) o.comments.items) o.book) }
     ensures fault { IfErr result (IsFaultOf log.now options.procs) }
 {
-    let Opening {
-        comments,
-        table,
-        scenarios,
-    } = opening_of(rt, alloc, log, options.procs)?;
-    let mut book = new_book(alloc, table, options.spacing)?;
-    add_all(&mut book, &scenarios)?;
-    Ok(OpenedBook { book, comments })
+    let opening = opening_of(rt, alloc, log, options.procs)?;
+    let opened = book_over(alloc, opening, options.spacing)?;
+    Ok(opened)
 }
 
 // The book of a log, whose bytes are dropped.

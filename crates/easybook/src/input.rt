@@ -1,9 +1,24 @@
-ghost use Rattle.std.specs.Prelude.{◌≡◌, ◌≤◌, ◌<◌, ◌+◌, ◌^◌, IfErr, IfOk, IfSome, take, vec_len};
-ghost use Rattle.easybook.specs.Input.{IsInputFault, IsReadFault};
+ghost use Rattle.std.specs.Prelude.{◌≡◌, ◌≤◌, ◌<◌, ◌+◌, ◌^◌, ◌++◌, true, IfErr, IfOk, IfSome, OnOk, take, vec_len};
+ghost use Rattle.std.specs.Io.KnownBytes.{IsAtEnd};
+ghost use Rattle.easybook.specs.Input.{IsBegun, IsInputFault, IsReadFault};
 
 use crate::fault::ProgramFault;
+use parallel_reader::{BegunLog, LogFront, begin_log};
 use std::alloc::Allocator;
+use std::io;
 use std::io::{ErrorKind, Read};
+use std::marker::Sync;
+use std::thread::Threads;
+
+// Why a reader, or memory for what it has, failed.
+pub(crate) fn fault_of_reader(error: io::Error) -> ProgramFault
+    ensures { IsReadFault result }
+{
+    match error.kind() {
+        ErrorKind::OutOfMemory => ProgramFault::Memory,
+        _ => ProgramFault::Read,
+    }
+}
 
 // Reads all of a reader, up to one byte past a limit.
 pub(crate) fn read_front<R: Read + Drop, A: Allocator + Copy>(
@@ -18,8 +33,7 @@ pub(crate) fn read_front<R: Read + Drop, A: Allocator + Copy>(
     let mut bytes = Vec::new(alloc);
     match reader.take(limit + 1).read_to_end(&mut bytes) {
         Ok(_) => Ok(bytes),
-        Err(error) if error.kind() == ErrorKind::OutOfMemory => Err(ProgramFault::Memory),
-        Err(_) => Err(ProgramFault::Read),
+        Err(error) => Err(fault_of_reader(error)),
     }
 }
 
@@ -42,4 +56,58 @@ pub fn read_input<R: Read + Drop, A: Allocator + Copy>(
         return Err(ProgramFault::TooLong);
     }
     Ok(bytes)
+}
+
+/// An input of which the front of its log was read.
+#[derive(Drop)]
+pub(crate) struct BegunInput<A: Allocator + Copy> {
+    pub(crate) front: LogFront<A>,
+    pub(crate) rest: Vec<u8, A>,
+}
+
+// Reads what a reader has left, behind bytes that were read, unless it is known to have no more.
+fn read_rest<R: Read, A: Allocator + Copy>(
+    reader: &mut R,
+    rest: &mut Vec<u8, A>,
+    is_end: bool,
+) -> Result<(), ProgramFault>
+    requires { is_end ≡ true → IsAtEnd (R.remaining reader.old) }
+    ensures whole { OnOk result (IfSome (R.remaining reader.old) (λ more. rest.new.items ≡ rest.old.items ++ more)) }
+    ensures fault { IfErr result IsReadFault }
+{
+    if is_end {
+        return Ok(());
+    }
+    match reader.read_to_end(rest) {
+        Ok(_) => Ok(()),
+        Err(error) => Err(fault_of_reader(error)),
+    }
+}
+
+// Reads all that a reader has, at most `limit` bytes, and meanwhile the front of the log that they begin with.
+pub(crate) fn begin_input<T: Threads + Sync, R: Read + Drop, A: Allocator + Copy>(
+    rt: &T,
+    alloc: A,
+    reader: R,
+    limit: u64,
+) -> Result<BegunInput<A>, ProgramFault>
+    requires { limit < 2 ^ 63 }
+    ensures whole { IfOk result (λ b. IsBegun (R.remaining reader) b.front b.rest.items) }
+    ensures fault { IfErr result (IsInputFault (R.remaining reader) limit) }
+{
+    let mut reader = reader.take(limit + 1);
+    let read = match begin_log(rt, alloc, &mut reader) {
+        Ok(read) => read,
+        Err(error) => return Err(fault_of_reader(error)),
+    };
+    let BegunLog {
+        front,
+        mut rest,
+        is_end,
+    } = read;
+    read_rest(&mut reader, &mut rest, is_end)?;
+    if front.bytes().saturating_add(rest.len() as u64) > limit {
+        return Err(ProgramFault::TooLong);
+    }
+    Ok(BegunInput { front, rest })
 }

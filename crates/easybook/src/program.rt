@@ -4,13 +4,13 @@ ghost use Rattle.easybook.specs.Input.{IsNotHad, IsReadFault};
 ghost use Rattle.easybook.specs.Opened.{IsOpened};
 ghost use Rattle.easybook.specs.Plain.{Answers};
 ghost use Rattle.easybook.specs.Program.{AreFronts, Ends, EndsFrom, EndsOnFile, EndsOnInput, EndsOnScripts, IsFront, log_known};
-ghost use Rattle.easybook.specs.Split.{IsCut};
 
-use crate::alone::{SCRIPT_LIMIT, run_alone, run_on_log};
+use crate::alone::{SCRIPT_LIMIT, run_on_log, work_script};
+use crate::book::book_over;
 use crate::fault::ProgramFault;
-use crate::input::{read_front, read_input};
+use crate::input::{begin_input, fault_of_reader, read_front, read_input};
 use crate::live::talk_on_file;
-use crate::opened::{LOG_LIMIT, opening_of};
+use crate::opened::{LOG_LIMIT, opening_behind};
 use crate::options::Options;
 use crate::plain::write_first;
 use crate::shared::run_shared;
@@ -19,9 +19,8 @@ use crate::split::split_input;
 use crate::stop::Stop;
 use crate::words::{Words, read_words};
 use commands::Opening;
-use memchr::memchr;
 use std::alloc::{Allocator, Global};
-use std::io::{ErrorKind, Read, Write};
+use std::io::{Read, Write};
 use std::marker::Sync;
 use std::mem::forget;
 use std::rt::Files;
@@ -30,9 +29,6 @@ use std::thread::Threads;
 
 /// The most bytes of standard input where it holds the log.
 const INPUT_LIMIT: u64 = 1_200_000_000;
-
-/// So many bytes at an input's end are looked at for a percent sign, before it is read as a log alone.
-const INPUT_END: usize = 1_048_576;
 
 // Reads a log, at most one byte past its limit, then a script likewise, and works the script on the
 // log, whose bytes are dropped once it is opened. Read where either cannot be read, whatever the other
@@ -73,43 +69,8 @@ fn write_last<W: Write, T: Threads + Sync, A: Allocator + Copy>(
     }
 }
 
-// Runs a log alone, whose bytes are dropped once it is opened.
-fn run_log<W: Write, T: Threads + Sync, A: Allocator + Copy>(
-    rt: &T,
-    alloc: A,
-    log: Vec<u8, A>,
-    writer: &mut W,
-    options: Options,
-) -> Result<(), ProgramFault>
-    ensures { Answers log.items options.procs (W.contents writer.old) (W.contents writer.new) result }
-{
-    let opening = opening_of(rt, alloc, log.as_slice(), options.procs)?;
-    drop(log);
-    write_last(rt, alloc, writer, opening)
-}
-
-// Opens a long input that is a log alone, so that no line of it is looked at for a mark: none is one, since a
-// mark is no line of a log. None where a percent sign stands near its end, as before most scripts, and where
-// it can't be opened so.
-fn open_whole<T: Threads + Sync, A: Allocator + Copy>(
-    rt: &T,
-    alloc: A,
-    input: &[u8],
-    procs: Option<u64>,
-) -> Option<Opening<A>>
-    ensures opened { IfSome result (λ o. IsOpened input.now procs (map (λ c. c.items) o.comments.items) o.table o.scenarios) }
-    ensures some { IfSome result (λ o. slice_get o.scenarios.scenarios 0 ≡ None → ⊥) }
-    ensures cut { IfSome result (λ o. IsCut input.now input.now None) }
-{
-    let end = input.len().checked_sub(INPUT_END)?;
-    if memchr(b'%', &input[end..]).is_some() {
-        return None;
-    }
-    opening_of(rt, alloc, input, procs).ok()
-}
-
 // Reads an input, at most 1,200,000,000 bytes, and runs the log that it holds, with the script
-// behind it, if there is one. The bytes of a log alone are dropped once it is opened.
+// behind it, if there is one. The log's lines are read as they come, and their bytes are let go.
 fn run_input<R: Read + Drop, W: Write, T: Threads + Sync, A: Allocator + Copy>(
     rt: &T,
     alloc: A,
@@ -119,14 +80,19 @@ fn run_input<R: Read + Drop, W: Write, T: Threads + Sync, A: Allocator + Copy>(
 ) -> Result<(), ProgramFault>
     ensures { EndsOnInput A options.procs (R.remaining reader) (W.contents writer.old) (W.contents writer.new) result }
 {
-    let input = read_input(alloc, reader, INPUT_LIMIT)?;
-    if let Some(opening) = open_whole(rt, alloc, input.as_slice(), options.procs) {
-        drop(input);
-        return write_last(rt, alloc, writer, opening);
-    }
-    match split_input(input.as_slice()) {
-        (log, Some(script)) => run_alone(rt, alloc, script, writer, log, options),
-        (_, None) => run_log(rt, alloc, input, writer, options),
+    let begun = begin_input(rt, alloc, reader, INPUT_LIMIT)?;
+    let (front, rest) = (begun.front, begun.rest);
+    let (log, script) = split_input(rest.as_slice());
+    let opening = opening_behind(rt, alloc, front, log, options.procs)?;
+    match script {
+        Some(script) => {
+            let opened = book_over(alloc, opening, options.spacing)?;
+            work_script(alloc, script, writer, opened)
+        }
+        None => {
+            drop(rest);
+            write_last(rt, alloc, writer, opening)
+        }
     }
 }
 
@@ -208,8 +174,7 @@ fn open<S: Sources>(sources: &S, name: &str) -> Result<S::Source, ProgramFault>
 {
     match sources.source(name) {
         Ok(source) => Ok(source),
-        Err(error) if error.kind() == ErrorKind::OutOfMemory => Err(ProgramFault::Memory),
-        Err(_) => Err(ProgramFault::Read),
+        Err(error) => Err(fault_of_reader(error)),
     }
 }
 
@@ -244,7 +209,8 @@ fn run_on_named<S: Sources, T: Threads + Sync, R: Read + Drop, W: Write>(
 /// without a file TooLong where the reader has over 1,200,000,000 bytes; Read where the reader
 /// returns an error; those of the called function. A log in a file is read to at most one byte past
 /// 1,073,741,824, a script beside it to one past 16,777,216. Memory where a growth is refused. Where
-/// the words are bad or the input cannot be read, nothing is written.
+/// the words are bad or the input cannot be read, nothing is written. The memory of a log alone is not given back, since the
+/// process ends behind this call.
 pub fn run_words<F: Files + Threads + Wait + Sync, R: Read + Drop, W: Write>(
     alloc: Global,
     files: &F,
