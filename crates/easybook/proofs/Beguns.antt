@@ -1,5 +1,5 @@
 -- An input of which the front of its log was read.
-use Rattle.std.proofs.Common.{rules, ◌≡◌, ℕ, ◌<◌, ◌≤◌, false, List, [], ◌∷◌, ◌++◌, length, take, Option, Some, None, IfSome, IfErr, Result, Ok, Err, refl, sym, ap, subst, ◌∙◌, append_assoc, inl, inr, ◌+◌, arith}
+use Rattle.std.proofs.Common.{rules, ◌≡◌, ℕ, ◌<◌, ◌≤◌, false, List, [], ◌∷◌, ◌++◌, length, take, Option, Some, None, IfSome, IfErr, IfOk, Result, Ok, Err, refl, sym, ap, subst, ◌∙◌, append_assoc, inl, inr, ◌+◌, arith}
 use Rattle.std.specs.Prelude.{IsErrAnd}
 use Rattle.std.specs.List.{list_any}
 use Rattle.std.specs.Option.{option_map}
@@ -19,7 +19,7 @@ use Rattle.commands.specs.Opening.{IsOpenFault}
 use Rattle.commands.specs.declared.opening_fault.OpenTextFault.{OpenTextFault}
 use Rattle.commands.specs.declared.opening_fault.OpenTextFault.TheVariants as openings
 use Rattle.easybook.specs.Fault.{fault_of, fault_of_kind, fault_of_opening}
-use Rattle.easybook.specs.Input.{IsBegun}
+use Rattle.easybook.specs.Input.{IsBegun, IsBegunUpTo}
 use Rattle.easybook.specs.Plain.{IsFaultOf, log_limit}
 use Rattle.easybook.specs.Program.{EndsOnInput, OfAll, RunsInput, RunsParts}
 use Rattle.easybook.specs.Split.{IsCut, is_mark}
@@ -60,18 +60,12 @@ front-cut front rest log script p is h =
 
 -- ---- what a reader gave under a limit
 
--- the front of a log, and what stands behind it, are what a reader has up to a limit
-pub record AreUnder (known : Option (List ℕ)) (limit : ℕ) (p : Progress) (rest : List ℕ) : Type 0 where
-  pub front : List ℕ
-  pub is_front : IsFront front p
-  pub whole : IfSome known (λ all. front ++ rest ≡ take limit all)
-
 -- a reader with a limit
 pub limited : {R : Type 0} (remaining : R → Option (List ℕ)) (inner reader : R) (at limit : ℕ) (mid : Option (List ℕ)) (p : Progress) (rest : List ℕ) → inner ≡ reader → at ≡ limit → IsReadBehind [] (option_map (take at) (remaining inner)) mid p rest → IsReadBehind [] (option_map (take limit) (remaining reader)) mid p rest
 limited {R} remaining inner reader at limit mid p rest same_reader same_limit is =
     subst (λ (r : R). IsReadBehind [] (option_map (take limit) (remaining r)) mid p rest) same_reader (subst (λ (n : ℕ). IsReadBehind [] (option_map (take n) (remaining inner)) mid p rest) same_limit is)
 
-pub under : (known mid : Option (List ℕ)) (limit : ℕ) (p : Progress) (rest new : List ℕ) → IsReadBehind [] (option_map (take limit) known) mid p rest → IfSome mid (λ more. new ≡ rest ++ more) → AreUnder known limit p new
+pub under : (known mid : Option (List ℕ)) (limit : ℕ) (p : Progress) (rest new : List ℕ) → IsReadBehind [] (option_map (take limit) known) mid p rest → IfSome mid (λ more. new ≡ rest ++ more) → IsBegunUpTo limit known p new
 under known mid limit p rest new is more = record { front = is.front; is_front = is.is_front; whole = go known mid is.given more }
   where
     go : (k m : Option (List ℕ)) → Consumes (option_map (take limit) k) m is.more → IfSome m (λ more. new ≡ rest ++ more) → IfSome k (λ all. is.front ++ new ≡ take limit all)
@@ -80,7 +74,7 @@ under known mid limit p rest new is more = record { front = is.front; is_front =
     go (Some all) (Some ys) given added =
         ap (λ (l : List ℕ). is.front ++ l) added ∙ sym (append_assoc is.front rest ys) ∙ ap (λ (l : List ℕ). l ++ ys) (sym is.whole) ∙ sym given
 
-pub begun-within : (known : Option (List ℕ)) (limit : ℕ) (p : Progress) (rest : List ℕ) → AreUnder known (limit + 1) p rest → p.bytes + length rest ≤ limit → IsBegun known p rest
+pub begun-within : (known : Option (List ℕ)) (limit : ℕ) (p : Progress) (rest : List ℕ) → IsBegunUpTo (limit + 1) known p rest → p.bytes + length rest ≤ limit → IsBegun known p rest
 begun-within known limit p rest u few = record {
   front = u.front;
   is_front = u.is_front;
@@ -91,8 +85,21 @@ begun-within known limit p rest u few = record {
     all-is-back None bytes h = tt
     all-is-back (Some all) bytes h = sym h
 
-pub begun-past : (known : Option (List ℕ)) (limit : ℕ) (p : Progress) (rest : List ℕ) → AreUnder known (limit + 1) p rest → limit < p.bytes + length rest → IfSome known (λ all. limit < length all)
+pub begun-past : (known : Option (List ℕ)) (limit : ℕ) (p : Progress) (rest : List ℕ) → IsBegunUpTo (limit + 1) known p rest → limit < p.bytes + length rest → IfSome known (λ all. limit < length all)
 begun-past known limit p rest u many = known_more known (u.front ++ rest) limit u.whole (omega (arith, many, u.is_front.size, length-append u.front rest))
+
+pub ok-map : {X E : Type 0} (P S : X → Type 0) (r : Result X E) → ((x : X) → P x → S x) → IfOk r P → IfOk r S
+ok-map P S (Ok x) step p = step x p
+ok-map P S (Err e) step p = tt
+
+-- a source that was opened has what is known under its name
+pub begun-source : (file named : Option (List ℕ)) (limit : ℕ) (p : Progress) (rest : List ℕ) → IfSome named (λ bytes. file ≡ Some bytes) → IsBegunUpTo limit file p rest → IsBegunUpTo limit named p rest
+begun-source file None limit p rest is b = record { front = b.front; is_front = b.is_front; whole = tt }
+begun-source file (Some bytes) limit p rest is b = record {
+  front = b.front;
+  is_front = b.is_front;
+  whole = subst (λ (f : Option (List ℕ)). IfSome f (λ all. b.front ++ rest ≡ take limit all)) is b.whole;
+}
 
 -- ---- what follows for the program
 

@@ -3,9 +3,11 @@ use Rattle.std.proofs.Common.{◌≡◌, ℕ, ◌+◌, ◌++◌, ◌≤◌, ◌<
 use Rattle.std.proofs.lemmas.Bool.{leb-true}
 use Rattle.std.proofs.lemmas.List.{get_or-map, length-map, take_more}
 use Rattle.clap.specs.Walk.{Text}
+use Rattle.parallel_reader.specs.Fronts.{Progress}
 use Rattle.easybook.specs.Alone.{script_limit}
 use Rattle.easybook.specs.Plain.{log_limit}
-use Rattle.easybook.specs.Program.{AreFronts, AreOf, EndsOnScripts, IsFront, Sources}
+use Rattle.easybook.specs.Input.{IsBegun, IsBegunUpTo}
+use Rattle.easybook.specs.Program.{AreFronts, AreOf, EndsOnScripts, IsBegunLog, IsFront, Sources}
 use Rattle.easybook.specs.Shared.{AreWithin, RunsShared, are_within}
 use Rattle.easybook.specs.declared.fault.ProgramFault.{ProgramFault}
 use Rattle.easybook.specs.declared.fault.ProgramFault.TheVariants as faults
@@ -53,3 +55,12 @@ fronts_next sources names place fronts front d lt so_far is =
     let within : place < length texts = omega (arith, lt, length-map names (λ (n : Bor Text). n.now)) in
     let known : IfSome (sources (get_or texts place [])) (λ all. front ≡ take (script_limit + 1) all) = subst (λ (t : Text). IfSome (sources t) (λ all. front ≡ take (script_limit + 1) all)) (sym there) is in
     subst (λ (ns : List Text). AreFronts sources ns (fronts ++ front ∷ [])) (sym (take_more texts place [] within)) (fronts_more sources (take place texts) (get_or texts place []) fronts front so_far known)
+
+-- a log that is read up to one byte past its limit, and one that is read whole
+pub begun-file : (known : Option (List ℕ)) (p : Progress) (rest : List ℕ) → IsBegunUpTo (log_limit + 1) known p rest → IsBegunLog known p rest
+begun-file None p rest b = record { front = b.front; is_front = b.is_front; whole = tt }
+begun-file (Some all) p rest b = record { front = b.front; is_front = b.is_front; whole = inr b.whole }
+
+pub begun-whole : (known : Option (List ℕ)) (p : Progress) (rest : List ℕ) → IsBegun known p rest → IsBegunLog known p rest
+begun-whole None p rest b = record { front = b.front; is_front = b.is_front; whole = tt }
+begun-whole (Some all) p rest b = record { front = b.front; is_front = b.is_front; whole = inl (sym b.whole) }

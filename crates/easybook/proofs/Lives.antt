@@ -12,7 +12,7 @@ use Rattle.scripts.specs.declared.live.LiveFault.TheVariants as live
 use Rattle.easybook.specs.Book.{IsBookOf}
 use Rattle.easybook.specs.Fault.{fault_of_talk}
 use Rattle.easybook.specs.Live.{IsHeld, RunsLive}
-use Rattle.easybook.specs.Plain.{log_limit}
+use Rattle.easybook.specs.Plain.{IsFaultOf, log_limit}
 use Rattle.easybook.specs.Program.{EndsOnTalk, OfAll}
 use Rattle.easybook.specs.declared.fault.ProgramFault.{ProgramFault}
 use Rattle.easybook.specs.declared.fault.ProgramFault.TheVariants as faults
@@ -102,3 +102,16 @@ talk_from {X} A file named procs known old new (Err (faults.Log f)) is h = of_so
 talk_from {X} A file named procs known old new (Err faults.NoMachine) is h = of_source file named (λ l. RunsLive {X = X} A l procs known old new (Err faults.NoMachine)) is h
 talk_from {X} A file named procs known old new (Err faults.BadMachine) is h = of_source file named (λ l. RunsLive {X = X} A l procs known old new (Err faults.BadMachine)) is h
 talk_from {X} A file named procs known old new (Err (faults.Close f)) is h = of_source file named (λ l. RunsLive {X = X} A l procs known old new (Err (faults.Close f))) is h
+
+-- a log that is not opened
+pub refused : {X : Type 0} (A : Type 0) (log : List ℕ) (procs : Option ℕ) (known old : Option (List ℕ)) (fault : ProgramFault) (told : Result X ProgramFault) → told ≡ Err fault → IsFaultOf log procs fault → RunsLive A log procs known old old told
+refused {X} A log procs known old fault told is h = subst (λ (r : Result X ProgramFault). RunsLive A log procs known old old r) (sym is) (go fault h) where
+  go : (f : ProgramFault) → IsFaultOf log procs f → RunsLive {X = X} A log procs known old old (Err f)
+  go faults.TooLong h = (h, keeps old)
+  go faults.Read h = absurd h
+  go faults.Write h = absurd h
+  go faults.Memory h = (tt, keeps old)
+  go (faults.Log f) h = (h, keeps old)
+  go (faults.Close f) h = absurd h
+  go faults.NoMachine h = (h, keeps old)
+  go faults.BadMachine h = (h, keeps old)

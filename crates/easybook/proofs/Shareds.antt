@@ -7,6 +7,9 @@ use Rattle.version_book.specs.Book.{BookView, machine_of}
 use Rattle.scripts.specs.Transcript.{begun}
 use Rattle.easybook.specs.Along.{AreAnsweredAlong}
 use Rattle.easybook.specs.Book.{IsBookOf}
+use Rattle.easybook.specs.Fault.{fault_of_scripts}
+use Rattle.easybook.specs.declared.shared_fault.SharedFault.{SharedFault}
+use Rattle.easybook.specs.declared.shared_fault.SharedFault.TheVariants as shared
 use Rattle.easybook.specs.Program.{Ends, EndsOnScripts, EndsWith, Sources, log_known}
 use Rattle.easybook.specs.Shared.{AreAnswered, AreWithin, RunsShared, headed}
 use Rattle.easybook.specs.Words.{Choice, chosen}
@@ -54,6 +57,13 @@ shared_unopened {X} told A log procs scripts old fault is within h = subst (λ (
   go faults.Read h = absurd h
   go faults.Write h = absurd h
   go (faults.Close f) h = absurd h
+
+-- the scripts end without their texts
+pub shared_failed : {X : Type 0} (told : Result X ProgramFault) (A : Type 0) (log : List ℕ) (procs : Option ℕ) (scripts : List (List ℕ)) (old : Option (List ℕ)) (fault : SharedFault) → told ≡ Err (fault_of_scripts fault) → RunsShared A log procs scripts old old told
+shared_failed {X} told A log procs scripts old fault is = subst (λ (r : Result X ProgramFault). RunsShared A log procs scripts old old r) (sym is) (go fault) where
+  go : (f : SharedFault) → RunsShared {X = X} A log procs scripts old old (Err (fault_of_scripts f))
+  go (shared.Close f) = keeps old
+  go shared.Memory = keeps old
 
 -- where scripts are named
 pub ends_with : {X : Type 0} (sources : Sources) (scripts : List Text) (log : Option Text) (live : Bool) (procs : Option ℕ) (known old new : Option (List ℕ)) (result : Result X ProgramFault) → 0 < length scripts → EndsOnScripts sources scripts procs (log_known sources log known) old new result → EndsWith sources scripts log live procs known old new result

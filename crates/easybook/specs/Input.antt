@@ -1,5 +1,5 @@
 -- Why the input is not had whole.
-use Rattle.std.specs.Prelude.{◌≡◌, ℕ, ◌<◌, ◌++◌, List, length, Option, IfSome}
+use Rattle.std.specs.Prelude.{◌≡◌, ℕ, ◌<◌, ◌++◌, List, length, take, Option, IfSome}
 use Rattle.parallel_reader.specs.Fronts.{IsFront, Progress}
 use Rattle.easybook.specs.declared.fault.ProgramFault.{ProgramFault}
 use Rattle.easybook.specs.declared.fault.ProgramFault.TheVariants.{TooLong, Read, Memory}
@@ -21,6 +21,12 @@ IsReadFault fault = ⊥
 abbrev pub IsNotHad : ProgramFault → Type 0
 IsNotHad TooLong = Unit {0}
 IsNotHad fault = IsReadFault fault
+
+-- what a reader had up to a limit is the front of a log, which was read, and the rest
+pub record IsBegunUpTo (limit : ℕ) (known : Option (List ℕ)) (progress : Progress) (rest : List ℕ) : Type 0 where
+  pub front : List ℕ
+  pub is_front : IsFront front progress
+  pub whole : IfSome known (λ all. front ++ rest ≡ take limit all)
 
 -- all that a reader had is the front of a log, which was read, and the rest
 pub record IsBegun (known : Option (List ℕ)) (progress : Progress) (rest : List ℕ) : Type 0 where

@@ -1,8 +1,10 @@
 -- What the program does: what its words choose, its whole input, and what it writes of them.
-use Rattle.std.specs.Prelude.{◌≡◌, ℕ, ◌+◌, ◌<◌, List, [], ◌∷◌, length, take, Option, Some, None, IfSome, Result, Ok, Err, ◌⊎◌, Bool, true, false}
+use Rattle.std.specs.Prelude.{◌≡◌, ℕ, ◌+◌, ◌<◌, List, [], ◌∷◌, ◌++◌, length, take, Option, Some, None, IfSome, Result, Ok, Err, ◌⊎◌, Bool, true, false}
 use Rattle.std.specs.declared.alloc.Global.{Global}
 use Rattle.std.specs.Io.KnownBytes.{Keeps}
 use Rattle.clap.specs.Walk.{Text}
+use Rattle.parallel_reader.specs.Fronts.{Progress}
+use Rattle.parallel_reader.specs.Fronts as fronts
 use Rattle.easybook.specs.Alone.{RunsAlone, script_limit}
 use Rattle.easybook.specs.Live.{RunsLive}
 use Rattle.easybook.specs.Plain.{Answers, log_limit}
@@ -83,6 +85,12 @@ AreFronts sources (name ∷ names) fronts =
 -- what is read of a log: all of it, or at most one byte more than it may have
 abbrev pub IsFront : List ℕ → List ℕ → Type 0
 IsFront front all = (front ≡ all) ⊎ (front ≡ take (log_limit + 1) all)
+
+-- what was read of a log so is its front, and what stands behind that
+pub record IsBegunLog (known : Option (List ℕ)) (progress : Progress) (rest : List ℕ) : Type 0 where
+  pub front : List ℕ
+  pub is_front : fronts.IsFront front progress
+  pub whole : IfSome known (IsFront (front ++ rest))
 
 -- The scripts are worked on the log. Where the log or one of them cannot be read, or memory runs out for them, nothing is said
 -- of them and nothing is written; so too where one has too many bytes.

@@ -2,7 +2,7 @@ ghost use Rattle.std.specs.Prelude.{ℕ, List, Option, map};
 ghost use Rattle.easybook.specs.Alone.{RunsAlone};
 ghost use Rattle.easybook.specs.Book.{IsBookOf};
 
-use crate::book::{OpenedBook, book_of, opened_book};
+use crate::book::{OpenedBook, opened_book};
 use crate::fault::ProgramFault;
 use crate::input::read_input;
 use crate::options::Options;
@@ -53,20 +53,5 @@ pub fn run_alone<R: Read + Drop, W: Write, T: Threads + Sync, A: Allocator + Cop
     ensures { RunsAlone A log.now options.procs (R.remaining script) (W.contents writer.old) (W.contents writer.new) result }
 {
     let opened = opened_book(rt, alloc, log, options)?;
-    work_script(alloc, script, writer, opened)
-}
-
-// As `run_alone`; the log's bytes are dropped once it is opened.
-pub(crate) fn run_on_log<R: Read + Drop, W: Write, T: Threads + Sync, A: Allocator + Copy>(
-    rt: &T,
-    alloc: A,
-    script: R,
-    writer: &mut W,
-    log: Vec<u8, A>,
-    options: Options,
-) -> Result<(), ProgramFault>
-    ensures { RunsAlone A log.items options.procs (R.remaining script) (W.contents writer.old) (W.contents writer.new) result }
-{
-    let opened = book_of(rt, alloc, log, options)?;
     work_script(alloc, script, writer, opened)
 }

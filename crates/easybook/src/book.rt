@@ -1,4 +1,5 @@
-ghost use Rattle.std.specs.Prelude.{◌≡◌, ℕ, List, Option, IfErr, IfOk, OnOk, map};
+ghost use Rattle.std.specs.Prelude.{◌≡◌, ◌++◌, ℕ, List, Option, IfErr, IfOk, OnOk, map};
+ghost use Rattle.parallel_reader.specs.Fronts.{IsFront};
 ghost use Rattle.book_machine.specs.Call.{AddScenario};
 ghost use Rattle.book_machine.specs.Machine.{after, opened};
 ghost use Rattle.checkpoints.specs.Spacing.{IsSpacing};
@@ -9,7 +10,8 @@ ghost use Rattle.easybook.specs.Opened.{IsOpened};
 ghost use Rattle.easybook.specs.Plain.{IsFaultOf};
 
 use crate::fault::ProgramFault;
-use crate::opened::opening_of;
+use crate::input::BegunInput;
+use crate::opened::{opening_behind, opening_of};
 use crate::options::Options;
 use commands::Opening;
 use job_table::JobTable;
@@ -113,15 +115,20 @@ pub(crate) fn opened_book<T: Threads + Sync, A: Allocator + Copy>(
     Ok(opened)
 }
 
-// The book of a log, whose bytes are dropped.
-pub(crate) fn book_of<T: Threads + Sync, A: Allocator + Copy>(
+// The book of a log of which the front was read; its other bytes are dropped.
+pub(crate) fn begun_book<T: Threads + Sync, A: Allocator + Copy>(
     rt: &T,
     alloc: A,
-    log: Vec<u8, A>,
+    begun: BegunInput<A>,
     options: Options,
 ) -> Result<OpenedBook<A>, ProgramFault>
-    ensures book { IfOk result (λ o. IsBookOf log.items options.procs options.spacing (map (λ c. c.items) o.comments.items) o.book) }
-    ensures fault { IfErr result (IsFaultOf log.items options.procs) }
+    requires { (read : List ℕ) × IsFront read begun.front }
+    ensures book { IfOk result (λ o. (read : List ℕ) → IsFront read begun.front → IsBookOf (read ++ begun.rest.items) options.procs options.spacing (map (λ c. c.items) o.comments.items) o.book) }
+    ensures fault { IfErr result (λ f. (read : List ℕ) → IsFront read begun.front → IsFaultOf (read ++ begun.rest.items) options.procs f) }
 {
-    opened_book(rt, alloc, log.as_slice(), options)
+    let (front, rest) = (begun.front, begun.rest);
+    let opening = opening_behind(rt, alloc, front, rest.as_slice(), options.procs)?;
+    drop(rest);
+    let opened = book_over(alloc, opening, options.spacing)?;
+    Ok(opened)
 }

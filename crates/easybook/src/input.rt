@@ -1,6 +1,6 @@
 ghost use Rattle.std.specs.Prelude.{◌≡◌, ◌≤◌, ◌<◌, ◌+◌, ◌^◌, ◌++◌, true, IfErr, IfOk, IfSome, OnOk, take, vec_len};
 ghost use Rattle.std.specs.Io.KnownBytes.{IsAtEnd};
-ghost use Rattle.easybook.specs.Input.{IsBegun, IsInputFault, IsReadFault};
+ghost use Rattle.easybook.specs.Input.{IsBegun, IsBegunUpTo, IsInputFault, IsReadFault};
 
 use crate::fault::ProgramFault;
 use parallel_reader::{BegunLog, LogFront, begin_log};
@@ -84,16 +84,16 @@ fn read_rest<R: Read, A: Allocator + Copy>(
     }
 }
 
-// Reads all that a reader has, at most `limit` bytes, and meanwhile the front of the log that they begin with.
-pub(crate) fn begin_input<T: Threads + Sync, R: Read + Drop, A: Allocator + Copy>(
+// Reads all of a reader, up to one byte past a limit, and meanwhile the front of the log that it begins with.
+pub(crate) fn begin_front<T: Threads + Sync, R: Read + Drop, A: Allocator + Copy>(
     rt: &T,
     alloc: A,
     reader: R,
     limit: u64,
 ) -> Result<BegunInput<A>, ProgramFault>
     requires { limit < 2 ^ 63 }
-    ensures whole { IfOk result (λ b. IsBegun (R.remaining reader) b.front b.rest.items) }
-    ensures fault { IfErr result (IsInputFault (R.remaining reader) limit) }
+    ensures front { IfOk result (λ b. IsBegunUpTo (limit + 1) (R.remaining reader) b.front b.rest.items) }
+    ensures fault { IfErr result IsReadFault }
 {
     let mut reader = reader.take(limit + 1);
     let read = match begin_log(rt, alloc, &mut reader) {
@@ -106,8 +106,23 @@ pub(crate) fn begin_input<T: Threads + Sync, R: Read + Drop, A: Allocator + Copy
         is_end,
     } = read;
     read_rest(&mut reader, &mut rest, is_end)?;
-    if front.bytes().saturating_add(rest.len() as u64) > limit {
+    Ok(BegunInput { front, rest })
+}
+
+// Reads all that a reader has, at most `limit` bytes, and meanwhile the front of the log that they begin with.
+pub(crate) fn begin_input<T: Threads + Sync, R: Read + Drop, A: Allocator + Copy>(
+    rt: &T,
+    alloc: A,
+    reader: R,
+    limit: u64,
+) -> Result<BegunInput<A>, ProgramFault>
+    requires { limit < 2 ^ 63 }
+    ensures whole { IfOk result (λ b. IsBegun (R.remaining reader) b.front b.rest.items) }
+    ensures fault { IfErr result (IsInputFault (R.remaining reader) limit) }
+{
+    let begun = begin_front(rt, alloc, reader, limit)?;
+    if begun.front.bytes().saturating_add(begun.rest.len() as u64) > limit {
         return Err(ProgramFault::TooLong);
     }
-    Ok(BegunInput { front, rest })
+    Ok(begun)
 }

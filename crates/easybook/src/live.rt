@@ -1,11 +1,12 @@
-ghost use Rattle.std.specs.Prelude.{◌≡◌, IfOk};
+ghost use Rattle.std.specs.Prelude.{◌≡◌, ℕ, List, Option, IfOk, map};
 ghost use Rattle.std.specs.Io.Buffered.{reader_remaining};
+ghost use Rattle.easybook.specs.Book.{IsBookOf};
 ghost use Rattle.easybook.specs.Live.{RunsLive};
 ghost use Rattle.easybook.specs.Program.{EndsOnTalk};
 
-use crate::book::{OpenedBook, opened_book};
+use crate::book::{OpenedBook, begun_book, opened_book};
 use crate::fault::ProgramFault;
-use crate::input::read_front;
+use crate::input::begin_front;
 use crate::opened::LOG_LIMIT;
 use crate::options::Options;
 use std::alloc::Allocator;
@@ -25,6 +26,22 @@ fn buffered<R: Read + Drop, A: Allocator + Copy>(
         Ok(reader) => Ok(reader),
         Err(_) => Err(Memory),
     }
+}
+
+// Holds a conversation on an opened log.
+fn talk<R: Read + Drop, W: Write, A: Allocator + Copy>(
+    alloc: A,
+    opened: OpenedBook<A>,
+    reader: R,
+    writer: &mut W,
+) -> Result<(), ProgramFault>
+    ensures { (log : List ℕ) (procs : Option ℕ) (spacing : ℕ) → IsBookOf log procs spacing (map (λ c. c.items) opened.comments.items) opened.book
+        → RunsLive A log procs (R.remaining reader) (W.contents writer.old) (W.contents writer.new) result }
+{
+    let OpenedBook { book, comments } = opened;
+    let mut reader = buffered(alloc, reader)?;
+    scripts::run_live(alloc, book, comments.as_slice(), &mut reader, writer)?;
+    Ok(())
 }
 
 /// Holds a conversation on a log, as one session with one worker: reads a command as it comes, and
@@ -48,15 +65,13 @@ pub fn run_live<R: Read + Drop, W: Write, T: Threads + Sync, A: Allocator + Copy
 ) -> Result<(), ProgramFault>
     ensures { RunsLive A log.items options.procs (R.remaining reader) (W.contents writer.old) (W.contents writer.new) result }
 {
-    let OpenedBook { book, comments } = opened_book(rt, alloc, log.as_slice(), options)?;
+    let opened = opened_book(rt, alloc, log.as_slice(), options)?;
     drop(log);
-    let mut reader = buffered(alloc, reader)?;
-    scripts::run_live(alloc, book, comments.as_slice(), &mut reader, writer)?;
-    Ok(())
+    talk(alloc, opened, reader, writer)
 }
 
-// Reads a log, at most one byte past its limit, and holds a conversation on it. Read where the log
-// cannot be read.
+// Reads a log as it comes, at most one byte past its limit, and holds a conversation on it. Read where the
+// log cannot be read.
 pub(crate) fn talk_on_file<
     L: Read + Drop,
     R: Read + Drop,
@@ -66,6 +81,7 @@ pub(crate) fn talk_on_file<
 >(rt: &T, alloc: A, log: L, reader: R, writer: &mut W, options: Options) -> Result<(), ProgramFault>
     ensures { EndsOnTalk A (L.remaining log) options.procs (R.remaining reader) (W.contents writer.old) (W.contents writer.new) result }
 {
-    let log = read_front(alloc, log, LOG_LIMIT as u64)?;
-    run_live(rt, alloc, log, reader, writer, options)
+    let begun = begin_front(rt, alloc, log, LOG_LIMIT as u64)?;
+    let opened = begun_book(rt, alloc, begun, options)?;
+    talk(alloc, opened, reader, writer)
 }

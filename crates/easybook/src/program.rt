@@ -1,19 +1,20 @@
 ghost use Rattle.std.specs.Prelude.{◌≡◌, ◌<◌, ◌+◌, ◌^◌, IfErr, IfOk, IfSome, List, None, Option, Some, map, slice_get, take, ℕ};
 ghost use Rattle.std.specs.Option.{option_map};
-ghost use Rattle.easybook.specs.Input.{IsNotHad, IsReadFault};
+ghost use Rattle.easybook.specs.Alone.{script_limit};
+ghost use Rattle.easybook.specs.Input.{IsBegunUpTo, IsNotHad, IsReadFault};
 ghost use Rattle.easybook.specs.Opened.{IsOpened};
-ghost use Rattle.easybook.specs.Plain.{Answers};
-ghost use Rattle.easybook.specs.Program.{AreFronts, Ends, EndsFrom, EndsOnFile, EndsOnInput, EndsOnScripts, IsFront, log_known};
+ghost use Rattle.easybook.specs.Plain.{Answers, log_limit};
+ghost use Rattle.easybook.specs.Program.{AreFronts, Ends, EndsFrom, EndsOnFile, EndsOnInput, EndsOnScripts, IsBegunLog, log_known};
 
-use crate::alone::{SCRIPT_LIMIT, run_on_log, work_script};
-use crate::book::book_over;
+use crate::alone::{SCRIPT_LIMIT, work_script};
+use crate::book::{begun_book, book_over};
 use crate::fault::ProgramFault;
-use crate::input::{begin_input, fault_of_reader, read_front, read_input};
+use crate::input::{BegunInput, begin_front, begin_input, fault_of_reader, read_front};
 use crate::live::talk_on_file;
 use crate::opened::{LOG_LIMIT, opening_behind};
 use crate::options::Options;
 use crate::plain::write_first;
-use crate::shared::run_shared;
+use crate::shared::run_shared_begun;
 use crate::sources::{NamedFiles, Sources};
 use crate::split::split_input;
 use crate::stop::Stop;
@@ -30,9 +31,8 @@ use std::thread::Threads;
 /// The most bytes of standard input where it holds the log.
 const INPUT_LIMIT: u64 = 1_200_000_000;
 
-// Reads a log, at most one byte past its limit, then a script likewise, and works the script on the
-// log, whose bytes are dropped once it is opened. Read where either cannot be read, whatever the other
-// holds.
+// Reads a log as it comes, at most one byte past its limit, then a script likewise, and works the script on
+// the log. Read where either cannot be read, whatever the other holds.
 fn run_file<L: Read + Drop, R: Read + Drop, W: Write, T: Threads + Sync, A: Allocator + Copy>(
     rt: &T,
     alloc: A,
@@ -43,9 +43,10 @@ fn run_file<L: Read + Drop, R: Read + Drop, W: Write, T: Threads + Sync, A: Allo
 ) -> Result<(), ProgramFault>
     ensures { EndsOnFile A (L.remaining log) options.procs (R.remaining script) (W.contents writer.old) (W.contents writer.new) result }
 {
-    let log = read_front(alloc, log, LOG_LIMIT as u64)?;
+    let begun = begin_front(rt, alloc, log, LOG_LIMIT as u64)?;
     let script = read_front(alloc, script, SCRIPT_LIMIT)?;
-    run_on_log(rt, alloc, script.as_slice(), writer, log, options)
+    let opened = begun_book(rt, alloc, begun, options)?;
+    work_script(alloc, script.as_slice(), writer, opened)
 }
 
 // Writes the schedule of an opened log's first scenario. Its jobs are not dropped one by one, since the process
@@ -96,6 +97,14 @@ fn run_input<R: Read + Drop, W: Write, T: Threads + Sync, A: Allocator + Copy>(
     }
 }
 
+// Reads the script with this name, at most one byte past its limit.
+fn read_script<S: Sources>(alloc: Global, sources: &S, name: &str) -> Result<Vec<u8>, ProgramFault>
+    ensures front { IfOk result (λ bytes. IfSome (S.known sources.now name.now) (λ all. bytes.items ≡ take (script_limit + 1) all)) }
+    ensures fault { IfErr result IsReadFault }
+{
+    read_front(alloc, open(sources, name)?, SCRIPT_LIMIT)
+}
+
 // Reads the scripts with these names, in their order, each at most one byte past its limit.
 fn read_scripts<S: Sources>(
     alloc: Global,
@@ -107,40 +116,40 @@ fn read_scripts<S: Sources>(
 {
     let mut scripts = Vec::with_capacity(alloc, names.len())?;
     for name in names {
-        let script = read_named(alloc, sources, name, SCRIPT_LIMIT)?;
+        let script = read_script(alloc, sources, name)?;
         scripts.push(script)?;
     }
     Ok(scripts)
 }
 
-// Reads what has this name, at most one byte past a limit.
-fn read_named<S: Sources>(
+// Reads the log with this name as it comes, at most one byte past its limit.
+fn begin_named<S: Sources, T: Threads + Sync>(
     alloc: Global,
+    rt: &T,
     sources: &S,
     name: &str,
-    limit: u64,
-) -> Result<Vec<u8>, ProgramFault>
-    requires { limit < 2 ^ 63 }
-    ensures front { IfOk result (λ bytes. IfSome (S.known sources.now name.now) (λ all. bytes.items ≡ take (limit + 1) all)) }
+) -> Result<BegunInput<Global>, ProgramFault>
+    ensures front { IfOk result (λ b. IsBegunUpTo (log_limit + 1) (S.known sources.now name.now) b.front b.rest.items) }
     ensures fault { IfErr result IsReadFault }
 {
-    read_front(alloc, open(sources, name)?, limit)
+    begin_front(rt, alloc, open(sources, name)?, LOG_LIMIT as u64)
 }
 
-// Reads a log, at most one byte past its limit, or all of the input where it is the log, which may
-// have 1,200,000,000 bytes.
-fn read_log<S: Sources, R: Read + Drop>(
+// Reads a log as it comes, at most one byte past its limit, or all of the input where it is the log, which
+// may have 1,200,000,000 bytes.
+fn begin_log<S: Sources, T: Threads + Sync, R: Read + Drop>(
     alloc: Global,
+    rt: &T,
     sources: &S,
     name: Option<&str>,
     reader: R,
-) -> Result<Vec<u8>, ProgramFault>
-    ensures front { IfOk result (λ bytes. IfSome (log_known (S.known sources.now) (option_map (λ n. n.now) name.entry) (R.remaining reader)) (IsFront bytes.items)) }
+) -> Result<BegunInput<Global>, ProgramFault>
+    ensures front { IfOk result (λ b. IsBegunLog (log_known (S.known sources.now) (option_map (λ n. n.now) name.entry) (R.remaining reader)) b.front b.rest.items) }
     ensures fault { IfErr result IsNotHad }
 {
     match name {
-        Some(name) => read_named(alloc, sources, name, LOG_LIMIT as u64),
-        None => read_input(alloc, reader, INPUT_LIMIT),
+        Some(name) => begin_named(alloc, rt, sources, name),
+        None => begin_input(rt, alloc, reader, INPUT_LIMIT),
     }
 }
 
@@ -155,16 +164,9 @@ fn run_beside<S: Sources, T: Threads + Wait + Sync, R: Read + Drop, W: Write>(
 ) -> Result<(), ProgramFault>
     ensures { EndsOnScripts (S.known sources.now) (map (λ s. s.now) words.now.scripts.items) words.now.options.procs (log_known (S.known sources.now) (option_map (λ p. p.now) words.now.log) (R.remaining reader)) (W.contents writer.old) (W.contents writer.new) result }
 {
-    let log = read_log(alloc, sources, words.log, reader)?;
+    let begun = begin_log(alloc, rt, sources, words.log, reader)?;
     let scripts = read_scripts(alloc, sources, words.scripts.as_slice())?;
-    run_shared(
-        rt,
-        alloc,
-        scripts.as_slice(),
-        writer,
-        log.as_slice(),
-        words.options,
-    )
+    run_shared_begun(rt, alloc, scripts.as_slice(), writer, begun, words.options)
 }
 
 // Opens what has this name.

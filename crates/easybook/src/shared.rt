@@ -1,12 +1,15 @@
-ghost use Rattle.std.specs.Prelude.{◌≡◌, ◌<◌, ◌+◌, ◌^◌, ◌++◌, length, map, nat_le};
+ghost use Rattle.std.specs.Prelude.{◌≡◌, ◌<◌, ◌+◌, ◌^◌, ◌++◌, ℕ, List, Option, true, length, map, nat_le};
 ghost use Rattle.std.specs.List.{list_all};
 ghost use Rattle.swf_text.specs.Writing.{Writes};
+ghost use Rattle.parallel_reader.specs.Fronts.{IsFront};
 ghost use Rattle.easybook.specs.Alone.{script_limit};
+ghost use Rattle.easybook.specs.Book.{IsBookOf};
 ghost use Rattle.easybook.specs.Shared.{RunsShared, head_line, headed};
 
 use crate::alone::SCRIPT_LIMIT;
-use crate::book::{OpenedBook, opened_book};
+use crate::book::{OpenedBook, begun_book, opened_book};
 use crate::fault::ProgramFault;
+use crate::input::BegunInput;
 use crate::opened::LOG_LIMIT;
 use crate::options::Options;
 use crate::threads::run_scripts;
@@ -68,6 +71,36 @@ fn write_all<W: Write, A: Allocator + Copy>(
     write_all(writer, number + 1, rest)
 }
 
+// Works scripts within their limit side by side on an opened log.
+fn share<W: Write, A: Allocator + Copy + Send + Sync, R: Threads + Wait + Sync, G: Gate + Sync>(
+    rt: &R,
+    alloc: A,
+    scripts: &[Vec<u8, A>],
+    writer: &mut W,
+    opened: OpenedBook<A>,
+    options: Options,
+    gate: &G,
+) -> Result<(), ProgramFault>
+    requires { list_all (λ s. nat_le (length s.items) script_limit) scripts.now ≡ true }
+    ensures { (log : List ℕ) (procs : Option ℕ) (spacing : ℕ) → IsBookOf log procs spacing (map (λ c. c.items) opened.comments.items) opened.book
+        → RunsShared A log procs (map (λ s. s.items) scripts.now) (W.contents writer.old) (W.contents writer.new) result }
+{
+    let OpenedBook { book, comments } = opened;
+    let comments = comments.as_slice();
+    let texts = run_scripts::<A, Brand, R, G>(
+        rt,
+        alloc,
+        book,
+        Unnamed::new(),
+        comments,
+        scripts,
+        options.workers,
+        gate,
+    )?;
+    write_all(writer, 1, texts.as_slice())?;
+    Ok(())
+}
+
 /// Works scripts on one log side by side: each as a session of its own, on a thread of its own, while
 /// `options.workers` threads simulate. The responses to each script are written once all have ended,
 /// in the scripts' order, each after a line `== k`, k from 1. The scripts are 1 to 64.
@@ -120,18 +153,29 @@ pub fn run_shared_gated<
     if !are_within(scripts) {
         return Err(ProgramFault::TooLong);
     }
-    let OpenedBook { book, comments } = opened_book(rt, alloc, log, options)?;
-    let comments = comments.as_slice();
-    let texts = run_scripts::<A, Brand, R, G>(
-        rt,
-        alloc,
-        book,
-        Unnamed::new(),
-        comments,
-        scripts,
-        options.workers,
-        gate,
-    )?;
-    write_all(writer, 1, texts.as_slice())?;
-    Ok(())
+    let opened = opened_book(rt, alloc, log, options)?;
+    share(rt, alloc, scripts, writer, opened, options, gate)
+}
+
+// As `run_shared`, on a log of which the front was read.
+pub(crate) fn run_shared_begun<
+    W: Write,
+    A: Allocator + Copy + Send + Sync,
+    R: Threads + Wait + Sync,
+>(
+    rt: &R,
+    alloc: A,
+    scripts: &[Vec<u8, A>],
+    writer: &mut W,
+    begun: BegunInput<A>,
+    options: Options,
+) -> Result<(), ProgramFault>
+    requires { (read : List ℕ) × IsFront read begun.front }
+    ensures { (read : List ℕ) → IsFront read begun.front → RunsShared A (read ++ begun.rest.items) options.procs (map (λ s. s.items) scripts.now) (W.contents writer.old) (W.contents writer.new) result }
+{
+    if !are_within(scripts) {
+        return Err(ProgramFault::TooLong);
+    }
+    let opened = begun_book(rt, alloc, begun, options)?;
+    share(rt, alloc, scripts, writer, opened, options, &NoGate)
 }

@@ -1,33 +1,15 @@
-use Rattle.std.proofs.Common.{rules, ◌≡◌, ℕ, ◌<◌, List, length, map, take, true, false, nat_le, Err, sym, ap, ◌∙◌}
+use Rattle.std.proofs.Common.{rules, ◌≡◌, ℕ, ◌<◌, List, length, map, true, false, nat_le, Err, sym, ◌∙◌}
 use Rattle.std.specs.List.{list_all}
-use Rattle.std.specs.Io.KnownBytes.{Appends}
 use Rattle.std.proofs.lemmas.List.Folds.{list_all-map}
 use Rattle.std.proofs.lemmas.Bool.{true≢false}
 use Rattle.easybook.specs.Alone.{script_limit}
 use Rattle.easybook.specs.Plain.{log_limit}
-use Rattle.easybook.specs.Shared.{are_within, headed}
-use Rattle.easybook.specs.declared.fault.ProgramFault.TheVariants as faults
-use Rattle.easybook.proofs.Shareds.{shared_long_log, shared_long_script, shared_stopped, shared_unopened, shared_written}
+use Rattle.easybook.specs.Shared.{are_within}
+use Rattle.easybook.proofs.Shareds.{shared_long_log, shared_long_script, shared_unopened}
 use Rattle.easybook.proofs.shared.run_shared_gated.Goals as goal
 
-pub returns-in_err-write_all : goal.returns-in_err-write_all
-returns-in_err-write_all g c =
-    let scripts : List (List ℕ) = map (λ s. s.items) c.args.scripts.now in
-    let texts : List (List ℕ) = map (λ t. t.items) c.in_ok-texts.texts.items in
-    let told : c.from_residual-in_err-write_all.result ≡ Err faults.Write = search rules in
-    let few : list_all (λ s. nat_le (length s.items) script_limit) c.args.scripts.now ≡ true = search rules in
-    let within : are_within scripts ≡ true = list_all-map (λ (s : List ℕ). nat_le (length s) script_limit) (λ s. s.items) c.args.scripts.now ∙ few in
-    let wrote : (n : ℕ) × Appends (g.W.Write.contents c.args.writer.now) (g.W.Write.contents c.write_all.new.writer) (take n (headed 1 texts)) = rw (← c.as_slice.ensures.value) c.in_err-write_all.ensures in
-    shared_stopped c.from_residual-in_err-write_all.result g.row.A.Denot c.args.log.now c.args.options.procs c.args.options.spacing _ _ _ scripts texts _ _ told c.in_ok-book.ensures.book (ap (map (λ k. k.items)) c.as_slice-comments.ensures.value) within c.in_ok-texts.ensures wrote
-
 pub returns : goal.returns
-returns g c =
-    let scripts : List (List ℕ) = map (λ s. s.items) c.args.scripts.now in
-    let texts : List (List ℕ) = map (λ t. t.items) c.in_ok-texts.texts.items in
-    let few : list_all (λ s. nat_le (length s.items) script_limit) c.args.scripts.now ≡ true = search rules in
-    let within : are_within scripts ≡ true = list_all-map (λ (s : List ℕ). nat_le (length s) script_limit) (λ s. s.items) c.args.scripts.now ∙ few in
-    let wrote : Appends (g.W.Write.contents c.args.writer.now) (g.W.Write.contents c.write_all.new.writer) (headed 1 texts) = rw (← c.as_slice.ensures.value) c.in_ok-write_all.ensures in
-    shared_written (tt {0}) g.row.A.Denot c.args.log.now c.args.options.procs c.args.options.spacing _ _ _ scripts texts _ _ c.in_ok-book.ensures.book (ap (map (λ k. k.items)) c.as_slice-comments.ensures.value) within c.in_ok-texts.ensures wrote
+returns g c = c.share.ensures c.args.log.now c.args.options.procs c.args.options.spacing c.in_ok-opened.ensures.book
 
 pub returns-then-log-gt-LOG_LIMIT : goal.returns-then-log-gt-LOG_LIMIT
 returns-then-log-gt-LOG_LIMIT g c =
@@ -40,10 +22,10 @@ returns-then-not-are_within g c =
     let whole = list_all-map (λ (s : List ℕ). nat_le (length s) script_limit) (λ s. s.items) c.args.scripts.now in
     shared_long_script (Unit {0}) g.row.A.Denot c.args.log.now c.args.options.procs (map (λ s. s.items) c.args.scripts.now) _ (λ within. true≢false (sym within ∙ (whole ∙ some)))
 
-pub returns-in_err-book : goal.returns-in_err-book
-returns-in_err-book g c =
+pub returns-in_err-opened : goal.returns-in_err-opened
+returns-in_err-opened g c =
     let scripts : List (List ℕ) = map (λ s. s.items) c.args.scripts.now in
-    let told : c.from_residual.result ≡ Err c.in_err-book.field-0.0 = search rules in
+    let told : c.from_residual.result ≡ Err c.in_err-opened.field-0.0 = search rules in
     let few : list_all (λ s. nat_le (length s.items) script_limit) c.args.scripts.now ≡ true = search rules in
     let within : are_within scripts ≡ true = list_all-map (λ (s : List ℕ). nat_le (length s) script_limit) (λ s. s.items) c.args.scripts.now ∙ few in
-    shared_unopened c.from_residual.result g.row.A.Denot c.args.log.now c.args.options.procs scripts _ c.in_err-book.field-0.0 told within c.in_err-book.ensures.fault
+    shared_unopened c.from_residual.result g.row.A.Denot c.args.log.now c.args.options.procs scripts _ c.in_err-opened.field-0.0 told within c.in_err-opened.ensures.fault

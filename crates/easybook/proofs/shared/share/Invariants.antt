@@ -1,6 +1,6 @@
 use Rattle.std.proofs.Common.{map}
 use Rattle.version_book.specs.Book.{machine_of}
-use Rattle.easybook.proofs.shared.run_shared_gated.Given as goal
+use Rattle.easybook.proofs.shared.share.Given as goal
 
 -- the history that was just made, of the book that was opened
 abbrev pub ghosts-run_scripts-J-Naming : goal.ghosts-run_scripts-J-Naming
