@@ -22,7 +22,7 @@ use Rattle.swf_text.specs.Reading.{with_job, with_lines, with_numbered, text_of,
 use Rattle.swf_text.proofs.Lemmas.{gives_text, gives_only, gives_fault, gives_comments, after-shorter, lines-next, text_read, text_sound}
 use Rattle.parallel_reader.specs.Adding.{CanReach}
 use Rattle.parallel_reader.specs.declared.portion.JobLines.{JobLines}
-use Rattle.parallel_reader.specs.Fronts.{AreJobsIn, EndsLine, Progress, IsFront, IsReadBehind, IsReading}
+use Rattle.parallel_reader.specs.Fronts.{AreJobsIn, EndsLine, Fills, PieceView, Progress, IsFront, IsReadBehind, IsReading}
 use Rattle.parallel_reader.specs.Jobs.{AddsAll}
 use Rattle.parallel_reader.proofs.Adding.{lines_after, lines_some, none_added, reached_so, reached_first}
 use Rattle.parallel_reader.proofs.Jobs.{cut_lines}
@@ -163,6 +163,13 @@ read_more had a b c more old mid new p is given behind = record {
 pub returned : (had unread rest : List ℕ) (old new : Option (List ℕ)) (p q : Progress) → IsReadBehind had old new p unread → q ≡ p → rest ≡ unread → IsReadBehind had old new q rest
 returned had unread rest old new p q is same_front same_rest =
     subst (λ (x : Progress). IsReadBehind had old new x rest) (sym same_front) (subst (IsReadBehind had old new p) (sym same_rest) is)
+
+-- a piece was added, what follows the next one stands in its place, and more was read behind that
+pub turned : (had : List ℕ) (ready coming x y : PieceView) (old mid new : Option (List ℕ)) (p q : Progress) → IsReadBehind had old mid p (ready.lines ++ (coming.lines ++ coming.tail)) → ((front : List ℕ) → IsFront front p → IsFront (front ++ ready.lines) q) → Fills mid new coming.tail y → x.lines ≡ coming.lines → IsReadBehind had old new q (x.lines ++ (y.lines ++ y.tail))
+turned had ready coming x y old mid new p q behind grows f same =
+    returned had (coming.lines ++ (y.lines ++ y.tail)) (x.lines ++ (y.lines ++ y.tail)) old new q q
+    (read_more had coming.lines coming.tail (y.lines ++ y.tail) f.0 old mid new q (moved had ready.lines (coming.lines ++ coming.tail) old mid p q behind grows) f.1 f.2)
+    refl (ap (λ (l : List ℕ). l ++ (y.lines ++ y.tail)) same)
 
 -- what was had, was read before
 pub read_whole : (had first rest : List ℕ) (old mid new : Option (List ℕ)) (p : Progress) → Consumes old mid first → had ≡ first → IsReadBehind had mid new p rest → IsReadBehind [] old new p rest

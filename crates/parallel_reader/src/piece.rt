@@ -1,17 +1,15 @@
-ghost use Rattle.std.specs.Prelude.{◌≡◌, ◌<◌, ◌≤◌, ◌++◌, [], length, slice_index_or, take, true, IfOk, OnOk};
+ghost use Rattle.std.specs.Prelude.{◌≡◌, ◌<◌, ◌≤◌, ◌++◌, [], length, is_some, slice_index_or, true, take, IfNone, IfOk, IfSome, OnOk};
 ghost use Rattle.std.specs.Io.KnownBytes.{Consumes, IsAtEnd};
 ghost use Rattle.std.specs.Thread.{IsSync};
 ghost use Rattle.swf_text.specs.Text.{lines};
 ghost use Rattle.parallel_reader.specs.Adding.{texts};
 ghost use Rattle.parallel_reader.specs.Fronts.{AreJobsIn, EndsLine, Fills, Grows};
-ghost use Rattle.parallel_reader.specs.Jobs.{AreJobsOf, IsReadOf, portion_lines};
+ghost use Rattle.parallel_reader.specs.Jobs.{AreJobsOf, portion_lines};
 
 use crate::filling::refill;
 use crate::front::LogFront;
 use crate::portion::{JobLines, split_portion};
 use memchr::memrchr;
-use rayon::current_num_threads;
-use rayon::prelude::*;
 use std::alloc::Allocator;
 use std::io;
 use std::io::Read;
@@ -64,49 +62,122 @@ fn portions_of<'a, A: Allocator + Copy>(alloc: A, bytes: &'a [u8]) -> io::Result
     Ok(portions)
 }
 
-// Reads each portion by itself, side by side, and puts its job lines at its place.
-fn read_portions<R: Threads + Sync>(rt: &R, portions: &[&[u8]], jobs: &mut [JobLines])
+// Reads each portion by itself, and puts its job lines at its place.
+fn read_portions(portions: &[&[u8]], jobs: &mut [JobLines])
     requires { length jobs.old ≡ length portions.now }
     ensures { AreJobsOf portions.now jobs.new }
 {
-    par_for_each_mut(
-        rt,
-        jobs,
-        |place: usize, read: &mut JobLines|
-            requires { place < length portions.now }
-            ensures { IsReadOf (lines (slice_index_or (texts portions.entry.now) place [])) read.new.jobs read.new.count }
-        {
-            read.read(portions[place]);
-        },
-    );
+    for place in 0..jobs.len() {
+        jobs[place].read(portions[place]);
+    }
 }
 
-// Reads these portions by themselves while the lines of the piece before them are added.
-fn read_and_add<R: Threads + Sync, A: Allocator + Copy>(
-    rt: &R,
-    alloc: A,
-    front: &mut LogFront<A>,
-    ready: &Piece<A>,
+// Reads portions in so many threads, while this one does something else. Each thread is started by this one: one that
+// another starts may wait until this one has done.
+#[cycle(readers)]
+fn read_while<T: Threads + Sync, F: FnMut() -> B, B>(
+    rt: &T,
+    readers: usize,
     portions: &[&[u8]],
     jobs: &mut [JobLines],
-) -> bool
+    work: &mut F,
+) -> B
+    requires places { length jobs.old ≡ length portions.now }
+    requires work { F.pre work.old }
+    ensures read { AreJobsOf portions.now jobs.new }
+    ensures work { F.step work.old result work.new }
+{
+    if readers == 0 {
+        read_portions(portions, jobs);
+        return work();
+    }
+    let share = jobs.len() / readers;
+    let (texts, texts_behind) = portions.split_at(share);
+    let (lines, lines_behind) = jobs.split_at_mut(share);
+    read_some_while(rt, readers, texts, lines, texts_behind, lines_behind, work)
+}
+
+// Reads the first portions in a thread, and the others in one thread fewer.
+#[cycle(readers)]
+fn read_some_while<T: Threads + Sync, F: FnMut() -> B, B>(
+    rt: &T,
+    readers: usize,
+    texts: &[&[u8]],
+    lines: &mut [JobLines],
+    texts_behind: &[&[u8]],
+    lines_behind: &mut [JobLines],
+    work: &mut F,
+) -> B
+    requires some { 0 < readers }
+    requires places { length lines.old ≡ length texts.now }
+    requires behind { length lines_behind.old ≡ length texts_behind.now }
+    requires work { F.pre work.old }
+    ensures read { AreJobsOf texts.now lines.new }
+    ensures behind { AreJobsOf texts_behind.now lines_behind.new }
+    ensures work { F.step work.old result work.new }
+{
+    let fewer = readers - 1;
+    let mut read = ||
+        requires { length lines.now ≡ length texts.now }
+        ensures { AreJobsOf texts.entry.now lines.exit.now }
+    { read_portions(texts, lines) };
+    let mut others = || -> B
+        requires { IsSync T.row × (length lines_behind.now ≡ length texts_behind.now) × F.pre work.now }
+        ensures behind { AreJobsOf texts_behind.entry.now lines_behind.exit.now }
+        ensures work { F.step work.entry.now result work.exit.now }
+    { read_while(rt, fewer, texts_behind, lines_behind, work) };
+    let (_read, done) = join_mut(rt, &mut read, &mut others);
+    done
+}
+
+// Adds the lines of a piece to a front, and then puts these bytes in their place, and behind them what a
+// reader has: whether it has no more. None where the lines can't be added; then all is as before.
+fn add_and_fill<R: Read, A: Allocator + Copy>(
+    alloc: A,
+    front: &mut LogFront<A>,
+    ready: &mut Piece<A>,
+    reader: &mut R,
+    tail: &[u8],
+    is_end: bool,
+) -> io::Result<Option<bool>>
+    ensures grows { IfOk result (λ ended. Grows front.old ready.old front.new (is_some ended)) }
+    ensures given { IfOk result (λ ended. IfSome ended (λ e. Fills (R.remaining reader.old) (R.remaining reader.new) tail.now ready.new)) }
+    ensures end { IfOk result (λ ended. IfSome ended (λ e. (is_end ≡ true → IsAtEnd (R.remaining reader.old)) → e ≡ true → IsAtEnd (R.remaining reader.new))) }
+    ensures kept { IfOk result (λ ended. IfNone ended ((ready.new ≡ ready.old) × (R.remaining reader.new ≡ R.remaining reader.old))) }
+{
+    if !front.add(alloc, ready) {
+        return Ok(None);
+    }
+    Ok(Some(ready.fill(reader, tail, is_end)?))
+}
+
+// Reads these portions in so many threads, while a piece is added and filled again.
+fn read_and_add<T: Threads + Sync, R: Read, A: Allocator + Copy>(
+    rt: &T,
+    readers: usize,
+    alloc: A,
+    front: &mut LogFront<A>,
+    ready: &mut Piece<A>,
+    reader: &mut R,
+    tail: &[u8],
+    is_end: bool,
+    portions: &[&[u8]],
+    jobs: &mut [JobLines],
+) -> io::Result<Option<bool>>
     requires places { length jobs.old ≡ length portions.now }
     ensures read { AreJobsOf portions.now jobs.new }
-    ensures grows { Grows front.old ready.now front.new result }
+    ensures grows { IfOk result (λ ended. Grows front.old ready.old front.new (is_some ended)) }
+    ensures given { IfOk result (λ ended. IfSome ended (λ e. Fills (R.remaining reader.old) (R.remaining reader.new) tail.now ready.new)) }
+    ensures end { IfOk result (λ ended. IfSome ended (λ e. (is_end ≡ true → IsAtEnd (R.remaining reader.old)) → e ≡ true → IsAtEnd (R.remaining reader.new))) }
+    ensures kept { IfOk result (λ ended. IfNone ended ((ready.new ≡ ready.old) × (R.remaining reader.new ≡ R.remaining reader.old))) }
 {
-    if current_num_threads(rt) < 2 {
-        read_portions(rt, portions, jobs);
-        return front.add(alloc, ready);
-    }
-    let mut read = ||
-        requires { IsSync R.row × (length jobs.now ≡ length portions.now) }
-        ensures { AreJobsOf portions.entry.now jobs.exit.now }
-    { read_portions(rt, portions, jobs) };
-    let mut add = || -> bool
-        ensures { Grows front.entry.now ready.entry.now front.exit.now result }
-    { front.add(alloc, ready) };
-    let (_read, added) = join_mut(rt, &mut read, &mut add);
-    added
+    let mut add = || -> io::Result<Option<bool>>
+        ensures grows { IfOk result (λ ended. Grows front.entry.now ready.entry.now front.exit.now (is_some ended)) }
+        ensures given { IfOk result (λ ended. IfSome ended (λ e. Fills (R.remaining reader.entry.now) (R.remaining reader.exit.now) tail.entry.now ready.exit.now)) }
+        ensures end { IfOk result (λ ended. IfSome ended (λ e. (is_end ≡ true → IsAtEnd (R.remaining reader.entry.now)) → e ≡ true → IsAtEnd (R.remaining reader.exit.now))) }
+        ensures kept { IfOk result (λ ended. IfNone ended ((ready.exit.now ≡ ready.entry.now) × (R.remaining reader.exit.now ≡ R.remaining reader.entry.now))) }
+    { add_and_fill(alloc, front, ready, reader, tail, is_end) };
+    read_while(rt, readers, portions, jobs, &mut add)
 }
 
 impl<A: Allocator + Copy> Piece<A> {
@@ -175,23 +246,42 @@ impl<A: Allocator + Copy> Piece<A> {
         Ok(is_end || filled < self.bytes.len())
     }
 
-    // Reads its lines while those of the piece before it are added to a front, unless that can't be: whether
-    // it was.
-    pub(crate) fn read_beside<R: Threads + Sync>(
+    // Reads its lines in so many threads, while those of the piece before it are added to a front, and then
+    // puts what stands behind the lines in that piece's place, and behind it what a reader has: whether it has no more. None
+    // where the lines of that piece can't be added; then they, and the reader, are as before.
+    pub(crate) fn read_beside<T: Threads + Sync, R: Read>(
         &mut self,
-        rt: &R,
+        rt: &T,
+        readers: usize,
         alloc: A,
         front: &mut LogFront<A>,
-        ready: &Piece<A>,
-    ) -> io::Result<bool>
+        ready: &mut Piece<A>,
+        reader: &mut R,
+        is_end: bool,
+    ) -> io::Result<Option<bool>>
         ensures lines { self.new.lines ≡ self.old.lines }
-        ensures tail { self.new.tail ≡ self.old.tail }
         ensures read { OnOk result (AreJobsIn (lines self.new.lines) self.new.jobs) }
-        ensures grows { IfOk result (Grows front.old ready.now front.new) }
+        ensures grows { IfOk result (λ ended. Grows front.old ready.old front.new (is_some ended)) }
+        ensures given { IfOk result (λ ended. IfSome ended (λ e. Fills (R.remaining reader.old) (R.remaining reader.new) self.old.tail ready.new)) }
+        ensures end { IfOk result (λ ended. IfSome ended (λ e. (is_end ≡ true → IsAtEnd (R.remaining reader.old)) → e ≡ true → IsAtEnd (R.remaining reader.new))) }
+        ensures kept { IfOk result (λ ended. IfNone ended ((self.new.tail ≡ self.old.tail) × (ready.new ≡ ready.old) × (R.remaining reader.new ≡ R.remaining reader.old))) }
     {
-        let portions = portions_of(alloc, &self.bytes[..self.whole])?;
+        let bytes = self.bytes.as_slice();
+        let portions = portions_of(alloc, &bytes[..self.whole])?;
+        let tail = &bytes[self.whole..self.filled];
         self.jobs.resize(portions.len(), JobLines::new())?;
         let jobs = self.jobs.as_mut_slice();
-        Ok(read_and_add(rt, alloc, front, ready, portions.as_slice(), jobs))
+        read_and_add(
+            rt,
+            readers,
+            alloc,
+            front,
+            ready,
+            reader,
+            tail,
+            is_end,
+            portions.as_slice(),
+            jobs,
+        )
     }
 }

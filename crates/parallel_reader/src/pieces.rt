@@ -19,6 +19,9 @@ const HEAD_BYTES: usize = 65_536;
 /// The bytes of a piece that several threads read.
 const PIECE_BYTES: usize = 1_048_576;
 
+/// The most threads of which a log is read by all but one.
+const MOST_THREADS: usize = 32;
+
 /// The most pieces that are read.
 const MOST_PIECES: usize = 65_536;
 
@@ -55,7 +58,18 @@ fn with_rest<A: Allocator + Copy>(
     })
 }
 
-// Reads the front of a log behind its head: piece after piece, each while the one before it is added.
+// How many threads read lines while this one adds entries, of so many that may run at once: two at least, since one that
+// starts alone often waits on this one's processor.
+fn readers_beside(threads: usize) -> usize {
+    match threads {
+        0 | 1 => 0,
+        2 => 2,
+        _ => threads - 1,
+    }
+}
+
+// Reads the front of a log behind its head: piece after piece, each while the one before it is added and
+// the one behind it comes.
 fn read_pieces<T: Threads + Sync, R: Read, A: Allocator + Copy>(
     rt: &T,
     alloc: A,
@@ -66,7 +80,8 @@ fn read_pieces<T: Threads + Sync, R: Read, A: Allocator + Copy>(
     ensures read { IfOk result (λ read. (head : List ℕ) → IsFront head begun → IsReadBehind (head ++ tail.now) (R.remaining reader.old) (R.remaining reader.new) read.front read.rest.items) }
     ensures ended { IfOk result (λ read. read.is_end ≡ true → IsAtEnd (R.remaining reader.new)) }
 {
-    let size = if current_num_threads(rt) < 2 {
+    let readers = readers_beside(current_num_threads(rt).min(MOST_THREADS));
+    let size = if readers == 0 {
         HEAD_BYTES
     } else {
         PIECE_BYTES
@@ -76,14 +91,17 @@ fn read_pieces<T: Threads + Sync, R: Read, A: Allocator + Copy>(
     let mut coming = Piece::new(alloc, size)?;
     let mut is_end = coming.fill(reader, tail, false)?;
     'pieces: for _ in 0..MOST_PIECES {
-        if !coming.read_beside(rt, alloc, &mut front, &ready)? {
+        let Some(ended) = coming.read_beside(
+            rt, readers, alloc, &mut front, &mut ready, reader, is_end,
+        )?
+        else {
             return with_rest(alloc, front, ready.lines(), coming.all(), is_end);
-        }
+        };
+        is_end = ended;
         swap(&mut ready, &mut coming);
         if ready.lines().is_empty() {
-            return with_rest(alloc, front, &[], ready.all(), is_end);
+            return with_rest(alloc, front, ready.lines(), coming.all(), is_end);
         }
-        is_end = coming.fill(reader, ready.tail(), is_end)?;
     }
     with_rest(alloc, front, ready.lines(), coming.all(), is_end)
 }
