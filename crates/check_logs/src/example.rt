@@ -1,4 +1,4 @@
-//! The example of docs/swf_text.md, as it stands there.
+//! The example of the page of `swf_text`, as it stands there.
 
 use std::alloc::Allocator;
 use swf_text::{SwfFault, header_number, read_swf};
