@@ -186,16 +186,16 @@ module _ {X : Type 0} where
       let front : take (k + 1) (cut_at k cs) ≡ take k cs ++ low ∷ [] = ap (take (k + 1)) (split_at k cs lt) ∙ take_at (take k cs ++ low ∷ []) (drop 64 (get_or cs k []) ∷ drop (k + 1) cs) (k + 1) (front_length k cs low lt) in
       ap (λ (r : List (List X)). length (flat r)) front ∙ ap length (flat-append (take k cs) (low ∷ []) ∙ ap (λ (r : List X). flat (take k cs) ++ r) (append-nil low)) ∙ length-append (flat (take k cs)) low ∙ ap (λ (n : ℕ). start k cs + n) long
 
-  -- a place of a full block, once it is cut: its block has room
-  pub record HasRoom (k at block place : ℕ) (cs new : List (List X)) : Type 0 where
+  -- a place of a full block, once it is cut: its block has capacity
+  pub record HasCapacity (k at block place : ℕ) (cs new : List (List X)) : Type 0 where
     pub there : block < length new
     pub within : place ≤ length (get_or new block [])
     pub half : length (get_or new block []) ≡ 64
     pub same : start block new + place ≡ start k cs + at
 
-  half_low : (k at : ℕ) (cs new : List (List X)) → k < length cs → length (get_or cs k []) ≡ 128 → at ≤ 64 → new ≡ cut_at k cs → HasRoom k at k at cs new
+  half_low : (k at : ℕ) (cs new : List (List X)) → k < length cs → length (get_or cs k []) ≡ 128 → at ≤ 64 → new ≡ cut_at k cs → HasCapacity k at k at cs new
   half_low k at cs new lt full le e =
-      subst (HasRoom k at k at cs) (sym e)
+      subst (HasCapacity k at k at cs) (sym e)
       (record {
         there = omega (arith, cut_length k cs lt);
         within = omega (arith, ap length (cut_low k cs lt), length-take-le 64 (get_or cs k []) (omega (arith, full)));
@@ -203,9 +203,9 @@ module _ {X : Type 0} where
         same = ap (λ (n : ℕ). n + at) (cut_start k cs lt);
       })
 
-  half_high : (k at : ℕ) (cs new : List (List X)) → k < length cs → length (get_or cs k []) ≡ 128 → 64 < at → at ≤ 128 → new ≡ cut_at k cs → HasRoom k at (k + 1) (at - 64) cs new
+  half_high : (k at : ℕ) (cs new : List (List X)) → k < length cs → length (get_or cs k []) ≡ 128 → 64 < at → at ≤ 128 → new ≡ cut_at k cs → HasCapacity k at (k + 1) (at - 64) cs new
   half_high k at cs new lt full more le e =
-      subst (HasRoom k at (k + 1) (at - 64) cs) (sym e)
+      subst (HasCapacity k at (k + 1) (at - 64) cs) (sym e)
       (record {
         there = omega (arith, cut_length k cs lt);
         within = omega (arith, ap length (cut_high k cs lt), length-drop 64 (get_or cs k []), full);
@@ -213,16 +213,16 @@ module _ {X : Type 0} where
         same = omega (arith, cut_next k cs lt full, more);
       })
 
-  pub has_room : (k at block place : ℕ) (cs new : List (List X)) → k < length cs → length (get_or cs k []) ≡ 128 → at ≤ 128 → new ≡ cut_at k cs → (at ≤ 64 → (block ≡ k) × (place ≡ at)) → (64 < at → (block ≡ k + 1) × (place ≡ at - 64))
-      → HasRoom k at block place cs new
-  has_room k at block place cs new lt full most e low high =
+  pub has_capacity : (k at block place : ℕ) (cs new : List (List X)) → k < length cs → length (get_or cs k []) ≡ 128 → at ≤ 128 → new ≡ cut_at k cs → (at ≤ 64 → (block ≡ k) × (place ≡ at)) → (64 < at → (block ≡ k + 1) × (place ≡ at - 64))
+      → HasCapacity k at block place cs new
+  has_capacity k at block place cs new lt full most e low high =
       ⊎_elim
       (λ (more : 64 < at).
       let h = high more in
-      subst (λ (b : ℕ). HasRoom k at b place cs new) (sym h.0) (subst (λ (p : ℕ). HasRoom k at (k + 1) p cs new) (sym h.1) (half_high k at cs new lt full more most e)))
+      subst (λ (b : ℕ). HasCapacity k at b place cs new) (sym h.0) (subst (λ (p : ℕ). HasCapacity k at (k + 1) p cs new) (sym h.1) (half_high k at cs new lt full more most e)))
       (λ (le : at ≤ 64).
       let h = low le in
-      subst (λ (b : ℕ). HasRoom k at b place cs new) (sym h.0) (subst (λ (p : ℕ). HasRoom k at k p cs new) (sym h.1) (half_low k at cs new lt full le e)))
+      subst (λ (b : ℕ). HasCapacity k at b place cs new) (sym h.0) (subst (λ (p : ℕ). HasCapacity k at k p cs new) (sym h.1) (half_low k at cs new lt full le e)))
       (cases_lt 64 at)
 
   -- ---- the item at a place

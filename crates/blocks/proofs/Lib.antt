@@ -4,7 +4,7 @@ mod Changes
 mod Places
 mod Halves
 mod Edits
-mod Rooms
+mod Capacities
 mod Order
 mod Found
 mod Weighed

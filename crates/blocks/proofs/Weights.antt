@@ -32,21 +32,21 @@ module _ {X : Type 0} (f : X → ℕ) where
   lower : (least less : ℕ) (xs : List X) → less ≤ least → Below least xs → Below less xs
   lower least less xs le h = All-weaker (λ x. least ≤ f x) (λ x. less ≤ f x) (λ x (k : least ≤ f x). omega (arith, k, le)) xs h
 
-  pub block_light : (weight least room : ℕ) (xs : List X) → IsBlock f weight least room xs → weight < 2 ^ 80
-  block_light weight least room xs b = omega (arith, b.sum, light xs b.fit b.most)
+  pub block_light : (weight least capacity : ℕ) (xs : List X) → IsBlock f weight least capacity xs → weight < 2 ^ 80
+  block_light weight least capacity xs b = omega (arith, b.sum, light xs b.fit b.most)
 
   -- a part from one place on
-  pub back_light : (weight least room k : ℕ) (xs back : List X) → IsBlock f weight least room xs → back ≡ drop k xs → (sum_by f back < 2 ^ 80) × (sum_by f back ≤ weight)
-  back_light weight least room k xs back b e =
+  pub back_light : (weight least capacity k : ℕ) (xs back : List X) → IsBlock f weight least capacity xs → back ≡ drop k xs → (sum_by f back < 2 ^ 80) × (sum_by f back ≤ weight)
+  back_light weight least capacity k xs back b e =
       let parts : sum_by f (take k xs) + sum_by f (drop k xs) ≡ sum_by f xs = sum_by-take-drop f xs k in
       (omega (arith, ap (sum_by f) e, parts, light xs b.fit b.most), omega (arith, ap (sum_by f) e, parts, b.sum))
 
-  pub block_insert : (weight least room more at : ℕ) (xs ys : List X) (x : X) (least' room' : ℕ) → IsBlock f weight least room xs → at ≤ length xs → length xs < 128 → more ≡ f x → more < 2 ^ 64 → ys ≡ insert xs at x → least' ≤ least → least' ≤ more → room ≤ room' → IsBlock f (weight + more) least' room' ys
-  block_insert weight least room more at xs ys x least' room' b le lt e fits is low under wide =
+  pub block_insert : (weight least capacity more at : ℕ) (xs ys : List X) (x : X) (least' capacity' : ℕ) → IsBlock f weight least capacity xs → at ≤ length xs → length xs < 128 → more ≡ f x → more < 2 ^ 64 → ys ≡ insert xs at x → least' ≤ least → least' ≤ more → capacity ≤ capacity' → IsBlock f (weight + more) least' capacity' ys
+  block_insert weight least capacity more at xs ys x least' capacity' b le lt e fits is low under wide =
       let fit : f x < 2 ^ 64 = omega (arith, e, fits) in
       let low' : least' ≤ f x = omega (arith, e, under) in
       let bound : Below least' xs = lower least least' xs low b.bound in
-      subst (IsBlock f (weight + more) least' room') (sym is)
+      subst (IsBlock f (weight + more) least' capacity') (sym is)
       (record {
         sum = omega (arith, sum_by-insert f xs at x, b.sum, e);
         bound = All-append (λ y. least' ≤ f y) (take at xs) (x ∷ drop at xs) (All-take (λ y. least' ≤ f y) at xs bound) (All-cons (λ y. least' ≤ f y) x (drop at xs) low' (All-drop (λ y. least' ≤ f y) at xs bound));
@@ -55,10 +55,10 @@ module _ {X : Type 0} (f : X → ℕ) where
         wide = omega (arith, b.wide, wide);
       })
 
-  pub block_remove : (weight least room less at : ℕ) (xs ys : List X) (x : X) (room' : ℕ) → IsBlock f weight least room xs → at < length xs → x ≡ get_or xs at x → less ≡ f x → ys ≡ remove xs at → room' ≡ room → IsBlock f (weight - less) least room' ys
-  block_remove weight least room less at xs ys x room' b lt here e is same =
+  pub block_remove : (weight least capacity less at : ℕ) (xs ys : List X) (x : X) (capacity' : ℕ) → IsBlock f weight least capacity xs → at < length xs → x ≡ get_or xs at x → less ≡ f x → ys ≡ remove xs at → capacity' ≡ capacity → IsBlock f (weight - less) least capacity' ys
+  block_remove weight least capacity less at xs ys x capacity' b lt here e is same =
       let left : sum_by f (remove xs at) + f (get_or xs at x) ≡ sum_by f xs = sum_by-remove f xs at x lt in
-      subst (IsBlock f (weight - less) least room') (sym is)
+      subst (IsBlock f (weight - less) least capacity') (sym is)
       (record {
         sum = omega (arith, left, ap f here, b.sum, e);
         bound = All-append (λ y. least ≤ f y) (take at xs) (drop (suc at) xs) (All-take (λ y. least ≤ f y) at xs b.bound) (All-drop (λ y. least ≤ f y) (suc at) xs b.bound);
@@ -67,10 +67,10 @@ module _ {X : Type 0} (f : X → ℕ) where
         wide = omega (arith, b.wide, same);
       })
 
-  pub block_low : (weight least room more k : ℕ) (xs ys back : List X) (room' : ℕ) → IsBlock f weight least room xs → back ≡ drop k xs → more ≡ sum_by f back → ys ≡ take k xs → room' ≡ room → IsBlock f (weight - more) least room' ys
-  block_low weight least room more k xs ys back room' b e s is same =
+  pub block_low : (weight least capacity more k : ℕ) (xs ys back : List X) (capacity' : ℕ) → IsBlock f weight least capacity xs → back ≡ drop k xs → more ≡ sum_by f back → ys ≡ take k xs → capacity' ≡ capacity → IsBlock f (weight - more) least capacity' ys
+  block_low weight least capacity more k xs ys back capacity' b e s is same =
       let parts : sum_by f (take k xs) + sum_by f (drop k xs) ≡ sum_by f xs = sum_by-take-drop f xs k in
-      subst (IsBlock f (weight - more) least room') (sym is)
+      subst (IsBlock f (weight - more) least capacity') (sym is)
       (record {
         sum = omega (arith, parts, b.sum, s, ap (sum_by f) e);
         bound = All-take (λ y. least ≤ f y) k xs b.bound;
@@ -79,9 +79,9 @@ module _ {X : Type 0} (f : X → ℕ) where
         wide = omega (arith, b.wide, same);
       })
 
-  pub block_high : (weight least room more k : ℕ) (xs ys back : List X) (room' : ℕ) → IsBlock f weight least room xs → back ≡ drop k xs → more ≡ sum_by f back → ys ≡ back → 128 ≤ room' → IsBlock f more least room' ys
-  block_high weight least room more k xs ys back room' b e s is wide =
-      subst (IsBlock f more least room') (sym (is ∙ e))
+  pub block_high : (weight least capacity more k : ℕ) (xs ys back : List X) (capacity' : ℕ) → IsBlock f weight least capacity xs → back ≡ drop k xs → more ≡ sum_by f back → ys ≡ back → 128 ≤ capacity' → IsBlock f more least capacity' ys
+  block_high weight least capacity more k xs ys back capacity' b e s is wide =
+      subst (IsBlock f more least capacity') (sym (is ∙ e))
       (record {
         sum = omega (arith, s, ap (sum_by f) e);
         bound = All-drop (λ y. least ≤ f y) k xs b.bound;

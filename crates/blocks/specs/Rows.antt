@@ -2,7 +2,7 @@
 use Rattle.std.specs.Prelude.{◌≡◌, ℕ, ◌≤◌, ◌<◌, ◌+◌, ◌-◌, ◌^◌, ◌*◌, ◌==◌, ◌&&◌, ◌||◌, nat_lt, not, Bool, true, false, Option, Some, None, if◌then◌else◌, List, [], ◌∷◌, ◌++◌, length, take, drop, slice_get, slice_index_or, slice_set, sum_by, All, Vec, vec_capacity}
 use Rattle.std.specs.List.{flat_map, insert, position_or_len, remove}
 
--- What callers see of a row: its blocks, each with its items, and how many insertions surely find room.
+-- What callers see of a row: its blocks, each with its items, and how many insertions surely find capacity.
 pub record BlocksView (X : Type 0) : Type 0 where
   pub blocks : List (List X)
   pub spare : ℕ
@@ -66,41 +66,41 @@ module _ {X : Type 0} where
   without_first test [] = []
   without_first test (x ∷ xs) = if test x then xs else x ∷ without_first test xs
 
--- how many insertions surely find room, by the numbers of blocks in use and of empty ones, and by how many items are over: where no
+-- how many insertions surely find capacity, by the numbers of blocks in use and of empty ones, and by how many items are over: where no
 -- block is in use, the first insertion takes an empty one and cuts none
-abbrev pub room_of : ℕ → ℕ → ℕ → ℕ
-room_of used empty over = 64 * empty - 63 * (1 - used) - over
+abbrev pub capacity_of : ℕ → ℕ → ℕ → ℕ
+capacity_of used empty over = 64 * empty - 63 * (1 - used) - over
 
 -- what the fields of a row keep: blocks in use and empty ones, by how many items the former are over, how many items there are, and
--- room for each block both among those in use and among the empty ones
-pub record IsRow {X : Type 0} (used empty : List (List X)) (over len used_room empty_room : ℕ) : Type 0 where
+-- capacity for each block both among those in use and among the empty ones
+pub record IsRow {X : Type 0} (used empty : List (List X)) (over len used_capacity empty_capacity : ℕ) : Type 0 where
   pub filled : AreFilled used
   pub cleared : All (λ block. block ≡ []) empty
   pub overs : over ≡ sum_by over_of used
   pub owed : over ≤ 64 * length empty
   pub all : len ≡ length (flat used)
   pub few : length used + length empty ≤ 2 ^ 40
-  pub usable : length used + length empty ≤ used_room
-  pub returnable : length used + length empty ≤ empty_room
+  pub usable : length used + length empty ≤ used_capacity
+  pub returnable : length used + length empty ≤ empty_capacity
 
--- a list that may have grown: it has the items that it had, and no less room
+-- a list that may have grown: it has the items that it had, and no less capacity
 pub record HasGrown {X A : Type 0} (old new : Vec X A) : Type 0 where
   pub items : new.items ≡ old.items
-  pub room : vec_capacity old ≤ vec_capacity new
+  pub capacity : vec_capacity old ≤ vec_capacity new
 
--- so many blocks find room: among those in use, among the empty ones, and in their groups of 64
-pub record HasRoomFor (blocks used_room empty_room groups_room : ℕ) : Type 0 where
-  pub usable : blocks ≤ used_room
-  pub returnable : blocks ≤ empty_room
-  pub grouped : blocks ≤ 64 * groups_room + 63
+-- so many blocks find capacity: among those in use, among the empty ones, and in their groups of 64
+pub record HasCapacityFor (blocks used_capacity empty_capacity groups_capacity : ℕ) : Type 0 where
+  pub usable : blocks ≤ used_capacity
+  pub returnable : blocks ≤ empty_capacity
+  pub grouped : blocks ≤ 64 * groups_capacity + 63
 
--- what the fields of a block keep: what its items weigh together, what none of them weighs less than, and their room
-pub record IsBlock {X : Type 0} (weigh : X → ℕ) (weight least room : ℕ) (items : List X) : Type 0 where
+-- what the fields of a block keep: what its items weigh together, what none of them weighs less than, and their capacity
+pub record IsBlock {X : Type 0} (weigh : X → ℕ) (weight least capacity : ℕ) (items : List X) : Type 0 where
   pub sum : weight ≡ sum_by weigh items
   pub bound : All (λ x. least ≤ weigh x) items
   pub fit : All (λ x. weigh x < 2 ^ 64) items
   pub most : length items ≤ 128
-  pub wide : 128 ≤ room
+  pub wide : 128 ≤ capacity
 
 module _ {X : Type 0} (major minor : X → ℕ) where
   -- the item stands before one with these two numbers: by its first number, and of one first number by its second

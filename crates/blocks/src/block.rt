@@ -14,7 +14,7 @@ pub(crate) const BLOCK_LIMIT: usize = 128;
 /// How many of a full block's items stay in it when it is cut.
 pub(crate) const BLOCK_HALF: usize = 64;
 
-/// Up to 128 items, which have their room, and what they weigh together.
+/// Up to 128 items, which have their capacity, and what they weigh together.
 #[derive(Drop)]
 pub(crate) struct Block<T: Ranked, A: Allocator + Copy> {
     items: Vec<T, A>,
@@ -37,7 +37,6 @@ impl<T: Ranked, A: Allocator + Copy> Model for Block<T, A> {
     ghost invariant = { λ b. IsBlock T.weight b.weight b.least (vec_capacity b.items) b.items.items × EndsAt T.major b.last b.items.items };
 }
 
-// What these items weigh together.
 fn weight_of<T: Ranked>(items: &[T]) -> u128
     requires { sum_by T.weight items.now < 2 ^ 128 }
     ensures { result ≡ sum_by T.weight items.now }
@@ -45,7 +44,6 @@ fn weight_of<T: Ranked>(items: &[T]) -> u128
     items.iter().map(|item| u128::from(item.weight())).sum()
 }
 
-// What none of these items weighs less than.
 fn least_of<T: Ranked>(items: &[T]) -> u64
     ensures { All (λ x. result ≤ T.weight x) items.now }
 {
@@ -56,7 +54,6 @@ fn least_of<T: Ranked>(items: &[T]) -> u64
     least
 }
 
-// The first number of the last of these items.
 #[inline]
 fn last_of<T: Ranked>(items: &[T]) -> u128
     ensures { EndsAt T.major result items.now }
@@ -80,7 +77,7 @@ fn light_of<T: Ranked>(items: &[T], from: usize, limit: u64) -> Option<usize>
 }
 
 impl<T: Ranked, A: Allocator + Copy> Block<T, A> {
-    // No items, with room for 128.
+    // No items, with capacity for 128.
     pub(crate) fn new(alloc: A) -> Result<Block<T, A>, Memory>
         ensures { IfOk result (λ block. block ≡ []) }
     {
@@ -92,7 +89,6 @@ impl<T: Ranked, A: Allocator + Copy> Block<T, A> {
         })
     }
 
-    // The items.
     pub(crate) fn as_slice(&self) -> &[T]
         ensures items { result.now ≡ self.now }
         ensures most { length result.now ≤ 128 }
@@ -100,7 +96,6 @@ impl<T: Ranked, A: Allocator + Copy> Block<T, A> {
         self.items.as_slice()
     }
 
-    // What the items weigh together.
     pub(crate) fn weight(&self) -> u128
         ensures value { result ≡ sum_by T.weight self.now }
         ensures light { result < 2 ^ 80 }
@@ -126,10 +121,9 @@ impl<T: Ranked, A: Allocator + Copy> Block<T, A> {
         }
     }
 
-    // Puts one item more at a place, where there is room.
     pub(crate) fn insert(&mut self, at: usize, item: T)
         requires within { at ≤ length self.old }
-        requires room { length self.old < 128 }
+        requires capacity { length self.old < 128 }
         ensures { self.new ≡ insert self.old at item }
     {
         let weight = item.weight();
@@ -141,7 +135,6 @@ impl<T: Ranked, A: Allocator + Copy> Block<T, A> {
         self.last = last_of(self.items.as_slice());
     }
 
-    // Takes the item at a place out.
     pub(crate) fn remove(&mut self, at: usize) -> T
         requires { at < length self.old }
         ensures item { result ≡ slice_index_or self.old at result }
@@ -173,7 +166,6 @@ impl<T: Ranked, A: Allocator + Copy> Block<T, A> {
         self.last = last_of(self.items.as_slice());
     }
 
-    // Moves all items of another block behind its own.
     pub(crate) fn join(&mut self, next: &mut Block<T, A>)
         requires { length self.old + length next.old ≤ 128 }
         ensures all { self.new ≡ self.old ++ next.old }
@@ -188,7 +180,6 @@ impl<T: Ranked, A: Allocator + Copy> Block<T, A> {
         next.clear();
     }
 
-    // Lets all items go, and keeps their room.
     pub(crate) fn clear(&mut self)
         ensures { self.new ≡ [] }
     {
@@ -213,10 +204,9 @@ impl<T: Ranked, A: Allocator + Copy> Block<T, A> {
         found
     }
 
-    // Puts it at a place of a list that has room.
     pub(crate) fn put_into(self, blocks: &mut Vec<Block<T, A>, A>, at: usize)
         requires within { at ≤ length blocks.old.items }
-        requires room { length blocks.old.items < vec_capacity blocks.old }
+        requires capacity { length blocks.old.items < vec_capacity blocks.old }
         ensures items { blocks.new.items ≡ insert blocks.old.items at self }
         ensures kept { vec_capacity blocks.new ≡ vec_capacity blocks.old }
     {
@@ -225,7 +215,6 @@ impl<T: Ranked, A: Allocator + Copy> Block<T, A> {
         };
     }
 
-    // Takes one of the empty blocks.
     pub(crate) fn take_from(empty: &mut Vec<Block<T, A>, A>) -> Block<T, A>
         requires some { 1 ≤ length empty.old.items }
         requires cleared { All (λ block. block ≡ []) empty.old.items }
@@ -240,11 +229,10 @@ impl<T: Ranked, A: Allocator + Copy> Block<T, A> {
         block
     }
 
-    // Adds it, which is empty, to the empty blocks, which have room.
     pub(crate) fn keep_in(self, empty: &mut Vec<Block<T, A>, A>)
         requires none { self ≡ [] }
         requires cleared { All (λ block. block ≡ []) empty.old.items }
-        requires room { length empty.old.items < vec_capacity empty.old }
+        requires capacity { length empty.old.items < vec_capacity empty.old }
         ensures cleared { All (λ block. block ≡ []) empty.new.items }
         ensures count { length empty.new.items ≡ length empty.old.items + 1 }
         ensures kept { vec_capacity empty.old ≤ vec_capacity empty.new }

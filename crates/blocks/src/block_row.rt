@@ -20,8 +20,8 @@ pub(crate) struct BlockRow<T: Ranked, A: Allocator + Copy> {
     // What is known of the first 64 blocks in use, of the next 64, and so on; blocks behind them need not
     // be in a group until a search asks for it.
     pub(crate) groups: Vec<Group, A>,
-    // How many items blocks in use have above 65 each: a cut takes one empty block and makes room for
-    // 63 of them, so that each insertion costs at most one of 64 for an empty block.
+    // How many items blocks in use have above 65 each: a cut takes one empty block and reserves capacity
+    // for 63 of them, so that each insertion costs at most one of 64 for an empty block.
     pub(crate) over: usize,
     pub(crate) len: usize,
     // None of the items weighs less than this; kept as each block keeps its own bound.
@@ -31,11 +31,11 @@ pub(crate) struct BlockRow<T: Ranked, A: Allocator + Copy> {
 impl<T: Ranked, A: Allocator + Copy> Model for BlockRow<T, A> {
     ghost use Rattle.std.specs.Prelude.{◌≤◌, ◌+◌, ◌*◌, All, length, vec_capacity};
     ghost use Rattle.blocks.specs.Groups.{AreGroups};
-    ghost use Rattle.blocks.specs.Rows.{BlocksView, IsRow, flat, room_of};
+    ghost use Rattle.blocks.specs.Rows.{BlocksView, IsRow, flat, capacity_of};
 
     ghost Value = { BlocksView T };
 
-    ghost view = { λ r. record { blocks = r.used.items; spare = room_of (length r.used.items) (length r.empty.items) r.over } };
+    ghost view = { λ r. record { blocks = r.used.items; spare = capacity_of (length r.used.items) (length r.empty.items) r.over } };
 
     ghost invariant = { λ r. IsRow r.used.items r.empty.items r.over r.len (vec_capacity r.used) (vec_capacity r.empty) × All (λ x. r.least ≤ T.weight x) (flat r.used.items) × AreGroups T.weight r.used.items r.groups.items × (length r.used.items + length r.empty.items ≤ 64 * vec_capacity r.groups + 63) };
 }
@@ -55,7 +55,6 @@ impl<T: Ranked, A: Allocator + Copy> BlockRow<T, A> {
         }
     }
 
-    // The blocks in use.
     pub(crate) fn blocks(&self) -> &[Block<T, A>]
         ensures blocks { result.now ≡ self.now.blocks }
         ensures filled { AreFilled self.now.blocks }
@@ -65,7 +64,6 @@ impl<T: Ranked, A: Allocator + Copy> BlockRow<T, A> {
         self.used.as_slice()
     }
 
-    // What is known of groups of blocks.
     pub(crate) fn groups(&self) -> &[Group]
         ensures { AreGroups T.weight self.now.blocks result.now }
     {
@@ -73,31 +71,29 @@ impl<T: Ranked, A: Allocator + Copy> BlockRow<T, A> {
         self.groups.as_slice()
     }
 
-    // How many items there are.
     pub(crate) fn len(&self) -> usize
         ensures { result ≡ length (flat self.now.blocks) }
     {
         self.len
     }
 
-    // How many insertions surely find room.
     pub(crate) fn spare(&self) -> usize
         ensures { result ≡ self.now.spare }
     {
         let first = FULL_OVER * 1_usize.saturating_sub(self.used.len());
-        let room = (BLOCK_HALF * self.empty.len()).saturating_sub(first);
-        room.saturating_sub(self.over)
+        let capacity = (BLOCK_HALF * self.empty.len()).saturating_sub(first);
+        capacity.saturating_sub(self.over)
     }
 
-    // Makes room for so many insertions. Memory where a growth was refused; the room may then be
-    // greater than it was, too.
+    // Reserves capacity for so many insertions. Memory where a growth was refused; the capacity may then
+    // be greater than it was, too.
     pub(crate) fn reserve(&mut self, count: usize) -> Result<(), Memory>
         ensures blocks { self.new.blocks ≡ self.old.blocks }
         ensures ok { OnOk result (count ≤ self.new.spare) }
         ensures kept { self.old.spare ≤ self.new.spare }
-        ensures room { count ≤ self.old.spare → IsOk result }
+        ensures capacity { count ≤ self.old.spare → IsOk result }
     {
-        'room: while self.spare() < count {
+        'capacity: while self.spare() < count {
             let block = another(&mut self.used, &mut self.empty, &mut self.groups)?;
             block.keep_in(&mut self.empty);
         }
@@ -129,7 +125,6 @@ impl<T: Ranked, A: Allocator + Copy> BlockRow<T, A> {
         found
     }
 
-    // Lets all items go; their blocks are empty then.
     pub(crate) fn clear(&mut self)
         ensures blocks { self.new.blocks ≡ [] }
         ensures spare { self.old.spare ≤ self.new.spare }

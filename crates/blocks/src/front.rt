@@ -5,7 +5,6 @@ use crate::block::Block;
 use crate::ranked::Ranked;
 use std::alloc::Allocator;
 
-// How many first blocks weigh together less than this, and what they weigh.
 pub(crate) fn lighter<T: Ranked, A: Allocator + Copy>(
     blocks: &[Block<T, A>],
     than: u128,

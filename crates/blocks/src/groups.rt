@@ -34,16 +34,15 @@ fn group_from<T: Ranked, A: Allocator + Copy>(blocks: &[Block<T, A>], first: usi
     }
 }
 
-// Adds the groups that are missing, for which there is room.
 pub(crate) fn mend<T: Ranked, A: Allocator + Copy>(
     groups: &mut Vec<Group, A>,
     blocks: &[Block<T, A>],
 )
     requires few { length (flat blocks.now) < 2 ^ 64 }
     requires groups { AreGroups T.weight blocks.now groups.old.items }
-    requires room { length blocks.now ≤ 64 * vec_capacity groups.old + 63 }
+    requires capacity { length blocks.now ≤ 64 * vec_capacity groups.old + 63 }
     ensures groups { AreGroups T.weight blocks.now groups.new.items }
-    ensures room { vec_capacity groups.old ≤ vec_capacity groups.new }
+    ensures capacity { vec_capacity groups.old ≤ vec_capacity groups.new }
 {
     'missing: while groups.len() < blocks.len() / GROUP {
         let group = group_from(blocks, GROUP * groups.len());
@@ -53,7 +52,6 @@ pub(crate) fn mend<T: Ranked, A: Allocator + Copy>(
     }
 }
 
-// Puts one item more at a place of a block that has room.
 pub(crate) fn put_item<T: Ranked, A: Allocator + Copy>(
     blocks: &mut [Block<T, A>],
     groups: &mut [Group],
@@ -79,7 +77,6 @@ pub(crate) fn put_item<T: Ranked, A: Allocator + Copy>(
     blocks[place.block].insert(place.at, item);
 }
 
-// Takes the item at a place out of a block that has others, too.
 pub(crate) fn take_item<T: Ranked, A: Allocator + Copy>(
     blocks: &mut [Block<T, A>],
     groups: &mut [Group],

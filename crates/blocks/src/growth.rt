@@ -1,5 +1,5 @@
 ghost use Rattle.std.specs.Prelude.{◌≡◌, ◌≤◌, ◌<◌, ◌+◌, ◌-◌, ◌^◌, [], IfOk, OnOk, length, vec_capacity};
-ghost use Rattle.blocks.specs.Rows.{HasGrown, HasRoomFor};
+ghost use Rattle.blocks.specs.Rows.{HasGrown, HasCapacityFor};
 
 use crate::block::{BLOCK_HALF, BLOCK_LIMIT, Block};
 use crate::groups::{GROUP, Group};
@@ -20,7 +20,6 @@ pub(crate) fn over_of(len: usize) -> usize
     len.saturating_sub(BLOCK_HALF + 1)
 }
 
-// A new block, and room for it among those in use and among the empty ones, and for its group.
 pub(crate) fn another<T: Ranked, A: Allocator + Copy>(
     used: &mut Vec<Block<T, A>, A>,
     empty: &mut Vec<Block<T, A>, A>,
@@ -32,7 +31,7 @@ pub(crate) fn another<T: Ranked, A: Allocator + Copy>(
     ensures empty { HasGrown empty.old empty.new }
     ensures groups { HasGrown groups.old groups.new }
     ensures few { OnOk result (length used.old.items + length empty.old.items < 2 ^ 40) }
-    ensures room { OnOk result (HasRoomFor (length used.old.items + length empty.old.items + 1) (vec_capacity used.new) (vec_capacity empty.new) (vec_capacity groups.new)) }
+    ensures capacity { OnOk result (HasCapacityFor (length used.old.items + length empty.old.items + 1) (vec_capacity used.new) (vec_capacity empty.new) (vec_capacity groups.new)) }
 {
     if used.len() + empty.len() >= BLOCKS_LIMIT {
         return Err(Memory);

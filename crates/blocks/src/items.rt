@@ -26,7 +26,6 @@ impl<'a, T: Ranked, A: Allocator + Copy> Model for Items<'a, T, A> {
     ghost invariant = { λ i. AreFilled i.later.now × IsFront i.items.now i.later.now };
 }
 
-// These items and then those of these blocks.
 fn items_from<'a, T: Ranked, A: Allocator + Copy>(
     items: &'a [T],
     later: &'a [Block<T, A>],
@@ -47,7 +46,6 @@ fn items_from<'a, T: Ranked, A: Allocator + Copy>(
 }
 
 impl<'a, T: Ranked, A: Allocator + Copy> Items<'a, T, A> {
-    // The items of all these blocks.
     pub(crate) fn of(blocks: &'a [Block<T, A>]) -> Items<'a, T, A>
         requires { AreFilled blocks.now }
         ensures { result ≡ flat blocks.now }

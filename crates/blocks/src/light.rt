@@ -24,7 +24,6 @@ pub(crate) fn least_of<T: Ranked, A: Allocator + Copy>(
     least
 }
 
-// What none of the items of these groups weighs less than.
 fn least_of_groups(groups: &[Group]) -> u64
     ensures { All (λ g. result ≤ g.least) groups.now }
 {
@@ -128,7 +127,6 @@ fn light_in_group<T: Ranked, A: Allocator + Copy>(
     found
 }
 
-// The wanted place; None where there is none. It passes over each group that is known to have none.
 pub(crate) fn first_light<T: Ranked, A: Allocator + Copy>(
     blocks: &mut [Block<T, A>],
     groups: &mut [Group],

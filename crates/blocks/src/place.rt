@@ -12,7 +12,6 @@ pub(crate) struct Place {
     pub(crate) at: usize,
 }
 
-// The items of a block; none past the last one.
 pub(crate) fn items_of<T: Ranked, A: Allocator + Copy>(blocks: &[Block<T, A>], block: usize) -> &[T]
     ensures value { result.now ≡ block_of blocks.now block }
     ensures len { length result.now ≡ length (block_of blocks.now block) }
@@ -25,7 +24,6 @@ pub(crate) fn items_of<T: Ranked, A: Allocator + Copy>(blocks: &[Block<T, A>], b
     }
 }
 
-// The same place in a block that there is: behind the last block it is at the end of that one.
 pub(crate) fn open_place<T: Ranked, A: Allocator + Copy>(
     blocks: &[Block<T, A>],
     place: Place,
@@ -45,7 +43,6 @@ pub(crate) fn open_place<T: Ranked, A: Allocator + Copy>(
     Place { block, at }
 }
 
-// The same place once its full block is cut.
 pub(crate) fn halved(place: Place) -> Place
     requires block { place.block < 2 ^ 40 }
     requires at { place.at ≤ 128 }

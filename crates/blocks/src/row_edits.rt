@@ -12,10 +12,9 @@ use crate::ranked::Ranked;
 use std::alloc::Allocator;
 
 impl<T: Ranked, A: Allocator + Copy> BlockRow<T, A> {
-    // Puts the first item of all into an empty block.
     fn begin(&mut self, item: T)
         requires none { self.old.blocks ≡ [] }
-        requires room { 1 ≤ self.old.spare }
+        requires capacity { 1 ≤ self.old.spare }
         ensures blocks { self.new.blocks ≡ (item ∷ []) ∷ [] }
         ensures spare { self.old.spare ≤ self.new.spare + 1 }
     {
@@ -26,11 +25,10 @@ impl<T: Ranked, A: Allocator + Copy> BlockRow<T, A> {
         self.len = 1;
     }
 
-    // Cuts a full block in halves.
     fn cut(&mut self, block: usize)
         requires block { block < length self.old.blocks }
         requires full { length (block_of self.old.blocks block) ≡ 128 }
-        requires room { 1 ≤ self.old.spare }
+        requires capacity { 1 ≤ self.old.spare }
         ensures blocks { self.new.blocks ≡ cut_at block self.old.blocks }
         ensures spare { self.old.spare ≤ self.new.spare + 1 }
     {
@@ -41,12 +39,11 @@ impl<T: Ranked, A: Allocator + Copy> BlockRow<T, A> {
         self.over -= FULL_OVER;
     }
 
-    // Puts one item more at a place of a block that has room.
     fn put(&mut self, place: Place, item: T)
         requires block { place.block < length self.old.blocks }
         requires within { place.at ≤ length (block_of self.old.blocks place.block) }
         requires short { length (block_of self.old.blocks place.block) < 128 }
-        requires room { 64 < length (block_of self.old.blocks place.block) → 1 ≤ self.old.spare }
+        requires capacity { 64 < length (block_of self.old.blocks place.block) → 1 ≤ self.old.spare }
         ensures blocks { self.new.blocks ≡ slice_set self.old.blocks place.block (insert (block_of self.old.blocks place.block) place.at item) }
         ensures spare { self.old.spare ≤ self.new.spare + 1 }
         ensures kept { length (block_of self.old.blocks place.block) ≤ 64 → self.new.spare ≡ self.old.spare }
@@ -63,11 +60,10 @@ impl<T: Ranked, A: Allocator + Copy> BlockRow<T, A> {
         self.len += 1;
     }
 
-    // Puts one item more at a place of a block; a full block is cut.
     fn enter(&mut self, place: Place, item: T)
         requires block { place.block < length self.old.blocks }
         requires within { place.at ≤ length (block_of self.old.blocks place.block) }
-        requires room { 1 ≤ self.old.spare }
+        requires capacity { 1 ≤ self.old.spare }
         ensures items { flat self.new.blocks ≡ insert (flat self.old.blocks) (start place.block self.old.blocks + place.at) item }
         ensures spare { self.old.spare ≤ self.new.spare + 1 }
     {
@@ -79,11 +75,10 @@ impl<T: Ranked, A: Allocator + Copy> BlockRow<T, A> {
         self.put(halved(place), item);
     }
 
-    // Puts one item more at a place.
     pub(crate) fn insert(&mut self, place: Place, item: T)
         requires block { place.block ≤ length self.old.blocks }
         requires within { place.at ≤ length (block_of self.old.blocks place.block) }
-        requires room { 1 ≤ self.old.spare }
+        requires capacity { 1 ≤ self.old.spare }
         ensures items { flat self.new.blocks ≡ insert (flat self.old.blocks) (start place.block self.old.blocks + place.at) item }
         ensures spare { self.old.spare ≤ self.new.spare + 1 }
     {
@@ -111,7 +106,6 @@ impl<T: Ranked, A: Allocator + Copy> BlockRow<T, A> {
         item
     }
 
-    // Takes one of several items of a block out.
     fn take_out(&mut self, place: Place) -> T
         requires block { place.block < length self.old.blocks }
         requires at { place.at < length (block_of self.old.blocks place.block) }
@@ -127,7 +121,6 @@ impl<T: Ranked, A: Allocator + Copy> BlockRow<T, A> {
         item
     }
 
-    // Joins a block with the next one, where both together fill at most half a block.
     fn join(&mut self, block: usize)
         requires block { block + 1 < length self.old.blocks }
         requires short { length (block_of self.old.blocks block) + length (block_of self.old.blocks (block + 1)) ≤ 64 }

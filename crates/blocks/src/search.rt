@@ -99,14 +99,12 @@ pub(crate) fn count_before<T: Ranked, A: Allocator + Copy>(
     start_of(blocks, groups, place.block) + place.at
 }
 
-// Whether an item has these two numbers.
 fn is_at<T: Ranked>(item: &T, major: u128, minor: u64) -> bool
     ensures { result ≡ is_at T.major T.minor major minor item.now }
 {
     item.major() == major && item.minor() == minor
 }
 
-// Whether there is an item at a place, with these two numbers.
 fn has_at<T: Ranked>(items: &[T], at: usize, major: u128, minor: u64) -> bool
     ensures { result ≡ passes (is_at T.major T.minor major minor) (slice_get items.now at) }
 {
@@ -116,7 +114,6 @@ fn has_at<T: Ranked>(items: &[T], at: usize, major: u128, minor: u64) -> bool
     }
 }
 
-// The place of the first item with these two numbers; None where there is none.
 pub(crate) fn place_with<T: Ranked, A: Allocator + Copy>(
     blocks: &[Block<T, A>],
     major: u128,

@@ -16,7 +16,7 @@ use swf_text::Memory;
 /// Items that rise by their two numbers, in blocks of 1 to 128, each of which knows what its items
 /// weigh together. An item more or less touches one block, or two that are cut or joined. Blocks that
 /// are empty are kept, so that it is known how many insertions take no memory. Contracts see the
-/// blocks, each with its items, and how many insertions surely find room.
+/// blocks, each with its items, and how many insertions surely find capacity.
 #[derive(Drop)]
 pub struct Blocks<T: Ranked, A: Allocator + Copy> {
     row: BlockRow<T, A>,
@@ -56,26 +56,26 @@ impl<T: Ranked, A: Allocator + Copy> Blocks<T, A> {
         self.row.len() == 0
     }
 
-    /// How many insertions surely find room.
+    /// How many insertions surely find capacity.
     pub fn spare(&self) -> usize
         ensures { result ≡ self.now.spare }
     {
         self.row.spare()
     }
 
-    /// Makes room for so many insertions. Where there is room for them it takes no memory.
+    /// Reserves capacity for so many insertions. Where there is capacity for them it takes no memory.
     ///
-    /// Memory where a growth was refused; the room may then be greater than it was, too.
+    /// Memory where a growth was refused; the capacity may then be greater than it was, too.
     pub fn reserve(&mut self, count: usize) -> Result<(), Memory>
         ensures blocks { self.new.blocks ≡ self.old.blocks }
         ensures ok { OnOk result (count ≤ self.new.spare) }
         ensures kept { self.old.spare ≤ self.new.spare }
-        ensures room { count ≤ self.old.spare → IsOk result }
+        ensures capacity { count ≤ self.old.spare → IsOk result }
     {
         self.row.reserve(count)
     }
 
-    /// Puts one item more before the first that doesn't stand before it, where there is room.
+    /// Puts one item more before the first that doesn't stand before it, where there is capacity.
     pub fn insert(&mut self, item: T)
         requires { 1 ≤ self.old.spare }
         ensures items { flat self.new.blocks ≡ entered T.major T.minor item (flat self.old.blocks) }
@@ -85,13 +85,13 @@ impl<T: Ranked, A: Allocator + Copy> Blocks<T, A> {
         self.row.insert(place, item);
     }
 
-    /// As `insert`, and makes the room. Where there is room it takes no memory.
+    /// As `insert`, and reserves the capacity. Where there is capacity it takes no memory.
     ///
     /// Memory where a growth was refused; then the items stay.
     pub fn insert_growing(&mut self, item: T) -> Result<(), Memory>
         ensures items { OnOk result (flat self.new.blocks ≡ entered T.major T.minor item (flat self.old.blocks)) }
         ensures kept { OnErr result (self.new.blocks ≡ self.old.blocks) }
-        ensures room { 1 ≤ self.old.spare → IsOk result }
+        ensures capacity { 1 ≤ self.old.spare → IsOk result }
         ensures spare { self.old.spare ≤ self.new.spare + 1 }
     {
         self.reserve(1)?;
@@ -208,7 +208,7 @@ impl<T: Ranked, A: Allocator + Copy> Blocks<T, A> {
         Items::of(&self.row.blocks()[block..])
     }
 
-    /// Lets all items go; their room stays.
+    /// Lets all items go; their capacity stays.
     pub fn clear(&mut self)
         ensures blocks { self.new.blocks ≡ [] }
         ensures spare { self.old.spare ≤ self.new.spare }

@@ -7,7 +7,6 @@ use crate::groups::{GROUP, Group};
 use crate::ranked::Ranked;
 use std::alloc::Allocator;
 
-// How many items the blocks from one to another have.
 pub(crate) fn items_in<T: Ranked, A: Allocator + Copy>(
     blocks: &[Block<T, A>],
     first: usize,
@@ -25,7 +24,6 @@ pub(crate) fn items_in<T: Ranked, A: Allocator + Copy>(
     items
 }
 
-// How many items these groups have.
 fn items_of_groups(groups: &[Group], count: usize) -> usize
     requires within { count ≤ length groups.now }
     requires few { sum_by (λ g. g.items) groups.now < 2 ^ 64 }
@@ -69,7 +67,6 @@ fn groups_before(groups: &[Group], place: usize) -> (usize, usize)
     (groups.len(), left)
 }
 
-// The item at a place of the blocks from one on; None past the last one.
 fn item_from<T: Ranked, A: Allocator + Copy>(
     blocks: &[Block<T, A>],
     first: usize,
@@ -89,7 +86,6 @@ fn item_from<T: Ranked, A: Allocator + Copy>(
     None
 }
 
-// The item at a place; None past the last one.
 pub(crate) fn item_at<'a, T: Ranked, A: Allocator + Copy>(
     blocks: &'a [Block<T, A>],
     groups: &[Group],

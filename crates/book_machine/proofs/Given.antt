@@ -3,7 +3,7 @@ use Rattle.std.proofs.Common.{◌≡◌, ℕ, ◌+◌, ◌<◌, ◌≤◌, List,
 use Rattle.std.specs.List.{cons_option}
 use Rattle.job_table.specs.Edit.{LogEdit, fault_of}
 use Rattle.job_table.specs.declared.fault.EditFault.{EditFault}
-use Rattle.scenarios.specs.Scenario.{Setting}
+use Rattle.scenarios.specs.Scenario.{ScenarioView}
 use Rattle.scenarios.specs.ScenarioList.{add_fault, id_of, with_scenario}
 use Rattle.scenarios.specs.declared.list_fault.AddFault.{AddFault}
 use Rattle.book_machine.specs.declared.reply.Reply.{Reply}
@@ -20,17 +20,17 @@ Counts None old new = old ≤ new
 Counts (Some n) old new = (n ≡ old) × (old < new)
 
 -- what a reply gives, of ids and of tickets
-pub record Gives (told : Reply) (old new : Machine) : Type 0 where
-  pub id : Counts (id_in told) old.listing.next new.listing.next
-  pub ticket : Counts (ticket_in told) old.next_ticket new.next_ticket
+pub record Gives (outcome : Reply) (old new : Machine) : Type 0 where
+  pub id : Counts (id_in outcome) old.listing.next new.listing.next
+  pub ticket : Counts (ticket_in outcome) old.next_ticket new.next_ticket
 
 edit_gives : (m : Machine) (edit : LogEdit) (o : Option EditFault) → Gives (elim o [ Some fault ↦ reply.EditRefused fault | None ↦ reply.Edited (version m + 1) ]) m (cond (is_some o) m (record m { edits = m.edits ++ edit ∷ [] }))
 edit_gives m edit None = record { id = omega arith; ticket = omega arith }
 edit_gives m edit (Some fault) = record { id = omega arith; ticket = omega arith }
 
-add_gives : (m : Machine) (name : List ℕ) (setting : Setting) (o : Option AddFault) → Gives (elim o [ Some fault ↦ reply.AddRefused fault | None ↦ reply.Added m.listing.next ]) m (cond (is_some o) m (record m { listing = with_scenario name setting m.listing; progress = m.progress ++ fresh m.listing.next ∷ [] }))
-add_gives m name setting None = record { id = (refl, omega arith); ticket = omega arith }
-add_gives m name setting (Some fault) = record { id = omega arith; ticket = omega arith }
+add_gives : (m : Machine) (name : List ℕ) (scenario : ScenarioView) (o : Option AddFault) → Gives (elim o [ Some fault ↦ reply.AddRefused fault | None ↦ reply.Added m.listing.next ]) m (cond (is_some o) m (record m { listing = with_scenario name scenario m.listing; progress = m.progress ++ fresh m.listing.next ∷ [] }))
+add_gives m name scenario None = record { id = (refl, omega arith); ticket = omega arith }
+add_gives m name scenario (Some fault) = record { id = omega arith; ticket = omega arith }
 
 drop_gives : (m : Machine) (name : List ℕ) (o : Option ℕ) → Gives (elim o [ None ↦ reply.NoSuchScenario | Some id ↦ reply.Dropped id ]) m (elim o [ None ↦ m | Some id ↦ dropped name id m ])
 drop_gives m name None = record { id = omega arith; ticket = omega arith }
@@ -72,7 +72,7 @@ view_gives m seen (Some p) = view_at_gives m seen p.published
 
 step_gives : (m : Machine) (call : BookCall) → Gives (reply_to call m) m (changed_by call m)
 step_gives m (Edit edit) = edit_gives m edit (fault_of edit (current m))
-step_gives m (AddScenario name setting) = add_gives m name setting (add_fault name m.listing)
+step_gives m (AddScenario name scenario) = add_gives m name scenario (add_fault name m.listing)
 step_gives m (DropScenario name) = drop_gives m name (id_of name m.listing)
 step_gives m (Retry id) = retry_gives m id (is_some (progress_of id m.progress))
 step_gives m Claim = claim_gives m (due m) (are_all_out m)

@@ -4,7 +4,7 @@ use Rattle.std.specs.List.{AllByRecursion}
 use Rattle.std.proofs.lemmas.Bool.Decides.{nat_tests}
 use Rattle.swf_text.specs.Entry.{LogEntry}
 use Rattle.job_table.specs.Edit.{LogEdit, fault_of}
-use Rattle.scenarios.specs.Scenario.{Setting}
+use Rattle.scenarios.specs.Scenario.{ScenarioView}
 use Rattle.scenarios.specs.ScenarioList.{Listed, add_fault, id_of, with_scenario}
 use Rattle.book_machine.specs.Call.{BookCall, Edit, AddScenario, DropScenario, Retry, Claim, Finish, GiveUp, View}
 use Rattle.book_machine.specs.Machine.{Machine, Progress, Ticket, opened, version, current, progress_of, ticket_of, changed, publish, marked, fresh, closed, due, is_due, dropped, are_all_out, is_below, after, noted, note_limit}
@@ -103,10 +103,10 @@ sound-edit m edit h lt =
       notes = omega (arith, lt);
     }
 
-sound-add : (m : Machine) (name : List ℕ) (setting : Setting) → IsSound m → m.notes < note_limit → IsSound (noted (record m { listing = with_scenario name setting m.listing; progress = m.progress ++ fresh m.listing.next ∷ [] }))
-sound-add m name setting h lt =
-    let new : Machine = noted (record m { listing = with_scenario name setting m.listing; progress = m.progress ++ fresh m.listing.next ∷ [] }) in
-    let one : Listed = record { name = name; id = m.listing.next; setting = setting } in
+sound-add : (m : Machine) (name : List ℕ) (scenario : ScenarioView) → IsSound m → m.notes < note_limit → IsSound (noted (record m { listing = with_scenario name scenario m.listing; progress = m.progress ++ fresh m.listing.next ∷ [] }))
+sound-add m name scenario h lt =
+    let new : Machine = noted (record m { listing = with_scenario name scenario m.listing; progress = m.progress ++ fresh m.listing.next ∷ [] }) in
+    let one : Listed = record { name = name; id = m.listing.next; scenario = scenario } in
     record {
       ids = ids_end (fresh m.listing.next) one refl m.progress m.listing.scenarios h.ids;
       rise = ids-end 1 m.listing.scenarios m.listing.next one refl h.rise;
@@ -190,14 +190,14 @@ sound-claim m p found free h lt =
     let one : Ticket = record { number = m.next_ticket; id = p.id; version = version m } in
     let new : Machine = noted (record m { tickets = m.tickets ++ one ∷ []; next_ticket = m.next_ticket + 1 }) in
     let len : length (m.tickets ++ one ∷ []) ≡ length m.tickets + 1 = omega (arith, length-append m.tickets (one ∷ [])) in
-    let room : length m.tickets < 256 = grind (arith, nat_tests) in
+    let capacity : length m.tickets < 256 = grind (arith, nat_tests) in
     record {
       ids = h.ids;
       rise = h.rise;
       progress = h.progress;
       tickets = all_end (IsClaim new) m.tickets one (claims m new (omega arith) (omega arith) (λ id s. s) m.tickets h.tickets) (record { number = omega arith; made = omega arith; stands = due_stands m p m.progress found });
       numbers = rise_end (λ t. t.number) m.next_ticket one refl 0 m.tickets (let a = h.first_ticket in omega arith) (all_weaken (IsClaim m) (λ t. t.number < m.next_ticket) (λ t c. c.number) m.tickets h.tickets) h.numbers;
-      standing = omega (arith, len, room);
+      standing = omega (arith, len, capacity);
       versions = let a = h.versions in omega arith;
       next_id = let a = h.next_id in omega arith;
       first_ticket = omega arith;
@@ -209,9 +209,9 @@ edit_sound : (m : Machine) (edit : LogEdit) (b : Bool) → IsSound m → m.notes
 edit_sound m edit true h lt = sound-same m h lt
 edit_sound m edit false h lt = sound-edit m edit h lt
 
-add_sound : (m : Machine) (name : List ℕ) (setting : Setting) (b : Bool) → IsSound m → m.notes < note_limit → IsSound (noted (cond b m (record m { listing = with_scenario name setting m.listing; progress = m.progress ++ fresh m.listing.next ∷ [] })))
-add_sound m name setting true h lt = sound-same m h lt
-add_sound m name setting false h lt = sound-add m name setting h lt
+add_sound : (m : Machine) (name : List ℕ) (scenario : ScenarioView) (b : Bool) → IsSound m → m.notes < note_limit → IsSound (noted (cond b m (record m { listing = with_scenario name scenario m.listing; progress = m.progress ++ fresh m.listing.next ∷ [] })))
+add_sound m name scenario true h lt = sound-same m h lt
+add_sound m name scenario false h lt = sound-add m name scenario h lt
 
 drop_sound : (m : Machine) (name : List ℕ) (o : Option ℕ) → id_of name m.listing ≡ o → IsSound m → m.notes < note_limit → IsSound (noted (elim o [ None ↦ m | Some k ↦ dropped name k m ]))
 drop_sound m name None is h lt = sound-same m h lt
@@ -241,7 +241,7 @@ given_up_sound m number (Some t) is h lt = give_up_sound m number t (t.version =
 
 pub step_sound : (m : Machine) (call : BookCall) → IsSound m → m.notes < note_limit → IsSound (after call m)
 step_sound m (Edit edit) h lt = edit_sound m edit (is_some (fault_of edit (current m))) h lt
-step_sound m (AddScenario name setting) h lt = add_sound m name setting (is_some (add_fault name m.listing)) h lt
+step_sound m (AddScenario name scenario) h lt = add_sound m name scenario (is_some (add_fault name m.listing)) h lt
 step_sound m (DropScenario name) h lt = drop_sound m name (id_of name m.listing) refl h lt
 step_sound m (Retry k) h lt = sound-retry m k h lt
 step_sound m Claim h lt = claim_sound m (due m) (are_all_out m) refl refl h lt

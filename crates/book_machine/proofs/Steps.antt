@@ -1,7 +1,7 @@
 -- No step of the machine makes a published version older, or gives an id again.
 use Rattle.std.proofs.Common.{◌≡◌, ℕ, ◌+◌, ◌<◌, ◌≤◌, ◌==◌, List, [], ◌∷◌, ◌++◌, Bool, true, false, cond, Option, None, Some, is_some, refl, arith}
 use Rattle.job_table.specs.Edit.{LogEdit, fault_of}
-use Rattle.scenarios.specs.Scenario.{Setting}
+use Rattle.scenarios.specs.Scenario.{ScenarioView}
 use Rattle.scenarios.specs.ScenarioList.{add_fault, id_of, with_scenario}
 use Rattle.book_machine.specs.Call.{BookCall, Edit, AddScenario, DropScenario, Retry, Claim, Finish, GiveUp, View}
 use Rattle.book_machine.specs.Machine.{Machine, Progress, Ticket, version, current, progress_of, ticket_of, changed, publish, marked, fresh, closed, due, dropped, are_all_out, changed_by, after}
@@ -20,9 +20,9 @@ edit_goes : (id : ℕ) (m : Machine) (edit : LogEdit) (b : Bool) → Goes id m (
 edit_goes id m edit true = stays id m
 edit_goes id m edit false = record { on = GoesOn-refl (progress_of id m.progress); next = omega arith }
 
-add_goes : (id : ℕ) (m : Machine) (name : List ℕ) (setting : Setting) (b : Bool) → id < m.listing.next → Goes id m (cond b m (record m { listing = with_scenario name setting m.listing; progress = m.progress ++ fresh m.listing.next ∷ [] }))
-add_goes id m name setting true lt = stays id m
-add_goes id m name setting false lt = record { on = goes_on-end id m.listing.next lt m.progress; next = omega arith }
+add_goes : (id : ℕ) (m : Machine) (name : List ℕ) (scenario : ScenarioView) (b : Bool) → id < m.listing.next → Goes id m (cond b m (record m { listing = with_scenario name scenario m.listing; progress = m.progress ++ fresh m.listing.next ∷ [] }))
+add_goes id m name scenario true lt = stays id m
+add_goes id m name scenario false lt = record { on = goes_on-end id m.listing.next lt m.progress; next = omega arith }
 
 drop_goes : (id : ℕ) (m : Machine) (name : List ℕ) (o : Option ℕ) → Goes id m (elim o [ None ↦ m | Some k ↦ dropped name k m ])
 drop_goes id m name None = stays id m
@@ -51,7 +51,7 @@ give_up_goes id m number (Some t) = record { on = marked_goes id m t (t.version 
 
 step_goes : (id : ℕ) (m : Machine) (call : BookCall) → id < m.listing.next → Goes id m (changed_by call m)
 step_goes id m (Edit edit) lt = edit_goes id m edit (is_some (fault_of edit (current m)))
-step_goes id m (AddScenario name setting) lt = add_goes id m name setting (is_some (add_fault name m.listing)) lt
+step_goes id m (AddScenario name scenario) lt = add_goes id m name scenario (is_some (add_fault name m.listing)) lt
 step_goes id m (DropScenario name) lt = drop_goes id m name (id_of name m.listing)
 step_goes id m (Retry k) lt = retry_goes id m k
 step_goes id m Claim lt = claim_goes id m (due m) (are_all_out m)

@@ -5,14 +5,14 @@ use Rattle.std.specs.List.{filter_map, cons_option}
 use Rattle.swf_text.specs.Entry.{LogEntry}
 use Rattle.job_table.specs.declared.fault.EditFault.{EditFault}
 use Rattle.job_table.specs.Edit.{LogEdit, applied, fault_of, log_after, log_at}
-use Rattle.scenarios.specs.Scenario.{Setting}
+use Rattle.scenarios.specs.Scenario.{ScenarioView}
 use Rattle.scenarios.specs.ScenarioList.{add_fault, id_of, with_scenario}
 use Rattle.book_machine.specs.declared.reply.Reply.{Reply}
 use Rattle.book_machine.specs.declared.reply.Reply.TheVariants as reply
 use Rattle.book_machine.specs.Call.{BookCall, Edit, AddScenario, DropScenario, Retry, Claim, Finish, GiveUp, View}
 use Rattle.book_machine.specs.Machine.{Machine, Progress, Ticket, opened, version, current, ticket_of, changed, publish, marked, fresh, closed, due, dropped, are_all_out, reply_to, changed_by, after, add_reply, after_add, drop_reply, after_drop, retry_reply, after_retry, claim_reply, after_claim, finish_reply, after_finish, give_up_reply, after_give_up, view_reply}
 use Rattle.book_machine.specs.History.{Noted, IsLegal, after_all}
-use Rattle.book_machine.specs.Versions.{WereAccepted, edit_told}
+use Rattle.book_machine.specs.Versions.{WereAccepted, edit_outcome}
 use Rattle.book_machine.proofs.Steps.{after_all-append}
 
 -- the log that was opened and its edits stay
@@ -23,9 +23,9 @@ pub record Stays (old new : Machine) : Type 0 where
 same : (m : Machine) → Stays m m
 same m = record { opening = refl; edits = refl }
 
-add_stays : (m : Machine) (name : List ℕ) (setting : Setting) (b : Bool) → Stays m (cond b m (record m { listing = with_scenario name setting m.listing; progress = m.progress ++ fresh m.listing.next ∷ [] }))
-add_stays m name setting true = same m
-add_stays m name setting false = record { opening = refl; edits = refl }
+add_stays : (m : Machine) (name : List ℕ) (scenario : ScenarioView) (b : Bool) → Stays m (cond b m (record m { listing = with_scenario name scenario m.listing; progress = m.progress ++ fresh m.listing.next ∷ [] }))
+add_stays m name scenario true = same m
+add_stays m name scenario false = record { opening = refl; edits = refl }
 
 drop_stays : (m : Machine) (name : List ℕ) (o : Option ℕ) → Stays m (elim o [ None ↦ m | Some k ↦ dropped name k m ])
 drop_stays m name None = same m
@@ -54,15 +54,15 @@ Adds m (edit ∷ []) = fault_of edit (current m) ≡ None
 Adds m (edit ∷ other ∷ edits) = ⊥
 
 -- the log that was opened, and the edits behind those before, which the reply tells
-pub record Grows (call : BookCall) (told : Reply) (old new : Machine) : Type 0 where
+pub record Grows (call : BookCall) (outcome : Reply) (old new : Machine) : Type 0 where
   pub opening : new.opening ≡ old.opening
-  pub adds : Adds old (cons_option (edit_told call told) [])
-  pub edits : new.edits ≡ old.edits ++ cons_option (edit_told call told) []
+  pub adds : Adds old (cons_option (edit_outcome call outcome) [])
+  pub edits : new.edits ≡ old.edits ++ cons_option (edit_outcome call outcome) []
 
 -- a call that tells no edit, and adds none
-kept_as : (call : BookCall) (told : Reply) (old new : Machine) → edit_told call told ≡ None → Stays old new → Grows call told old new
-kept_as call told old new is stays =
-    let none : cons_option (edit_told call told) [] ≡ [] = ap (λ (o : Option LogEdit). cons_option o []) is in
+kept_as : (call : BookCall) (outcome : Reply) (old new : Machine) → edit_outcome call outcome ≡ None → Stays old new → Grows call outcome old new
+kept_as call outcome old new is stays =
+    let none : cons_option (edit_outcome call outcome) [] ≡ [] = ap (λ (o : Option LogEdit). cons_option o []) is in
     record {
       opening = stays.opening;
       adds = subst (Adds old) (sym none) tt;
@@ -75,7 +75,7 @@ edit_grows m edit (Some fault) is = record { opening = refl; adds = tt; edits = 
 
 step_grows : (m : Machine) (call : BookCall) → Grows call (reply_to call m) m (changed_by call m)
 step_grows m (Edit edit) = edit_grows m edit (fault_of edit (current m)) refl
-step_grows m (AddScenario name setting) = kept_as (AddScenario name setting) (add_reply name m) m (after_add name setting m) refl (add_stays m name setting (is_some (add_fault name m.listing)))
+step_grows m (AddScenario name scenario) = kept_as (AddScenario name scenario) (add_reply name m) m (after_add name scenario m) refl (add_stays m name scenario (is_some (add_fault name m.listing)))
 step_grows m (DropScenario name) = kept_as (DropScenario name) (drop_reply name m) m (after_drop name m) refl (drop_stays m name (id_of name m.listing))
 step_grows m (Retry k) = kept_as (Retry k) (retry_reply k m) m (after_retry k m) refl (record { opening = refl; edits = refl })
 step_grows m Claim = kept_as Claim (claim_reply m) m (after_claim m) refl (claim_stays m (due m) (are_all_out m))
@@ -97,7 +97,7 @@ accepted-more m (edit ∷ other ∷ edits) adds were = absurd adds
 step_accepted : (m : Machine) (call : BookCall) → WereAccepted m.opening m.edits → WereAccepted (changed_by call m).opening (changed_by call m).edits
 step_accepted m call were =
     let g = step_grows m call in
-    let new : List LogEdit = cons_option (edit_told call (reply_to call m)) [] in
+    let new : List LogEdit = cons_option (edit_outcome call (reply_to call m)) [] in
     let more : WereAccepted m.opening (m.edits ++ new) = accepted-more m new g.adds were in
     subst (λ log. WereAccepted log (changed_by call m).edits) (sym g.opening) (subst (WereAccepted m.opening) (sym g.edits) more)
 
@@ -115,7 +115,7 @@ edits_grow : (m : Machine) (notes : List Noted) → (more : List LogEdit) × ((a
 edits_grow m [] = ([], sym (append-nil m.edits))
 edits_grow m (note ∷ notes) =
     let g = step_grows m note.call in
-    let new : List LogEdit = cons_option (edit_told note.call (reply_to note.call m)) [] in
+    let new : List LogEdit = cons_option (edit_outcome note.call (reply_to note.call m)) [] in
     let rest = edits_grow (after note.call m) notes in
     (new ++ rest.0, rest.1 ∙ ap (λ es. es ++ rest.0) g.edits ∙ append_assoc m.edits new rest.0)
 
@@ -138,16 +138,16 @@ one_first : (o : Option LogEdit) (rest : List LogEdit) → cons_option o [] ++ r
 one_first None rest = refl
 one_first (Some edit) rest = refl
 
-told_from : (m : Machine) (notes : List Noted) → IsLegal m notes → (after_all m notes).edits ≡ m.edits ++ filter_map (λ n. edit_told n.call n.reply) notes
-told_from m [] legal = sym (append-nil m.edits)
-told_from m (note ∷ notes) legal =
+outcome_from : (m : Machine) (notes : List Noted) → IsLegal m notes → (after_all m notes).edits ≡ m.edits ++ filter_map (λ n. edit_outcome n.call n.reply) notes
+outcome_from m [] legal = sym (append-nil m.edits)
+outcome_from m (note ∷ notes) legal =
     let g = step_grows m note.call in
-    let new : List LogEdit = cons_option (edit_told note.call (reply_to note.call m)) [] in
-    let later : List LogEdit = filter_map (λ n. edit_told n.call n.reply) notes in
-    told_from (after note.call m) notes legal.2
+    let new : List LogEdit = cons_option (edit_outcome note.call (reply_to note.call m)) [] in
+    let later : List LogEdit = filter_map (λ n. edit_outcome n.call n.reply) notes in
+    outcome_from (after note.call m) notes legal.2
     ∙ ap (λ es. es ++ later) g.edits
     ∙ append_assoc m.edits new later
-    ∙ ap (λ es. m.edits ++ es) (one_first (edit_told note.call (reply_to note.call m)) later ∙ ap (λ r. cons_option (edit_told note.call r) later) (sym legal.1))
+    ∙ ap (λ es. m.edits ++ es) (one_first (edit_outcome note.call (reply_to note.call m)) later ∙ ap (λ r. cons_option (edit_outcome note.call r) later) (sym legal.1))
 
-pub noted_edits : (log : List LogEntry) (notes : List Noted) → IsLegal (opened log) notes → (after_all (opened log) notes).edits ≡ filter_map (λ n. edit_told n.call n.reply) notes
-noted_edits log notes legal = told_from (opened log) notes legal
+pub noted_edits : (log : List LogEntry) (notes : List Noted) → IsLegal (opened log) notes → (after_all (opened log) notes).edits ≡ filter_map (λ n. edit_outcome n.call n.reply) notes
+noted_edits log notes legal = outcome_from (opened log) notes legal

@@ -13,9 +13,9 @@ use Rattle.swf_text.specs.Entry.{LogEntry}
 use Rattle.job_table.specs.Edit.{LogEdit, Insert, Remove, Change}
 use Rattle.scenarios.specs.declared.order.Order.{Order}
 use Rattle.scenarios.specs.declared.order.Order.TheVariants.{Arrival, Shortest}
-use Rattle.scenarios.specs.Scenario.{Setting}
+use Rattle.scenarios.specs.Scenario.{ScenarioView}
 use Rattle.book_machine.specs.Call.{BookCall, Edit, AddScenario, DropScenario, Retry, Claim, Finish, GiveUp, View}
-use Rattle.book_machine.specs.Same.{same_entry, same_edit, same_order, same_setting, same_flag, same_call}
+use Rattle.book_machine.specs.Same.{same_entry, same_edit, same_order, same_scenario, same_flag, same_call}
 
 line-Decides : (a b : List ℤ) → Decides (pointwise int_eq a b) (a ≡ b)
 line-Decides a b = slice_eq-Decides Decides-int_eq a b (pointwise int_eq a b) refl
@@ -52,23 +52,23 @@ flag-Decides true b = (sym, sym)
 flag-Decides false true = ((λ t. t), (λ e. e))
 flag-Decides false false = ((λ t. refl), (λ e. refl))
 
-setting-from : (a b : Setting) → (a.procs ≡ b.procs) × ((a.factor ≡ b.factor) × (a.order ≡ b.order)) → a ≡ b
-setting-from a b e =
-    ap (λ (n : ℕ). let x : Setting = record { procs = n; factor = a.factor; order = a.order } in x) e.0
-    ∙ ap₂ (λ (n : ℕ) (o : Order). let x : Setting = record { procs = b.procs; factor = n; order = o } in x) e.1.0 e.1.1
+scenario-from : (a b : ScenarioView) → (a.procs ≡ b.procs) × ((a.factor ≡ b.factor) × (a.order ≡ b.order)) → a ≡ b
+scenario-from a b e =
+    ap (λ (n : ℕ). let x : ScenarioView = record { procs = n; factor = a.factor; order = a.order } in x) e.0
+    ∙ ap₂ (λ (n : ℕ) (o : Order). let x : ScenarioView = record { procs = b.procs; factor = n; order = o } in x) e.1.0 e.1.1
 
-setting-Decides : (a b : Setting) → Decides (same_setting a b) (a ≡ b)
-setting-Decides a b =
+scenario-Decides : (a b : ScenarioView) → Decides (same_scenario a b) (a ≡ b)
+scenario-Decides a b =
     let fo = Decides-and (a.factor == b.factor) (same_order a.order b.order) (Decides-eqb a.factor b.factor) (order-Decides a.order b.order) in
     let d = Decides-and (a.procs == b.procs) (a.factor == b.factor && same_order a.order b.order) (Decides-eqb a.procs b.procs) fo in (
-      (λ t. setting-from a b (d.0 t)),
-      (λ e. d.1 (ap (λ (x : Setting). x.procs) e, (ap (λ (x : Setting). x.factor) e, ap (λ (x : Setting). x.order) e))),
+      (λ t. scenario-from a b (d.0 t)),
+      (λ e. d.1 (ap (λ (x : ScenarioView). x.procs) e, (ap (λ (x : ScenarioView). x.factor) e, ap (λ (x : ScenarioView). x.order) e))),
     )
 
 pub same_call-Decides : (a b : BookCall) → Decides (same_call a b) (a ≡ b)
 same_call-Decides (Edit a) (Edit b) = let d = same_edit-Decides a b in ((λ t. ap Edit (d.0 t)), (λ e. d.1 cc))
 same_call-Decides (AddScenario m a) (AddScenario n b) =
-    let d = Decides-and (bytes_eq m n) (same_setting a b) (bytes_eq-Decides m n) (setting-Decides a b) in
+    let d = Decides-and (bytes_eq m n) (same_scenario a b) (bytes_eq-Decides m n) (scenario-Decides a b) in
     ((λ t. let e : (m ≡ n) × (a ≡ b) = d.0 t in let one : m ≡ n = e.0 in let two : a ≡ b = e.1 in cc), (λ e. let one : m ≡ n = cc in let two : a ≡ b = cc in d.1 (one, two)))
 same_call-Decides (DropScenario m) (DropScenario n) = let d = bytes_eq-Decides m n in ((λ t. ap DropScenario (d.0 t)), (λ e. d.1 cc))
 same_call-Decides (Retry m) (Retry n) = let d = Decides-eqb m n in ((λ t. ap Retry (d.0 t)), (λ e. d.1 cc))

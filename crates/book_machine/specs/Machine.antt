@@ -3,7 +3,7 @@ use Rattle.std.specs.Prelude.{ℕ, ◌+◌, ◌==◌, ◌&&◌, nat_lt, nat_le, 
 use Rattle.std.specs.List.{list_any}
 use Rattle.swf_text.specs.Entry.{LogEntry}
 use Rattle.job_table.specs.Edit.{LogEdit, fault_of, log_after}
-use Rattle.scenarios.specs.Scenario.{Setting}
+use Rattle.scenarios.specs.Scenario.{ScenarioView}
 use Rattle.scenarios.specs.ScenarioList.{Listing, empty, add_fault, id_of, with_scenario, without_scenario}
 use Rattle.book_machine.specs.Call.{BookCall, Edit, AddScenario, DropScenario, Retry, Claim, Finish, GiveUp, View}
 use Rattle.book_machine.specs.declared.reply.Reply.{Reply}
@@ -81,9 +81,13 @@ is_due m p = is_below p.published (version m) && not (is_marked m p) && not (is_
 abbrev pub due : Machine → Option Progress
 due m = find (is_due m) m.progress
 
--- at most so many tickets stand
+-- the most tickets that stand
+abbrev pub ticket_limit : ℕ
+ticket_limit = 256
+
+-- so many stand
 abbrev pub are_all_out : Machine → Bool
-are_all_out m = nat_le 256 (length m.tickets)
+are_all_out m = nat_le ticket_limit (length m.tickets)
 
 -- ---- changes of one scenario, or of one ticket
 
@@ -101,7 +105,7 @@ publish v p = if is_below p.published v then record p { published = Some v } els
 
 -- ---- the calls
 
--- an edit that is accepted makes the next version; one that isn't is told its first fault
+-- an edit that is accepted makes the next version; one that isn't is answered with its first fault
 abbrev pub edit_reply : LogEdit → Machine → Reply
 edit_reply edit m = elim (fault_of edit (current m)) [ Some fault ↦ reply.EditRefused fault | None ↦ reply.Edited (version m + 1) ]
 
@@ -115,10 +119,10 @@ add_reply name m = elim (add_fault name m.listing) [ Some fault ↦ reply.AddRef
 abbrev pub fresh : ℕ → Progress
 fresh id = record { id = id; published = None; mark = None }
 
-abbrev pub after_add : List ℕ → Setting → Machine → Machine
-after_add name setting m =
+abbrev pub after_add : List ℕ → ScenarioView → Machine → Machine
+after_add name scenario m =
     if is_some (add_fault name m.listing) then m
-    else record m { listing = with_scenario name setting m.listing; progress = m.progress ++ fresh m.listing.next ∷ [] }
+    else record m { listing = with_scenario name scenario m.listing; progress = m.progress ++ fresh m.listing.next ∷ [] }
 
 -- a scenario that is dropped takes its tickets with it
 abbrev pub drop_reply : List ℕ → Machine → Reply
@@ -190,7 +194,7 @@ view_reply id seen m = elim (progress_of id m.progress) [ None ↦ reply.NoSuchS
 -- what a call replies
 abbrev pub reply_to : BookCall → Machine → Reply
 reply_to (Edit edit) m = edit_reply edit m
-reply_to (AddScenario name setting) m = add_reply name m
+reply_to (AddScenario name scenario) m = add_reply name m
 reply_to (DropScenario name) m = drop_reply name m
 reply_to (Retry id) m = retry_reply id m
 reply_to Claim m = claim_reply m
@@ -201,7 +205,7 @@ reply_to (View id seen) m = view_reply id seen m
 -- what it changes
 abbrev pub changed_by : BookCall → Machine → Machine
 changed_by (Edit edit) m = after_edit edit m
-changed_by (AddScenario name setting) m = after_add name setting m
+changed_by (AddScenario name scenario) m = after_add name scenario m
 changed_by (DropScenario name) m = after_drop name m
 changed_by (Retry id) m = after_retry id m
 changed_by Claim m = after_claim m

@@ -7,7 +7,7 @@ use Rattle.swf_text.specs.Entry.{LogEntry}
 use Rattle.job_table.specs.Edit.{LogEdit, Insert, Remove, Change}
 use Rattle.scenarios.specs.declared.order.Order.{Order}
 use Rattle.scenarios.specs.declared.order.Order.TheVariants.{Arrival, Shortest}
-use Rattle.scenarios.specs.Scenario.{Setting}
+use Rattle.scenarios.specs.Scenario.{ScenarioView}
 use Rattle.book_machine.specs.Call.{BookCall, Edit, AddScenario, DropScenario, Retry, Claim, Finish, GiveUp, View}
 
 -- the same summary line, and the same partial lines, value by value
@@ -27,8 +27,8 @@ same_order Shortest Shortest = true
 same_order _ _ = false
 
 -- the same machine, factor and order
-abbrev pub same_setting : Setting → Setting → Bool
-same_setting a b = a.procs == b.procs && (a.factor == b.factor && same_order a.order b.order)
+abbrev pub same_scenario : ScenarioView → ScenarioView → Bool
+same_scenario a b = a.procs == b.procs && (a.factor == b.factor && same_order a.order b.order)
 
 abbrev pub same_flag : Bool → Bool → Bool
 same_flag true b = b
@@ -37,7 +37,7 @@ same_flag false b = not b
 -- the same kind of call, with the same arguments
 abbrev pub same_call : BookCall → BookCall → Bool
 same_call (Edit a) (Edit b) = same_edit a b
-same_call (AddScenario m a) (AddScenario n b) = bytes_eq m n && same_setting a b
+same_call (AddScenario m a) (AddScenario n b) = bytes_eq m n && same_scenario a b
 same_call (DropScenario m) (DropScenario n) = bytes_eq m n
 same_call (Retry m) (Retry n) = m == n
 same_call Claim Claim = true

@@ -3,7 +3,7 @@ use Rattle.std.specs.Prelude.{◌≡◌, ℕ, ◌+◌, ◌≤◌, ◌<◌, List,
 use Rattle.std.specs.List.{AllByRecursion}
 use Rattle.swf_text.specs.Entry.{LogEntry}
 use Rattle.scenarios.specs.ScenarioList.{IdsRise}
-use Rattle.book_machine.specs.Machine.{Machine, Progress, Ticket, opened, version, note_limit}
+use Rattle.book_machine.specs.Machine.{Machine, Progress, Ticket, opened, version, note_limit, ticket_limit}
 use Rattle.book_machine.specs.History.{Noted, IsLegal, after_all}
 use Rattle.book_machine.specs.Laws.{Stands, RiseFrom}
 
@@ -23,7 +23,7 @@ pub record IsClaim (m : Machine) (t : Ticket) : Type 0 where
   pub made : t.version ≤ version m
   pub stands : Stands t.id m
 
--- The progress is of the listed scenarios, in their order, whose ids rise; at most 256 tickets stand, whose numbers
+-- The progress is of the listed scenarios, in their order, whose ids rise; not too many tickets stand, whose numbers
 -- rise; no version, id or ticket was given without a note; and there are at most 1,000,000 notes.
 pub record IsSound (m : Machine) : Type 0 where
   pub ids : map (λ p. p.id) m.progress ≡ map (λ s. s.id) m.listing.scenarios
@@ -31,7 +31,7 @@ pub record IsSound (m : Machine) : Type 0 where
   pub progress : AllByRecursion (IsProgress (version m)) m.progress
   pub tickets : AllByRecursion (IsClaim m) m.tickets
   pub numbers : RiseFrom 0 (map (λ t. t.number) m.tickets)
-  pub standing : length m.tickets ≤ 256
+  pub standing : length m.tickets ≤ ticket_limit
   pub versions : version m ≤ m.notes
   pub next_id : m.listing.next ≤ m.notes + 1
   pub first_ticket : 1 ≤ m.next_ticket

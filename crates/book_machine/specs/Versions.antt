@@ -19,15 +19,15 @@ abbrev pub EachVersionWasAccepted : Type 0
 EachVersionWasAccepted =
     (log : List LogEntry) (notes : List Noted) → IsLegal (opened log) notes → WereAccepted log (after_all (opened log) notes).edits
 
--- the edit of a call that was told its version
-abbrev pub edit_told : BookCall → Reply → Option LogEdit
-edit_told (Edit edit) (reply.Edited v) = Some edit
-edit_told call told = None
+-- the edit of a call that was answered with its version
+abbrev pub edit_outcome : BookCall → Reply → Option LogEdit
+edit_outcome (Edit edit) (reply.Edited v) = Some edit
+edit_outcome call outcome = None
 
 -- the notes alone tell the edits, and so every version's log
 abbrev pub TheEditsAreThoseNoted : Type 0
 TheEditsAreThoseNoted =
-    (log : List LogEntry) (notes : List Noted) → IsLegal (opened log) notes → (after_all (opened log) notes).edits ≡ filter_map (λ n. edit_told n.call n.reply) notes
+    (log : List LogEntry) (notes : List Noted) → IsLegal (opened log) notes → (after_all (opened log) notes).edits ≡ filter_map (λ n. edit_outcome n.call n.reply) notes
 
 -- whatever is called later, a version's log stays what it was
 abbrev pub EachVersionKeepsItsLog : Type 0

@@ -61,9 +61,9 @@ impl<A: Allocator + Copy> PartialEq for Call<A> {
                 Call::AddScenario { name, scenario },
                 Call::AddScenario {
                     name: called,
-                    scenario: setting,
+                    scenario: under,
                 },
-            ) => *name == *called && *scenario == *setting,
+            ) => *name == *called && *scenario == *under,
             (Call::DropScenario { name }, Call::DropScenario { name: called }) => *name == *called,
             (Call::Retry { id }, Call::Retry { id: of }) => id.number() == of.number(),
             (Call::Claim, Call::Claim) => true,

@@ -1,7 +1,7 @@
 use job_table::EditFault;
 use scenarios::{AddFault, ScenarioId};
 
-/// What a call was told. Runs are written by their versions.
+/// What a call was answered. Runs are written by their versions.
 #[derive(Clone, Copy, Debug, PartialEq, Eq)]
 pub enum Reply {
     /// An edit made this version.

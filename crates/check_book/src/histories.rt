@@ -1,7 +1,7 @@
-// Histories of a book, each call of which is told what was worked by hand; where a growth is refused it
-// is refused for memory, has changed nothing, and is told the same when it is made once more.
+// Histories of a book, each call of which is answered what was worked by hand; where a growth is refused
+// it is refused for memory, has changed nothing, and is answered the same when it is made once more.
 use crate::player::Player;
-use crate::rows::{EACH, HISTORIES, LONG, RUNS, Said, Told};
+use crate::rows::{Answered, EACH, HISTORIES, LONG, RUNS, Said};
 use book_machine::{Note, Reply};
 use checking::table_of;
 use oracle_book::first_wrong;
@@ -11,7 +11,6 @@ use std::mem::size_of;
 use std::process::Abort;
 use swf_text::Memory;
 
-// Copies of notes.
 fn copied<A: Allocator + Copy>(alloc: A, notes: &[Note<A>]) -> Result<Vec<Note<A>, A>, Memory> {
     let mut copies = Vec::new(alloc);
     for note in notes {
@@ -29,7 +28,6 @@ fn are_right<A: Allocator + Copy>(alloc: A, notes: &[Note<A>]) -> Result<bool, M
     Ok(copies.as_slice() == notes && first_wrong(alloc, log, &copies)?.is_none())
 }
 
-// What comes of it where the notes are judged.
 fn judged<A: Allocator + Copy>(alloc: A, notes: &[Note<A>]) -> Outcome {
     match are_right(alloc, notes) {
         Ok(are_right) => Outcome::right_if(are_right),
@@ -41,7 +39,7 @@ fn judged<A: Allocator + Copy>(alloc: A, notes: &[Note<A>]) -> Outcome {
 fn played<A: Allocator + Copy>(
     player: &mut Player<A>,
     notes: usize,
-    rows: &[(Said, Told)],
+    rows: &[(Said, Answered)],
 ) -> Outcome {
     if !player.has_notes(notes) {
         return Outcome::Before;
@@ -52,9 +50,9 @@ fn played<A: Allocator + Copy>(
     }
 }
 
-/// A history behind so many notes, each call of which is told so.
+/// A history behind so many notes, each call of which is answered so.
 #[derive(Clone, Copy)]
-struct History(usize, &'static [(Said, Told)]);
+struct History(usize, &'static [(Said, Answered)]);
 
 impl Trial for History {
     fn outcome<A: Allocator + Copy>(&self, alloc: A) -> Outcome {
@@ -75,10 +73,10 @@ fn histories_go_on_where_memory_was_refused(rt: HostRuntime) {
     }
 }
 
-// A journal gets room for 8 notes, and then for as many more as it has: so each call is one that needs
-// it, behind some number of notes.
+// A journal gets capacity for 8 notes, and then for as many more as it has: so each call is one that
+// needs it, behind some number of notes.
 #[test]
-fn each_call_is_refused_room_for_its_note(rt: HostRuntime) {
+fn each_call_is_refused_capacity_for_its_note(rt: HostRuntime) {
     for notes in 0..8usize {
         assert!(rt;
             survives_refusals(rt.alloc(), &History(notes, EACH)),
@@ -87,7 +85,7 @@ fn each_call_is_refused_room_for_its_note(rt: HostRuntime) {
     }
 }
 
-// The place of the first wrong note of the runs' history, where the note at a place is told another
+// The place of the first wrong note of the runs' history, where the note at a place is answered another
 // reply, if there is one.
 fn wrong_place(alloc: Global, place: usize) -> Option<Option<usize>> {
     let mut player = Player::new(alloc)?;
@@ -106,7 +104,7 @@ fn notes_are_judged(rt: HostRuntime) {
     }
 }
 
-/// The room of a journal of a million notes, which doubles as it grows, in notes.
+/// The capacity of a journal of a million notes, which doubles as it grows, in notes.
 const ROOM: usize = 1_048_576;
 
 #[test]

@@ -1,4 +1,4 @@
-use crate::rows::{LONG, Said, Told};
+use crate::rows::{Answered, LONG, Said};
 use checking::{FOUR, Written, edit_of, shared_table, table_of};
 use checkpoints::{Run, simulate};
 use refusing::Outcome;
@@ -9,8 +9,8 @@ use std::sync::Arc;
 use swf_text::Memory;
 use version_book::{Book, FinishRefusal, Named, Published, Refusal, Task};
 
-/// What is told where a growth is refused.
-const MEMORY: Told = Told::Refused("Memory");
+/// What is answered where a growth is refused.
+const MEMORY: Answered = Answered::Refused("Memory");
 
 /// A book, the ids that it gave, and its tasks.
 #[derive(Drop)]
@@ -21,42 +21,37 @@ pub(crate) struct Player<A: Allocator + Copy> {
     tasks: Vec<Task<A>, A>,
 }
 
-// What is told of a call that is refused.
-fn refused<F: Named>(refusal: &Refusal<F>) -> Told {
-    Told::Refused(refusal.name())
+fn refused<F: Named>(refusal: &Refusal<F>) -> Answered {
+    Answered::Refused(refusal.name())
 }
 
-// What a claim is told of a task: its ticket and version, and the base's version and edits.
-fn of_task<A: Allocator + Copy>(task: &Task<A>) -> Told {
+// What a claim is answered of a task: its ticket and version, and the base's version and edits.
+fn of_task<A: Allocator + Copy>(task: &Task<A>) -> Answered {
     let base = task.base().map(|base| (base.version(), base.edits().len()));
-    Told::Claimed(task.ticket(), task.version(), base)
+    Answered::Claimed(task.ticket(), task.version(), base)
 }
 
-// What a task makes.
-fn of_work<A: Allocator + Copy>(made: Result<(Arc<Run<A>, A>, Option<Work>), Memory>) -> Told {
+fn of_work<A: Allocator + Copy>(made: Result<(Arc<Run<A>, A>, Option<Work>), Memory>) -> Answered {
     match made {
-        Ok((_run, work)) => Told::Made(work.map(|work| (work.handled, work.reused))),
+        Ok((_run, work)) => Answered::Made(work.map(|work| (work.handled, work.reused))),
         Err(Memory) => MEMORY,
     }
 }
 
-// What is told of a run that is handed in.
-fn of_finish(finished: Result<u64, FinishRefusal>) -> Told {
+fn of_finish(finished: Result<u64, FinishRefusal>) -> Answered {
     match finished {
-        Ok(version) => Told::Number(version),
+        Ok(version) => Answered::Number(version),
         Err(refusal) => refused(&refusal),
     }
 }
 
-// What is told of a run that is shown.
-fn of_view<A: Allocator + Copy>(published: &Published<A>) -> Told {
+fn of_view<A: Allocator + Copy>(published: &Published<A>) -> Answered {
     match published.copy() {
-        Ok(copy) => Told::Number(copy.version()),
+        Ok(copy) => Answered::Number(copy.version()),
         Err(Memory) => MEMORY,
     }
 }
 
-// The run of another log, shared; none where memory is short.
 fn other_run<A: Allocator + Copy>(alloc: A) -> Option<Arc<Run<A>, A>> {
     let table = shared_table(alloc, FOUR)?;
     Arc::new(
@@ -77,19 +72,19 @@ impl<A: Allocator + Copy> Player<A> {
         })
     }
 
-    fn edit(&mut self, written: Written) -> Told {
+    fn edit(&mut self, written: Written) -> Answered {
         let Some(edit) = edit_of(self.alloc, written) else {
             return MEMORY;
         };
         match self.book.edit(7, &edit) {
-            Ok(version) => Told::Number(version),
+            Ok(version) => Answered::Number(version),
             Err(refusal) => refused(&refusal),
         }
     }
 
-    fn add(&mut self, name: &str) -> Told {
+    fn add(&mut self, name: &str) -> Answered {
         let Some(scenario) = Scenario::new(10, 1000) else {
-            return Told::Nothing;
+            return Answered::Nothing;
         };
         match self.book.add_scenario(7, name, scenario) {
             Ok(id) => self.keep_id(id),
@@ -97,33 +92,33 @@ impl<A: Allocator + Copy> Player<A> {
         }
     }
 
-    fn keep_id(&mut self, id: ScenarioId) -> Told {
+    fn keep_id(&mut self, id: ScenarioId) -> Answered {
         match self.ids.push(id) {
-            Ok(()) => Told::Number(u64::from(id.number())),
-            Err(_) => Told::Nothing,
+            Ok(()) => Answered::Number(u64::from(id.number())),
+            Err(_) => Answered::Nothing,
         }
     }
 
-    fn drop_named(&mut self, name: &str) -> Told {
+    fn drop_named(&mut self, name: &str) -> Answered {
         match self.book.drop_scenario(7, name) {
-            Ok(id) => Told::Number(u64::from(id.number())),
+            Ok(id) => Answered::Number(u64::from(id.number())),
             Err(refusal) => refused(&refusal),
         }
     }
 
-    fn retry(&mut self, place: usize) -> Told {
+    fn retry(&mut self, place: usize) -> Answered {
         let Some(id) = self.ids.get(place) else {
-            return Told::Nothing;
+            return Answered::Nothing;
         };
         match self.book.retry(7, *id) {
-            Ok(()) => Told::Done,
+            Ok(()) => Answered::Done,
             Err(refusal) => refused(&refusal),
         }
     }
 
-    fn view(&mut self, place: usize, seen: u64) -> Told {
+    fn view(&mut self, place: usize, seen: u64) -> Answered {
         let Some(id) = self.ids.get(place) else {
-            return Told::Nothing;
+            return Answered::Nothing;
         };
         match self.book.view(7, *id, seen) {
             Ok(published) => of_view(&published),
@@ -131,75 +126,73 @@ impl<A: Allocator + Copy> Player<A> {
         }
     }
 
-    fn claim(&mut self) -> Told {
+    fn claim(&mut self) -> Answered {
         match self.book.claim(1) {
             Ok(Some(task)) => self.keep(task),
-            Ok(None) => Told::Nothing,
+            Ok(None) => Answered::Nothing,
             Err(refusal) => refused(&refusal),
         }
     }
 
-    fn keep(&mut self, task: Task<A>) -> Told {
-        let told = of_task(&task);
+    fn keep(&mut self, task: Task<A>) -> Answered {
+        let answered = of_task(&task);
         match self.tasks.push(task) {
-            Ok(()) => told,
-            Err(_) => Told::Nothing,
+            Ok(()) => answered,
+            Err(_) => Answered::Nothing,
         }
     }
 
-    // The task of a ticket, at its place.
     fn task(&mut self, ticket: u64) -> Option<&mut Task<A>> {
         self.tasks.get_mut(ticket.wrapping_sub(1) as usize)
     }
 
-    fn deliver(&mut self, ticket: u64) -> Told {
+    fn deliver(&mut self, ticket: u64) -> Answered {
         match self.task(ticket) {
             Some(task) => of_work(task.deliver()),
-            None => Told::Nothing,
+            None => Answered::Nothing,
         }
     }
 
-    // The run that a ticket's task makes; none where memory is short.
     fn run(&mut self, ticket: u64) -> Option<Arc<Run<A>, A>> {
         let (run, _work) = self.task(ticket)?.work().ok()?;
         Some(run)
     }
 
-    fn finish(&mut self, ticket: u64, run: Option<Arc<Run<A>, A>>) -> Told {
+    fn finish(&mut self, ticket: u64, run: Option<Arc<Run<A>, A>>) -> Answered {
         match run {
             Some(run) => of_finish(self.book.finish(1, ticket, run)),
             None => MEMORY,
         }
     }
 
-    fn finish_own(&mut self, ticket: u64) -> Told {
+    fn finish_own(&mut self, ticket: u64) -> Answered {
         let run = self.run(ticket);
         self.finish(ticket, run)
     }
 
-    fn hand_in(&mut self, ticket: u64) -> Told {
+    fn hand_in(&mut self, ticket: u64) -> Answered {
         match self.run(ticket) {
             Some(run) => of_finish(self.book.hand_in(1, ticket, run)),
             None => MEMORY,
         }
     }
 
-    fn finish_left(&mut self, ticket: u64) -> Told {
+    fn finish_left(&mut self, ticket: u64) -> Answered {
         match self.book.finish_delivered(2, ticket) {
-            Ok(Some(version)) => Told::Number(version),
-            Ok(None) => Told::Nothing,
+            Ok(Some(version)) => Answered::Number(version),
+            Ok(None) => Answered::Nothing,
             Err(refusal) => refused(&refusal),
         }
     }
 
-    fn give_up(&mut self, ticket: u64) -> Told {
+    fn give_up(&mut self, ticket: u64) -> Answered {
         match self.book.give_up(1, ticket) {
-            Ok(()) => Told::Done,
+            Ok(()) => Answered::Done,
             Err(refusal) => refused(&refusal),
         }
     }
 
-    fn told(&mut self, said: Said) -> Told {
+    fn answered(&mut self, said: Said) -> Answered {
         match said {
             Said::Edit(written) => self.edit(written),
             Said::Add(name) => self.add(name),
@@ -213,7 +206,7 @@ impl<A: Allocator + Copy> Player<A> {
             Said::FinishOther(ticket) => self.finish(ticket, other_run(self.alloc)),
             Said::FinishLeft(ticket) => self.finish_left(ticket),
             Said::GiveUp(ticket) => self.give_up(ticket),
-            Said::Settled(seen) => Told::Settled(self.book.settled(seen)),
+            Said::Settled(seen) => Answered::Settled(self.book.settled(seen)),
         }
     }
 
@@ -228,15 +221,15 @@ impl<A: Allocator + Copy> Player<A> {
     }
 
     /// Says all this in turn, each once more where memory runs out.
-    pub(crate) fn plays(&mut self, rows: &[(Said, Told)]) -> Outcome {
+    pub(crate) fn plays(&mut self, rows: &[(Said, Answered)]) -> Outcome {
         let mut outcome = Outcome::Right;
         for (said, want) in rows {
-            let mut told = self.told(*said);
-            if told == MEMORY {
+            let mut answered = self.answered(*said);
+            if answered == MEMORY {
                 outcome = Outcome::Memory;
-                told = self.told(*said);
+                answered = self.answered(*said);
             }
-            if told != *want {
+            if answered != *want {
                 return Outcome::Wrong;
             }
         }

@@ -33,14 +33,14 @@ pub(crate) enum Said {
     Settled(u64),
 }
 
-/// What is told.
+/// What is answered.
 #[derive(Clone, Copy, PartialEq, Eq)]
-pub(crate) enum Told {
+pub(crate) enum Answered {
     /// A version, or the number of a scenario.
     Number(u64),
     /// Ticket and version; the version of the base, and how many edits it has.
     Claimed(u64, u64, Option<(u64, usize)>),
-    /// The event seconds that were worked, and the segments that were taken over, of a run that was made
+    /// The event seconds that were worked, and the segments that were reused, of a run that was made
     /// of a base.
     Made(Option<(u64, u64)>),
     Settled(SettleState),
@@ -68,118 +68,121 @@ const INSERT: Said = Said::Edit(Written::Insert(
 /// It leaves.
 const REMOVE: Said = Said::Edit(Written::Remove(5));
 
-/// Seconds 10 and 50 are worked, and the one at which job 2 ends; the first segment is taken over.
-const MADE: Told = Told::Made(Some((3, 1)));
+/// Seconds 10 and 50 are worked, and the one at which job 2 ends; the first segment is reused.
+const MADE: Answered = Answered::Made(Some((3, 1)));
 
-const UNKNOWN: Told = Told::Refused("UnknownTicket");
+const UNKNOWN: Answered = Answered::Refused("UnknownTicket");
 
-const NO_SCENARIO: Told = Told::Refused("NoSuchScenario");
+const NO_SCENARIO: Answered = Answered::Refused("NoSuchScenario");
 
-type Rows = &'static [(Said, Told)];
+type Rows = &'static [(Said, Answered)];
 
 /// Each call goes well.
 pub(crate) const EACH: Rows = &[
-    (Said::Add("base"), Told::Number(1)),
-    (Said::Claim, Told::Claimed(1, 0, None)),
-    (Said::HandIn(1), Told::Number(0)),
-    (Said::View(0, 0), Told::Number(0)),
-    (TWENTY, Told::Number(1)),
-    (Said::Claim, Told::Claimed(2, 1, Some((0, 1)))),
-    (Said::GiveUp(2), Told::Done),
-    (Said::Retry(0), Told::Done),
-    (Said::Claim, Told::Claimed(3, 1, Some((0, 1)))),
+    (Said::Add("base"), Answered::Number(1)),
+    (Said::Claim, Answered::Claimed(1, 0, None)),
+    (Said::HandIn(1), Answered::Number(0)),
+    (Said::View(0, 0), Answered::Number(0)),
+    (TWENTY, Answered::Number(1)),
+    (Said::Claim, Answered::Claimed(2, 1, Some((0, 1)))),
+    (Said::GiveUp(2), Answered::Done),
+    (Said::Retry(0), Answered::Done),
+    (Said::Claim, Answered::Claimed(3, 1, Some((0, 1)))),
     (Said::Deliver(3), MADE),
-    (Said::FinishLeft(3), Told::Number(1)),
-    (INSERT, Told::Number(2)),
-    (Said::Claim, Told::Claimed(4, 2, Some((1, 1)))),
-    (Said::Finish(4), Told::Number(2)),
-    (REMOVE, Told::Number(3)),
-    (Said::DropNamed("base"), Told::Number(1)),
+    (Said::FinishLeft(3), Answered::Number(1)),
+    (INSERT, Answered::Number(2)),
+    (Said::Claim, Answered::Claimed(4, 2, Some((1, 1)))),
+    (Said::Finish(4), Answered::Number(2)),
+    (REMOVE, Answered::Number(3)),
+    (Said::DropNamed("base"), Answered::Number(1)),
 ];
 
 /// Runs come late, twice and from strangers.
 pub(crate) const RUNS: Rows = &[
-    (Said::Add("base"), Told::Number(1)),
-    (Said::View(0, 0), Told::Refused("NotYet")),
-    (FIVE, Told::Number(1)),
-    (Said::Claim, Told::Claimed(1, 1, None)),
-    (Said::Claim, Told::Nothing),
-    (THIRTY, Told::Number(2)),
-    (Said::Claim, Told::Claimed(2, 2, None)),
-    (Said::Finish(2), Told::Number(2)),
-    (Said::Finish(1), Told::Refused("Stale")),
+    (Said::Add("base"), Answered::Number(1)),
+    (Said::View(0, 0), Answered::Refused("NotYet")),
+    (FIVE, Answered::Number(1)),
+    (Said::Claim, Answered::Claimed(1, 1, None)),
+    (Said::Claim, Answered::Nothing),
+    (THIRTY, Answered::Number(2)),
+    (Said::Claim, Answered::Claimed(2, 2, None)),
+    (Said::Finish(2), Answered::Number(2)),
+    (Said::Finish(1), Answered::Refused("Stale")),
     (Said::Finish(1), UNKNOWN),
-    (INSERT, Told::Number(3)),
-    (Said::Claim, Told::Claimed(3, 3, Some((2, 1)))),
-    (Said::FinishOther(3), Told::Refused("Stranger")),
-    (Said::View(0, 3), Told::Refused("Behind")),
-    (Said::View(0, 2), Told::Number(2)),
-    (Said::HandIn(3), Told::Number(3)),
-    (Said::View(0, 3), Told::Number(3)),
+    (INSERT, Answered::Number(3)),
+    (Said::Claim, Answered::Claimed(3, 3, Some((2, 1)))),
+    (Said::FinishOther(3), Answered::Refused("Stranger")),
+    (Said::View(0, 3), Answered::Refused("Behind")),
+    (Said::View(0, 2), Answered::Number(2)),
+    (Said::HandIn(3), Answered::Number(3)),
+    (Said::View(0, 3), Answered::Number(3)),
     (Said::GiveUp(3), UNKNOWN),
 ];
 
 /// A task leaves its run with its ticket, whoever hands it in; before that there is none, and the ticket
 /// stands on. Then a run is left for a version when a newer one is published.
 const LEFT: Rows = &[
-    (Said::Add("base"), Told::Number(1)),
+    (Said::Add("base"), Answered::Number(1)),
     (Said::FinishLeft(1), UNKNOWN),
-    (Said::Claim, Told::Claimed(1, 0, None)),
-    (Said::FinishLeft(1), Told::Nothing),
-    (Said::Finish(1), Told::Number(0)),
+    (Said::Claim, Answered::Claimed(1, 0, None)),
+    (Said::FinishLeft(1), Answered::Nothing),
+    (Said::Finish(1), Answered::Number(0)),
     (Said::FinishLeft(1), UNKNOWN),
-    (TWENTY, Told::Number(1)),
-    (Said::Claim, Told::Claimed(2, 1, Some((0, 1)))),
+    (TWENTY, Answered::Number(1)),
+    (Said::Claim, Answered::Claimed(2, 1, Some((0, 1)))),
     (Said::Deliver(2), MADE),
-    (Said::FinishLeft(2), Told::Number(1)),
-    (Said::View(0, 1), Told::Number(1)),
-    (THIRTY, Told::Number(2)),
-    (Said::Claim, Told::Claimed(3, 2, Some((1, 1)))),
-    (TWENTY, Told::Number(3)),
-    (Said::Claim, Told::Claimed(4, 3, Some((1, 2)))),
-    (Said::Deliver(4), Told::Made(Some((0, 4)))),
-    (Said::FinishLeft(4), Told::Number(3)),
-    (Said::FinishLeft(3), Told::Nothing),
+    (Said::FinishLeft(2), Answered::Number(1)),
+    (Said::View(0, 1), Answered::Number(1)),
+    (THIRTY, Answered::Number(2)),
+    (Said::Claim, Answered::Claimed(3, 2, Some((1, 1)))),
+    (TWENTY, Answered::Number(3)),
+    (Said::Claim, Answered::Claimed(4, 3, Some((1, 2)))),
+    (Said::Deliver(4), Answered::Made(Some((0, 4)))),
+    (Said::FinishLeft(4), Answered::Number(3)),
+    (Said::FinishLeft(3), Answered::Nothing),
     (Said::Deliver(3), MADE),
-    (Said::FinishLeft(3), Told::Refused("Stale")),
+    (Said::FinishLeft(3), Answered::Refused("Stale")),
     (Said::FinishLeft(3), UNKNOWN),
 ];
 
 /// A dropped scenario's ticket and id are worth nothing afterwards, and its name is free.
 const DROPPED: Rows = &[
-    (Said::Add("big"), Told::Number(1)),
-    (Said::Claim, Told::Claimed(1, 0, None)),
-    (Said::DropNamed("big"), Told::Number(1)),
+    (Said::Add("big"), Answered::Number(1)),
+    (Said::Claim, Answered::Claimed(1, 0, None)),
+    (Said::DropNamed("big"), Answered::Number(1)),
     (Said::DropNamed("big"), NO_SCENARIO),
-    (Said::Add("big"), Told::Number(2)),
+    (Said::Add("big"), Answered::Number(2)),
     (Said::Finish(1), UNKNOWN),
     (Said::View(0, 0), NO_SCENARIO),
-    (Said::View(1, 0), Told::Refused("NotYet")),
+    (Said::View(1, 0), Answered::Refused("NotYet")),
     (Said::Retry(0), NO_SCENARIO),
-    (Said::Claim, Told::Claimed(2, 0, None)),
+    (Said::Claim, Answered::Claimed(2, 0, None)),
 ];
 
 /// A run that was given up is claimed again after the next edit, or where it is tried again.
 const GIVEN_UP: Rows = &[
-    (Said::Settled(0), Told::Settled(SettleState::Done)),
-    (Said::Add("base"), Told::Number(1)),
-    (Said::Claim, Told::Claimed(1, 0, None)),
-    (Said::GiveUp(1), Told::Done),
-    (Said::Edit(Written::Remove(99)), Told::Refused("NoSuchJob")),
-    (Said::Claim, Told::Nothing),
-    (FIVE, Told::Number(1)),
-    (Said::Claim, Told::Claimed(2, 1, None)),
-    (THIRTY, Told::Number(2)),
-    (Said::GiveUp(2), Told::Done),
-    (Said::Claim, Told::Claimed(3, 2, None)),
-    (Said::GiveUp(3), Told::Done),
-    (Said::Settled(2), Told::Settled(SettleState::Failed(1))),
-    (Said::Retry(0), Told::Done),
-    (Said::Settled(2), Told::Settled(SettleState::Waiting)),
-    (Said::Claim, Told::Claimed(4, 2, None)),
-    (Said::Finish(4), Told::Number(2)),
-    (Said::Settled(2), Told::Settled(SettleState::Done)),
-    (Said::Settled(3), Told::Settled(SettleState::Waiting)),
+    (Said::Settled(0), Answered::Settled(SettleState::Done)),
+    (Said::Add("base"), Answered::Number(1)),
+    (Said::Claim, Answered::Claimed(1, 0, None)),
+    (Said::GiveUp(1), Answered::Done),
+    (
+        Said::Edit(Written::Remove(99)),
+        Answered::Refused("NoSuchJob"),
+    ),
+    (Said::Claim, Answered::Nothing),
+    (FIVE, Answered::Number(1)),
+    (Said::Claim, Answered::Claimed(2, 1, None)),
+    (THIRTY, Answered::Number(2)),
+    (Said::GiveUp(2), Answered::Done),
+    (Said::Claim, Answered::Claimed(3, 2, None)),
+    (Said::GiveUp(3), Answered::Done),
+    (Said::Settled(2), Answered::Settled(SettleState::Failed(1))),
+    (Said::Retry(0), Answered::Done),
+    (Said::Settled(2), Answered::Settled(SettleState::Waiting)),
+    (Said::Claim, Answered::Claimed(4, 2, None)),
+    (Said::Finish(4), Answered::Number(2)),
+    (Said::Settled(2), Answered::Settled(SettleState::Done)),
+    (Said::Settled(3), Answered::Settled(SettleState::Waiting)),
 ];
 
 /// All of them, but for `EACH`.

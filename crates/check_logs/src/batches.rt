@@ -1,5 +1,5 @@
 // A log that several threads read in batches, where one growth after another is refused.
-use crate::lines_told::{Told, told_by};
+use crate::lines_answered::{Answered, answered_by};
 use parallel_reader::read_parallel;
 use refusing::Refusing;
 use std::alloc::Global;
@@ -20,7 +20,6 @@ fn line_of(number: u64) -> &'static str {
     }
 }
 
-// Adds all lines to a log.
 fn add_lines(log: &mut Vec<u8>) -> Option<()> {
     for number in 1..=MANY {
         log.extend_from_slice(line_of(number).as_bytes()).ok()?;
@@ -31,38 +30,37 @@ fn add_lines(log: &mut Vec<u8>) -> Option<()> {
 /// More growths than the reading of such a log asks for.
 const GROWTHS: u64 = 1_000;
 
-// Whether this may be told where a growth was refused and the lines told so far reach to this one: a
-// later line, or line 1, where there was no room for lines that were cut, or the log, where there was
-// none for its entries ahead.
-fn may_follow(told: Told, earlier: u64) -> bool {
-    match told {
-        Told::Read(entries) => entries == 1,
-        Told::MemoryAt(line) => line == 1 || (earlier <= line && line <= MANY),
-        Told::Faulty => false,
+// Whether this may be answered where a growth was refused and the lines answered so far reach to this
+// one: a later line, or line 1, where there was no capacity for lines that were cut, or the log, where
+// there was none for its entries ahead.
+fn may_follow(answered: Answered, earlier: u64) -> bool {
+    match answered {
+        Answered::Read(entries) => entries == 1,
+        Answered::MemoryAt(line) => line == 1 || (earlier <= line && line <= MANY),
+        Answered::Faulty => false,
     }
 }
 
-// Refuses each growth in turn: whether the lines told but line 1 don't fall as the refusal comes later
-// and reach the last one, and the log is read at last.
+// Refuses each growth in turn: whether the lines answered but line 1 don't fall as the refusal comes
+// later and reach the last one, and the log is read at last.
 fn tells_lines<R: Threads + Sync>(rt: &R, alloc: Global, bytes: &[u8]) -> bool {
     let mut last = 1;
     for nth in 1..GROWTHS {
         let heap = Refusing::new(alloc, nth);
-        let told = told_by(read_parallel(rt, &heap, bytes));
+        let answered = answered_by(read_parallel(rt, &heap, bytes));
         if !heap.refused() {
-            return last == MANY && told == Told::Read(1);
+            return last == MANY && answered == Answered::Read(1);
         }
-        if !may_follow(told, last) {
+        if !may_follow(answered, last) {
             return false;
         }
-        if let Told::MemoryAt(line) = told {
+        if let Answered::MemoryAt(line) = answered {
             last = last.max(line);
         }
     }
     false
 }
 
-// The same of the log of all lines.
 fn tells_memory<R: Threads + Sync>(rt: &R, alloc: Global) -> bool {
     let mut log = Vec::new(alloc);
     add_lines(&mut log).is_some() && tells_lines(rt, alloc, &log)

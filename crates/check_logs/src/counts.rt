@@ -21,7 +21,6 @@ const OF_FOUR: [(Written, u32); 4] = [
     (Written::Change(3, 2, b"300"), 8),
 ];
 
-// What an edit of a table counts.
 fn count(table: &mut JobTable<Global>, edit: Option<Edit<Global>>) -> Option<u32> {
     table.apply_counted(&edit?).ok()
 }
@@ -51,7 +50,6 @@ fn add_lines(alloc: Global, log: &mut Vec<u8>) -> Option<()> {
     Some(())
 }
 
-// The table of these jobs: two full chunks of entries, and two of pairs.
 fn full_table(alloc: Global) -> Option<JobTable<Global>> {
     let mut log = Vec::new(alloc);
     add_lines(alloc, &mut log)?;

@@ -12,7 +12,6 @@ const JOBS: u64 = 200_000;
 /// One job more, without its line feed.
 const LAST: &[u8] = b"200001 0 -1 1 1 -1 -1 1 1 -1 1 1 -1 -1 -1 -1 -1 -1";
 
-// Adds all jobs to a log.
 fn add_jobs(alloc: Global, log: &mut Vec<u8>) -> Option<()> {
     for number in 1..=JOBS {
         let line = format!(in alloc;
@@ -49,7 +48,6 @@ fn goes_on<T: Threads + Sync>(rt: &T, alloc: Global, log: &[u8]) -> bool {
     is_all_front(rt, alloc, reader, log)
 }
 
-// Whether the error of a reader comes that fails behind a log.
 fn fails_behind<T: Threads + Sync>(rt: &T, alloc: Global, log: &[u8]) -> bool {
     let mut reader = log.chain(Dripping::new(b"", 0, false));
     match begin_log(rt, alloc, &mut reader) {

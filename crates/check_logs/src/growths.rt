@@ -6,9 +6,9 @@ use std::alloc::Allocator;
 /// A call that takes memory.
 #[derive(Clone, Copy)]
 enum Call {
-    RoomForGuests,
+    CapacityForGuests,
     CloseUp,
-    RoomForMarks,
+    CapacityForMarks,
     Insert,
     Single,
     Sort,
@@ -16,9 +16,9 @@ enum Call {
 
 /// All of them.
 const CALLS: [Call; 6] = [
-    Call::RoomForGuests,
+    Call::CapacityForGuests,
     Call::CloseUp,
-    Call::RoomForMarks,
+    Call::CapacityForMarks,
     Call::Insert,
     Call::Single,
     Call::Sort,
@@ -27,9 +27,9 @@ const CALLS: [Call; 6] = [
 impl Trial for Call {
     fn outcome<A: Allocator + Copy>(&self, alloc: A) -> Outcome {
         match *self {
-            Call::RoomForGuests => places::reserves(alloc),
+            Call::CapacityForGuests => places::reserves(alloc),
             Call::CloseUp => places::closes_up(alloc),
-            Call::RoomForMarks => sorted::reserves(alloc),
+            Call::CapacityForMarks => sorted::reserves(alloc),
             Call::Insert => sorted::inserts(alloc),
             Call::Single => stretches::makes(alloc),
             Call::Sort => stretches::sorts(alloc),

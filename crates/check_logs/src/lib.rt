@@ -1,5 +1,5 @@
 //! Tests of the libraries that read, keep and write logs, in a crate of their own so that each of these
-//! is proved once: what is told where memory is refused, also of places, of rows in blocks and of
+//! is proved once: what is answered where memory is refused, also of places, of rows in blocks and of
 //! frames; which lines are packed; writers that fail; and what edits of a table count.
 #![tactic(auto)]
 
@@ -13,7 +13,7 @@ mod fronts;
 #[cfg(test)]
 mod growths;
 #[cfg(test)]
-mod lines_told;
+mod lines_answered;
 #[cfg(test)]
 mod packed;
 #[cfg(test)]

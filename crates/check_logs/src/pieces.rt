@@ -6,7 +6,6 @@ ghost use Rattle.swf_text.specs.Bounds.{bytes_at};
 use std::alloc::{AllocError, Allocator, Global};
 use swf_text::{LineRead, Memory, SwfFault, SwfText, assemble, line_at, line_bounds, read_line};
 
-// What each line is, given its bounds.
 fn readings_at(
     alloc: Global,
     bytes: &[u8],

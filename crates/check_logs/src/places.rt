@@ -36,7 +36,7 @@ fn offer(free: u64, extra: u64, window: u64) -> Offer {
     }
 }
 
-// So many guests of size 10 and estimate 100 come, where there is room for each.
+// So many guests of size 10 and estimate 100 come, where there is capacity for each.
 fn fill<A: Allocator + Copy>(places: &mut Places<Guest, A>, count: u64) {
     for _ in 0..count {
         if places.spare() == 0 {
@@ -46,7 +46,6 @@ fn fill<A: Allocator + Copy>(places: &mut Places<Guest, A>, count: u64) {
     }
 }
 
-// One more guest comes, where there is room.
 fn come<A: Allocator + Copy>(places: &mut Places<Guest, A>, size: u64, estimate: u64) {
     if places.spare() > 0 {
         places.push(guest_of(size, estimate));
@@ -82,7 +81,7 @@ fn two_of_two_thousand_fit(rt: HostRuntime) {
     assert!(rt; places.is_some_and(|mut places| finds_both(&mut places)));
 }
 
-/// Room for 1,200 guests, who then take no memory.
+/// Capacity for 1,200 guests, who then take no memory.
 pub(crate) fn reserves<A: Allocator + Copy>(alloc: A) -> Outcome {
     let mut places = Places::new(alloc);
     if places.reserve(1200).is_err() {
@@ -92,7 +91,7 @@ pub(crate) fn reserves<A: Allocator + Copy>(alloc: A) -> Outcome {
     Outcome::right_if(places.len() == 1200)
 }
 
-/// 64 guests, the first of whom leaves before room is made for 1,200 more.
+/// 64 guests, the first of whom leaves before capacity is reserved for 1,200 more.
 pub(crate) fn closes_up<A: Allocator + Copy>(alloc: A) -> Outcome {
     let mut places = Places::new(alloc);
     if places.reserve(64).is_err() {

@@ -39,7 +39,7 @@ fn mark_at(major: u64, minor: u64, weight: u64) -> Mark {
     }
 }
 
-// Puts so many marks more at the end, each of weight 1, where there is room for each.
+// Puts so many marks more at the end, each of weight 1, where there is capacity for each.
 fn fill<A: Allocator + Copy>(row: &mut Blocks<Mark, A>, count: u64) {
     for major in 0..count {
         if row.spare() == 0 {
@@ -62,7 +62,6 @@ fn begins_with(row: &Blocks<Mark, Global>, blocks: usize, weight: u128) -> bool 
     row.blocks() == blocks && blocks > 0 && row.weight(0) == weight && row.block(0).len() == 64
 }
 
-// Takes the marks of these majors out.
 fn take_out(row: &mut Blocks<Mark, Global>, from: u64, end: u64) {
     for major in from..end {
         row.remove(u128::from(major), 0);
@@ -76,7 +75,6 @@ fn joins_two(row: &mut Blocks<Mark, Global>) -> bool {
     begins_with(row, 2, 64)
 }
 
-// Whether full blocks are cut, and short ones joined.
 fn goes_with_blocks(row: &mut Blocks<Mark, Global>) -> bool {
     begins_with(row, 3, 64) && joins_two(row)
 }
@@ -87,7 +85,7 @@ fn blocks_are_cut_and_joined(rt: HostRuntime) {
     assert!(rt; row.is_some_and(|mut row| goes_with_blocks(&mut row)));
 }
 
-/// Room for 130 marks, which then take no memory.
+/// Capacity for 130 marks, which then take no memory.
 pub(crate) fn reserves<A: Allocator + Copy>(alloc: A) -> Outcome {
     let mut row = Blocks::new(alloc);
     if row.reserve(130).is_err() {
@@ -97,7 +95,7 @@ pub(crate) fn reserves<A: Allocator + Copy>(alloc: A) -> Outcome {
     Outcome::right_if(row.len() == 130)
 }
 
-/// 130 marks, each of which makes its room.
+/// 130 marks, each of which reserves its capacity.
 pub(crate) fn inserts<A: Allocator + Copy>(alloc: A) -> Outcome {
     let mut row = Blocks::new(alloc);
     for major in 0..130 {

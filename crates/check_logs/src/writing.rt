@@ -11,7 +11,7 @@ const MIXED: &[u8] =
 const WRITTEN: &[u8] =
     b"; first \n;\n1 0 -1 100 7.5 0 0.000125 6 100 -1 1 7 -1 -1 -1 -1 -1 -1\n1 -1 -1 5 6 -1 -1 6 5 -1 2 7 -1 -1 -1 -1 -1 -1\n";
 
-// Whether a log is written up to where a writer of so many calls of seven bytes fails, which is told.
+// Whether a log is written up to where a writer of so many calls of seven bytes fails, which is answered.
 fn is_written(alloc: Global, text: &SwfText<Global>, calls: usize, takes_none: bool) -> bool {
     let mut writer = Filling::new(alloc, 7, calls, takes_none);
     match write_swf(text, &mut writer) {

@@ -1,7 +1,7 @@
 // The machine's state: who joins, starts and leaves, and what its readers answer.
 use crate::decisions::decides_behind;
 use crate::engines::are;
-use crate::logs::{NOTED, four_jobs, told};
+use crate::logs::{NOTED, four_jobs, outcome};
 use checking::table_of;
 use cluster_state::{Cluster, Offer, RunningByEnd, RunningNumber, Snapshot, Waiting};
 use easy_rule::{Shadow, decide, shadow, shadow_counted};
@@ -47,7 +47,6 @@ pub(crate) fn all_join<A: Allocator + Copy>(
     Ok(true)
 }
 
-// Whether these are the numbers of the waiting jobs.
 fn wait(mut jobs: Waiting<'_>, numbers: &[u64]) -> bool {
     for number in numbers {
         if jobs.next().map(|job| job.number()) != Some(*number) {
@@ -57,7 +56,6 @@ fn wait(mut jobs: Waiting<'_>, numbers: &[u64]) -> bool {
     jobs.next().is_none()
 }
 
-// Whether these are the numbers and the starts of the running jobs.
 fn run<A: Allocator + Copy>(mut jobs: RunningByEnd<'_, A>, wanted: &[(u64, u64)]) -> bool {
     for want in wanted {
         if jobs
@@ -82,7 +80,6 @@ fn is_of_one<A: Allocator + Copy>(snapshot: &Snapshot<A>) -> bool {
         && (snapshot.holds(1), snapshot.holds(4), snapshot.holds(5)) == (true, true, false)
 }
 
-// Whether a snapshot gives the cluster back of which it is.
 fn gives_back<A: Allocator + Copy>(
     alloc: A,
     snapshot: &Snapshot<A>,
@@ -108,7 +105,7 @@ fn snapshot_of<A: Allocator + Copy>(
     cluster.snapshot()?.copy()
 }
 
-// Both waiting jobs start at second 0, one after the other, with room for both.
+// Both waiting jobs start at second 0, one after the other, with capacity for both.
 fn both_start<A: Allocator + Copy>(cluster: &mut Cluster<A>) -> Result<bool, Memory> {
     cluster.reserve_starts(2)?;
     let first = cluster.start_head(0);
@@ -176,7 +173,6 @@ fn starts_two<A: Allocator + Copy>(
     fourth_starts(alloc, cluster)
 }
 
-// The log with which something is done.
 fn log_for(deed: Deed) -> &'static [u8] {
     match deed {
         Deed::Restore => NOTED,
@@ -185,7 +181,6 @@ fn log_for(deed: Deed) -> &'static [u8] {
     }
 }
 
-// This is done with the first four jobs of a table.
 fn does<A: Allocator + Copy>(
     alloc: A,
     deed: Deed,
@@ -212,7 +207,7 @@ pub(crate) fn goes<A: Allocator + Copy>(alloc: A, deed: Deed, scenario: Scenario
         return Outcome::Before;
     };
     match four_jobs(&table, scenario) {
-        Some(jobs) => told(does(alloc, deed, &table, &jobs, scenario).map_err(|_| true)),
+        Some(jobs) => outcome(does(alloc, deed, &table, &jobs, scenario).map_err(|_| true)),
         None => Outcome::Wrong,
     }
 }

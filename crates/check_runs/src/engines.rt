@@ -1,5 +1,5 @@
 // The event loop.
-use crate::logs::{NOTED, told};
+use crate::logs::{NOTED, outcome};
 use checking::shared_table;
 use easy_rule::Start;
 use event_loop::{Engine, EngineFault, Stepped};
@@ -90,7 +90,6 @@ fn resumed_at_three<A: Allocator + Copy>(
     Ok(Engine::resume(alloc, &snapshot, 3, table, scenario)?)
 }
 
-// The engine of a table goes on.
 fn goes_on<A: Allocator + Copy>(
     alloc: A,
     way: Way,
@@ -111,7 +110,7 @@ fn goes_on<A: Allocator + Copy>(
 /// The engine of the log goes on.
 pub(crate) fn goes<A: Allocator + Copy>(alloc: A, way: Way, scenario: Scenario) -> Outcome {
     match shared_table(alloc, NOTED) {
-        Some(table) => told(goes_on(alloc, way, table, scenario).map_err(|fault| fault
+        Some(table) => outcome(goes_on(alloc, way, table, scenario).map_err(|fault| fault
             == EngineFault::Memory)),
         None => Outcome::Before,
     }

@@ -15,7 +15,6 @@ const MANY: usize = 1_000;
 /// One more, which needs all processors.
 const ALL: &[u8] = b"1001 1 -1 100 1000 -1 -1 1000 100 -1 1 7 -1 -1 -1 -1 -1 -1\n";
 
-// Adds the lines of all these jobs.
 fn add_lines(alloc: Global, log: &mut Vec<u8>) -> Option<()> {
     for number in 1..=MANY {
         let line = format!(in alloc; "{number} 0 -1 100 1 -1 -1 1 100 -1 1 7 -1 -1 -1 -1 -1 -1\n");
@@ -24,7 +23,6 @@ fn add_lines(alloc: Global, log: &mut Vec<u8>) -> Option<()> {
     log.extend_from_slice(ALL).ok()
 }
 
-// The table of these jobs.
 fn table(alloc: Global) -> Option<JobTable<Global>> {
     let mut log = Vec::new(alloc);
     add_lines(alloc, &mut log)?;
@@ -46,14 +44,16 @@ fn all_start(
     Ok(decide(alloc, cluster, 0)?.len() == MANY)
 }
 
-// Whether the shadow is told of the one that waits, after some ends were read, but no more than a last
-// block has: the others give back too little together.
+// Whether the shadow is answered of the one that waits, after some ends were read, but no more than a
+// last block has: the others give back too little together.
 fn reads_the_last_block(cluster: &Cluster<Global>) -> bool {
-    let (told, reads) = shadow_counted(cluster);
-    told == Some(Shadow {
-        time: 100,
-        extra: 0,
-    }) && (1..=128).contains(&reads)
+    let (outcome, reads) = shadow_counted(cluster);
+    outcome
+        == Some(Shadow {
+            time: 100,
+            extra: 0,
+        })
+        && (1..=128).contains(&reads)
 }
 
 // Whether all of them leave at their end, and none before.
@@ -64,7 +64,6 @@ fn all_leave(cluster: &mut Cluster<Global>) -> bool {
     (before, cluster.free(), cluster.next_end()) == (0, 1_000, None)
 }
 
-// Whether all that holds of the jobs of a table.
 fn end_at_once(alloc: Global, table: &JobTable<Global>) -> Option<bool> {
     let mut cluster = Cluster::new(alloc, 1_000);
     let scenario = Scenario::new(1_000, 1000)?;

@@ -61,7 +61,7 @@ pub(crate) fn four_jobs<A: Allocator + Copy>(
 }
 
 /// What came of a call that answers whether it went well, or whether it was refused for memory.
-pub(crate) fn told(answer: Result<bool, bool>) -> Outcome {
+pub(crate) fn outcome(answer: Result<bool, bool>) -> Outcome {
     match answer {
         Ok(is_right) => Outcome::right_if(is_right),
         Err(is_memory) => Outcome::memory_if(is_memory),

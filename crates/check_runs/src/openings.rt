@@ -1,5 +1,5 @@
 // Entries, tables and lists of scenarios: copies and edits of them, and logs that are opened and saved.
-use crate::logs::{NOTED, told};
+use crate::logs::{NOTED, outcome};
 use checking::{Written, edit_of, table_of};
 use commands::{OpenTextFault, Opening, open_text, save_text};
 use job_table::{Edit, EditFault, JobTable};
@@ -23,7 +23,7 @@ fn copies_of<A: Allocator + Copy>(alloc: A, text: &SwfText<A>) -> Result<bool, M
 /// Copies the log's first entry, and its table.
 pub(crate) fn copies<A: Allocator + Copy>(alloc: A) -> Outcome {
     match read_swf(alloc, NOTED) {
-        Ok(text) => told(copies_of(alloc, &text).map_err(|_| true)),
+        Ok(text) => outcome(copies_of(alloc, &text).map_err(|_| true)),
         Err(_) => Outcome::Before,
     }
 }
@@ -50,14 +50,13 @@ pub(crate) fn edits<A: Allocator + Copy>(alloc: A, written: Written) -> Outcome 
         edit_of(alloc, written),
         edit_of(alloc, LATER),
     ) {
-        (Some(mut table), Some(edit), Some(later)) => told(edits_both(
+        (Some(mut table), Some(edit), Some(later)) => outcome(edits_both(
             &mut table, &edit, &later,
         ).map_err(|fault| fault == EditFault::Memory)),
         _ => Outcome::Before,
     }
 }
 
-// Adds two scenarios to a list.
 fn adds<A: Allocator + Copy>(
     list: &mut ScenarioList<A>,
     scenario: Scenario,
@@ -70,7 +69,7 @@ fn adds<A: Allocator + Copy>(
 /// Adds scenarios to a list.
 pub(crate) fn adds_scenarios<A: Allocator + Copy>(alloc: A, scenario: Scenario) -> Outcome {
     let mut list = ScenarioList::new(alloc);
-    told(adds(&mut list, scenario).map_err(|fault| fault == AddFault::Memory))
+    outcome(adds(&mut list, scenario).map_err(|fault| fault == AddFault::Memory))
 }
 
 /// A log with two scenarios, a comment and a job.
@@ -93,7 +92,7 @@ pub(crate) fn opens_and_saves<A: Allocator + Copy>(alloc: A) -> Outcome {
         return Outcome::Before;
     };
     match open_text(alloc, text, None) {
-        Ok(opening) => told(saves(alloc, &opening).map_err(|_| true)),
+        Ok(opening) => outcome(saves(alloc, &opening).map_err(|_| true)),
         Err(fault) => Outcome::memory_if(matches!(fault, OpenTextFault::Memory)),
     }
 }

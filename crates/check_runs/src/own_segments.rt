@@ -7,7 +7,6 @@ use std::alloc::Allocator;
 use std::sync::Arc;
 use swf_text::Memory;
 
-// The same segments, shared.
 fn shared<A: Allocator + Copy>(
     alloc: A,
     segments: &[Arc<Segment<A>, A>],

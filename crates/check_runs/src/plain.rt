@@ -1,6 +1,6 @@
 // The plain program of the definitions. Its starts of other worked logs the program `workbench` tells.
 use crate::engines::are;
-use crate::logs::{NOTED, four_jobs, told};
+use crate::logs::{NOTED, four_jobs, outcome};
 use checking::table_of;
 use oracle_runs::{LogPlan, simulate};
 use refusing::Outcome;
@@ -19,16 +19,13 @@ const SHUFFLED: &[u8] = b"4 3 -1 500 2 -1 -1 2 500 -1 1 7 -1 -1 -1 -1 -1 -1
 1 0 -1 100 6 -1 -1 6 100 -1 1 7 -1 -1 -1 -1 -1 -1
 ";
 
-// The starts of the four jobs, of a text that has them in another order.
 fn is_right<A: Allocator + Copy>(
     alloc: A,
     text: &SwfText<A>,
     scenario: &Scenario,
 ) -> Result<bool, Memory> {
     let plan = LogPlan::of(alloc, text, scenario)?;
-    let is_plan = plan.machine() == 10
-        && plan.order() == scenario.order()
-        && plan.jobs().len() == 4;
+    let is_plan = plan.procs() == 10 && plan.order() == scenario.order() && plan.jobs().len() == 4;
     Ok(
         is_plan
             && are(
@@ -41,7 +38,7 @@ fn is_right<A: Allocator + Copy>(
 /// The plain program gives the starts of the four jobs.
 pub(crate) fn works<A: Allocator + Copy>(alloc: A, scenario: Scenario) -> Outcome {
     match read_swf(alloc, SHUFFLED) {
-        Ok(text) => told(is_right(alloc, &text, &scenario).map_err(|_| true)),
+        Ok(text) => outcome(is_right(alloc, &text, &scenario).map_err(|_| true)),
         Err(_) => Outcome::Before,
     }
 }

@@ -23,7 +23,6 @@ const MADE: [(u64, [bool; 5], bool); 5] = [
     (6, [true, true, true, true, true], false),
 ];
 
-// Whether the call is refused alone.
 fn refuses_alone(alloc: Global, nth: u64, made: [bool; 5], refused: bool) -> bool {
     let heap = Refusing::new(alloc, nth);
     let is_new = heap.calls() == 0 && !heap.refused();

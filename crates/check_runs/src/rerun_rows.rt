@@ -16,7 +16,7 @@ pub(crate) struct Row {
     /// How many event seconds a segment of the old run has at most, and one that is made anew.
     pub(crate) spacings: (u32, u32),
     pub(crate) edits: &'static [Written],
-    /// The event seconds that are worked, and how many segments are taken over.
+    /// The event seconds that are worked, and how many segments are reused.
     pub(crate) work: (u64, u64),
     /// The first seconds of the segments.
     pub(crate) firsts: &'static [u64],
@@ -25,7 +25,7 @@ pub(crate) struct Row {
 /// Job 2 runs for 20 seconds.
 const LONGER: &[Written] = &[Written::Change(2, 4, b"20"), Written::Change(2, 9, b"20")];
 
-/// The same, with an estimate that stays: 10, 50 and 70 are worked, and the first segment is taken over.
+/// The same, with an estimate that stays: 10, 50 and 70 are worked, and the first segment is reused.
 pub(crate) const GROWN: Row = Row {
     log: LONG,
     spacings: (1, 1),
@@ -45,7 +45,7 @@ pub(crate) const ROWS: &[Row] = &[
         work: (6, 2),
         firsts: &[0, 1, 2, 4, 101, 151, 301, 391],
     },
-    // Job 2 runs longer: 100, 120 and 200, and the segments from 0, 1 and 201 are taken over.
+    // Job 2 runs longer: 100, 120 and 200, and the segments from 0, 1 and 201 are reused.
     Row {
         log: THREE,
         spacings: (1, 1),
@@ -61,7 +61,7 @@ pub(crate) const ROWS: &[Row] = &[
         work: (4, 0),
         firsts: &[0, 1, 11, 71],
     },
-    // A field that no job depends on: all is taken over.
+    // A field that no job depends on: all is reused.
     Row {
         log: NOTED,
         spacings: (1, 1),
@@ -70,7 +70,7 @@ pub(crate) const ROWS: &[Row] = &[
         firsts: &[0, 1, 2, 3, 4, 93, 101, 151],
     },
     // Jobs 2 and 5 run longer: 100, 120, 200, 400, 420 and 500, and the segments from 0, 1, 201, 211, 301
-    // and 501 are taken over.
+    // and 501 are reused.
     Row {
         log: SIX,
         spacings: (1, 1),
@@ -100,7 +100,7 @@ pub(crate) const ROWS: &[Row] = &[
         work: (4, 1),
         firsts: &[0, 11, 101, 201],
     },
-    // 210 is the last one before 211, where the old segments are taken over again.
+    // 210 is the last one before 211, where the old segments are reused again.
     Row {
         log: SIX,
         spacings: (2, 2),

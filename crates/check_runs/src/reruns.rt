@@ -4,7 +4,7 @@ ghost use Rattle.std.specs.Arc.{arc_value};
 ghost use Rattle.job_table.specs.Accepted.{AreAccepted};
 ghost use Rattle.job_table.specs.Edit.{edit_of, log_after};
 
-use crate::logs::{run_of, told};
+use crate::logs::{outcome, run_of};
 use crate::rerun_rows::{ROWS, Row};
 use crate::runs::begin_at;
 use checking::Written;
@@ -26,7 +26,6 @@ fn edits_of<A: Allocator + Copy>(alloc: A, written: &[Written]) -> Option<Vec<Ed
     Some(edits)
 }
 
-// The run's table after edits; none where memory is short.
 fn table_after<A: Allocator + Copy>(
     alloc: A,
     run: &Run<A>,
@@ -38,7 +37,7 @@ fn table_after<A: Allocator + Copy>(
     Arc::new(alloc, edited(run.table(), edits).ok()?).ok()
 }
 
-// The run after edits, of which so many event seconds are worked, and so many segments taken over.
+// The run after edits, of which so many event seconds are worked, and so many segments reused.
 fn reruns_after<A: Allocator + Copy>(
     alloc: A,
     run: &Run<A>,
@@ -67,7 +66,6 @@ pub(crate) fn reruns<A: Allocator + Copy>(alloc: A, row: &Row, scenario: Scenari
     }
 }
 
-// Whether a row holds in both orders of backfills.
 fn holds(alloc: Global, row: &Row) -> Option<bool> {
     let ten = Scenario::new(10, 1000)?;
     Some(

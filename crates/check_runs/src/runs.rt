@@ -1,5 +1,5 @@
 // Runs: their segments and tables.
-use crate::logs::{NOTED, SIX, THREE, run_of, told};
+use crate::logs::{NOTED, SIX, THREE, outcome, run_of};
 use crate::own_segments::made_again;
 use crate::texts::{beside, texts};
 use checking::shared_table;
@@ -42,8 +42,8 @@ fn are_tables<A: Allocator + Copy>(tables: &Tables<A>) -> bool {
 
 /// Whether it is the run of the four jobs on ten processors.
 pub(crate) fn is_of_four<A: Allocator + Copy>(run: &Run<A>) -> Result<bool, Memory> {
-    let has_setting = run.scenario().procs() == 10 && run.table().len() == 4;
-    let is_right = has_setting && run.start_of(5).is_none() && are_tables(run.tables());
+    let has_scenario = run.scenario().procs() == 10 && run.table().len() == 4;
+    let is_right = has_scenario && run.start_of(5).is_none() && are_tables(run.tables());
     Ok(is_right && are_rows(run, &run.schedule()?))
 }
 
@@ -59,7 +59,7 @@ pub(crate) fn simulates<A: Allocator + Copy>(alloc: A, scenario: Scenario) -> Ou
         return Outcome::Before;
     };
     match simulate(alloc, table, scenario, 2) {
-        Ok(run) => told(is_of_four(&run).map_err(|_| true)),
+        Ok(run) => outcome(is_of_four(&run).map_err(|_| true)),
         Err(fault) => Outcome::memory_if(fault == RunFault::Memory),
     }
 }
@@ -100,7 +100,6 @@ fn absorbs<A: Allocator + Copy>(both: Part<A>, third: &Part<A>) -> Result<bool, 
     Ok(are_tables(&both.absorb(third)?.tables(10, NO_SKIPS)?))
 }
 
-// The same of three parts, the first two of which are merged.
 fn make_up<A: Allocator + Copy>(
     first: &Part<A>,
     second: &Part<A>,
@@ -121,7 +120,6 @@ fn parts_make_up<A: Allocator + Copy>(run: &Run<A>) -> Result<bool, Memory> {
     make_up(first.part(), second.part(), third.part())
 }
 
-// The run of a run's own segments is that of the four jobs.
 fn is_again_of_four<A: Allocator + Copy>(alloc: A, run: &Run<A>) -> Result<bool, Memory> {
     is_of_four(&made_again(alloc, run)?)
 }
@@ -137,7 +135,6 @@ pub(crate) enum Use {
     Again,
 }
 
-// This is made of a run.
 fn used<A: Allocator + Copy>(alloc: A, made: Use, run: Run<A>) -> Result<bool, Memory> {
     match made {
         Use::Parts => parts_make_up(&run),
@@ -150,7 +147,7 @@ fn used<A: Allocator + Copy>(alloc: A, made: Use, run: Run<A>) -> Result<bool, M
 /// This is made of the run of the log.
 pub(crate) fn uses<A: Allocator + Copy>(alloc: A, made: Use, scenario: Scenario) -> Outcome {
     match run_of(alloc, NOTED, scenario, 3) {
-        Some(run) => told(used(alloc, made, run).map_err(|_| true)),
+        Some(run) => outcome(used(alloc, made, run).map_err(|_| true)),
         None => Outcome::Before,
     }
 }

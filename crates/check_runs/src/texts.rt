@@ -17,7 +17,7 @@ pub(crate) fn texts<A: Allocator + Copy>(alloc: A, run: &Run<A>) -> Result<bool,
     Ok(lengths == [247, 173, 147, 63, 281])
 }
 
-/// The run is told of beside a scenario that has none.
+/// The run is answered of beside a scenario that has none.
 pub(crate) fn beside<A: Allocator + Copy>(alloc: A, run: Run<A>) -> Result<bool, Memory> {
     let shown = SideLine::Shown {
         name: "base",

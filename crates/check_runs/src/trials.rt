@@ -78,7 +78,6 @@ impl Trial for Ordered {
     }
 }
 
-// Whether a call tells each refused growth in both orders.
 fn tells_memory(alloc: Global, call: Call) -> bool {
     survives_refusals(alloc, &Ordered(call, Order::Arrival))
         && survives_refusals(alloc, &Ordered(call, Order::Shortest))

@@ -14,7 +14,6 @@ pub enum Written {
     Change(u64, u8, &'static [u8]),
 }
 
-// The edit by which a field of a job is another one.
 fn change<A: Allocator + Copy>(number: u64, field: u8, word: &[u8]) -> Option<Edit<A>> {
     let value = Value::from_bytes(word)?;
     Some(Edit::Change {

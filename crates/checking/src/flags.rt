@@ -31,7 +31,6 @@ impl Flags {
         self.set.load(Ordering::SeqCst) & flag != 0
     }
 
-    // Whether another turn may be waited.
     fn goes_on(&self) -> bool {
         self.turns.fetch_add(1, Ordering::SeqCst) < TURNS
     }

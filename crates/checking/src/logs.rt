@@ -23,7 +23,6 @@ pub fn shared_table<A: Allocator + Copy>(alloc: A, log: &[u8]) -> Option<Arc<Job
     Arc::new(alloc, table_of(alloc, log)?).ok()
 }
 
-// A copy of a log's first entry.
 fn first_of<A: Allocator + Copy>(text: &SwfText<A>) -> Option<EntryLines<A>> {
     text.entries().first()?.lines().ok()
 }

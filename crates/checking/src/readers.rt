@@ -19,7 +19,6 @@ impl Dripping {
         }
     }
 
-    // The next byte.
     fn next(&mut self) -> Option<u8> {
         let (byte, rest) = self.rest.split_first()?;
         self.rest = rest;

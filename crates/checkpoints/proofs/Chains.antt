@@ -6,22 +6,22 @@ use Rattle.scenarios.specs.Plan.{Plan}
 use Rattle.easy_rule.specs.Simulation.{starts_before, sim, bound}
 use Rattle.scenarios.specs.SoundPlan.{IsPlan}
 use Rattle.timeline.proofs.Lemmas.{events-end-by-the-bound}
-use Rattle.event_loop.proofs.Lemmas.{told-all}
+use Rattle.event_loop.proofs.Lemmas.{outcome-all}
 use Rattle.metrics.specs.Part.{IsPartOf}
 use Rattle.checkpoints.specs.Segment.{SegmentView}
 use Rattle.checkpoints.specs.Cut.{placed_of, Spans, Chain, IsFull, ShortChain, IsCut, IsShortCut, all_starts}
 
 -- the starts of the seconds that a chain holds
-pub chain-told : (plan : Plan) (a b : ℕ) (ss : List SegmentView) → Chain plan a ss b → starts_before plan b ≡ starts_before plan a ++ all_starts ss
-chain-told plan a b [] e = sym (append-nil (starts_before plan a) ∙ ap (starts_before plan) e)
-chain-told plan a b (s ∷ ss) (m, sp, rest) =
-    chain-told plan m b ss rest ∙ ap (λ l. l ++ all_starts ss) sp.starts ∙ append_assoc (starts_before plan a) s.starts (all_starts ss)
+pub chain-outcome : (plan : Plan) (a b : ℕ) (ss : List SegmentView) → Chain plan a ss b → starts_before plan b ≡ starts_before plan a ++ all_starts ss
+chain-outcome plan a b [] e = sym (append-nil (starts_before plan a) ∙ ap (starts_before plan) e)
+chain-outcome plan a b (s ∷ ss) (m, sp, rest) =
+    chain-outcome plan m b ss rest ∙ ap (λ l. l ++ all_starts ss) sp.starts ∙ append_assoc (starts_before plan a) s.starts (all_starts ss)
     ∙ ap (λ l. starts_before plan a ++ l) (sym (flat_map-cons (λ (x : SegmentView). x.starts) s ss))
 
 -- a cut has all starts
-pub cut-told : (plan : Plan) (ss : List SegmentView) → IsPlan plan → IsCut plan ss → all_starts ss ≡ sim plan
+pub cut-outcome : (plan : Plan) (ss : List SegmentView) → IsPlan plan → IsCut plan ss → all_starts ss ≡ sim plan
 unfolding starts_before
-cut-told plan ss p (e, chain, over) = sym (chain-told plan 0 e ss chain) ∙ told-all plan e p over
+cut-outcome plan ss p (e, chain, over) = sym (chain-outcome plan 0 e ss chain) ∙ outcome-all plan e p over
 
 -- a chain in two parts
 pub chain-split : (plan : Plan) (i a b : ℕ) (ss : List SegmentView) → Chain plan a ss b → i ≤ length ss → (m : ℕ) × Chain plan a (take i ss) m × Chain plan m (drop i ss) b

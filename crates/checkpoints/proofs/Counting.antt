@@ -8,7 +8,7 @@ use Rattle.swf_text.specs.Entry.{LogEntry}
 use Rattle.scenarios.specs.declared.skip.Skip.{Skip}
 use Rattle.scenarios.specs.declared.skip.Skip.TheVariants.{NoSize, NoRun, TooLarge, TooLong}
 use Rattle.scenarios.specs.declared.skips.Skips.{Skips}
-use Rattle.scenarios.specs.Scenario.{Setting}
+use Rattle.scenarios.specs.Scenario.{ScenarioView}
 use Rattle.scenarios.specs.Job.{EffectiveJob}
 use Rattle.scenarios.specs.Effective.{effective}
 use Rattle.scenarios.specs.Plan.{jobs_of}
@@ -37,7 +37,7 @@ reasons-counted (r ∷ rs) =
     go TooLarge i a b c d = omega (arith, i, a, b, c, d)
     go TooLong i a b c d = omega (arith, i, a, b, c, d)
 
-pub jobs-or-skips : (s : Setting) (es : List LogEntry) → length (reasons_of es s) + length (jobs_of es s) ≡ length es
+pub jobs-or-skips : (s : ScenarioView) (es : List LogEntry) → length (reasons_of es s) + length (jobs_of es s) ≡ length es
 jobs-or-skips s [] = refl
 jobs-or-skips s (e ∷ es) = go (effective e s) (jobs-or-skips s es)
   where
@@ -46,8 +46,8 @@ jobs-or-skips s (e ∷ es) = go (effective e s) (jobs-or-skips s es)
     go (Err skip) i = omega (arith, i)
 
 -- the jobs of a log are all entries but those that are skipped
-pub jobs-counted : (s : Setting) (es : List LogEntry) → all_skips (skips_of es s) + length (jobs_of es s) ≡ length es
+pub jobs-counted : (s : ScenarioView) (es : List LogEntry) → all_skips (skips_of es s) + length (jobs_of es s) ≡ length es
 jobs-counted s es = omega (arith, jobs-or-skips s es, reasons-counted (reasons_of es s))
 
-pub kept-counted : (log : List LogEntry) (s : Setting) (skips : Skips) (count : ℕ) → skips ≡ skips_of log s → count ≡ length log → all_skips skips + length (jobs_of log s) ≡ count
+pub kept-counted : (log : List LogEntry) (s : ScenarioView) (skips : Skips) (count : ℕ) → skips ≡ skips_of log s → count ≡ length log → all_skips skips + length (jobs_of log s) ≡ count
 kept-counted log s skips count e f = omega (arith, ap all_skips e, f, jobs-counted s log)

@@ -14,12 +14,12 @@ use Rattle.checkpoints.specs.Segment.{SegmentView}
 use Rattle.checkpoints.specs.Cut.{Chain, all_starts}
 use Rattle.checkpoints.specs.Pieces.{PieceView, segment_of}
 use Rattle.checkpoints.specs.Closing.{BaseView, last_of, base_of}
-use Rattle.checkpoints.proofs.Chains.{chain-told}
+use Rattle.checkpoints.proofs.Chains.{chain-outcome}
 
 -- the base of segments that end before second k: its numbers are those of the state, and its starts all up to there
 pub record IsBase (plan : Plan) (base : BaseView) (k : ℕ) : Type 0 where
   pub numbers : base.numbers ≡ numbers_of (before plan base.second)
-  pub told : starts_before plan k ≡ starts_before plan base.second ++ base.starts
+  pub outcome : starts_before plan k ≡ starts_before plan base.second ++ base.starts
   pub first : base.second ≤ k
 
 base-last : (plan : Plan) (a k : ℕ) (s : SegmentView) (ss : List SegmentView) → Chain plan a (s ∷ ss) k → IsBase plan (base_of (last_of (s ∷ ss))) k
@@ -29,14 +29,14 @@ base-last plan a k s [] (m, sp, e) =
     let n = sp.ends.2 in
     record {
       numbers = sp.snapshot ∙ ap (λ t. numbers_of (before plan t)) (sym at);
-      told = ap (starts_before plan) (sym e) ∙ sp.starts ∙ ap (λ t. starts_before plan t ++ s.starts) (sym at);
+      outcome = ap (starts_before plan) (sym e) ∙ sp.starts ∙ ap (λ t. starts_before plan t ++ s.starts) (sym at);
       first = omega (arith, at, l, n, e);
     }
 base-last plan a k s (t ∷ ss) (m, sp, rest) = base-last plan m k t ss rest
 
 pub base-is : (plan : Plan) (k : ℕ) (ss : List SegmentView) → Chain plan 0 ss k → IsBase plan (base_of (last_of ss)) k
 unfolding before starts_before
-base-is plan k [] e = record { numbers = refl; told = ap (starts_before plan) (sym e); first = omega arith }
+base-is plan k [] e = record { numbers = refl; outcome = ap (starts_before plan) (sym e); first = omega arith }
 base-is plan k (s ∷ ss) c = base-last plan 0 k s ss c
 
 -- a chain ends no earlier than it begins
@@ -109,13 +109,13 @@ seconds-within plan a b (suc place) t (p ∷ ps) q (m, sp, rest) e =
     (omega (arith, low, n, n'), i.1)
 
 -- the starts before the last piece's first second: those before the base, its own, and those of the pieces before
-pub gap-told : (plan : Plan) (k b : ℕ) (base : BaseView) (ps : List PieceView) (q : PieceView) → IsBase plan base k → Chain plan k (map (segment_of plan) (ps ++ q ∷ [])) b
+pub gap-outcome : (plan : Plan) (k b : ℕ) (base : BaseView) (ps : List PieceView) (q : PieceView) → IsBase plan base k → Chain plan k (map (segment_of plan) (ps ++ q ∷ [])) b
     → starts_before plan q.first ≡ starts_before plan base.second ++ (base.starts ++ flat_map (λ (p : PieceView). p.starts) ps)
-gap-told plan k b base ps q h c =
+gap-outcome plan k b base ps q h c =
     let two = chain-seam plan k b (map (segment_of plan) ps) (segment_of plan q ∷ []) (subst (λ (ss : List SegmentView). Chain plan k ss b) (map-append (segment_of plan) ps (q ∷ [])) c) in
     let at : q.first ≡ two.0 = two.2.1.first in
-    ap (starts_before plan) at ∙ chain-told plan k two.0 (map (segment_of plan) ps) two.1 ∙ ap (λ l. starts_before plan k ++ l) (piece-starts plan ps)
-    ∙ ap (λ l. l ++ flat_map (λ (p : PieceView). p.starts) ps) h.told ∙ append_assoc (starts_before plan base.second) base.starts (flat_map (λ (p : PieceView). p.starts) ps)
+    ap (starts_before plan) at ∙ chain-outcome plan k two.0 (map (segment_of plan) ps) two.1 ∙ ap (λ l. starts_before plan k ++ l) (piece-starts plan ps)
+    ∙ ap (λ l. l ++ flat_map (λ (p : PieceView). p.starts) ps) h.outcome ∙ append_assoc (starts_before plan base.second) base.starts (flat_map (λ (p : PieceView). p.starts) ps)
 
 -- the last of some segments, by its place
 last-at : (ss : List SegmentView) → slice_get ss (length ss - 1) ≡ last_of ss

@@ -1,11 +1,11 @@
--- Groups of parts, one after another, and their levels.
+-- Groups of parts, one after another, and their merge tree.
 use Rattle.std.proofs.Common.{◌≡◌, List, [], ◌∷◌, ◌++◌, map, length, refl, sym, ◌∙◌, ap, arith, subst, append_assoc, append-nil}
 use Rattle.std.specs.List.{AllZip}
 use Rattle.std.proofs.lemmas.Grind.{flat_map-append}
 use Rattle.scenarios.specs.declared.placed.Placed.{Placed}
 use Rattle.metrics.specs.Part.{PartSums, IsPartOf}
 use Rattle.checkpoints.specs.Merged.{joined, IsMerged, AreFew}
-use Rattle.checkpoints.specs.Groups.{GroupView, LevelsView, group_parts, AreGroupsOf, AreLevelsOf}
+use Rattle.checkpoints.specs.Groups.{GroupView, MergeTreeView, group_parts, AreGroupsOf, IsMergeTreeOf}
 use Rattle.checkpoints.proofs.Merging.{zip-split, few-back}
 
 pub groups-both : (vs ws : List PartSums) (gs hs : List GroupView) → AreGroupsOf vs gs → AreGroupsOf ws hs → AreGroupsOf (vs ++ ws) (gs ++ hs)
@@ -63,9 +63,9 @@ adding-more all rest front back was is g a e n m = record {
 pub adding-done : (all : List PartSums) (was is : List GroupView) → Adding all [] was is → (vs : List PartSums) → AreGroupsOf vs was → AreGroupsOf (vs ++ all) is
 adding-done all was is a vs h = subst (λ l. AreGroupsOf (vs ++ l) is) (sym (a.split ∙ append-nil a.done)) (a.groups vs h)
 
--- the parts of levels: the merged part of the large groups is that of all, and they are few
-pub levels-merged : (vs : List PartSums) (l : LevelsView) (v : PartSums) → AreLevelsOf vs l → IsMerged (group_parts l.large) v → IsMerged vs v
-levels-merged vs l v h m = groups-merged vs l.small v h.small (groups-merged (group_parts l.small) l.middle v h.middle (groups-merged (group_parts l.middle) l.large v h.large m))
+-- the parts of a merge tree: the merged part of the large groups is that of all, and they are few
+pub merge_tree-merged : (vs : List PartSums) (l : MergeTreeView) (v : PartSums) → IsMergeTreeOf vs l → IsMerged (group_parts l.large) v → IsMerged vs v
+merge_tree-merged vs l v h m = groups-merged vs l.small v h.small (groups-merged (group_parts l.small) l.middle v h.middle (groups-merged (group_parts l.middle) l.large v h.large m))
 
-pub levels-few : (vs : List PartSums) (l : LevelsView) → AreLevelsOf vs l → AreFew vs → AreFew (group_parts l.large)
-levels-few vs l h few' = groups-few (group_parts l.middle) l.large h.large (groups-few (group_parts l.small) l.middle h.middle (groups-few vs l.small h.small few'))
+pub merge_tree-few : (vs : List PartSums) (l : MergeTreeView) → IsMergeTreeOf vs l → AreFew vs → AreFew (group_parts l.large)
+merge_tree-few vs l h few' = groups-few (group_parts l.middle) l.large h.large (groups-few (group_parts l.small) l.middle h.middle (groups-few vs l.small h.small few'))

@@ -23,8 +23,8 @@ use Rattle.metrics.specs.Placed.{CanStart, CanSum}
 use Rattle.checkpoints.specs.Cut.{placed_at, placed_of}
 
 -- the starts from a second on
-pub told-later : (plan : Plan) (t : ℕ) → t ≤ bound plan + 1 → (ys : List Start) × (sim plan ≡ starts_before plan t ++ ys) × All (λ (x : Start). t ≤ x.at) ys
-told-later plan t l =
+pub outcome-later : (plan : Plan) (t : ℕ) → t ≤ bound plan + 1 → (ys : List Start) × (sim plan ≡ starts_before plan t ++ ys) × All (λ (x : Start). t ≤ x.at) ys
+outcome-later plan t l =
     let n = bound plan + 1 - t in
     let whole : t + n ≡ bound plan + 1 = omega arith in
     let k = later plan t n in
@@ -49,7 +49,7 @@ not-before plan n t job p is le =
     let has : Start → Bool = λ x. nat_eq x.number n in
     let mine : EffectiveJob → Bool = λ j. nat_eq j.number n in
     let within = submit-bounded plan n job is in
-    let tl = told-later plan t (omega (arith, within, le)) in
+    let tl = outcome-later plan t (omega (arith, within, le)) in
     elim (cases_option (find has (starts_before plan t))) [
       | inl none ↦ ap second_of none
       | inr (x, some) ↦
@@ -91,7 +91,7 @@ pub start-late : (plan : Plan) (n : ℕ) (job : EffectiveJob) → IsPlan plan �
 start-late plan n job p is =
     let has : Start → Bool = λ x. nat_eq x.number n in
     let within = submit-bounded plan n job is in
-    let tl = told-later plan job.submit (omega (arith, within)) in
+    let tl = outcome-later plan job.submit (omega (arith, within)) in
     let Q : Start → Type 0 = λ x. nat_eq x.number n ≡ true → job.submit ≤ x.at in
     let none = none-passes has (starts_before plan job.submit) (found-none (find has (starts_before plan job.submit)) (not-before plan n job.submit job p is (omega arith))) in
     subst (All Q) (sym tl.1)
@@ -211,6 +211,6 @@ can-sum-part plan xs ys zs p e =
     }
 
 pub can-sum : (plan : Plan) (a b : ℕ) (starts : List Start) → IsPlan plan → b ≤ bound plan + 1 → starts_before plan a ++ starts ≡ starts_before plan b → CanSum (placed_of plan.jobs starts)
-can-sum plan a b starts p l told =
-    let tl = told-later plan b l in
-    can-sum-part plan (starts_before plan a) starts tl.0 p (tl.1 ∙ ap (λ xs. xs ++ tl.0) (sym told))
+can-sum plan a b starts p l outcome =
+    let tl = outcome-later plan b l in
+    can-sum-part plan (starts_before plan a) starts tl.0 p (tl.1 ∙ ap (λ xs. xs ++ tl.0) (sym outcome))

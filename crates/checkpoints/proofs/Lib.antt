@@ -2,14 +2,14 @@ mod Chains
 mod Late
 mod Merging
 mod Grouping
-mod TakenOver
+mod Reused
 mod Totals
 mod Lookups
 mod Searches
 mod Found
 mod Known
 mod Counting
-mod Told
+mod Answered
 mod Placing
 mod EachRow
 mod Worked

@@ -17,7 +17,7 @@ use Rattle.easy_rule.specs.Simulation.{sim, start_of, starts_before}
 use Rattle.scenarios.specs.SoundPlan.{IsPlan}
 use Rattle.checkpoints.specs.Segment.{SegmentView}
 use Rattle.checkpoints.specs.Cut.{Chain, IsCut, all_starts}
-use Rattle.checkpoints.proofs.Chains.{chain-told, chain-split, cut-told, firsts-rise}
+use Rattle.checkpoints.proofs.Chains.{chain-outcome, chain-split, cut-outcome, firsts-rise}
 use Rattle.checkpoints.proofs.Late.{not-before}
 
 abbrev second_of : Option Start → Option ℕ
@@ -77,17 +77,17 @@ module _ {X : Type 0} (f : X → SegmentView) where
       let first : (get_or ss i (f d)).first ≡ k.0 = back.1.first in
       let at : get_or ss i (f d) ≡ f (get_or xs i d) = get_or-map f xs i d (f d) l in
       let first' = ap (λ (s : SegmentView). s.first) at in
-      let front : starts_before plan k.0 ≡ all_starts (take i ss) = chain-told plan 0 k.0 (take i ss) k.1 in
+      let front : starts_before plan k.0 ≡ all_starts (take i ss) = chain-outcome plan 0 k.0 (take i ss) k.1 in
       let none : start_of (all_starts (take i ss)) n ≡ None = ap (λ ys. start_of ys n) (sym front) ∙ not-before plan n k.0 job p is (omega (arith, first, first', le)) in
       let whole : all_starts (take i ss) ++ all_starts (drop i ss) ≡ sim plan =
-      sym (flat_map-append (λ (s : SegmentView). s.starts) (take i ss) (drop i ss)) ∙ ap all_starts (take-append-drop i ss) ∙ cut-told plan ss p (e, chain, over) in
+      sym (flat_map-append (λ (s : SegmentView). s.starts) (take i ss) (drop i ss)) ∙ ap all_starts (take-append-drop i ss) ∙ cut-outcome plan ss p (e, chain, over) in
       ap (λ ys. start_of (all_starts ys) n) (sym (drop-map f i xs))
       ∙ sym (start-later n (all_starts (take i ss)) (all_starts (drop i ss)) (ap is_some none))
       ∙ ap (λ ys. start_of ys n) whole
 
   -- with all segments
   pub found-among : (plan : Plan) (xs : List X) (n : ℕ) → IsPlan plan → IsCut plan (map f xs) → start_of (starts-from xs 0) n ≡ start_of (sim plan) n
-  found-among plan xs n p cut = ap (λ ys. start_of ys n) (cut-told plan (map f xs) p cut)
+  found-among plan xs n p cut = ap (λ ys. start_of ys n) (cut-outcome plan (map f xs) p cut)
 
   -- from the last segment that begins by the submit second
   pub found-by : (plan : Plan) (xs : List X) (n later k submit : ℕ) (job : EffectiveJob) → IsPlan plan → IsCut plan (map f xs) → job_numbered plan.jobs n ≡ Some job → submit ≡ job.submit → later ≤ length xs → k ≡ later - 1

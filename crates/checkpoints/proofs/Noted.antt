@@ -12,17 +12,17 @@ use Rattle.timeline.proofs.Lemmas.{events-end-by-the-bound}
 use Rattle.event_loop.specs.Events.{Progress, IsNextEvent, begun}
 use Rattle.event_loop.specs.Going.{IsRunOn}
 use Rattle.event_loop.specs.Stepped.{StartIn}
-use Rattle.event_loop.proofs.Lemmas.{run-on-step, told-all}
+use Rattle.event_loop.proofs.Lemmas.{run-on-step, outcome-all}
 use Rattle.checkpoints.specs.Starts.{KnownStarts, known_start}
 use Rattle.checkpoints.proofs.Known.{start-append}
 use Rattle.checkpoints.proofs.Late.{sim-few}
-use Rattle.checkpoints.proofs.Told.{told-whole}
+use Rattle.checkpoints.proofs.Answered.{outcome-whole}
 
 -- an engine that was begun on the plan: of the starts so far each number has its first, and they are counted
 pub record Noted (plan : Plan) (now : Progress) (known : KnownStarts) (count : ℕ) : Type 0 where
   pub starts : List Start
   pub run : IsRunOn (begun plan 0) now starts
-  pub told : (n : ℕ) → known_start known n ≡ start_of starts n
+  pub outcome : (n : ℕ) → known_start known n ≡ start_of starts n
   pub counted : count ≡ min (length starts) (2 ^ 64 - 1)
 
 pub noted-first : (plan whole : Plan) (now : Progress) (known : KnownStarts) → now ≡ begun whole 0 → whole ≡ plan → ((n : ℕ) → known_start known n ≡ None) → Noted plan now known 0
@@ -32,17 +32,17 @@ noted-first plan whole now known is same none =
       was = refl;
       going = refl;
       further = record { plan = refl; first = omega arith; counted = refl };
-      told = append-nil (starts_before plan 0);
+      outcome = append-nil (starts_before plan 0);
     } in
-    record { starts = []; run = subst (λ (p : Progress). IsRunOn (begun plan 0) p []) (sym e) first; told = none; counted = refl }
+    record { starts = []; run = subst (λ (p : Progress). IsRunOn (begun plan 0) p []) (sym e) first; outcome = none; counted = refl }
 
 pub noted-step : (plan : Plan) (now new : Progress) (known more : KnownStarts) (count next : ℕ) (js : List EffectiveJob) (t : ℕ) → Noted plan now known count → IsNextEvent now.plan now.position (Some t)
     → new ≡ record now { position = t + 1; handled = now.handled + 1 } → StartIn now.plan t js
     → ((n : ℕ) → known_start more n ≡ option_or (known_start known n) (start_of (map (start_at t) js) n)) → next ≡ min (count + length js) (2 ^ 64 - 1) → Noted plan new more next
-noted-step plan now new known more count next js t h event is told noted counts = record {
+noted-step plan now new known more count next js t h event is outcome noted counts = record {
   starts = h.starts ++ map (start_at t) js;
-  run = run-on-step (begun plan 0) now new h.starts (map (start_at t) js) t h.run event told.starts is;
-  told = λ n. noted n ∙ ap (λ (o : Option ℕ). option_or o (start_of (map (start_at t) js) n)) (h.told n) ∙ sym (start-append n h.starts (map (start_at t) js));
+  run = run-on-step (begun plan 0) now new h.starts (map (start_at t) js) t h.run event outcome.starts is;
+  outcome = λ n. noted n ∙ ap (λ (o : Option ℕ). option_or o (start_of (map (start_at t) js) n)) (h.outcome n) ∙ sym (start-append n h.starts (map (start_at t) js));
   counted = let l = length-append h.starts (map (start_at t) js) in let m = length-map js (start_at t) in let c = h.counted in omega (arith, l, m, c, counts);
 }
 
@@ -59,11 +59,11 @@ noted-nearer plan now new known count t h p event is =
 pub noted-whole : (plan : Plan) (now : Progress) (known : KnownStarts) (count : ℕ) → IsPlan now.plan → IsNextEvent now.plan now.position None → (h : Noted plan now known count) → h.starts ≡ sim plan
 noted-whole plan now known count p none h =
     let same = h.run.further.plan in
-    let all : starts_before plan now.position ≡ sim plan = told-all plan now.position (subst IsPlan same p) (λ u l e. none u l (subst (λ (q : Plan). IsEvent q u) (sym same) e)) in
-    told-whole plan plan (begun plan 0) h.starts refl refl (h.run.told ∙ all)
+    let all : starts_before plan now.position ≡ sim plan = outcome-all plan now.position (subst IsPlan same p) (λ u l e. none u l (subst (λ (q : Plan). IsEvent q u) (sym same) e)) in
+    outcome-whole plan plan (begun plan 0) h.starts refl refl (h.run.outcome ∙ all)
 
 pub noted-all : (plan : Plan) (now : Progress) (known : KnownStarts) (count : ℕ) → IsPlan now.plan → IsNextEvent now.plan now.position None → Noted plan now known count → (n : ℕ) → known_start known n ≡ start_of (sim plan) n
-noted-all plan now known count p none h n = h.told n ∙ ap (λ (xs : List Start). start_of xs n) (noted-whole plan now known count p none h)
+noted-all plan now known count p none h n = h.outcome n ∙ ap (λ (xs : List Start). start_of xs n) (noted-whole plan now known count p none h)
 
 pub noted-count : (plan : Plan) (now : Progress) (known : KnownStarts) (count : ℕ) → IsPlan now.plan → IsNextEvent now.plan now.position None → Noted plan now known count → count ≡ length (sim plan)
 noted-count plan now known count p none h =

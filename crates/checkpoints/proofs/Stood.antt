@@ -22,7 +22,7 @@ use Rattle.checkpoints.specs.Segment.{SegmentView}
 use Rattle.checkpoints.specs.Cut.{Chain}
 use Rattle.checkpoints.specs.Pieces.{PieceView, segment_of}
 use Rattle.checkpoints.specs.Closing.{BaseView, GapView, FramesView, base_of, last_of, numbers_in, numbers_at, segments_at}
-use Rattle.checkpoints.proofs.Gaps.{IsBase, base-is, chain-seam, gap-told, seconds-rise, seconds-within}
+use Rattle.checkpoints.proofs.Gaps.{IsBase, base-is, chain-seam, gap-outcome, seconds-rise, seconds-within}
 
 -- ---- the numbers of a state are a snapshot
 abbrev from_number : ℕ → RunningNumber → Type 0
@@ -89,11 +89,11 @@ module _ (plan : Plan) (base : BaseView) (k : ℕ) (p : IsPlan plan) (h : IsBase
 
   pub stands-at : (gap : GapView) (u place t : ℕ) → WaitingStandInAStretch → RunningStandInAStretch → IsNonDecreasing gap.seconds → slice_get gap.seconds place ≡ Some t → k ≤ t → t ≤ u
       → starts_before plan u ≡ starts_before plan base.second ++ gap.starts → numbers_at plan base gap u place ≡ numbers_of (before plan t)
-  stands-at gap u place t waits runs rising here low high told =
+  stands-at gap u place t waits runs rising here low high outcome =
       let first = h.first in
       let from : base.second ≤ t = omega (arith, first, low) in
-      let w = waits plan gap.seconds gap.starts place t base.second u p rising here from high told in
-      let r = runs plan gap.seconds gap.starts place t base.second u p rising here from high told in
+      let w = waits plan gap.seconds gap.starts place t base.second u p rising here from high outcome in
+      let r = runs plan gap.seconds gap.starts place t base.second u p rising here from high outcome in
       both _ _ _ _
       (ap (λ js. standing_at place (waiting_stretches gap.seconds (js ++ coming_between plan.jobs base.second u) (start_of gap.starts))) waited ∙ sym w)
       (ap (λ rs. by_key (λ (x : RunningNumber). x.number) (standing_at place (map (placed_stretch gap.seconds) (rs ++ started_of plan.jobs gap.starts)))) ran ∙ sym r)
@@ -111,7 +111,7 @@ stands-behind plan ss ps q m p waits runs c gap seconds starts place t e =
     stands-at plan base two.0 p is gap q.first place t waits runs
     (subst IsNonDecreasing (sym all) (seconds-rise plan two.0 m (ps ++ q ∷ []) two.2))
     (subst (λ l. slice_get l place ≡ Some t) (sym all) e) within.0 within.1
-    (gap-told plan two.0 m base ps q is two.2 ∙ ap (λ l. starts_before plan base.second ++ l) (sym starts))
+    (gap-outcome plan two.0 m base ps q is two.2 ∙ ap (λ l. starts_before plan base.second ++ l) (sym starts))
 
 pub behind-rise : (plan : Plan) (ss : List SegmentView) (ps : List PieceView) (q : PieceView) (m : ℕ) → Chain plan 0 (ss ++ map (segment_of plan) (ps ++ q ∷ [])) m → IsNonDecreasing (map (λ (p : PieceView). p.first) ps ++ q.first ∷ [])
 behind-rise plan ss ps q m c =

@@ -1,7 +1,7 @@
 -- The sums and the tables of a plan, from the segments of its simulation.
 use Rattle.std.proofs.Common.{◌≡◌, ℕ, List, [], ◌∷◌, length, All, refl, ◌∙◌, ap, arith, subst}
 use Rattle.swf_text.specs.Entry.{LogEntry}
-use Rattle.scenarios.specs.Scenario.{Setting}
+use Rattle.scenarios.specs.Scenario.{ScenarioView}
 use Rattle.scenarios.specs.Plan.{Plan, plan_of}
 use Rattle.scenarios.specs.SoundPlan.{IsPlan}
 use Rattle.scenarios.specs.declared.skip.Skip.{Skip}
@@ -15,7 +15,7 @@ use Rattle.checkpoints.specs.Cut.{IsCut, placed_of}
 use Rattle.checkpoints.specs.Groups.{parts_of}
 use Rattle.checkpoints.specs.Merged.{IsMerged, AreFew}
 use Rattle.checkpoints.specs.Sums.{IsTablesOf, HasOwnPart, all_placed}
-use Rattle.checkpoints.proofs.Chains.{chain-part, cut-told}
+use Rattle.checkpoints.proofs.Chains.{chain-part, cut-outcome}
 use Rattle.checkpoints.proofs.Counting.{jobs-or-skips}
 use Rattle.checkpoints.proofs.Late.{placed-fewer, sim-few, sim-fewer}
 use Rattle.checkpoints.proofs.Merging.{count-is, own-few, own-merged}
@@ -27,23 +27,23 @@ parts-are plan ss (e, chain, over) i d l = chain-part plan i 0 e ss d chain l
 -- and they are few
 pub cut-few : (plan : Plan) (ss : List SegmentView) → IsPlan plan → IsCut plan ss → AreFew (parts_of ss)
 cut-few plan ss p cut =
-    let e = ap (λ xs. length (placed_of plan.jobs xs)) (cut-told plan ss p cut) in
+    let e = ap (λ xs. length (placed_of plan.jobs xs)) (cut-outcome plan ss p cut) in
     let a = placed-fewer plan.jobs (sim plan) in
     let b = sim-few plan p in
     own-few plan.jobs ss (parts-are plan ss cut) (omega (arith, e, a, b))
 
 -- the merged part of a cut's parts is that of all jobs
 pub total-is : (plan : Plan) (ss : List SegmentView) (v : PartSums) → IsPlan plan → IsCut plan ss → IsMerged (parts_of ss) v → IsPartOf (all_placed plan) v
-total-is plan ss v p cut m = subst (λ xs. IsPartOf (placed_of plan.jobs xs) v) (cut-told plan ss p cut) (own-merged plan.jobs ss v (parts-are plan ss cut) m)
+total-is plan ss v p cut m = subst (λ xs. IsPartOf (placed_of plan.jobs xs) v) (cut-outcome plan ss p cut) (own-merged plan.jobs ss v (parts-are plan ss cut) m)
 
-none-left : (log : List LogEntry) (s : Setting) → length (reasons_of log s) ≡ 0 → skips_of log s ≡ skips_among []
+none-left : (log : List LogEntry) (s : ScenarioView) → length (reasons_of log s) ≡ 0 → skips_of log s ≡ skips_among []
 none-left log s e = ap skips_among (go (reasons_of log s) e) where
   go : (rs : List Skip) → length rs ≡ 0 → rs ≡ []
   go [] e = refl
   go (r ∷ rs) e = absurd (omega (arith, e))
 
 -- where as many jobs start as there are entries, none is skipped
-pub none-skipped : (log : List LogEntry) (s : Setting) (v : PartSums) → IsPlan (plan_of log s) → IsPartOf (all_placed (plan_of log s)) v → v.totals.count ≡ length log → skips_of log s ≡ skips_among []
+pub none-skipped : (log : List LogEntry) (s : ScenarioView) (v : PartSums) → IsPlan (plan_of log s) → IsPartOf (all_placed (plan_of log s)) v → v.totals.count ≡ length log → skips_of log s ≡ skips_among []
 none-skipped log s v p h e =
     let plan = plan_of log s in
     let a = count-is (all_placed plan) v h in
@@ -53,5 +53,5 @@ none-skipped log s v p h e =
     none-left log s (omega (arith, a, b, c, d, e))
 
 -- the tables of these sums
-pub tables-are : (log : List LogEntry) (s : Setting) (v : PartSums) (tables : TableRows) (procs : ℕ) (skips : Skips) → IsPartOf (all_placed (plan_of log s)) v → tables ≡ tables_of procs skips v → procs ≡ s.procs → skips ≡ skips_of log s → IsTablesOf log s tables
+pub tables-are : (log : List LogEntry) (s : ScenarioView) (v : PartSums) (tables : TableRows) (procs : ℕ) (skips : Skips) → IsPartOf (all_placed (plan_of log s)) v → tables ≡ tables_of procs skips v → procs ≡ s.procs → skips ≡ skips_of log s → IsTablesOf log s tables
 tables-are log s v tables procs skips part is a b = (v, part, is ∙ ap (λ (n : ℕ). tables_of n skips v) a ∙ ap (λ (k : Skips). tables_of s.procs k v) b)

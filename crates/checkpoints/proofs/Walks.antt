@@ -7,7 +7,7 @@ use Rattle.std.proofs.lemmas.List.Elements.{All-cons, All-head, All-tail, All-we
 use Rattle.scenarios.specs.Job.{EffectiveJob}
 use Rattle.scenarios.specs.Plan.{from_on}
 use Rattle.scenarios.proofs.Lemmas.{from-in, from-out}
-use Rattle.event_loop.specs.Coming.{NonFalling}
+use Rattle.event_loop.specs.Upcoming.{NonFalling}
 use Rattle.frames.specs.Frames.{stands_somewhere}
 use Rattle.frames.specs.declared.stretch.Stretch.{Stretch}
 use Rattle.timeline.specs.Stretches.{coming_between}

@@ -37,23 +37,23 @@ pub record Working (old now : Progress) (starts : List Start) (placed : List Pla
 
 -- the jobs of one second more
 jobs-more : (plan now : Plan) (t : ℕ) (xs zs : List Start) (ps qs : List Placed) (js : List EffectiveJob) → now ≡ plan → StartIn now t js → ps ≡ placed_of plan.jobs xs → zs ≡ xs ++ map (start_at t) js → qs ≡ ps ++ map (placed_from t) js → qs ≡ placed_of plan.jobs zs
-jobs-more plan now t xs zs ps qs js same told had put more =
-    let own : All (λ (j : EffectiveJob). job_numbered plan.jobs j.number ≡ Some j) js = subst (λ (q : Plan). All (λ (j : EffectiveJob). job_numbered q.jobs j.number ≡ Some j) js) same told.own in
+jobs-more plan now t xs zs ps qs js same outcome had put more =
+    let own : All (λ (j : EffectiveJob). job_numbered plan.jobs j.number ≡ Some j) js = subst (λ (q : Plan). All (λ (j : EffectiveJob). job_numbered q.jobs j.number ≡ Some j) js) same outcome.own in
     let those : map (placed_from t) js ≡ placed_of plan.jobs (map (start_at t) js) = sym (placed-own plan.jobs js t own) in
     more ∙ ap (λ l. l ++ map (placed_from t) js) had ∙ ap (λ l. placed_of plan.jobs xs ++ l) those
     ∙ sym (filter_map-append (placed_at plan.jobs) xs (map (start_at t) js)) ∙ ap (placed_of plan.jobs) (sym put)
 
 pub working-more : (old now new : Progress) (xs zs : List Start) (ps qs : List Placed) (js : List EffectiveJob) (t count : ℕ) → Working old now xs ps count → IsPlan now.plan → IsNextEvent now.plan now.position (Some t) → new ≡ record now { position = t + 1; handled = now.handled + 1 } → StartIn now.plan t js
     → zs ≡ xs ++ map (start_at t) js → qs ≡ ps ++ map (placed_from t) js → Working old new zs qs (count + 1)
-working-more old now new xs zs ps qs js t count h p next e told put more =
+working-more old now new xs zs ps qs js t count h p next e outcome put more =
     let pos : new.position ≡ t + 1 = ap (λ (p : Progress). p.position) e in
     let hand : new.handled ≡ now.handled + 1 = ap (λ (p : Progress). p.handled) e in
     let sound : IsPlan old.plan = subst IsPlan h.run.further.plan p in
     let onward = h.run.further.first in
     let low = next.0 in
     record {
-      run = subst (IsRunOn old new) (sym put) (run-on-step old now new xs (map (start_at t) js) t h.run next told.starts e);
-      jobs = jobs-more old.plan now.plan t xs zs ps qs js h.run.further.plan told h.jobs put more;
+      run = subst (IsRunOn old new) (sym put) (run-on-step old now new xs (map (start_at t) js) t h.run next outcome.starts e);
+      jobs = jobs-more old.plan now.plan t xs zs ps qs js h.run.further.plan outcome h.jobs put more;
       counted = let k = h.counted in omega (arith, k, hand);
       none = λ z. absurd (omega (arith, z));
       some = λ l. (t, omega (arith, onward, low), pos, subst (λ (p : Plan). IsEvent p t) h.run.further.plan next.1);
@@ -130,7 +130,7 @@ pub working-can : (old now : Progress) (starts : List Start) (placed : List Plac
 working-can old now starts placed count h ne =
     let p : IsPlan old.plan = h.plan (omega (arith, ne)) in
     let ends = h.some (omega (arith, ne)) in
-    subst CanSum (sym h.jobs) (can-sum old.plan old.position now.position starts p (ends-bounded old.plan old.position now.position p ends) h.run.told)
+    subst CanSum (sym h.jobs) (can-sum old.plan old.position now.position starts p (ends-bounded old.plan old.position now.position p ends) h.run.outcome)
 
 -- the piece of a stretch
 pub piece-run : (old new : Progress) (p : PieceView) (first : ℕ) (snap : Option Numbers) (starts : List Start) (ps : List Placed) (part : PartSums) → p ≡ record { first = first; before = snap; starts = starts; part = part } → WorksStretch old new starts ps → IsRunOn old new p.starts
@@ -144,7 +144,7 @@ piece-spans old new p first snap starts ps qs part is stretch at e sums =
       first = at;
       ends = stretch.ends;
       snapshot = ap (λ t. numbers_of (before old.plan t)) at;
-      starts = sym stretch.run.told;
+      starts = sym stretch.run.outcome;
       part = subst (λ (xs : List Placed). IsPartOf xs part) (e ∙ stretch.jobs) sums;
     } in
     subst (λ (x : PieceView). Spans old.plan (segment_of old.plan x) old.position new.position) (sym is) spans

@@ -10,7 +10,7 @@ use Rattle.checkpoints.specs.RunView.{RunView, IsRun}
 
 -- the schedule that a run's own segments give
 abbrev pub schedule_of : RunView → List Row
-schedule_of run = filter_map (row_of (all_starts run.segments)) (jobs_of run.log run.setting)
+schedule_of run = filter_map (row_of (all_starts run.segments)) (jobs_of run.log run.scenario)
 
 -- what is equal in two runs, whose segments may differ
 pub record AreAlike (a b : RunView) : Type 0 where
@@ -21,4 +21,4 @@ pub record AreAlike (a b : RunView) : Type 0 where
 -- runs of one table and scenario have the same starts in the same order, the same schedule and the same tables
 abbrev pub RunsOfOneTableAreAlike : Type 0
 RunsOfOneTableAreAlike =
-    (a b : RunView) → IsPlan (plan_of a.log a.setting) → IsRun a → IsRun b → a.log ≡ b.log → a.setting ≡ b.setting → AreAlike a b
+    (a b : RunView) → IsPlan (plan_of a.log a.scenario) → IsRun a → IsRun b → a.log ≡ b.log → a.scenario ≡ b.scenario → AreAlike a b

@@ -25,16 +25,16 @@ AreGroupsOf vs (g ∷ gs) =
     (front : List PartSums) × (back : List PartSums) × (vs ≡ front ++ back) × (length front ≡ g.count) × IsMerged front g.part × AreGroupsOf back gs
 
 -- Groups of parts, groups of the small groups' parts, and groups of the middle groups' parts.
-pub record LevelsView : Type 0 where
+pub record MergeTreeView : Type 0 where
   pub small : List GroupView
   pub middle : List GroupView
   pub large : List GroupView
 
 -- they are those of these parts
-pub record AreLevelsOf (vs : List PartSums) (levels : LevelsView) : Type 0 where
-  pub small : AreGroupsOf vs levels.small
-  pub middle : AreGroupsOf (group_parts levels.small) levels.middle
-  pub large : AreGroupsOf (group_parts levels.middle) levels.large
+pub record IsMergeTreeOf (vs : List PartSums) (merge_tree : MergeTreeView) : Type 0 where
+  pub small : AreGroupsOf vs merge_tree.small
+  pub middle : AreGroupsOf (group_parts merge_tree.small) merge_tree.middle
+  pub large : AreGroupsOf (group_parts merge_tree.middle) merge_tree.large
 
 -- where each of some segments comes from: it is the old one at that place, or a new one
 abbrev pub AreFrom : List SegmentView → List SegmentView → List (Option ℕ) → Type 0

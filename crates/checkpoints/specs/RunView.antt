@@ -1,7 +1,7 @@
 -- What callers see of a run, and what is true of each.
 use Rattle.std.specs.Prelude.{List}
 use Rattle.swf_text.specs.Entry.{LogEntry}
-use Rattle.scenarios.specs.Scenario.{Setting}
+use Rattle.scenarios.specs.Scenario.{ScenarioView}
 use Rattle.scenarios.specs.Plan.{plan_of}
 use Rattle.metrics.specs.Tables.{TableRows}
 use Rattle.checkpoints.specs.Segment.{SegmentView}
@@ -11,11 +11,11 @@ use Rattle.checkpoints.specs.Sums.{IsTablesOf}
 -- The entries of a table in its order, the scenario, the segments of their simulation in order, and its tables.
 pub record RunView : Type 0 where
   pub log : List LogEntry
-  pub setting : Setting
+  pub scenario : ScenarioView
   pub segments : List SegmentView
   pub tables : TableRows
 
 -- a run is that of its own table and scenario: its segments are cut from their simulation, and its tables are theirs
 pub record IsRun (run : RunView) : Type 0 where
-  pub cut : IsCut (plan_of run.log run.setting) run.segments
-  pub tables : IsTablesOf run.log run.setting run.tables
+  pub cut : IsCut (plan_of run.log run.scenario) run.segments
+  pub tables : IsTablesOf run.log run.scenario run.tables

@@ -18,7 +18,6 @@ use std::sync::Arc;
 use swf_text::Memory;
 use timeline::laws::states_stand_in_a_stretch;
 
-// The last of some segments.
 fn last_of<A: Allocator + Copy>(segments: &[Arc<Segment<A>, A>]) -> Option<&Segment<A>>
     ensures { option_copied result ≡ last_of (map arc_value segments.now) }
 {
@@ -26,7 +25,6 @@ fn last_of<A: Allocator + Copy>(segments: &[Arc<Segment<A>, A>]) -> Option<&Segm
     Some(segment)
 }
 
-// The first seconds of these pieces, and another one.
 fn seconds_of<A: Allocator + Copy>(
     alloc: A,
     pieces: &[Piece<A>],
@@ -42,7 +40,6 @@ fn seconds_of<A: Allocator + Copy>(
     Ok(seconds)
 }
 
-// The starts of a segment and of the pieces behind it.
 fn starts_of<A: Allocator + Copy>(
     alloc: A,
     base: Option<&Segment<A>>,
@@ -58,7 +55,6 @@ fn starts_of<A: Allocator + Copy>(
     Ok(starts)
 }
 
-// Adds the starts of a segment.
 fn add_starts_of<A: Allocator + Copy>(
     base: Option<&Segment<A>>,
     starts: &mut Vec<Start, A>,

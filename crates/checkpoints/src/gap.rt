@@ -34,7 +34,6 @@ impl<A: Allocator + Copy> Model for Gap<A> {
 }
 
 impl<A: Allocator + Copy> Gap<A> {
-    // The gap of these seconds and starts.
     pub(crate) fn of(seconds: Vec<u64, A>, starts: Vec<Start, A>) -> Result<Gap<A>, Memory>
         requires rising { IsNonDecreasing seconds.items }
         requires few { length seconds.items ≤ 4294967295 }
@@ -49,7 +48,6 @@ impl<A: Allocator + Copy> Gap<A> {
         })
     }
 
-    // The starts, in order of starting.
     pub(crate) fn starts(&self) -> &[Start]
         ensures { result.now ≡ self.now.starts }
     {

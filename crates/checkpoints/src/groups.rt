@@ -33,7 +33,6 @@ impl<A: Allocator + Copy> Model for Group<A> {
 }
 
 impl<A: Allocator + Copy> Group<A> {
-    // The group of these parts.
     fn of(alloc: A, parts: &[&Part<A>]) -> Result<Group<A>, Memory>
         requires { AreFew (map (λ p. p.now) parts.now) }
         ensures count { IfOk result (λ group. group.count ≡ length parts.now) }
@@ -46,14 +45,12 @@ impl<A: Allocator + Copy> Group<A> {
         })
     }
 
-    // How many parts it has.
     pub(crate) fn count(&self) -> usize
         ensures { result ≡ self.now.count }
     {
         self.count
     }
 
-    // This group once more, with its sums shared.
     pub(crate) fn share(&self) -> Result<Group<A>, Memory>
         ensures { IfOk result (λ group. group ≡ self.now) }
     {
@@ -64,14 +61,13 @@ impl<A: Allocator + Copy> Group<A> {
     }
 }
 
-// Groups one after another, and the place of each among old ones where it was taken over.
+// Groups one after another, and the place of each among old ones where it was reused.
 #[derive(Drop)]
 pub(crate) struct Grouped<A: Allocator + Copy> {
     pub(crate) groups: Vec<Group<A>, A>,
     pub(crate) places: Vec<Option<usize>, A>,
 }
 
-// The parts of groups.
 pub(crate) fn parts_in<A: Allocator + Copy>(
     alloc: A,
     groups: &[Group<A>],
@@ -85,7 +81,6 @@ pub(crate) fn parts_in<A: Allocator + Copy>(
     Ok(parts)
 }
 
-// Adds groups of these parts.
 pub(crate) fn add_groups<A: Allocator + Copy>(
     alloc: A,
     parts: &[&Part<A>],
@@ -105,7 +100,6 @@ pub(crate) fn add_groups<A: Allocator + Copy>(
     Ok(())
 }
 
-// The groups of these parts.
 pub(crate) fn groups_of<A: Allocator + Copy>(
     alloc: A,
     parts: &[&Part<A>],

@@ -8,7 +8,7 @@ mod fault;
 mod gap;
 mod groups;
 pub mod laws;
-mod levels;
+mod merge_tree;
 mod merged;
 mod noting;
 mod parts;

@@ -15,8 +15,8 @@ use swf_text::Memory;
 /// So many places are made at once.
 pub(crate) const STEP: usize = 1_024;
 
-/// Starts that are noted. Of the numbers from the least on, the first `most` may have places, which are made
-/// up to the greatest of them that was noted; the starts of other numbers stand in a list.
+/// Starts that are noted. Of the numbers from the least on, the first `most` may have places, which are
+/// made up to the greatest of them that was noted; the starts of other numbers stand in a list.
 #[derive(Drop)]
 pub(crate) struct Noting<A: Allocator + Copy> {
     least: u64,
@@ -57,7 +57,8 @@ fn reach<A: Allocator + Copy>(
 }
 
 impl<A: Allocator + Copy> Noting<A> {
-    // None yet. Of the numbers from the least on, so many may have places; there is capacity for `first` places.
+    // None yet. Of the numbers from the least on, so many may have places; there is capacity for `first`
+    // places.
     pub(crate) fn new(alloc: A, least: u64, most: usize, first: usize) -> Result<Noting<A>, Memory>
         ensures { IfOk result (λ noting. (n : ℕ) → known_start noting n ≡ None) }
     {
@@ -106,7 +107,6 @@ impl<A: Allocator + Copy> Noting<A> {
         Ok(())
     }
 
-    // The starts that were noted, to be looked up.
     pub(crate) fn finish(self) -> Result<Starts<A>, Memory>
         ensures { IfOk result (λ starts. (n : ℕ) → known_start starts n ≡ known_start self n) }
     {

@@ -4,7 +4,6 @@ use scenarios::{Job, Placed};
 use std::alloc::Allocator;
 use swf_text::Memory;
 
-// Adds these jobs to a list, with the second at which they start.
 pub(crate) fn add_placed<A: Allocator + Copy>(
     placed: &mut Vec<Placed, A>,
     jobs: &[Job],

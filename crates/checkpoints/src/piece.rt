@@ -28,7 +28,6 @@ impl<A: Allocator + Copy> Model for Piece<A> {
 }
 
 impl<A: Allocator + Copy> Piece<A> {
-    // A piece of these.
     pub(crate) fn new(
         first: u64,
         before: Option<Snapshot<A>>,
@@ -62,7 +61,6 @@ impl<A: Allocator + Copy> Piece<A> {
         }
     }
 
-    // The segment with this snapshot.
     pub(crate) fn with(self, before: Snapshot<A>) -> Segment<A>
         ensures { result ≡ record { first = self.first; before = before; starts = self.starts; part = self.part } }
     {

@@ -25,7 +25,6 @@ struct Planned<A: Allocator + Copy> {
     count: usize,
 }
 
-// Works the next event second, where there is one: it leaves the jobs that start at it in the list.
 fn work_next<A: Allocator + Copy>(
     engine: &mut Engine<A>,
     started: &mut Vec<Job, A>,
@@ -65,7 +64,6 @@ fn none_of<A: Allocator + Copy>(alloc: A, plan: &Plan<A>) -> Result<Noting<A>, M
     Noting::new(alloc, least_number(plan), most, len.saturating_add(STEP))
 }
 
-// All starts of a plan's simulation.
 fn starts_of<A: Allocator + Copy>(alloc: A, plan: &Plan<A>) -> Result<Planned<A>, Memory>
     ensures starts { IfOk result (λ planned. (n : ℕ) → known_start planned.starts n ≡ start_of (sim (plan_in plan.now)) n) }
     ensures count { IfOk result (λ planned. planned.count ≡ length (sim (plan_in plan.now))) }

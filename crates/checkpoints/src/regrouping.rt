@@ -1,4 +1,4 @@
-//! The groups of some parts, some of which are taken over from old groups.
+//! The groups of some parts, some of which are reused from old groups.
 
 ghost use Rattle.std.specs.Prelude.{◌≡◌, ◌+◌, ◌≤◌, ◌<◌, ◌^◌, [], ◌∷◌, ◌↔◌, List, Some, IsTrue, IfSome, IfOk, OnOk, map, take, drop, length, slice_get};
 ghost use Rattle.metrics.specs.Part.{PartSums};
@@ -38,7 +38,6 @@ fn next_place(places: &[Option<usize>], from: usize, first: usize) -> usize
     places.len()
 }
 
-// Whether parts come from old ones that stand side by side, the first of them at `first`.
 fn are_in_row(places: &[Option<usize>], first: usize) -> bool
     requires { first + length places.now < 2 ^ 64 }
     ensures { IsTrue result ↔ AreInRow first places.now }
@@ -49,7 +48,6 @@ fn are_in_row(places: &[Option<usize>], first: usize) -> bool
     }
 }
 
-// Where the parts of the next old group stand among the new ones, if all were taken over side by side.
 fn end_of_group(places: &[Option<usize>], place: usize, first: usize, count: usize) -> Option<usize>
     requires place { place ≤ length places.now }
     requires few { first + count < 2 ^ 64 }
@@ -65,8 +63,8 @@ fn end_of_group(places: &[Option<usize>], place: usize, first: usize, count: usi
     Some(end)
 }
 
-// Goes past the next old group, the one at `at`. Where all its parts were taken over side by side it is
-// taken over too, behind new groups of the parts before them.
+// Goes past the next old group, the one at `at`. Where all its parts were reused side by side it is
+// reused too, behind new groups of the parts before them.
 fn pass_group<A: Allocator + Copy>(
     alloc: A,
     at: usize,
@@ -99,7 +97,7 @@ fn pass_group<A: Allocator + Copy>(
 }
 
 // The groups of some parts, each of which is new or has its place among old ones: the old groups whose
-// parts all were taken over side by side, each with its place, and new ones of the parts between them.
+// parts all were reused side by side, each with its place, and new ones of the parts between them.
 pub(crate) fn regrouped<A: Allocator + Copy>(
     alloc: A,
     old: &[Group<A>],

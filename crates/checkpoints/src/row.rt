@@ -24,7 +24,6 @@ pub struct Row {
 }
 
 impl Row {
-    // The row of a job that starts at this second.
     pub(crate) fn at(job: &Job, start: u64) -> Row
         requires { start < seconds_end }
         ensures { result ≡ row_at job.now start }

@@ -62,7 +62,6 @@ impl<'a, A: Allocator + Copy> Iterator for Rows<'a, A> {
     }
 }
 
-// The row of the first of these jobs that starts.
 fn next_row<A: Allocator + Copy>(starts: &Starts<A>, jobs: &mut Jobs<'_, A>) -> Option<Row>
     requires { AreEarly starts.now }
     ensures { MatchOption result ((filter_map (row_by starts.now) jobs.old ≡ []) × (filter_map (row_by starts.now) jobs.new ≡ []))

@@ -1,7 +1,7 @@
 ghost use Rattle.std.specs.Prelude.{◌≡◌, ◌≤◌, ◌+◌, map, length, IfOk};
 ghost use Rattle.std.specs.Arc.{arc_value};
 
-use crate::levels::Levels;
+use crate::merge_tree::MergeTree;
 use crate::row::Row;
 use crate::rows::Rows;
 use crate::schedule::{listed, start_in};
@@ -25,7 +25,7 @@ pub struct Run<A: Allocator + Copy> {
     alloc: A,
     plan: Plan<A>,
     segments: Vec<Arc<Segment<A>, A>, A>,
-    levels: Levels<A>,
+    merge_tree: MergeTree<A>,
     tables: Tables<A>,
 }
 
@@ -33,19 +33,19 @@ impl<A: Allocator + Copy> Model for Run<A> {
     ghost use Rattle.std.specs.Prelude.{map};
     ghost use Rattle.std.specs.Arc.{arc_value};
     ghost use Rattle.checkpoints.specs.RunView.{RunView, IsRun};
-    ghost use Rattle.checkpoints.specs.Groups.{AreLevelsOf, parts_of};
+    ghost use Rattle.checkpoints.specs.Groups.{IsMergeTreeOf, parts_of};
 
     ghost Value = { RunView };
 
-    ghost view = { λ r. record { log = r.plan.log; setting = r.plan.setting; segments = map arc_value r.segments.items; tables = r.tables } };
+    ghost view = { λ r. record { log = r.plan.log; scenario = r.plan.scenario; segments = map arc_value r.segments.items; tables = r.tables } };
 
-    ghost invariant = { λ r. IsRun (record { log = r.plan.log; setting = r.plan.setting; segments = map arc_value r.segments.items; tables = r.tables }) × AreLevelsOf (parts_of (map arc_value r.segments.items)) r.levels };
+    ghost invariant = { λ r. IsRun (record { log = r.plan.log; scenario = r.plan.scenario; segments = map arc_value r.segments.items; tables = r.tables }) × IsMergeTreeOf (parts_of (map arc_value r.segments.items)) r.merge_tree };
 }
 
 impl<A: Allocator + Copy> Run<A> {
     ghost use Rattle.scenarios.specs.Plan.{jobs_of, plan_of};
     ghost use Rattle.scenarios.specs.PlanView.{plan_in};
-    ghost use Rattle.scenarios.specs.Scenario.{IsSetting};
+    ghost use Rattle.scenarios.specs.Scenario.{IsScenario};
     ghost use Rattle.scenarios.specs.Skips.{skips_of};
     ghost use Rattle.job_table.specs.Table.{IsTable};
     ghost use Rattle.easy_rule.specs.Simulation.{sim, start_of};
@@ -66,7 +66,7 @@ impl<A: Allocator + Copy> Run<A> {
     ) -> Result<Run<A>, Memory>
         requires { IsCut (plan_of (arc_value table) scenario) (map arc_value segments.items) }
         ensures log { IfOk result (λ run. run.log ≡ arc_value table) }
-        ensures setting { IfOk result (λ run. run.setting ≡ scenario) }
+        ensures scenario { IfOk result (λ run. run.scenario ≡ scenario) }
         ensures segments { IfOk result (λ run. run.segments ≡ map arc_value segments.items) }
         ensures sound { IfOk result IsRun }
     {
@@ -79,9 +79,9 @@ impl<A: Allocator + Copy> Run<A> {
     /// run's at that place.
     ///
     /// It looks at no entry of the table. The old run keeps its segments in groups, each with the sums
-    /// of its segments, and these in groups too: groups whose segments all are taken over, side by
+    /// of its segments, and these in groups too: groups whose segments all are reused, side by
     /// side, are not merged again. Memory where a growth was refused.
-    pub fn of_taken_over(
+    pub fn of_reused(
         alloc: A,
         old: &Run<A>,
         table: Arc<JobTable<A>, A>,
@@ -89,27 +89,26 @@ impl<A: Allocator + Copy> Run<A> {
         segments: Vec<Arc<Segment<A>, A>, A>,
         places: &[Option<usize>],
     ) -> Result<Run<A>, Memory>
-        requires cut { IsCut (plan_of (arc_value table) old.now.setting) (map arc_value segments.items) }
-        requires skips { skips ≡ skips_of (arc_value table) old.now.setting }
+        requires cut { IsCut (plan_of (arc_value table) old.now.scenario) (map arc_value segments.items) }
+        requires skips { skips ≡ skips_of (arc_value table) old.now.scenario }
         requires places { AreFrom old.now.segments (map arc_value segments.items) places.now }
         ensures log { IfOk result (λ run. run.log ≡ arc_value table) }
-        ensures setting { IfOk result (λ run. run.setting ≡ old.now.setting) }
+        ensures scenario { IfOk result (λ run. run.scenario ≡ old.now.scenario) }
         ensures segments { IfOk result (λ run. run.segments ≡ map arc_value segments.items) }
         ensures sound { IfOk result IsRun }
     {
         let plan = Plan::new(table, old.plan.scenario());
-        let levels = Levels::of_taken_over(alloc, &old.levels, segments.as_slice(), places)?;
-        let tables = tables_of(alloc, &plan, skips, &levels)?;
+        let merge_tree = MergeTree::of_reused(alloc, &old.merge_tree, segments.as_slice(), places)?;
+        let tables = tables_of(alloc, &plan, skips, &merge_tree)?;
         Ok(Run {
             alloc,
             plan,
             segments,
-            levels,
+            merge_tree,
             tables,
         })
     }
 
-    // The run of these segments, which are those of the plan's simulation.
     pub(crate) fn of_plan(
         alloc: A,
         plan: Plan<A>,
@@ -117,18 +116,18 @@ impl<A: Allocator + Copy> Run<A> {
     ) -> Result<Run<A>, Memory>
         requires { IsCut (plan_in plan) (map arc_value segments.items) }
         ensures log { IfOk result (λ run. run.log ≡ plan.log) }
-        ensures setting { IfOk result (λ run. run.setting ≡ plan.setting) }
+        ensures scenario { IfOk result (λ run. run.scenario ≡ plan.scenario) }
         ensures segments { IfOk result (λ run. run.segments ≡ map arc_value segments.items) }
         ensures sound { IfOk result IsRun }
     {
         prove!(plan.scenario().procs() >= 1);
-        let levels = Levels::of(alloc, segments.as_slice())?;
-        let tables = tables_anew(alloc, &plan, &levels)?;
+        let merge_tree = MergeTree::of(alloc, segments.as_slice())?;
+        let tables = tables_anew(alloc, &plan, &merge_tree)?;
         Ok(Run {
             alloc,
             plan,
             segments,
-            levels,
+            merge_tree,
             tables,
         })
     }
@@ -142,7 +141,7 @@ impl<A: Allocator + Copy> Run<A> {
 
     /// The scenario.
     pub fn scenario(&self) -> Scenario
-        ensures { result ≡ self.now.setting }
+        ensures { result ≡ self.now.scenario }
     {
         self.plan.scenario()
     }
@@ -150,7 +149,7 @@ impl<A: Allocator + Copy> Run<A> {
     /// The plan: the table under the scenario.
     pub fn plan(&self) -> &Plan<A>
         ensures log { result.now.log ≡ self.now.log }
-        ensures setting { result.now.setting ≡ self.now.setting }
+        ensures scenario { result.now.scenario ≡ self.now.scenario }
         ensures sound { IsRun self.now }
     {
         &self.plan
@@ -159,7 +158,7 @@ impl<A: Allocator + Copy> Run<A> {
     /// The tables: plain sums over all jobs of the table under the scenario, each at its start.
     pub fn tables(&self) -> &Tables<A>
         ensures value { result.now ≡ self.now.tables }
-        ensures sound { IsTablesOf self.now.log self.now.setting self.now.tables }
+        ensures sound { IsTablesOf self.now.log self.now.scenario self.now.tables }
     {
         &self.tables
     }
@@ -168,7 +167,7 @@ impl<A: Allocator + Copy> Run<A> {
     /// event second of the one before. Without jobs there is none.
     pub fn segments(&self) -> &[Arc<Segment<A>, A>]
         ensures value { map arc_value result.now ≡ self.now.segments }
-        ensures sound { IsCut (plan_of self.now.log self.now.setting) self.now.segments }
+        ensures sound { IsCut (plan_of self.now.log self.now.scenario) self.now.segments }
     {
         self.segments.as_slice()
     }
@@ -178,7 +177,7 @@ impl<A: Allocator + Copy> Run<A> {
     /// It looks the job up by its number, finds the segment of its submit second, and goes on from
     /// there.
     pub fn start_of(&self, number: u64) -> Option<u64>
-        ensures { result ≡ start_of (sim (plan_of self.now.log self.now.setting)) number }
+        ensures { result ≡ start_of (sim (plan_of self.now.log self.now.scenario)) number }
     {
         let job = self.plan.view().job(number)?;
         let submit = job.submit();
@@ -186,9 +185,8 @@ impl<A: Allocator + Copy> Run<A> {
         start_in(&self.segments.as_slice()[later.saturating_sub(1)..], number)
     }
 
-    // How many jobs are simulated: all entries but those that are skipped.
     fn job_count(&self) -> usize
-        ensures { result ≡ length (jobs_of self.now.log self.now.setting) }
+        ensures { result ≡ length (jobs_of self.now.log self.now.scenario) }
     {
         kept_of(self.plan.table().len(), &self.tables.overall().skips)
     }
@@ -196,9 +194,9 @@ impl<A: Allocator + Copy> Run<A> {
     /// The rows of the schedule: one for each job that is simulated, in the order of the log, each made
     /// when it is asked for. Memory where a growth was refused.
     pub fn rows(&self) -> Result<Rows<'_, A>, Memory>
-        ensures rows { IfOk result (λ rows. rows ≡ rows_of (plan_of self.now.log self.now.setting)) }
-        ensures each { IfOk result (λ rows. map (λ r. r.number) rows ≡ map (λ j. j.number) (jobs_of self.now.log self.now.setting)) }
-        ensures count { IfOk result (λ rows. length rows ≡ length (jobs_of self.now.log self.now.setting)) }
+        ensures rows { IfOk result (λ rows. rows ≡ rows_of (plan_of self.now.log self.now.scenario)) }
+        ensures each { IfOk result (λ rows. map (λ r. r.number) rows ≡ map (λ j. j.number) (jobs_of self.now.log self.now.scenario)) }
+        ensures count { IfOk result (λ rows. length rows ≡ length (jobs_of self.now.log self.now.scenario)) }
     {
         let starts = Starts::of(self.alloc, self.segments.as_slice())?;
         let plan = self.plan.view();
@@ -208,9 +206,9 @@ impl<A: Allocator + Copy> Run<A> {
     /// The schedule: a row for each job that is simulated, in the order of the log. Memory where a
     /// growth was refused.
     pub fn schedule(&self) -> Result<Vec<Row, A>, Memory>
-        ensures rows { IfOk result (λ rows. rows.items ≡ rows_of (plan_of self.now.log self.now.setting)) }
-        ensures each { IfOk result (λ rows. map (λ r. r.number) rows.items ≡ map (λ j. j.number) (jobs_of self.now.log self.now.setting)) }
-        ensures count { IfOk result (λ rows. length rows.items ≡ length (jobs_of self.now.log self.now.setting)) }
+        ensures rows { IfOk result (λ rows. rows.items ≡ rows_of (plan_of self.now.log self.now.scenario)) }
+        ensures each { IfOk result (λ rows. map (λ r. r.number) rows.items ≡ map (λ j. j.number) (jobs_of self.now.log self.now.scenario)) }
+        ensures count { IfOk result (λ rows. length rows.items ≡ length (jobs_of self.now.log self.now.scenario)) }
     {
         let rows = self.rows()?;
         Ok(listed(self.alloc, rows)?)

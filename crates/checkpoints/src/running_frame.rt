@@ -16,7 +16,6 @@ use scenarios::PlanRef;
 use std::alloc::Allocator;
 use swf_text::Memory;
 
-// Adds the stretches of the jobs of these running numbers.
 fn add_numbers<A: Allocator + Copy>(
     plan: &PlanRef<'_, A>,
     gap: &Gap<A>,
@@ -48,7 +47,6 @@ fn add_base<A: Allocator + Copy>(
     }
 }
 
-// Adds the stretches of the jobs of these starts.
 fn add_started<A: Allocator + Copy>(
     plan: &PlanRef<'_, A>,
     gap: &Gap<A>,

@@ -11,14 +11,12 @@ use std::alloc::Allocator;
 use std::sync::Arc;
 use swf_text::Memory;
 
-// The second at which a number starts among these.
 pub(crate) fn find_start(starts: &[Start], number: u64) -> Option<u64>
     ensures { result ≡ start_of starts.now number }
 {
     starts.iter().find(|x| x.number == number).map(|x| x.at)
 }
 
-// The second at which a number starts in these segments.
 pub(crate) fn start_in<A: Allocator + Copy>(
     segments: &[Arc<Segment<A>, A>],
     number: u64,

@@ -93,7 +93,6 @@ impl<A: Allocator + Copy> Segments<A> {
         Ok(self.done)
     }
 
-    // One segment more, behind those that are pending.
     fn put(&mut self, plan: &PlanRef<'_, A>, segment: Segment<A>) -> Result<(), Memory>
         requires { (m : ℕ) × Chain (plan_in plan.now) 0 (all_in (plan_in plan.now) self.old) m }
         ensures done { OnOk result (self.new.done ≡ all_in (plan_in plan.now) self.old ++ segment ∷ []) }
@@ -104,21 +103,19 @@ impl<A: Allocator + Copy> Segments<A> {
         Ok(())
     }
 
-    // One piece more whose snapshot is still to be made, behind those that are pending.
     fn wait(&mut self, plan: &PlanRef<'_, A>, piece: Piece<A>) -> Result<(), Memory>
         requires { (m : ℕ) × Chain (plan_in plan.now) 0 (all_in (plan_in plan.now) self.old) m }
         ensures { OnOk result (all_in (plan_in plan.now) self.new ≡ all_in (plan_in plan.now) self.old ++ segment_of (plan_in plan.now) piece ∷ []) }
     {
-        self.make_room(plan)?;
+        self.make_capacity(plan)?;
         self.pieces.push(piece)?;
         Ok(())
     }
 
-    // Makes the snapshots that are still to be made, where many pieces are pending.
-    fn make_room(&mut self, plan: &PlanRef<'_, A>) -> Result<(), Memory>
+    fn make_capacity(&mut self, plan: &PlanRef<'_, A>) -> Result<(), Memory>
         requires { (m : ℕ) × Chain (plan_in plan.now) 0 (all_in (plan_in plan.now) self.old) m }
         ensures same { OnOk result (all_in (plan_in plan.now) self.new ≡ all_in (plan_in plan.now) self.old) }
-        ensures room { OnOk result (length self.new.pieces < 65536) }
+        ensures capacity { OnOk result (length self.new.pieces < 65536) }
     {
         if self.pieces.len() < PENDING {
             return Ok(());
@@ -126,7 +123,6 @@ impl<A: Allocator + Copy> Segments<A> {
         self.close(plan)
     }
 
-    // Makes the snapshots that are still to be made, and segments of these pieces.
     fn close(&mut self, plan: &PlanRef<'_, A>) -> Result<(), Memory>
         requires { (m : ℕ) × Chain (plan_in plan.now) 0 (all_in (plan_in plan.now) self.old) m }
         ensures done { OnOk result (self.new.done ≡ all_in (plan_in plan.now) self.old) }

@@ -50,7 +50,6 @@ impl<A: Allocator + Copy> Shared<A> {
         })
     }
 
-    // The snapshot of the numbers that stand at a place.
     pub(crate) fn at(&self, place: u32) -> Result<Snapshot<A>, Memory>
         requires { IsSnapshot (numbers_in place self.now) }
         ensures { IfOk result (λ snapshot. snapshot ≡ numbers_in place self.now) }

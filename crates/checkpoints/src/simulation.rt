@@ -73,7 +73,6 @@ fn worked<A: Allocator + Copy>(
     Ok(segments)
 }
 
-// The segments of a plan's simulation, of `spacing` event seconds each, but the last.
 fn segments_of<A: Allocator + Copy>(
     alloc: A,
     plan: &Plan<A>,
@@ -102,7 +101,7 @@ pub fn simulate<A: Allocator + Copy>(
 ) -> Result<Run<A>, RunFault>
     ensures spacing { OnOk result (IsSpacing spacing) }
     ensures log { IfOk result (λ run. run.log ≡ arc_value table) }
-    ensures setting { IfOk result (λ run. run.setting ≡ scenario) }
+    ensures scenario { IfOk result (λ run. run.scenario ≡ scenario) }
     ensures cut { IfOk result (λ run. IsShortCut (plan_of (arc_value table) scenario) spacing run.segments) }
     ensures sound { IfOk result IsRun }
     ensures fault { IfErr result (λ f. IsRefusal spacing f) }

@@ -37,7 +37,6 @@ impl<A: Allocator + Copy> Model for Starts<A> {
 }
 
 impl<A: Allocator + Copy> Starts<A> {
-    // These starts: of the numbers from the least on each at its place, and the others in any order.
     pub(crate) fn new(
         least: u64,
         places: Vec<Option<u64>, A>,
@@ -53,7 +52,6 @@ impl<A: Allocator + Copy> Starts<A> {
         })
     }
 
-    // The starts of these segments.
     pub(crate) fn of(alloc: A, segments: &[Arc<Segment<A>, A>]) -> Result<Starts<A>, Memory>
         ensures { IfOk result (λ starts. (n : ℕ) → known_start starts n ≡ start_of (all_starts (map arc_value segments.now)) n) }
     {
@@ -66,7 +64,6 @@ impl<A: Allocator + Copy> Starts<A> {
         noting.finish()
     }
 
-    // The second at which a number starts.
     pub(crate) fn at(&self, number: u64) -> Option<u64>
         ensures { result ≡ known_start self.now number }
     {
@@ -143,7 +140,6 @@ pub(crate) fn sort_by_number<A: Allocator + Copy>(
     Ok(())
 }
 
-// The second at which a number starts among these, which rise by number.
 pub(crate) fn start_among(starts: &[Start], number: u64) -> Option<u64>
     requires { IsNonDecreasingBy (λ x. x.number) starts.now }
     ensures { result ≡ start_of starts.now number }

@@ -5,40 +5,38 @@ ghost use Rattle.scenarios.specs.Skips.{skips_of};
 ghost use Rattle.metrics.specs.Part.{IsPartOf};
 ghost use Rattle.checkpoints.specs.Segment.{SegmentView};
 ghost use Rattle.checkpoints.specs.Cut.{IsCut};
-ghost use Rattle.checkpoints.specs.Groups.{AreLevelsOf, parts_of};
+ghost use Rattle.checkpoints.specs.Groups.{IsMergeTreeOf, parts_of};
 ghost use Rattle.checkpoints.specs.Sums.{IsTablesOf, all_placed};
 
-use crate::levels::Levels;
+use crate::merge_tree::MergeTree;
 use metrics::{Part, Tables};
 use scenarios::{Plan, Skips};
 use std::alloc::Allocator;
 use swf_text::Memory;
 
-// The sums over all jobs of a plan, from its simulation's segments in groups.
 fn sums_of<A: Allocator + Copy>(
     alloc: A,
     plan: &Plan<A>,
-    levels: &Levels<A>,
+    merge_tree: &MergeTree<A>,
 ) -> Result<Part<A>, Memory>
-    requires { (ss : List SegmentView) × IsCut (plan_in plan.now) ss × AreLevelsOf (parts_of ss) levels.now }
+    requires { (ss : List SegmentView) × IsCut (plan_in plan.now) ss × IsMergeTreeOf (parts_of ss) merge_tree.now }
     ensures { IfOk result (IsPartOf (all_placed (plan_in plan.now))) }
 {
     prove!(plan.scenario().procs() >= 1);
-    levels.total(alloc)
+    merge_tree.total(alloc)
 }
 
-// The tables of a plan, from its simulation's segments in groups and its counts of skipped entries.
 pub(crate) fn tables_of<A: Allocator + Copy>(
     alloc: A,
     plan: &Plan<A>,
     skips: Skips,
-    levels: &Levels<A>,
+    merge_tree: &MergeTree<A>,
 ) -> Result<Tables<A>, Memory>
-    requires cut { (ss : List SegmentView) × IsCut (plan_in plan.now) ss × AreLevelsOf (parts_of ss) levels.now }
-    requires skips { skips ≡ skips_of plan.now.log plan.now.setting }
-    ensures { IfOk result (λ tables. IsTablesOf plan.now.log plan.now.setting tables) }
+    requires cut { (ss : List SegmentView) × IsCut (plan_in plan.now) ss × IsMergeTreeOf (parts_of ss) merge_tree.now }
+    requires skips { skips ≡ skips_of plan.now.log plan.now.scenario }
+    ensures { IfOk result (λ tables. IsTablesOf plan.now.log plan.now.scenario tables) }
 {
-    let total = sums_of(alloc, plan, levels)?;
+    let total = sums_of(alloc, plan, merge_tree)?;
     let tables = total.tables(plan.scenario().procs(), skips)?;
     Ok(tables)
 }
@@ -47,7 +45,7 @@ pub(crate) fn tables_of<A: Allocator + Copy>(
 // none is looked at again.
 fn skips_beside<A: Allocator + Copy>(plan: &Plan<A>, total: &Part<A>) -> Skips
     requires { IsPartOf (all_placed (plan_in plan.now)) total.now }
-    ensures { result ≡ skips_of plan.now.log plan.now.setting }
+    ensures { result ≡ skips_of plan.now.log plan.now.scenario }
 {
     if total.totals().count == plan.table().len() as u64 {
         return Skips {
@@ -60,16 +58,15 @@ fn skips_beside<A: Allocator + Copy>(plan: &Plan<A>, total: &Part<A>) -> Skips
     plan.view().skips()
 }
 
-// As `tables_of`, with the counts of skipped entries made anew.
 pub(crate) fn tables_anew<A: Allocator + Copy>(
     alloc: A,
     plan: &Plan<A>,
-    levels: &Levels<A>,
+    merge_tree: &MergeTree<A>,
 ) -> Result<Tables<A>, Memory>
-    requires { (ss : List SegmentView) × IsCut (plan_in plan.now) ss × AreLevelsOf (parts_of ss) levels.now }
-    ensures { IfOk result (λ tables. IsTablesOf plan.now.log plan.now.setting tables) }
+    requires { (ss : List SegmentView) × IsCut (plan_in plan.now) ss × IsMergeTreeOf (parts_of ss) merge_tree.now }
+    ensures { IfOk result (λ tables. IsTablesOf plan.now.log plan.now.scenario tables) }
 {
-    let total = sums_of(alloc, plan, levels)?;
+    let total = sums_of(alloc, plan, merge_tree)?;
     let skips = skips_beside(plan, &total);
     let procs = plan.scenario().procs();
     let tables = total.tables(procs, skips)?;

@@ -14,7 +14,6 @@ use scenarios::PlanRef;
 use std::alloc::Allocator;
 use swf_text::Memory;
 
-// Adds the stretches of the jobs of these waiting numbers.
 fn add_numbers<A: Allocator + Copy>(
     plan: &PlanRef<'_, A>,
     gap: &Gap<A>,

@@ -29,6 +29,6 @@ IsLegalFrom opening events = IsLegal opening (notes_of events)
 abbrev pub state_after : Machine → List Happened → Machine
 state_after opening events = after_all opening (notes_of events)
 
--- the machine accepts the note in this state: there is room for one more, and the reply is the machine's
+-- the machine accepts the note in this state: there is capacity for one more, and the reply is the machine's
 abbrev pub IsAccepted : Machine → Noted → Type 0
 IsAccepted m note = (m.notes < note_limit) × (note.reply ≡ reply_to note.call m)

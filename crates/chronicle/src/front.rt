@@ -63,7 +63,6 @@ impl<J: Naming> Front<J> {
         }
     }
 
-    // Whether its events begin those of the other.
     fn is_shorter(&self, other: &Front<J>) -> bool
         ensures { IsTrue result ↔ IsPrefix self.now.events other.now.events }
     {
@@ -109,7 +108,6 @@ impl<J: Naming> Front<J> {
         }
     }
 
-    // The front with one event more, if that was added to all that was seen.
     fn added<X, M: Plain<X, Event, u64>>(
         &self,
         head: &Word<Event, u64, Law>,

@@ -26,7 +26,6 @@ impl<T: Drop, A: Allocator + Copy> Model for Chunk<T, A> {
 }
 
 impl<T: Drop, A: Allocator + Copy> Chunk<T, A> {
-    // All elements of a list; none of them moves.
     pub(crate) fn of(alloc: A, items: Vec<T, A>) -> Result<Chunk<T, A>, Memory>
         ensures { IfOk result (λ chunk. chunk ≡ items.items) }
     {
@@ -35,7 +34,6 @@ impl<T: Drop, A: Allocator + Copy> Chunk<T, A> {
         Ok(Chunk { list, from: 0, len })
     }
 
-    // So many elements from a place on, shared.
     pub(crate) fn part(&self, from: usize, len: usize) -> Result<Chunk<T, A>, Memory>
         requires { from + len ≤ length self.now }
         ensures { IfOk result (λ part. part ≡ take len (drop from self.now)) }
@@ -47,14 +45,12 @@ impl<T: Drop, A: Allocator + Copy> Chunk<T, A> {
         })
     }
 
-    // The same elements, shared.
     pub(crate) fn share(&self) -> Result<Chunk<T, A>, Memory>
         ensures { IfOk result (λ chunk. chunk ≡ self.now) }
     {
         self.part(0, self.len)
     }
 
-    // The elements.
     pub(crate) fn as_slice(&self) -> &[T]
         ensures { result.now ≡ self.now }
     {

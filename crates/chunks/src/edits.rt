@@ -21,7 +21,7 @@ fn with_elements<T: Drop, A: Allocator + Copy>(
 ) -> Result<Vec<Group<T, A>, A>, Memory>
     requires spot { IsSpot place.group place.chunk groups.now }
     requires most { vec_len items ≤ 257 }
-    requires room { count.old ≤ 1024 }
+    requires capacity { count.old ≤ 1024 }
     requires sized { AreGrouped groups.now }
     ensures flat { let chunk = chunk_number place.group place.chunk groups.now in IfOk result (λ new. flat (chunks_in new.items) ≡ flat (take chunk (chunks_in groups.now)) ++ items.items ++ flat (drop (chunk + 1) (chunks_in groups.now))) }
     ensures sized { IfOk result (λ new. AreGrouped new.items) }
@@ -38,7 +38,6 @@ fn with_elements<T: Drop, A: Allocator + Copy>(
     Ok(with_chunk(alloc, groups, place.group, chunks, &mut moved_chunks)?)
 }
 
-// The groups with one element more, at a place of a chunk, or in a new chunk at the end.
 pub(crate) fn inserted<T: Copied, A: Allocator + Copy>(
     alloc: A,
     groups: &[Group<T, A>],
@@ -48,7 +47,7 @@ pub(crate) fn inserted<T: Copied, A: Allocator + Copy>(
 ) -> Result<Vec<Group<T, A>, A>, Memory>
     requires spot { IsSpot place.group place.chunk groups.now }
     requires place { place.at ≤ length (chunk_at place.group place.chunk groups.now) }
-    requires room { count.old ≤ 768 }
+    requires capacity { count.old ≤ 768 }
     requires sized { AreGrouped groups.now }
     ensures flat { IfOk result (λ new. flat (chunks_in new.items) ≡ insert (flat (chunks_in groups.now)) (place_at place.group place.chunk place.at groups.now) item) }
     ensures sized { IfOk result (λ new. AreGrouped new.items) }
@@ -68,7 +67,7 @@ pub(crate) fn removed<T: Copied, A: Allocator + Copy>(
     count: &mut u32,
 ) -> Result<Vec<Group<T, A>, A>, Memory>
     requires element { IsElement place.group place.chunk place.at groups.now }
-    requires room { count.old ≤ 768 }
+    requires capacity { count.old ≤ 768 }
     requires sized { AreGrouped groups.now }
     ensures flat { IfOk result (λ new. flat (chunks_in new.items) ≡ remove (flat (chunks_in groups.now)) (place_at place.group place.chunk place.at groups.now)) }
     ensures sized { IfOk result (λ new. AreGrouped new.items) }
@@ -80,7 +79,6 @@ pub(crate) fn removed<T: Copied, A: Allocator + Copy>(
     Ok(with_elements(alloc, groups, place, items, count)?)
 }
 
-// The groups with another element at a place of a chunk.
 fn with_another<T: Copied, A: Allocator + Copy>(
     alloc: A,
     groups: &[Group<T, A>],
@@ -89,7 +87,7 @@ fn with_another<T: Copied, A: Allocator + Copy>(
     count: &mut u32,
 ) -> Result<Vec<Group<T, A>, A>, Memory>
     requires element { IsElement place.group place.chunk place.at groups.now }
-    requires room { count.old ≤ 768 }
+    requires capacity { count.old ≤ 768 }
     requires sized { AreGrouped groups.now }
     ensures flat { IfOk result (λ new. flat (chunks_in new.items) ≡ slice_set (flat (chunks_in groups.now)) (place_at place.group place.chunk place.at groups.now) item) }
     ensures sized { IfOk result (λ new. AreGrouped new.items) }
@@ -110,7 +108,7 @@ pub(crate) fn exchange<T: Copied, A: Allocator + Copy>(
     count: &mut u32,
 ) -> Result<(), Memory>
     requires element { IsElement place.group place.chunk place.at groups.old.items }
-    requires room { count.old ≤ 768 }
+    requires capacity { count.old ≤ 768 }
     requires sized { AreGrouped groups.old.items }
     ensures flat { OnOk result (flat (chunks_in groups.new.items) ≡ slice_set (flat (chunks_in groups.old.items)) (place_at place.group place.chunk place.at groups.old.items) item) }
     ensures sized { AreGrouped groups.new.items }

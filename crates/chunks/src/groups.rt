@@ -17,7 +17,6 @@ pub(crate) struct Place {
     pub(crate) at: usize,
 }
 
-// The elements of a group's chunk; none behind the last one.
 pub(crate) fn elements_at<T: Drop, A: Allocator + Copy>(
     groups: &[Group<T, A>],
     place: Place,

@@ -19,7 +19,7 @@ use swf_text::Memory;
 /// touches, and all chunks of that one but the touched one. An exchange changes this list alone, and
 /// what other lists have stays as it is. The chunks of a list that `of` made are ranges of the one
 /// list that it was given, whose memory stays as long as any chunk of it does. Contracts see the
-/// chunks, each with its elements; how they are grouped is not told.
+/// chunks, each with its elements; how they are grouped is not stated.
 #[derive(Drop)]
 pub struct Chunks<T: Keyed, A: Allocator + Copy> {
     groups: Vec<Group<T, A>, A>,
@@ -93,7 +93,7 @@ impl<T: Keyed, A: Allocator + Copy> Chunks<T, A> {
     /// Memory where a growth was refused.
     pub fn with(&self, item: T, count: &mut u32) -> Result<Chunks<T, A>, Memory>
         requires parted { IsPartitionedBy (stands T.major T.minor (T.major item) (T.minor item)) (flat self.now) }
-        requires room { count.old ≤ 768 }
+        requires capacity { count.old ≤ 768 }
         ensures list { IfOk result (λ list. flat list ≡ insert (flat self.now) (place_in T.major T.minor (T.major item) (T.minor item) (flat self.now)) item) }
         ensures count { OnOk result (count.new ≡ count.old + joining (place_in T.major T.minor (T.major item) (T.minor item) (flat self.now)) self.now) }
         ensures least { 1 ≤ length (flat self.now) → OnOk result (count.old < count.new) }
@@ -112,7 +112,7 @@ impl<T: Keyed, A: Allocator + Copy> Chunks<T, A> {
     pub fn without(&self, major: u64, minor: u64, count: &mut u32) -> Result<Chunks<T, A>, Memory>
         requires parted { IsPartitionedBy (stands T.major T.minor major minor) (flat self.now) }
         requires there { place_in T.major T.minor major minor (flat self.now) < length (flat self.now) }
-        requires room { count.old ≤ 768 }
+        requires capacity { count.old ≤ 768 }
         ensures list { IfOk result (λ list. flat list ≡ remove (flat self.now) (place_in T.major T.minor major minor (flat self.now))) }
         ensures count { OnOk result (count.new ≡ count.old + touched (place_in T.major T.minor major minor (flat self.now)) self.now) }
         ensures least { OnOk result (count.old < count.new) }
@@ -132,7 +132,7 @@ impl<T: Keyed, A: Allocator + Copy> Chunks<T, A> {
     pub fn exchange(&mut self, item: T, count: &mut u32) -> Result<(), Memory>
         requires parted { IsPartitionedBy (stands T.major T.minor (T.major item) (T.minor item)) (flat self.old) }
         requires there { place_in T.major T.minor (T.major item) (T.minor item) (flat self.old) < length (flat self.old) }
-        requires room { count.old ≤ 768 }
+        requires capacity { count.old ≤ 768 }
         ensures list { OnOk result (flat self.new ≡ slice_set (flat self.old) (place_in T.major T.minor (T.major item) (T.minor item) (flat self.old)) item) }
         ensures kept { OnErr result (self.new ≡ self.old) }
         ensures count { OnOk result (CountsNoneOr (touched (place_in T.major T.minor (T.major item) (T.minor item) (flat self.old)) self.old) count.old count.new) }

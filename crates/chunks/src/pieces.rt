@@ -12,14 +12,13 @@ const CHUNK_LIMIT: usize = 256;
 /// How many of a chunk's elements stay in it when it is split.
 const CHUNK_HALF: usize = 128;
 
-// The same elements once more, with room for another; each is counted.
 pub(crate) fn copy_of<T: Copied, A: Allocator + Copy>(
     alloc: A,
     items: &[T],
     count: &mut u32,
 ) -> Result<Vec<T, A>, Memory>
     requires short { length items.now ≤ 256 }
-    requires room { count.old ≤ 1024 }
+    requires capacity { count.old ≤ 1024 }
     ensures items { IfOk result (λ copy. copy.items ≡ items.now) }
     ensures len { IfOk result (λ copy. vec_len copy ≡ length items.now) }
     ensures count { OnOk result (count.new ≡ count.old + length items.now) }
@@ -40,7 +39,7 @@ pub(crate) fn pieces_of<T: Drop, A: Allocator + Copy>(
     count: &mut u32,
 ) -> Result<Vec<Chunk<T, A>, A>, Memory>
     requires most { vec_len items ≤ 257 }
-    requires room { count.old ≤ 1024 }
+    requires capacity { count.old ≤ 1024 }
     ensures flat { IfOk result (λ pieces. flat pieces.items ≡ items.items) }
     ensures sized { IfOk result (λ pieces. AreSized pieces.items) }
     ensures most { IfOk result (λ pieces. vec_len pieces ≤ 2) }
@@ -61,7 +60,6 @@ pub(crate) fn pieces_of<T: Drop, A: Allocator + Copy>(
     Ok(pieces)
 }
 
-// More chunks at the end of a row, each shared.
 pub(crate) fn share<T: Drop, A: Allocator + Copy>(
     row: &mut Vec<Chunk<T, A>, A>,
     more: &[Chunk<T, A>],
@@ -74,7 +72,6 @@ pub(crate) fn share<T: Drop, A: Allocator + Copy>(
     Ok(())
 }
 
-// The chunks of three rows, one row after another; it shares all of them.
 pub(crate) fn joined<T: Drop, A: Allocator + Copy>(
     alloc: A,
     front: &[Chunk<T, A>],

@@ -42,7 +42,6 @@ fn next_elements<'a, T: Drop, A: Allocator + Copy>(
     }
 }
 
-// These elements and then those of these chunks.
 pub(crate) fn rest_of<'a, T: Drop, A: Allocator + Copy>(
     items: &'a [T],
     mut later: RowRest<'a, Chunk<T, A>, A>,
@@ -58,7 +57,6 @@ pub(crate) fn rest_of<'a, T: Drop, A: Allocator + Copy>(
 }
 
 impl<'a, T: Drop, A: Allocator + Copy> Rest<'a, T, A> {
-    // The elements from a place on.
     pub(crate) fn new(groups: &'a [Group<T, A>], place: Place) -> Rest<'a, T, A>
         requires sized { AreGrouped groups.now }
         requires spot { IsSpot place.group place.chunk groups.now }

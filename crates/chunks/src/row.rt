@@ -6,7 +6,6 @@ use crate::pieces::{joined, pieces_of};
 use std::alloc::Allocator;
 use swf_text::Memory;
 
-// The elements of a chunk; none past the last one.
 pub(crate) fn elements<T: Drop, A: Allocator + Copy>(row: &[Chunk<T, A>], chunk: usize) -> &[T]
     requires { AreSized row.now }
     ensures value { result.now ≡ chunk_of row.now chunk }
@@ -20,7 +19,6 @@ pub(crate) fn elements<T: Drop, A: Allocator + Copy>(row: &[Chunk<T, A>], chunk:
     }
 }
 
-// The chunks after one.
 pub(crate) fn after<T: Drop, A: Allocator + Copy>(
     row: &[Chunk<T, A>],
     chunk: usize,
@@ -34,7 +32,6 @@ pub(crate) fn after<T: Drop, A: Allocator + Copy>(
     }
 }
 
-// The row with these elements in place of a chunk's, and the rest shared.
 pub(crate) fn with_chunk<T: Drop, A: Allocator + Copy>(
     alloc: A,
     row: &[Chunk<T, A>],
@@ -44,7 +41,7 @@ pub(crate) fn with_chunk<T: Drop, A: Allocator + Copy>(
 ) -> Result<Vec<Chunk<T, A>, A>, Memory>
     requires within { chunk ≤ length row.now }
     requires most { vec_len items ≤ 257 }
-    requires room { count.old ≤ 1024 }
+    requires capacity { count.old ≤ 1024 }
     requires sized { AreSized row.now }
     ensures flat { IfOk result (λ new. flat new.items ≡ flat (take chunk row.now) ++ items.items ++ flat (drop (chunk + 1) row.now)) }
     ensures sized { IfOk result (λ new. AreSized new.items) }

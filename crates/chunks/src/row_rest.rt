@@ -26,7 +26,6 @@ impl<'a, T: Drop, A: Allocator + Copy> Model for RowRest<'a, T, A> {
     ghost invariant = { λ r. AreSized r.later.now × IsFront r.items.now r.later.now };
 }
 
-// These elements and then those of these chunks.
 pub(crate) fn row_rest_of<'a, T: Drop, A: Allocator + Copy>(
     items: &'a [T],
     later: &'a [Chunk<T, A>],
@@ -44,7 +43,6 @@ pub(crate) fn row_rest_of<'a, T: Drop, A: Allocator + Copy>(
 }
 
 impl<'a, T: Drop, A: Allocator + Copy> RowRest<'a, T, A> {
-    // The elements from a place of a chunk on.
     pub(crate) fn new(row: &'a [Chunk<T, A>], chunk: usize, at: usize) -> RowRest<'a, T, A>
         requires sized { AreSized row.now }
         requires within { at ≤ length (chunk_of row.now chunk) }

@@ -109,7 +109,6 @@ pub(crate) fn place_of<T: Keyed, A: Allocator + Copy>(
     Place { group, chunk, at }
 }
 
-// The end of the last chunk.
 fn last_place<T: Drop, A: Allocator + Copy>(groups: &[Group<T, A>]) -> Place
     requires some { 1 ≤ length groups.now }
     requires sized { AreGrouped groups.now }

@@ -30,7 +30,7 @@ find-last job (x ∷ xs) e =
 
 -- the same jobs wait, and it runs too
 abbrev pub running_too : State → EffectiveJob → ℕ → State
-running_too s job now = record { machine = s.machine; order = s.order; waiting = s.waiting; running = placed (record { job = job; start = now }) s.running }
+running_too s job now = record { procs = s.procs; order = s.order; waiting = s.waiting; running = placed (record { job = job; start = now }) s.running }
 
 pub record RunsAtOnce (s : State) (job : EffectiveJob) (now : ℕ) : Type 0 where
   pub absent : count_by (λ (x : Placed). nat_eq x.job.number job.number) s.running ≡ 0
@@ -42,8 +42,8 @@ pub runs-at-once : (s : State) (job : EffectiveJob) (now : ℕ) → IsSound s �
 runs-at-once s job now h none fits limits early =
     let nobody : count_by (λ (j : EffectiveJob). nat_eq j.number job.number) s.waiting ≡ 0 = omega (arith, none) in
     let same : started (arrived s job) job now ≡ running_too s job now =
-    ap (λ (js : List EffectiveJob). let z : State = record { machine = s.machine; order = s.order; waiting = js; running = placed (record { job = job; start = now }) s.running } in z) (without-last job s.waiting nobody) in
-    let within : job.size ≤ s.machine = omega (arith, fits) in
+    ap (λ (js : List EffectiveJob). let z : State = record { procs = s.procs; order = s.order; waiting = js; running = placed (record { job = job; start = now }) s.running } in z) (without-last job s.waiting nobody) in
+    let within : job.size ≤ s.procs = omega (arith, fits) in
     record {
       absent = omega (arith, none);
       held = sum_by-placed (λ (r : Placed). r.job.size) (record { job = job; start = now }) s.running;

@@ -373,12 +373,12 @@ rises-of s h = strict-by_end s.running (λ n. (let o = h.once n in omega (arith,
 pub permuted-by_end : (rs : List Placed) → IsPermutation rs (by_end rs)
 permuted-by_end [] = IsPermutation-refl []
 permuted-by_end (r ∷ rs) =
-    let row = by_end rs in
-    IsPermutation-trans (r ∷ rs) (r ∷ row) (entered r row) (IsPermutation-cons r rs row (permuted-by_end rs))
-    (subst (IsPermutation (r ∷ row)) (sym (entered-at r row)) (IsPermutation-insert row (position_or_len (λ (x : Placed). is_sooner r x) row) r))
+    let runners = by_end rs in
+    IsPermutation-trans (r ∷ rs) (r ∷ runners) (entered r runners) (IsPermutation-cons r rs runners (permuted-by_end rs))
+    (subst (IsPermutation (r ∷ runners)) (sym (entered-at r runners)) (IsPermutation-insert runners (position_or_len (λ (x : Placed). is_sooner r x) runners) r))
 
 -- where none ties with it, it enters a row of blocks at the same place
-pub entered-same : (r : Placed) (row : List Placed) → All (λ x. x.job.number ≢ r.job.number) row → row_entered expected_end (λ (x : Placed). x.job.number) r row ≡ entered r row
+pub entered-same : (r : Placed) (runners : List Placed) → All (λ x. x.job.number ≢ r.job.number) runners → row_entered expected_end (λ (x : Placed). x.job.number) r runners ≡ entered r runners
 entered-same r [] a = refl
 entered-same r (x ∷ xs) a =
     ⊎_elim

@@ -20,16 +20,16 @@ abbrev pub KeysOf : List (Reverse End) → List Placed → Type 0
 KeysOf ends rs = (f : End → ℕ) → sum_by (λ e. f e.0) ends ≡ sum_by (λ r. f (end_of r)) rs
 
 -- their seconds are those of the jobs, also by number
-pub ends-of : (ends : List (Reverse End)) (row : List Placed) → KeysOf ends row → EndsOf (λ (e : Reverse End). e.0.end) ends (by_number row)
-ends-of ends row h = λ f. h (λ e. f e.end) ∙ sym (sum_by-by_number (λ r. f (real_end r)) row)
+pub ends-of : (ends : List (Reverse End)) (runners : List Placed) → KeysOf ends runners → EndsOf (λ (e : Reverse End). e.0.end) ends (by_number runners)
+ends-of ends runners h = λ f. h (λ e. f e.end) ∙ sym (sum_by-by_number (λ r. f (real_end r)) runners)
 
 -- who starts joins them
-pub keys-joined : (ends ends' : List (Reverse End)) (x : Reverse End) (r : Placed) (row : List Placed) → KeysOf ends row → IsPermutation (x ∷ ends) ends' → x.0 ≡ end_of r → KeysOf ends' (entered r row)
-keys-joined ends ends' x r row h p here = λ f. (let a = sum_by_pushed (λ (e : Reverse End). f e.0) x ends ends' p in let b = h f in let c = sum_by-entered (λ r. f (end_of r)) r row in let d = ap f here in omega (arith, a, b, c, d))
+pub keys-joined : (ends ends' : List (Reverse End)) (x : Reverse End) (r : Placed) (runners : List Placed) → KeysOf ends runners → IsPermutation (x ∷ ends) ends' → x.0 ≡ end_of r → KeysOf ends' (entered r runners)
+keys-joined ends ends' x r runners h p here = λ f. (let a = sum_by_pushed (λ (e : Reverse End). f e.0) x ends ends' p in let b = h f in let c = sum_by-entered (λ r. f (end_of r)) r runners in let d = ap f here in omega (arith, a, b, c, d))
 
 -- where none of them comes by second t, all outlast it
-pub nobody-due : (ends : List (Reverse End)) (row : List Placed) (t : ℕ) → KeysOf ends row → All (λ (x : Reverse End). t < x.0.end) ends → All (λ r. t < real_end r) (by_number row)
-nobody-due ends row t h later = none-sooner (λ (e : Reverse End). e.0.end) ends (by_number row) (suc t) (ends-of ends row h) later
+pub nobody-due : (ends : List (Reverse End)) (runners : List Placed) (t : ℕ) → KeysOf ends runners → All (λ (x : Reverse End). t < x.0.end) ends → All (λ r. t < real_end r) (by_number runners)
+nobody-due ends runners t h later = none-sooner (λ (e : Reverse End). e.0.end) ends (by_number runners) (suc t) (ends-of ends runners h) later
 
 -- ---- who ends is found
 abbrev made : ℕ → ℕ → ℕ → End
@@ -70,14 +70,14 @@ passes true l = refl
 passes false l = absurd (omega (arith, l))
 
 -- the row without it
-abbrev pub left-row : End → List Placed → List Placed
-left-row x row = without_first (is_at expected_end num x.expected_end x.number) row
+abbrev pub left-runners : End → List Placed → List Placed
+left-runners x runners = without_first (is_at expected_end num x.expected_end x.number) runners
 
 abbrev pub lasts : ℕ → Placed → Bool
 lasts t r = nat_lt t (real_end r)
 
-module _ (ends mid : List (Reverse End)) (x : End) (row : List Placed) (keys : KeysOf ends row) (rises : RisesByEnd row) (once : Once row) (popped : (f : End → ℕ) → f x + sum_by (λ e. f e.0) mid ≡ sum_by (λ e. f e.0) ends) where
-  stands : 1 ≤ sum_by (λ (r : Placed). cond {A = ℕ} (is (end_of r) x) 1 0) row
+module _ (ends mid : List (Reverse End)) (x : End) (runners : List Placed) (keys : KeysOf ends runners) (rises : RisesByEnd runners) (once : Once runners) (popped : (f : End → ℕ) → f x + sum_by (λ e. f e.0) mid ≡ sum_by (λ e. f e.0) ends) where
+  stands : 1 ≤ sum_by (λ (r : Placed). cond {A = ℕ} (is (end_of r) x) 1 0) runners
   stands =
       let one = cond-true {A = ℕ} (is x x) 1 0 (is-itself x) in
       let k = popped (λ e. cond (is e x) 1 0) in
@@ -85,49 +85,49 @@ module _ (ends mid : List (Reverse End)) (x : End) (row : List Placed) (keys : K
       omega (arith, one, k, l)
 
   -- it stands in the row under its key
-  pub is-found : find (is_at expected_end num x.expected_end x.number) row ≡ None → ⊥
+  pub is-found : find (is_at expected_end num x.expected_end x.number) runners ≡ None → ⊥
   is-found found =
-      let none = none-found (is_at expected_end num x.expected_end x.number) row found in
-      let fewer = sum_by-le-sum_by (λ (r : Placed). cond (is (end_of r) x) 1 0) (λ r. cond (is_at expected_end num x.expected_end x.number r) 1 0) row (λ r. fewer-pass (is (end_of r) x) (is_at expected_end num x.expected_end x.number r) (λ y. is-at r x y)) in
+      let none = none-found (is_at expected_end num x.expected_end x.number) runners found in
+      let fewer = sum_by-le-sum_by (λ (r : Placed). cond (is (end_of r) x) 1 0) (λ r. cond (is_at expected_end num x.expected_end x.number r) 1 0) runners (λ r. fewer-pass (is (end_of r) x) (is_at expected_end num x.expected_end x.number r) (λ y. is-at r x y)) in
       omega (arith, none, fewer, stands)
 
-  module _ (r : Placed) (found : find (is_at expected_end num x.expected_end x.number) row ≡ Some r) where
+  module _ (r : Placed) (found : find (is_at expected_end num x.expected_end x.number) runners ≡ Some r) where
     -- and there alone
     ends-so : end_of r ≡ x
     ends-so =
         let test : Placed → Bool = is_at expected_end num x.expected_end x.number in
-        let its = sum_by-leaves test (λ (r : Placed). cond {A = ℕ} (is (end_of r) x) 1 0) row r found in
-        let named = sum_by-leaves test (λ (r : Placed). cond {A = ℕ} (nat_eq r.job.number x.number) 1 0) row r found in
-        let here = cond-true {A = ℕ} (nat_eq r.job.number x.number) 1 0 (and_parts (expected_end r == x.expected_end) (r.job.number == x.number) (test-find test row r found)).1 in
-        let fewer = sum_by-le-sum_by (λ (r : Placed). cond (is (end_of r) x) 1 0) (λ (r : Placed). cond (nat_eq r.job.number x.number) 1 0) (left-row x row) (λ r. fewer-pass (is (end_of r) x) (nat_eq r.job.number x.number) (λ y. is-named (end_of r) x y)) in
+        let its = sum_by-leaves test (λ (r : Placed). cond {A = ℕ} (is (end_of r) x) 1 0) runners r found in
+        let named = sum_by-leaves test (λ (r : Placed). cond {A = ℕ} (nat_eq r.job.number x.number) 1 0) runners r found in
+        let here = cond-true {A = ℕ} (nat_eq r.job.number x.number) 1 0 (and_parts (expected_end r == x.expected_end) (r.job.number == x.number) (test-find test runners r found)).1 in
+        let fewer = sum_by-le-sum_by (λ (r : Placed). cond (is (end_of r) x) 1 0) (λ (r : Placed). cond (nat_eq r.job.number x.number) 1 0) (left-runners x runners) (λ r. fewer-pass (is (end_of r) x) (nat_eq r.job.number x.number) (λ y. is-named (end_of r) x y)) in
         is-same (end_of r) x (passes (is (end_of r) x) (omega (arith, its, named, here, fewer, stands, once x.number)))
 
     -- it leaves on both sides
-    pub keys-leave : KeysOf mid (left-row x row)
+    pub keys-leave : KeysOf mid (left-runners x runners)
     keys-leave = λ f.
         let a = popped f in
         let b = keys f in
-        let c = sum_by-leaves (is_at expected_end num x.expected_end x.number) (λ (r : Placed). f (end_of r)) row r found in
+        let c = sum_by-leaves (is_at expected_end num x.expected_end x.number) (λ (r : Placed). f (end_of r)) runners r found in
         let d = ap f ends-so in
         omega (arith, a, b, c, d)
 
-    pub once-left : Once (left-row x row)
-    once-left n = omega (arith, once n, sum_by-others (is_at expected_end num x.expected_end x.number) (λ (r : Placed). cond (nat_eq r.job.number n) 1 0) row)
+    pub once-left : Once (left-runners x runners)
+    once-left n = omega (arith, once n, sum_by-others (is_at expected_end num x.expected_end x.number) (λ (r : Placed). cond (nat_eq r.job.number n) 1 0) runners)
 
-    pub rises-left : RisesByEnd (left-row x row)
-    rises-left = rises-others (is_at expected_end num x.expected_end x.number) row rises
+    pub rises-left : RisesByEnd (left-runners x runners)
+    rises-left = rises-others (is_at expected_end num x.expected_end x.number) runners rises
 
     -- whatever is added up over it and the others, by number
-    pub sum_by-left : (f : Placed → ℕ) → f r + sum_by f (by_number (left-row x row)) ≡ sum_by f (by_number row)
-    sum_by-left f = omega (arith, sum_by-leaves (is_at expected_end num x.expected_end x.number) f row r found, sum_by-by_number f row, sum_by-by_number f (left-row x row))
+    pub sum_by-left : (f : Placed → ℕ) → f r + sum_by f (by_number (left-runners x runners)) ≡ sum_by f (by_number runners)
+    sum_by-left f = omega (arith, sum_by-leaves (is_at expected_end num x.expected_end x.number) f runners r found, sum_by-by_number f runners, sum_by-by_number f (left-runners x runners))
 
-    pub length-left : length (by_number (left-row x row)) < length (by_number row)
-    length-left = omega (arith, sum_by-left (λ _. 1), sum_by-ones (by_number row), sum_by-ones (by_number (left-row x row)))
+    pub length-left : length (by_number (left-runners x runners)) < length (by_number runners)
+    length-left = omega (arith, sum_by-left (λ _. 1), sum_by-ones (by_number runners), sum_by-ones (by_number (left-runners x runners)))
 
     -- where it ends by a second, those who outlast this stay
-    pub filter-left : (t : ℕ) → x.end ≤ t → filter (lasts t) (by_number (left-row x row)) ≡ filter (lasts t) (by_number row)
+    pub filter-left : (t : ℕ) → x.end ≤ t → filter (lasts t) (by_number (left-runners x runners)) ≡ filter (lasts t) (by_number runners)
     filter-left t by =
         let ends : real_end r ≡ x.end = ap (λ (e : End). e.end) ends-so in
-        sym (by_number-filter (lasts t) (left-row x row) rises-left once-left)
-        ∙ ap by_number (filter-leaves (is_at expected_end num x.expected_end x.number) (lasts t) row r found (le-ltb t (real_end r) (omega (arith, ends, by))))
-        ∙ by_number-filter (lasts t) row rises once
+        sym (by_number-filter (lasts t) (left-runners x runners) rises-left once-left)
+        ∙ ap by_number (filter-leaves (is_at expected_end num x.expected_end x.number) (lasts t) runners r found (le-ltb t (real_end r) (omega (arith, ends, by))))
+        ∙ by_number-filter (lasts t) runners rises once

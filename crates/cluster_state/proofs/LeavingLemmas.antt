@@ -51,7 +51,7 @@ module _ {X : Type 0} (test : X → Bool) where
       ] e
 
 -- the others stand as they stood
-pub rises-others : (test : Placed → Bool) (row : List Placed) → RisesByEnd row → RisesByEnd (without_first test row)
+pub rises-others : (test : Placed → Bool) (runners : List Placed) → RisesByEnd runners → RisesByEnd (without_first test runners)
 rises-others test [] h = tt
 rises-others test (x ∷ xs) h =
     cond_both (test x) xs (x ∷ without_first test xs) RisesByEnd

@@ -4,7 +4,7 @@ pub use Rattle.cluster_state.proofs.StateLemmas.{sum_by-placed, All-placed, sum_
 -- a job that arrives and starts at once
 pub use Rattle.cluster_state.proofs.ArrivingLemmas.{without-last}
 -- the waiting jobs in the order of candidates
-pub use Rattle.cluster_state.proofs.RowLemmas.{put-before, put-behind, RisesByEstimate, rises-by_estimate, All-by_estimate, by_estimate-All, in_order-All, without-by_estimate, find-put, find-in_order, sum_by-by_estimate}
+pub use Rattle.cluster_state.proofs.CandidatesLemmas.{put-before, put-behind, RisesByEstimate, rises-by_estimate, All-by_estimate, by_estimate-All, in_order-All, without-by_estimate, find-put, find-in_order, sum_by-by_estimate}
 -- the numbers of a state give it back, and equal numbers with equal jobs are equal states
 pub use Rattle.cluster_state.proofs.SnapshotLemmas.{standing-numbers, numbers-give-the-state-back, equal-numbers-are-equal-states}
 -- the running jobs in the order of their expected ends

@@ -1,5 +1,5 @@
 mod StateLemmas
-mod RowLemmas
+mod CandidatesLemmas
 mod SnapshotLemmas
 mod LookupLemmas
 mod RiseLemmas

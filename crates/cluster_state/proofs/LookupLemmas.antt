@@ -47,14 +47,14 @@ have-behind jobs all left behind n o is e some h =
       λ a. All-tail P n behind (subst (λ l. HaveJobs jobs l) is (h.1 a)),
     )
 
--- the first number's job finds room: that leaves those behind it, with the rest of the room
-pub can-run-behind : (jobs : List EffectiveJob) (all left behind : List RunningNumber) (room procs size : ℕ) (r : RunningNumber) (job : EffectiveJob) → left ≡ r ∷ behind → Some job ≡ job_numbered jobs r.number
-    → size ≡ job.size → size ≤ room → CanRun jobs left room ↔ CanRun jobs all procs → CanRun jobs behind (room - size) ↔ CanRun jobs all procs
-can-run-behind jobs all left behind room procs size r job is e same fits h =
+-- the first number's job finds capacity: that leaves those behind it, with the rest of the capacity
+pub can-run-behind : (jobs : List EffectiveJob) (all left behind : List RunningNumber) (capacity procs size : ℕ) (r : RunningNumber) (job : EffectiveJob) → left ≡ r ∷ behind → Some job ≡ job_numbered jobs r.number
+    → size ≡ job.size → size ≤ capacity → CanRun jobs left capacity ↔ CanRun jobs all procs → CanRun jobs behind (capacity - size) ↔ CanRun jobs all procs
+can-run-behind jobs all left behind capacity procs size r job is e same fits h =
     let P : RunningNumber → Type 0 = λ x. IsSome (job_numbered jobs x.number) in
     let sum = busy-first jobs r behind job e in (
-      λ a. (let few = a.1 in h.0 (subst (λ l. CanRun jobs l room) (sym is) (All-cons P r behind (subst (λ q. IsSome q) e refl) a.0, omega (arith, sum, few, fits, same)))),
-      λ a. (let first = subst (λ l. CanRun jobs l room) is (h.1 a) in let few = first.1 in (All-tail P r behind first.0, omega (arith, sum, few, fits, same))),
+      λ a. (let few = a.1 in h.0 (subst (λ l. CanRun jobs l capacity) (sym is) (All-cons P r behind (subst (λ q. IsSome q) e refl) a.0, omega (arith, sum, few, fits, same)))),
+      λ a. (let first = subst (λ l. CanRun jobs l capacity) is (h.1 a) in let few = first.1 in (All-tail P r behind first.0, omega (arith, sum, few, fits, same))),
     )
 
 -- what is looked up by a number has it
@@ -84,13 +84,13 @@ running-counts jobs m (r ∷ rs) = go (job_numbered jobs r.number) refl (running
         omega (arith, i, same, sum_by-cons (λ (r : RunningNumber). cond {A = ℕ} (nat_eq r.number m) 1 0) r rs, sum_by-cons (λ (r : Placed). cond {A = ℕ} (nat_eq r.job.number m) 1 0) (record { job = job; start = r.start }) (run_of jobs rs))
 
 -- the running jobs of a snapshot that fits are a sound state
-pub sound-running : (p : Numbers) (plan : Plan) (rs : List Placed) → IsSnapshot p → Fits p plan → plan.machine ≤ 16777216 → rs ≡ run_of plan.jobs p.running → All (λ r. IsWithinLimits r.job) rs
-    → IsSound (record { machine = plan.machine; order = plan.order; waiting = []; running = rs })
+pub sound-running : (p : Numbers) (plan : Plan) (rs : List Placed) → IsSnapshot p → Fits p plan → plan.procs ≤ 16777216 → rs ≡ run_of plan.jobs p.running → All (λ r. IsWithinLimits r.job) rs
+    → IsSound (record { procs = plan.procs; order = plan.order; waiting = []; running = rs })
 sound-running p plan rs h fits small is limits = record {
   limited = small;
   fits = (let e = ap busy is in let s = fits.sizes in omega (arith, e, s));
   once = λ n. (let e = ap (λ xs. count_by (λ (r : Placed). nat_eq r.job.number n) xs) is in omega (arith, e, running-counts plan.jobs n p.running, h.once n));
-  waiting_fit = All-nil (λ (j : EffectiveJob). j.size ≤ plan.machine);
+  waiting_fit = All-nil (λ (j : EffectiveJob). j.size ≤ plan.procs);
   waiting_limits = All-nil IsWithinLimits;
   running_limits = limits;
   started = subst (λ xs. All (λ (r : Placed). r.start < 2 ^ 49) xs) (sym is) (starts p.running h.started);
@@ -107,7 +107,7 @@ sound-running p plan rs h fits small is limits = record {
 -- the jobs of some last numbers are still to come into a state
 pub record IsRestoring (p : Numbers) (plan : Plan) (left : List ℕ) (s : State) : Type 0 where
   pub rest : s.waiting ++ filter_map (job_numbered plan.jobs) left ≡ filter_map (job_numbered plan.jobs) p.waiting
-  pub others : s ≡ record { machine = plan.machine; order = plan.order; waiting = s.waiting; running = run_of plan.jobs p.running }
+  pub others : s ≡ record { procs = plan.procs; order = plan.order; waiting = s.waiting; running = run_of plan.jobs p.running }
 
 -- the job of the next number is not there yet
 pub absent-next : (p : Numbers) (plan : Plan) (n : ℕ) (left : List ℕ) (s : State) (job : EffectiveJob) → IsSnapshot p → IsRestoring p plan (n ∷ left) s → Some job ≡ job_numbered plan.jobs n

@@ -156,18 +156,18 @@ once-by_number rs once n = omega (arith, once n, sum_by-by_number (λ (r : Place
 pub once-filter : (p : Placed → Bool) (rs : List Placed) → Once rs → Once (filter p rs)
 once-filter p rs once n = omega (arith, once n, sum_by-filter-le (λ (r : Placed). cond (nat_eq r.job.number n) 1 0) p rs)
 
-pub once-entered : (r : Placed) (row : List Placed) → Once row → Having r.job.number row ≡ 0 → Once (entered r row)
-once-entered r row once none n =
-    let k = sum_by-entered (λ (x : Placed). cond {A = ℕ} (nat_eq x.job.number n) 1 0) r row in
-    let o = once-more (Having n row) (cond (nat_eq r.job.number n) 1 0) n r.job.number (λ same. subst (λ m. Having m row ≡ 0) same none) (once n) refl in
+pub once-entered : (r : Placed) (runners : List Placed) → Once runners → Having r.job.number runners ≡ 0 → Once (entered r runners)
+once-entered r runners once none n =
+    let k = sum_by-entered (λ (x : Placed). cond {A = ℕ} (nat_eq x.job.number n) 1 0) r runners in
+    let o = once-more (Having n runners) (cond (nat_eq r.job.number n) 1 0) n r.job.number (λ same. subst (λ m. Having m runners ≡ 0) same none) (once n) refl in
     omega (arith, k, o)
 
 pub permuted-by_number : (rs : List Placed) → IsPermutation rs (by_number rs)
 permuted-by_number [] = IsPermutation-refl []
 permuted-by_number (r ∷ rs) =
-    let row = by_number rs in
-    IsPermutation-trans (r ∷ rs) (r ∷ row) (placed r row) (IsPermutation-cons r rs row (permuted-by_number rs))
-    (subst (IsPermutation (r ∷ row)) (sym (placed-at r row)) (IsPermutation-insert row (position_or_len (λ (x : Placed). nat_lt r.job.number x.job.number) row) r))
+    let runners = by_number rs in
+    IsPermutation-trans (r ∷ rs) (r ∷ runners) (placed r runners) (IsPermutation-cons r rs runners (permuted-by_number rs))
+    (subst (IsPermutation (r ∷ runners)) (sym (placed-at r runners)) (IsPermutation-insert runners (position_or_len (λ (x : Placed). nat_lt r.job.number x.job.number) runners) r))
 
 -- those that rise by number are found again from the row
 pub by_number-by_end : (rs : List Placed) → RisesByNumber rs → Once rs → by_number (by_end rs) ≡ rs
@@ -178,26 +178,26 @@ by_number-by_end (r ∷ rs) h once =
     ∙ ap (placed r) (by_number-by_end rs h.1 (once-tail r rs once)) ∙ placed-first r rs h.0 none
 
 -- and a row from those that rise by number
-pub row-is : (row : List Placed) → RisesByEnd row → Once row → row ≡ by_end (by_number row)
-row-is [] h once = refl
-row-is (r ∷ rs) h once =
+pub runners-is : (runners : List Placed) → RisesByEnd runners → Once runners → runners ≡ by_end (by_number runners)
+runners-is [] h once = refl
+runners-is (r ∷ rs) h once =
     sym
     (by_end-placed r (by_number rs) (omega (arith, alone r rs once, sum_by-by_number (λ (x : Placed). cond (nat_eq x.job.number r.job.number) 1 0) rs))
-    ∙ ap (entered r) (sym (row-is rs h.1 (once-tail r rs once))) ∙ enters-first r rs h.0)
+    ∙ ap (entered r) (sym (runners-is rs h.1 (once-tail r rs once))) ∙ enters-first r rs h.0)
 
 -- who starts joins the row
-pub enters-row : (r : Placed) (row : List Placed) → Having r.job.number row ≡ 0 → row_entered expected_end (λ (x : Placed). x.job.number) r row ≡ entered r row
-enters-row r row none = entered-same r row (others r.job.number row none)
+pub enters-runners : (r : Placed) (runners : List Placed) → Having r.job.number runners ≡ 0 → row_entered expected_end (λ (x : Placed). x.job.number) r runners ≡ entered r runners
+enters-runners r runners none = entered-same r runners (others r.job.number runners none)
 
-pub rises-joined : (r : Placed) (row : List Placed) → RisesByEnd row → Having r.job.number row ≡ 0 → RisesByEnd (entered r row)
-rises-joined r row h none = strict-entered r row h (others r.job.number row none)
+pub rises-joined : (r : Placed) (runners : List Placed) → RisesByEnd runners → Having r.job.number runners ≡ 0 → RisesByEnd (entered r runners)
+rises-joined r runners h none = strict-entered r runners h (others r.job.number runners none)
 
 -- who ends leaves the others as they stand
-pub by_number-filter : (p : Placed → Bool) (row : List Placed) → RisesByEnd row → Once row → by_number (filter p row) ≡ filter p (by_number row)
-by_number-filter p row h once =
-    let rs = by_number row in
-    ap (λ (l : List Placed). by_number (filter p l)) (row-is row h once) ∙ ap by_number (sym (by_end-filter p rs))
-    ∙ by_number-by_end (filter p rs) (rises-filter p rs (rises-by_number row)) (once-filter p rs (once-by_number row once))
+pub by_number-filter : (p : Placed → Bool) (runners : List Placed) → RisesByEnd runners → Once runners → by_number (filter p runners) ≡ filter p (by_number runners)
+by_number-filter p runners h once =
+    let rs = by_number runners in
+    ap (λ (l : List Placed). by_number (filter p l)) (runners-is runners h once) ∙ ap by_number (sym (by_end-filter p rs))
+    ∙ by_number-by_end (filter p rs) (rises-filter p rs (rises-by_number runners)) (once-filter p rs (once-by_number runners once))
 
 -- ---- their numbers, sorted, are those of the order by number
 abbrev its : RunningNumber → ℕ

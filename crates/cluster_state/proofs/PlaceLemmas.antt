@@ -11,8 +11,8 @@ use Rattle.scenarios.specs.declared.order.Order.TheVariants.{Arrival, Shortest}
 use Rattle.waiting_places.specs.Offers.{holds}
 use Rattle.waiting_places.specs.Places.{NonePasses, at_place, waiting}
 use Rattle.cluster_state.specs.State.{without}
-use Rattle.cluster_state.specs.Row.{by_estimate, in_order, row_of, row_places}
-use Rattle.cluster_state.proofs.RowLemmas.{All-by_estimate, sum_by-by_estimate, without-by_estimate}
+use Rattle.cluster_state.specs.Candidates.{by_estimate, in_order, candidates_of, candidates_places}
+use Rattle.cluster_state.proofs.CandidatesLemmas.{All-by_estimate, sum_by-by_estimate, without-by_estimate}
 
 -- how many have the number
 abbrev pub Having : ℕ → List EffectiveJob → ℕ
@@ -44,14 +44,14 @@ at_map [] k = refl
 at_map (j ∷ js) zero = refl
 at_map (j ∷ js) (suc k) = at_map js k
 
-pub no_places : (o : Order) → row_places o [] [] ≡ []
+pub no_places : (o : Order) → candidates_places o [] [] ≡ []
 no_places Arrival = refl
 no_places Shortest = refl
 
 -- the row has the waiting jobs in the order in which they are looked at
-pub row_is : (o : Order) (places : List (Option EffectiveJob)) (row : List EffectiveJob) → row ≡ row_of o (waiting places) → waiting (row_places o places row) ≡ in_order o (waiting places)
-row_is Arrival places row e = refl
-row_is Shortest places row e = all_wait row ∙ e
+pub candidates_is : (o : Order) (places : List (Option EffectiveJob)) (candidates : List EffectiveJob) → candidates ≡ candidates_of o (waiting places) → waiting (candidates_places o places candidates) ≡ in_order o (waiting places)
+candidates_is Arrival places candidates e = refl
+candidates_is Shortest places candidates e = all_wait candidates ∙ e
 
 -- one comes
 pub waiting-push : (xs new : List (Option EffectiveJob)) (x : EffectiveJob) → new ≡ xs ++ Some x ∷ [] → waiting new ≡ waiting xs ++ x ∷ []
@@ -150,13 +150,13 @@ past-none [] k e = omega arith
 past-none (j ∷ js) zero e = cc
 past-none (j ∷ js) (suc k) e = omega (arith, past-none js k e)
 
-pub row-leaves : (js left row : List EffectiveJob) (k : ℕ) → Once js → row ≡ by_estimate js → k < length row → IfSome (slice_get row k) (λ x. left ≡ without x.number js) → remove row k ≡ by_estimate left
-row-leaves js left row k once is l h = go (slice_get row k) refl h
+pub candidates-leaves : (js left candidates : List EffectiveJob) (k : ℕ) → Once js → candidates ≡ by_estimate js → k < length candidates → IfSome (slice_get candidates k) (λ x. left ≡ without x.number js) → remove candidates k ≡ by_estimate left
+candidates-leaves js left candidates k once is l h = go (slice_get candidates k) refl h
   where
-    go : (o : Option EffectiveJob) → slice_get row k ≡ o → IfSome o (λ x. left ≡ without x.number js) → remove row k ≡ by_estimate left
-    go None e g = absurd (omega (arith, l, past-none row k e))
+    go : (o : Option EffectiveJob) → slice_get candidates k ≡ o → IfSome o (λ x. left ≡ without x.number js) → remove candidates k ≡ by_estimate left
+    go None e g = absurd (omega (arith, l, past-none candidates k e))
     go (Some x) e g =
-        remove-is row k x (subst Once (sym is) (once-by_estimate js once)) e
+        remove-is candidates k x (subst Once (sym is) (once-by_estimate js once)) e
         ∙ ap (without x.number) is ∙ without-by_estimate x.number js (once x.number) ∙ ap by_estimate (sym g)
 
 -- those behind who leaves
@@ -188,10 +188,10 @@ none_more test js from k x l is fails none p low high =
     (cases_lt p k)
 
 -- a job stands at this place of the row
-pub there_row : (js : List EffectiveJob) (k : ℕ) → IsSome (at_place (map (λ job. Some job) js) k) → k < length js
-there_row [] k h = absurd (true≢false (sym h))
-there_row (j ∷ js) zero h = omega arith
-there_row (j ∷ js) (suc k) h = omega (arith, there_row js k h)
+pub there_candidates : (js : List EffectiveJob) (k : ℕ) → IsSome (at_place (map (λ job. Some job) js) k) → k < length js
+there_candidates [] k h = absurd (true≢false (sym h))
+there_candidates (j ∷ js) zero h = omega arith
+there_candidates (j ∷ js) (suc k) h = omega (arith, there_candidates js k h)
 
 -- ---- who stands at a place is found by its number
 abbrev IsFound : List EffectiveJob → EffectiveJob → Type 0
@@ -228,7 +228,7 @@ All-at P (Some y ∷ xs) zero x e a = let same : y ≡ x = cc in subst P same (A
 All-at P (Some y ∷ xs) (suc k) x e a = All-at P xs k x e (All-tail P y (waiting xs) a)
 
 pub stands : (o : Order) (js : List EffectiveJob) (xs : List (Option EffectiveJob)) (k : ℕ) (x : EffectiveJob) → Once js → waiting xs ≡ in_order o js → at_place xs k ≡ Some x → find (λ (j : EffectiveJob). nat_eq j.number x.number) js ≡ Some x
-stands o js xs k x once row e = All-at (IsFound js) xs k x e (subst (All (IsFound js)) (sym row) (All-in_order (IsFound js) o js (found-all js once)))
+stands o js xs k x once candidates e = All-at (IsFound js) xs k x e (subst (All (IsFound js)) (sym candidates) (All-in_order (IsFound js) o js (found-all js once)))
 
 -- the first is found by its number
 pub first-found : (js : List EffectiveJob) (x : EffectiveJob) → slice_get js 0 ≡ Some x → find (λ (j : EffectiveJob). nat_eq j.number x.number) js ≡ Some x

@@ -52,14 +52,14 @@ look-running jobs (r ∷ rs) a =
     (rw (here, rest.0) refl, All-cons (λ (r : RunningNumber). IsSome (job_numbered jobs r.number)) (number_of r) (map number_of rs) (rw here refl) rest.1)
 
 abbrev made : ℕ → Order → List EffectiveJob → List Placed → State
-made m o js rs = record { machine = m; order = o; waiting = js; running = rs }
+made m o js rs = record { procs = m; order = o; waiting = js; running = rs }
 
 same-state : (m m' : ℕ) (o o' : Order) (js js' : List EffectiveJob) (rs rs' : List Placed) → m ≡ m' → o ≡ o' → js ≡ js' → rs ≡ rs' → made m o js rs ≡ made m' o' js' rs'
 same-state m m' o o' js js' rs rs' a b c d = rw (a, b, c, d) refl
 
 pub gives-back : (s : State) (plan : Plan) → IsOfPlan s plan → restored (numbers_of s) plan ≡ s
 gives-back s plan h =
-    same-state plan.machine s.machine plan.order s.order _ s.waiting _ s.running (sym h.machine) (sym h.order) (look-waiting plan.jobs s.waiting h.waiting).0 (look-running plan.jobs s.running h.running).0
+    same-state plan.procs s.procs plan.order s.order _ s.waiting _ s.running (sym h.procs) (sym h.order) (look-waiting plan.jobs s.waiting h.waiting).0 (look-running plan.jobs s.running h.running).0
 
 pub numbers-give-the-state-back : NumbersGiveTheStateBack
 numbers-give-the-state-back s plan h fits =
@@ -67,7 +67,7 @@ numbers-give-the-state-back s plan h fits =
       record {
         waiting = (look-waiting plan.jobs s.waiting h.waiting).1;
         running = running.1;
-        sizes = subst (λ rs. busy rs ≤ plan.machine) (sym running.0) (subst (λ m. busy s.running ≤ m) h.machine fits);
+        sizes = subst (λ rs. busy rs ≤ plan.procs) (sym running.0) (subst (λ m. busy s.running ≤ m) h.procs fits);
       },
       gives-back s plan h,
     )
@@ -92,10 +92,10 @@ agree-running js ks (r ∷ rs) h =
     rw (here, rest) refl
 
 pub equal-numbers-are-equal-states : EqualNumbersAreEqualStates
-equal-numbers-are-equal-states s t p q hs ht machine order same agree =
+equal-numbers-are-equal-states s t p q hs ht procs order same agree =
     let ns = numbers_of s in
     sym (gives-back s p hs)
-    ∙ same-state p.machine q.machine p.order q.order _ _ _ _ machine order
+    ∙ same-state p.procs q.procs p.order q.order _ _ _ _ procs order
     (agree-waiting p.jobs q.jobs ns.waiting (λ n l. agree n (omega (arith, l))))
     (agree-running p.jobs q.jobs ns.running (λ n l. agree n (omega (arith, l))))
     ∙ ap (λ (x : Numbers). restored x q) same ∙ gives-back t q ht

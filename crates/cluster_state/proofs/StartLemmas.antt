@@ -3,7 +3,7 @@ use Rattle.std.proofs.Common.{◌≡◌, ℕ, ◌+◌, ◌^◌, ◌≤◌, ◌<�
 use Rattle.scenarios.specs.Job.{EffectiveJob}
 use Rattle.scenarios.specs.declared.placed.Placed.{Placed}
 use Rattle.waiting_places.specs.Places.{at_place, waiting}
-use Rattle.cluster_state.specs.Row.{in_order}
+use Rattle.cluster_state.specs.Candidates.{in_order}
 use Rattle.cluster_state.specs.State.{State, IsSound, free, placed, started, waiting_job, busy}
 use Rattle.cluster_state.proofs.EndLemmas.{not-running}
 use Rattle.cluster_state.proofs.PlaceLemmas.{Once, first-found, stands}
@@ -31,4 +31,4 @@ head-can-run s head now h first fits early = can-run s head now h (first-found s
 
 -- one at a place of the row
 pub place-can-run : (s : State) (places : List (Option EffectiveJob)) (k : ℕ) (job : EffectiveJob) (now : ℕ) → IsSound s → waiting places ≡ in_order s.order s.waiting → at_place places k ≡ Some job → job.size ≤ free s → now < 2 ^ 49 → CanRun s job now
-place-can-run s places k job now h row at fits early = can-run s job now h (stands s.order s.waiting places k job (once-waiting s h) row at) fits early
+place-can-run s places k job now h candidates at fits early = can-run s job now h (stands s.order s.waiting places k job (once-waiting s h) candidates at) fits early

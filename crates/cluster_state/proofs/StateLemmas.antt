@@ -12,14 +12,14 @@ use Rattle.scenarios.specs.Placed.{real_end}
 use Rattle.cluster_state.specs.State.{State, IsSound, arrived, busy, started, ended_until, without, placed, waiting_job, holders, free}
 
 -- where nobody waits or runs
-pub sound-empty : (s : State) → s.machine ≤ procs_limit → s.waiting ≡ [] → s.running ≡ [] → (busy s.running ≡ 0) × IsSound s
+pub sound-empty : (s : State) → s.procs ≤ procs_limit → s.waiting ≡ [] → s.running ≡ [] → (busy s.running ≡ 0) × IsSound s
 sound-empty s le none idle = (
   ap busy idle,
   record {
     limited = le;
     fits = omega (arith, ap busy idle);
     once = λ n. omega (arith, ap (count_by (λ (j : EffectiveJob). nat_eq j.number n)) none, ap (count_by (λ (r : Placed). nat_eq r.job.number n)) idle);
-    waiting_fit = subst (All (λ (j : EffectiveJob). j.size ≤ s.machine)) (sym none) (All-nil (λ (j : EffectiveJob). j.size ≤ s.machine));
+    waiting_fit = subst (All (λ (j : EffectiveJob). j.size ≤ s.procs)) (sym none) (All-nil (λ (j : EffectiveJob). j.size ≤ s.procs));
     waiting_limits = subst (All IsWithinLimits) (sym none) (All-nil IsWithinLimits);
     running_limits = subst (All (λ (r : Placed). IsWithinLimits r.job)) (sym idle) (All-nil (λ (r : Placed). IsWithinLimits r.job));
     started = subst (All (λ (r : Placed). r.start < seconds_end)) (sym idle) (All-nil (λ (r : Placed). r.start < seconds_end));
@@ -92,7 +92,7 @@ once-more a b n m h l e =
     (λ (s : m ≡ n → ⊥). omega (arith, rw (ne_eqb m n s) at e))
     (cases_eq m n)
 
-pub sound-arrived : (s : State) (job : EffectiveJob) → IsSound s → holders s job.number ≡ 0 → job.size ≤ s.machine → IsWithinLimits job → IsSound (arrived s job)
+pub sound-arrived : (s : State) (job : EffectiveJob) → IsSound s → holders s job.number ≡ 0 → job.size ≤ s.procs → IsWithinLimits job → IsSound (arrived s job)
 sound-arrived s job h absent fits limits = record {
   limited = h.limited;
   fits = h.fits;
@@ -100,7 +100,7 @@ sound-arrived s job h absent fits limits = record {
       let e = sum_by_push (λ (j : EffectiveJob). cond (nat_eq j.number n) 1 0) s.waiting job in
       let o = once-more (holders s n) (cond (nat_eq job.number n) 1 0) n job.number (λ same. subst (λ m. holders s m ≡ 0) same absent) (h.once n) refl in
       omega (arith, e, o);
-  waiting_fit = All-push (λ (j : EffectiveJob). j.size ≤ s.machine) s.waiting job h.waiting_fit fits;
+  waiting_fit = All-push (λ (j : EffectiveJob). j.size ≤ s.procs) s.waiting job h.waiting_fit fits;
   waiting_limits = All-push IsWithinLimits s.waiting job h.waiting_limits limits;
   running_limits = h.running_limits;
   started = h.started;
@@ -116,7 +116,7 @@ sound-started s job now h found fits early =
           let e = sum_by-placed (λ r. cond (nat_eq r.job.number n) 1 0) r s.running in
           let o = sum_by-without (λ (j : EffectiveJob). cond (nat_eq j.number n) 1 0) job.number s.waiting job found in
           omega (arith, e, o, h.once n);
-      waiting_fit = All-without (λ (j : EffectiveJob). j.size ≤ s.machine) job.number s.waiting h.waiting_fit;
+      waiting_fit = All-without (λ (j : EffectiveJob). j.size ≤ s.procs) job.number s.waiting h.waiting_fit;
       waiting_limits = All-without IsWithinLimits job.number s.waiting h.waiting_limits;
       running_limits = All-placed (λ r. IsWithinLimits r.job) r s.running (All-find IsWithinLimits (λ (j : EffectiveJob). nat_eq j.number job.number) s.waiting job found h.waiting_limits) h.running_limits;
       started = All-placed (λ r. r.start < 2 ^ 49) r s.running early h.started;

@@ -14,9 +14,9 @@ use Rattle.waiting_places.specs.Offers.{holds}
 use Rattle.waiting_places.specs.Places.{IsFirst, NonePasses, at_place, waiting}
 use Rattle.cluster_state.specs.declared.ticket.Ticket.{Ticket}
 use Rattle.cluster_state.specs.State.{without}
-use Rattle.cluster_state.specs.Row.{IsKept, by_estimate, fits_offer, jobs_of, put_last, row_of}
+use Rattle.cluster_state.specs.Candidates.{IsKept, by_estimate, fits_offer, jobs_of, put_last, candidates_of}
 use Rattle.cluster_state.proofs.PlaceLemmas.{Having, counted, counts, one, waiting-push, waiting-set}
-use Rattle.cluster_state.proofs.RowLemmas.{by_estimate-arrived, row-started, sum_by-by_estimate}
+use Rattle.cluster_state.proofs.CandidatesLemmas.{by_estimate-arrived, candidates-started, sum_by-by_estimate}
 
 abbrev pub estimate : Ticket → ℕ
 estimate t = t.job.estimate
@@ -31,12 +31,12 @@ abbrev pub IsPlaced : List (Option EffectiveJob) → Ticket → Type 0
 IsPlaced places t = at_place places t.place ≡ Some t.job
 
 -- ---- a search by sizes finds the first who fits an offer
-fits_at : (test : EffectiveJob → Bool) (row : List Ticket) (k : ℕ) → holds test (at_place (map (λ job. Some job) (jobs_of row)) k) ≡ passes (λ t. test t.job) (slice_get row k)
+fits_at : (test : EffectiveJob → Bool) (candidates : List Ticket) (k : ℕ) → holds test (at_place (map (λ job. Some job) (jobs_of candidates)) k) ≡ passes (λ t. test t.job) (slice_get candidates k)
 fits_at test [] k = refl
-fits_at test (t ∷ row) zero = refl
-fits_at test (t ∷ row) (suc k) = fits_at test row k
+fits_at test (t ∷ candidates) zero = refl
+fits_at test (t ∷ candidates) (suc k) = fits_at test candidates k
 
-module _ (offer : Offer) (row : List Ticket) (longer : ℕ) (parts : AreBefore estimate place (offer.window + 1) 0 row longer) where
+module _ (offer : Offer) (candidates : List Ticket) (longer : ℕ) (parts : AreBefore estimate place (offer.window + 1) 0 candidates longer) where
   abbrev fits : EffectiveJob → Bool
   fits job = fits_offer offer job
 
@@ -47,53 +47,53 @@ module _ (offer : Offer) (row : List Ticket) (longer : ℕ) (parts : AreBefore e
   long-fits t e = grind (arith, nat_tests, e)
 
   -- where it stands in front, what is free is enough; behind, only what is extra
-  in_front : (k : ℕ) → k < longer → holds fits (at_place (map (λ job. Some job) (jobs_of row)) k) ≡ is_light size (max offer.free offer.extra) row k
-  in_front k lt = fits_at fits row k ∙ go (slice_get row k) (parts.front k lt)
+  in_front : (k : ℕ) → k < longer → holds fits (at_place (map (λ job. Some job) (jobs_of candidates)) k) ≡ is_light size (max offer.free offer.extra) candidates k
+  in_front k lt = fits_at fits candidates k ∙ go (slice_get candidates k) (parts.front k lt)
     where
       go : (o : Option Ticket) → passes (stands estimate place (offer.window + 1) 0) o ≡ true → passes (λ t. fits t.job) o ≡ passes (λ t. nat_le (size t) (max offer.free offer.extra)) o
       go None e = refl
       go (Some t) e = short-fits t e
 
-  behind : (k : ℕ) → longer ≤ k → holds fits (at_place (map (λ job. Some job) (jobs_of row)) k) ≡ is_light size offer.extra row k
-  behind k le = fits_at fits row k ∙ go (slice_get row k) (parts.rest k le)
+  behind : (k : ℕ) → longer ≤ k → holds fits (at_place (map (λ job. Some job) (jobs_of candidates)) k) ≡ is_light size offer.extra candidates k
+  behind k le = fits_at fits candidates k ∙ go (slice_get candidates k) (parts.rest k le)
     where
       go : (o : Option Ticket) → passes (stands estimate place (offer.window + 1) 0) o ≡ false → passes (λ t. fits t.job) o ≡ passes (λ t. nat_le (size t) offer.extra) o
       go None e = refl
       go (Some t) e = long-fits t e
 
-  size-places : length (map (λ job. Some job) (jobs_of row)) ≡ length row
-  size-places = many row
+  size-places : length (map (λ job. Some job) (jobs_of candidates)) ≡ length candidates
+  size-places = many candidates
     where
       many : (ts : List Ticket) → length (map (λ job. Some job) (jobs_of ts)) ≡ length ts
       many [] = refl
       many (t ∷ ts) = omega (arith, many ts)
 
   abbrev places : List (Option EffectiveJob)
-  places = map (λ job. Some job) (jobs_of row)
+  places = map (λ job. Some job) (jobs_of candidates)
 
-  none_front : (from to : ℕ) → to ≤ longer → NoneLight size (max offer.free offer.extra) row from to → NonePasses (holds fits) places from to
+  none_front : (from to : ℕ) → to ≤ longer → NoneLight size (max offer.free offer.extra) candidates from to → NonePasses (holds fits) places from to
   none_front from to le none k low high = in_front k (omega (arith, high, le)) ∙ none k low high
 
   -- found in front
-  there : (k : ℕ) → k < longer → k < length row
-  there k lt = go (slice_get row k) refl (parts.front k lt)
+  there : (k : ℕ) → k < longer → k < length candidates
+  there k lt = go (slice_get candidates k) refl (parts.front k lt)
     where
       within : (ts : List Ticket) (i : ℕ) (t : Ticket) → slice_get ts i ≡ Some t → i < length ts
       within [] i t e = cc
       within (u ∷ ts) zero t e = omega arith
       within (u ∷ ts) (suc i) t e = omega (arith, within ts i t e)
 
-      go : (o : Option Ticket) → slice_get row k ≡ o → passes (stands estimate place (offer.window + 1) 0) (slice_get row k) ≡ true → k < length row
+      go : (o : Option Ticket) → slice_get candidates k ≡ o → passes (stands estimate place (offer.window + 1) 0) (slice_get candidates k) ≡ true → k < length candidates
       go None e h = absurd (true≢false (sym h ∙ ap (passes (stands estimate place (offer.window + 1) 0)) e))
-      go (Some t) e h = within row k t e
+      go (Some t) e h = within candidates k t e
 
-  pub found_front : (from k : ℕ) → IsFirstLight size (max offer.free offer.extra) row from longer (Some k) → IsFirst (holds fits) places from (length places) (Some k)
+  pub found_front : (from k : ℕ) → IsFirstLight size (max offer.free offer.extra) candidates from longer (Some k) → IsFirst (holds fits) places from (length places) (Some k)
   found_front from k found =
       let before : k < longer = found.1 in
       (found.0, omega (arith, there k before, size-places), in_front k before ∙ found.2, none_front from k (omega (arith, before)) found.3)
 
   -- none in front: the first behind
-  pub found_behind : (from end : ℕ) (r : Option ℕ) → IsFirstLight size (max offer.free offer.extra) row from longer None → end ≡ length row → IsFirstLight size offer.extra row (max from longer) end r → IsFirst (holds fits) places from (length places) r
+  pub found_behind : (from end : ℕ) (r : Option ℕ) → IsFirstLight size (max offer.free offer.extra) candidates from longer None → end ≡ length candidates → IsFirstLight size offer.extra candidates (max from longer) end r → IsFirst (holds fits) places from (length places) r
   found_behind from end None none e rest = λ k low high.
       ⊎_elim
       (λ (l : k < longer). none_front from longer (omega arith) none k low l)
@@ -113,26 +113,26 @@ module _ (offer : Offer) (row : List Ticket) (longer : ℕ) (parts : AreBefore e
       )
 
 -- ---- one more, at a place behind all others
-entered-last : (t : Ticket) (row : List Ticket) → All (λ (x : Ticket). x.place < t.place) row → jobs_of (entered estimate place t row) ≡ put_last t.job (jobs_of row)
+entered-last : (t : Ticket) (candidates : List Ticket) → All (λ (x : Ticket). x.place < t.place) candidates → jobs_of (entered estimate place t candidates) ≡ put_last t.job (jobs_of candidates)
 entered-last t [] h = refl
-entered-last t (x ∷ row) h = go (stands estimate place (estimate t) (place t) x) refl (entered-last t row (All-tail (λ (y : Ticket). y.place < t.place) x row h))
+entered-last t (x ∷ candidates) h = go (stands estimate place (estimate t) (place t) x) refl (entered-last t candidates (All-tail (λ (y : Ticket). y.place < t.place) x candidates h))
   where
-    go : (b : Bool) → stands estimate place (estimate t) (place t) x ≡ b → jobs_of (entered estimate place t row) ≡ put_last t.job (jobs_of row) → jobs_of (cond b (x ∷ entered estimate place t row) (t ∷ x ∷ row)) ≡ put_last t.job (x.job ∷ jobs_of row)
+    go : (b : Bool) → stands estimate place (estimate t) (place t) x ≡ b → jobs_of (entered estimate place t candidates) ≡ put_last t.job (jobs_of candidates) → jobs_of (cond b (x ∷ entered estimate place t candidates) (t ∷ x ∷ candidates)) ≡ put_last t.job (x.job ∷ jobs_of candidates)
     go true e more =
-        let lt : x.place < t.place = All-head (λ (y : Ticket). y.place < t.place) x row h in
+        let lt : x.place < t.place = All-head (λ (y : Ticket). y.place < t.place) x candidates h in
         let not : nat_lt t.job.estimate x.job.estimate ≡ false = grind (arith, nat_tests, e, lt) in
-        ap (λ (l : List EffectiveJob). x.job ∷ l) more ∙ sym (cond-false (nat_lt t.job.estimate x.job.estimate) (t.job ∷ x.job ∷ jobs_of row) (x.job ∷ put_last t.job (jobs_of row)) not)
+        ap (λ (l : List EffectiveJob). x.job ∷ l) more ∙ sym (cond-false (nat_lt t.job.estimate x.job.estimate) (t.job ∷ x.job ∷ jobs_of candidates) (x.job ∷ put_last t.job (jobs_of candidates)) not)
     go false e more =
-        let lt : x.place < t.place = All-head (λ (y : Ticket). y.place < t.place) x row h in
+        let lt : x.place < t.place = All-head (λ (y : Ticket). y.place < t.place) x candidates h in
         let is : nat_lt t.job.estimate x.job.estimate ≡ true = grind (arith, nat_tests, e, lt) in
-        sym (cond-true (nat_lt t.job.estimate x.job.estimate) (t.job ∷ x.job ∷ jobs_of row) (x.job ∷ put_last t.job (jobs_of row)) is)
+        sym (cond-true (nat_lt t.job.estimate x.job.estimate) (t.job ∷ x.job ∷ jobs_of candidates) (x.job ∷ put_last t.job (jobs_of candidates)) is)
 
-All-entered : (P : Ticket → Type 0) (t : Ticket) (row : List Ticket) → P t → All P row → All P (entered estimate place t row)
+All-entered : (P : Ticket → Type 0) (t : Ticket) (candidates : List Ticket) → P t → All P candidates → All P (entered estimate place t candidates)
 All-entered P t [] p h = All-cons P t [] p h
-All-entered P t (x ∷ row) p h =
-    elim (stands estimate place (estimate t) (place t) x) as (λ b. All P (cond b (x ∷ entered estimate place t row) (t ∷ x ∷ row))) [
-      | true ↦ All-cons P x (entered estimate place t row) (All-head P x row h) (All-entered P t row p (All-tail P x row h))
-      | false ↦ All-cons P t (x ∷ row) p h
+All-entered P t (x ∷ candidates) p h =
+    elim (stands estimate place (estimate t) (place t) x) as (λ b. All P (cond b (x ∷ entered estimate place t candidates) (t ∷ x ∷ candidates))) [
+      | true ↦ All-cons P x (entered estimate place t candidates) (All-head P x candidates h) (All-entered P t candidates p (All-tail P x candidates h))
+      | false ↦ All-cons P t (x ∷ candidates) p h
     ]
 
 at-push : (places : List (Option EffectiveJob)) (k : ℕ) (o : Option EffectiveJob) (x : EffectiveJob) → at_place places k ≡ Some x → (at_place (places ++ o ∷ []) k ≡ Some x) × (k < length places)
@@ -144,18 +144,18 @@ at-end : (places : List (Option EffectiveJob)) (x : EffectiveJob) → at_place (
 at-end [] x = refl
 at-end (p ∷ places) x = at-end places x
 
-pub kept-pushed : (places new : List (Option EffectiveJob)) (row row' : List Ticket) (t : Ticket) → IsKept Shortest places row → t.place ≡ length places → new ≡ places ++ Some t.job ∷ [] → row' ≡ entered estimate place t row → IsKept Shortest new row'
-kept-pushed places new row row' t kept at e f =
+pub kept-pushed : (places new : List (Option EffectiveJob)) (candidates candidates' : List Ticket) (t : Ticket) → IsKept Shortest places candidates → t.place ≡ length places → new ≡ places ++ Some t.job ∷ [] → candidates' ≡ entered estimate place t candidates → IsKept Shortest new candidates'
+kept-pushed places new candidates candidates' t kept at e f =
     let grown = places ++ Some t.job ∷ [] in
-    let inside : All (λ (x : Ticket). x.place < t.place) row = All-weaker (IsPlaced places) (λ (x : Ticket). x.place < t.place) (λ x (h : IsPlaced places x). let r = at-push places x.place (Some t.job) x.job h in let l = r.1 in omega (arith, l, at)) row kept.placed in
+    let inside : All (λ (x : Ticket). x.place < t.place) candidates = All-weaker (IsPlaced places) (λ (x : Ticket). x.place < t.place) (λ x (h : IsPlaced places x). let r = at-push places x.place (Some t.job) x.job h in let l = r.1 in omega (arith, l, at)) candidates kept.placed in
     let here : IsPlaced grown t = ap (at_place grown) at ∙ at-end places t.job in
-    let jobs : jobs_of (entered estimate place t row) ≡ by_estimate (waiting grown) =
-    entered-last t row inside ∙ ap (put_last t.job) kept.jobs ∙ sym (by_estimate-arrived (waiting places) t.job) ∙ ap by_estimate (sym (waiting-push places grown t.job refl)) in
-    subst (λ (p : List (Option EffectiveJob)). IsKept Shortest p row') (sym e)
+    let jobs : jobs_of (entered estimate place t candidates) ≡ by_estimate (waiting grown) =
+    entered-last t candidates inside ∙ ap (put_last t.job) kept.jobs ∙ sym (by_estimate-arrived (waiting places) t.job) ∙ ap by_estimate (sym (waiting-push places grown t.job refl)) in
+    subst (λ (p : List (Option EffectiveJob)). IsKept Shortest p candidates') (sym e)
     (subst (λ (r : List Ticket). IsKept Shortest grown r) (sym f)
     (record {
       jobs = jobs;
-      placed = All-entered (IsPlaced grown) t row here (All-weaker (IsPlaced places) (IsPlaced grown) (λ x (h : IsPlaced places x). (at-push places x.place (Some t.job) x.job h).0) row kept.placed);
+      placed = All-entered (IsPlaced grown) t candidates here (All-weaker (IsPlaced places) (IsPlaced grown) (λ x (h : IsPlaced places x). (at-push places x.place (Some t.job) x.job h).0) candidates kept.placed);
     }))
 
 -- ---- one leaves
@@ -209,72 +209,72 @@ module _ (places : List (Option EffectiveJob)) (p : ℕ) (x : EffectiveJob) (at 
       (cases_Bool (test t)))
       (cases_Bool (nat_eq t.job.number x.number))
 
-  jobs-without : (row : List Ticket) → Having x.number (waiting places) ≤ 1 → All (IsPlaced places) row → jobs_of (without_first test row) ≡ without x.number (jobs_of row)
+  jobs-without : (candidates : List Ticket) → Having x.number (waiting places) ≤ 1 → All (IsPlaced places) candidates → jobs_of (without_first test candidates) ≡ without x.number (jobs_of candidates)
   jobs-without [] once h = refl
-  jobs-without (t ∷ row) once h = go (test t) refl (same_test t once (All-head (IsPlaced places) t row h)) (jobs-without row once (All-tail (IsPlaced places) t row h))
+  jobs-without (t ∷ candidates) once h = go (test t) refl (same_test t once (All-head (IsPlaced places) t candidates h)) (jobs-without candidates once (All-tail (IsPlaced places) t candidates h))
     where
-      go : (b : Bool) → test t ≡ b → test t ≡ nat_eq t.job.number x.number → jobs_of (without_first test row) ≡ without x.number (jobs_of row) → jobs_of (cond b row (t ∷ without_first test row)) ≡ without x.number (t.job ∷ jobs_of row)
-      go true e s more = sym (cond-true (nat_eq t.job.number x.number) (jobs_of row) (t.job ∷ without x.number (jobs_of row)) (sym s ∙ e))
-      go false e s more = ap (λ (l : List EffectiveJob). t.job ∷ l) more ∙ sym (cond-false (nat_eq t.job.number x.number) (jobs_of row) (t.job ∷ without x.number (jobs_of row)) (sym s ∙ e))
+      go : (b : Bool) → test t ≡ b → test t ≡ nat_eq t.job.number x.number → jobs_of (without_first test candidates) ≡ without x.number (jobs_of candidates) → jobs_of (cond b candidates (t ∷ without_first test candidates)) ≡ without x.number (t.job ∷ jobs_of candidates)
+      go true e s more = sym (cond-true (nat_eq t.job.number x.number) (jobs_of candidates) (t.job ∷ without x.number (jobs_of candidates)) (sym s ∙ e))
+      go false e s more = ap (λ (l : List EffectiveJob). t.job ∷ l) more ∙ sym (cond-false (nat_eq t.job.number x.number) (jobs_of candidates) (t.job ∷ without x.number (jobs_of candidates)) (sym s ∙ e))
 
   -- the others stand where they stood
   stays : (t : Ticket) → IsPlaced places t → nat_eq t.job.number x.number ≡ false → IsPlaced left t
   stays t h e =
       get_or-set_other places p t.place None None (λ (f : t.place ≡ p). true≢false (sym (eq-eqb t.job.number x.number (ap (λ (j : EffectiveJob). j.number) (is_it t h f))) ∙ e)) ∙ h
 
-  others : (row : List Ticket) → Having x.number (jobs_of row) ≡ 0 → All (IsPlaced places) row → All (IsPlaced left) row
+  others : (candidates : List Ticket) → Having x.number (jobs_of candidates) ≡ 0 → All (IsPlaced places) candidates → All (IsPlaced left) candidates
   others [] none h = All-nil (IsPlaced left)
-  others (t ∷ row) none h =
+  others (t ∷ candidates) none h =
       let fails : nat_eq t.job.number x.number ≡ false = ⊎_elim
-      (λ (e : nat_eq t.job.number x.number ≡ true). absurd (omega (arith, none, counts x.number t.job (jobs_of row), one x.number t.job e)))
+      (λ (e : nat_eq t.job.number x.number ≡ true). absurd (omega (arith, none, counts x.number t.job (jobs_of candidates), one x.number t.job e)))
       (λ (e : nat_eq t.job.number x.number ≡ false). e)
       (cases_Bool (nat_eq t.job.number x.number)) in
-      All-cons (IsPlaced left) t row (stays t (All-head (IsPlaced places) t row h) fails)
-      (others row (omega (arith, none, counts x.number t.job (jobs_of row))) (All-tail (IsPlaced places) t row h))
+      All-cons (IsPlaced left) t candidates (stays t (All-head (IsPlaced places) t candidates h) fails)
+      (others candidates (omega (arith, none, counts x.number t.job (jobs_of candidates))) (All-tail (IsPlaced places) t candidates h))
 
-  placed-left : (row : List Ticket) → Having x.number (waiting places) ≤ 1 → Having x.number (jobs_of row) ≤ 1 → All (IsPlaced places) row → All (IsPlaced left) (without_first test row)
+  placed-left : (candidates : List Ticket) → Having x.number (waiting places) ≤ 1 → Having x.number (jobs_of candidates) ≤ 1 → All (IsPlaced places) candidates → All (IsPlaced left) (without_first test candidates)
   placed-left [] once own h = All-nil (IsPlaced left)
-  placed-left (t ∷ row) once own h = go (test t) refl (same_test t once (All-head (IsPlaced places) t row h)) (placed-left row once (omega (arith, own, counts x.number t.job (jobs_of row))) (All-tail (IsPlaced places) t row h))
+  placed-left (t ∷ candidates) once own h = go (test t) refl (same_test t once (All-head (IsPlaced places) t candidates h)) (placed-left candidates once (omega (arith, own, counts x.number t.job (jobs_of candidates))) (All-tail (IsPlaced places) t candidates h))
     where
-      go : (b : Bool) → test t ≡ b → test t ≡ nat_eq t.job.number x.number → All (IsPlaced left) (without_first test row) → All (IsPlaced left) (cond b row (t ∷ without_first test row))
-      go true e s more = others row (omega (arith, own, counts x.number t.job (jobs_of row), one x.number t.job (sym s ∙ e))) (All-tail (IsPlaced places) t row h)
-      go false e s more = All-cons (IsPlaced left) t (without_first test row) (stays t (All-head (IsPlaced places) t row h) (sym s ∙ e)) more
+      go : (b : Bool) → test t ≡ b → test t ≡ nat_eq t.job.number x.number → All (IsPlaced left) (without_first test candidates) → All (IsPlaced left) (cond b candidates (t ∷ without_first test candidates))
+      go true e s more = others candidates (omega (arith, own, counts x.number t.job (jobs_of candidates), one x.number t.job (sym s ∙ e))) (All-tail (IsPlaced places) t candidates h)
+      go false e s more = All-cons (IsPlaced left) t (without_first test candidates) (stays t (All-head (IsPlaced places) t candidates h) (sym s ∙ e)) more
 
-  once-row : (o : Order) → Having x.number (waiting places) ≤ 1 → Having x.number (row_of o (waiting places)) ≤ 1
-  once-row Arrival once = omega arith
-  once-row Shortest once = omega (arith, once, sum_by-by_estimate (λ (j : EffectiveJob). cond {A = ℕ} (nat_eq j.number x.number) 1 0) (waiting places))
+  once-candidates : (o : Order) → Having x.number (waiting places) ≤ 1 → Having x.number (candidates_of o (waiting places)) ≤ 1
+  once-candidates Arrival once = omega arith
+  once-candidates Shortest once = omega (arith, once, sum_by-by_estimate (λ (j : EffectiveJob). cond {A = ℕ} (nat_eq j.number x.number) 1 0) (waiting places))
 
-  pub kept-left : (o : Order) (row row' : List Ticket) → IsKept o places row → Having x.number (waiting places) ≤ 1 → row' ≡ without_first test row → IsKept o left row'
-  kept-left o row row' kept once f =
+  pub kept-left : (o : Order) (candidates candidates' : List Ticket) → IsKept o places candidates → Having x.number (waiting places) ≤ 1 → candidates' ≡ without_first test candidates → IsKept o left candidates'
+  kept-left o candidates candidates' kept once f =
       let n = x.number in
       subst (IsKept o left) (sym f)
       (record {
-        jobs = jobs-without row once kept.placed ∙ ap (without n) kept.jobs ∙ row-started o n (waiting places) once ∙ ap (row_of o) (sym (waiting-set places p x once at));
-        placed = placed-left row once (subst (λ (js : List EffectiveJob). Having n js ≤ 1) (sym kept.jobs) (once-row o once)) kept.placed;
+        jobs = jobs-without candidates once kept.placed ∙ ap (without n) kept.jobs ∙ candidates-started o n (waiting places) once ∙ ap (candidates_of o) (sym (waiting-set places p x once at));
+        placed = placed-left candidates once (subst (λ (js : List EffectiveJob). Having n js ≤ 1) (sym kept.jobs) (once-candidates o once)) kept.placed;
       })
 
 -- who stands at a place of the row waits at the place of its ticket
-pub placed-at : (places : List (Option EffectiveJob)) (row : List Ticket) (k : ℕ) (t : Ticket) → slice_get row k ≡ Some t → All (IsPlaced places) row → at_place places t.place ≡ Some t.job
+pub placed-at : (places : List (Option EffectiveJob)) (candidates : List Ticket) (k : ℕ) (t : Ticket) → slice_get candidates k ≡ Some t → All (IsPlaced places) candidates → at_place places t.place ≡ Some t.job
 placed-at places [] k t e h = cc
-placed-at places (u ∷ row) zero t e h = let same : u ≡ t = cc in subst (IsPlaced places) same (All-head (IsPlaced places) u row h)
-placed-at places (u ∷ row) (suc k) t e h = placed-at places row k t e (All-tail (IsPlaced places) u row h)
+placed-at places (u ∷ candidates) zero t e h = let same : u ≡ t = cc in subst (IsPlaced places) same (All-head (IsPlaced places) u candidates h)
+placed-at places (u ∷ candidates) (suc k) t e h = placed-at places candidates k t e (All-tail (IsPlaced places) u candidates h)
 
-pub job-at : (row : List Ticket) (k : ℕ) (t : Ticket) → slice_get row k ≡ Some t → slice_get (jobs_of row) k ≡ Some t.job
+pub job-at : (candidates : List Ticket) (k : ℕ) (t : Ticket) → slice_get candidates k ≡ Some t → slice_get (jobs_of candidates) k ≡ Some t.job
 job-at [] k t e = cc
-job-at (u ∷ row) zero t e = let same : u ≡ t = cc in ap (λ (v : Ticket). Some v.job) same
-job-at (u ∷ row) (suc k) t e = job-at row k t e
+job-at (u ∷ candidates) zero t e = let same : u ≡ t = cc in ap (λ (v : Ticket). Some v.job) same
+job-at (u ∷ candidates) (suc k) t e = job-at candidates k t e
 
 -- in order of arrival there is no row
-pub none_kept : (places new : List (Option EffectiveJob)) (row : List Ticket) → IsKept Arrival places row → IsKept Arrival new row
+pub none_kept : (places new : List (Option EffectiveJob)) (candidates : List Ticket) → IsKept Arrival places candidates → IsKept Arrival new candidates
 none_kept places new [] kept = record { jobs = refl; placed = All-nil (IsPlaced new) }
-none_kept places new (t ∷ row) kept = let e = kept.jobs in cc
+none_kept places new (t ∷ candidates) kept = let e = kept.jobs in cc
 
 -- ---- a row that is made anew
-pub record IsFilling (places : List (Option EffectiveJob)) (k room : ℕ) (row : List Ticket) : Type 0 where
-  pub jobs : jobs_of row ≡ by_estimate (waiting (take k places))
-  pub placed : All (IsPlaced places) row
-  pub before : All (λ (t : Ticket). t.place < k) row
-  pub enough : length (waiting (drop k places)) ≤ room
+pub record IsFilling (places : List (Option EffectiveJob)) (k capacity : ℕ) (candidates : List Ticket) : Type 0 where
+  pub jobs : jobs_of candidates ≡ by_estimate (waiting (take k places))
+  pub placed : All (IsPlaced places) candidates
+  pub before : All (λ (t : Ticket). t.place < k) candidates
+  pub enough : length (waiting (drop k places)) ≤ capacity
 
 other_default : (places : List (Option EffectiveJob)) (k : ℕ) (d e : Option EffectiveJob) → k < length places → get_or places k d ≡ get_or places k e
 other_default [] k d e lt = absurd (omega (arith, lt))
@@ -291,35 +291,35 @@ module _ (places : List (Option EffectiveJob)) (k : ℕ) (o d : Option Effective
   from_on : waiting (drop k places) ≡ waiting (o ∷ drop (k + 1) places)
   from_on = ap waiting (drop_more places k None lt) ∙ ap (λ (q : Option EffectiveJob). waiting (q ∷ drop (k + 1) places)) read_at
 
-  pub filling-none : (room : ℕ) (row : List Ticket) → o ≡ None → IsFilling places k room row → IsFilling places (k + 1) room row
-  filling-none room row none f =
+  pub filling-none : (capacity : ℕ) (candidates : List Ticket) → o ≡ None → IsFilling places k capacity candidates → IsFilling places (k + 1) capacity candidates
+  filling-none capacity candidates none f =
       let same : waiting (take (k + 1) places) ≡ waiting (take k places) = up_to ∙ ap (λ (q : Option EffectiveJob). waiting (take k places) ++ waiting (q ∷ [])) none ∙ append-nil (waiting (take k places)) in
       let rest : waiting (drop k places) ≡ waiting (drop (k + 1) places) = from_on ∙ ap (λ (q : Option EffectiveJob). waiting (q ∷ drop (k + 1) places)) none in
       record {
         jobs = f.jobs ∙ ap by_estimate (sym same);
         placed = f.placed;
-        before = All-weaker (λ (t : Ticket). t.place < k) (λ (t : Ticket). t.place < k + 1) (λ t (h : t.place < k). omega (arith, h)) row f.before;
+        before = All-weaker (λ (t : Ticket). t.place < k) (λ (t : Ticket). t.place < k + 1) (λ t (h : t.place < k). omega (arith, h)) candidates f.before;
         enough = omega (arith, f.enough, ap length rest);
       }
 
-  pub filling-one : (room room' : ℕ) (t : Ticket) (row row' : List Ticket) → o ≡ Some t.job → t.place ≡ k → IsFilling places k room row → row' ≡ entered estimate place t row → room ≤ room' + 1 → IsFilling places (k + 1) room' row'
-  filling-one room room' t row row' some at f e spare =
+  pub filling-one : (capacity capacity' : ℕ) (t : Ticket) (candidates candidates' : List Ticket) → o ≡ Some t.job → t.place ≡ k → IsFilling places k capacity candidates → candidates' ≡ entered estimate place t candidates → capacity ≤ capacity' + 1 → IsFilling places (k + 1) capacity' candidates'
+  filling-one capacity capacity' t candidates candidates' some at f e spare =
       let same : waiting (take (k + 1) places) ≡ waiting (take k places) ++ t.job ∷ [] = up_to ∙ ap (λ (q : Option EffectiveJob). waiting (take k places) ++ waiting (q ∷ [])) some in
       let rest : waiting (drop k places) ≡ t.job ∷ waiting (drop (k + 1) places) = from_on ∙ ap (λ (q : Option EffectiveJob). waiting (q ∷ drop (k + 1) places)) some in
-      let inside : All (λ (y : Ticket). y.place < t.place) row = All-weaker (λ (y : Ticket). y.place < k) (λ (y : Ticket). y.place < t.place) (λ y (h : y.place < k). omega (arith, h, at)) row f.before in
+      let inside : All (λ (y : Ticket). y.place < t.place) candidates = All-weaker (λ (y : Ticket). y.place < k) (λ (y : Ticket). y.place < t.place) (λ y (h : y.place < k). omega (arith, h, at)) candidates f.before in
       let here : IsPlaced places t = ap (at_place places) at ∙ read_at ∙ some in
-      subst (IsFilling places (k + 1) room') (sym e)
+      subst (IsFilling places (k + 1) capacity') (sym e)
       (record {
-        jobs = entered-last t row inside ∙ ap (put_last t.job) f.jobs ∙ sym (by_estimate-arrived (waiting (take k places)) t.job) ∙ ap by_estimate (sym same);
-        placed = All-entered (IsPlaced places) t row here f.placed;
-        before = All-entered (λ (y : Ticket). y.place < k + 1) t row (omega (arith, at)) (All-weaker (λ (y : Ticket). y.place < k) (λ (y : Ticket). y.place < k + 1) (λ y (h : y.place < k). omega (arith, h)) row f.before);
+        jobs = entered-last t candidates inside ∙ ap (put_last t.job) f.jobs ∙ sym (by_estimate-arrived (waiting (take k places)) t.job) ∙ ap by_estimate (sym same);
+        placed = All-entered (IsPlaced places) t candidates here f.placed;
+        before = All-entered (λ (y : Ticket). y.place < k + 1) t candidates (omega (arith, at)) (All-weaker (λ (y : Ticket). y.place < k) (λ (y : Ticket). y.place < k + 1) (λ y (h : y.place < k). omega (arith, h)) candidates f.before);
         enough = omega (arith, f.enough, ap length rest, spare);
       })
 
-pub filled : (places : List (Option EffectiveJob)) (k room : ℕ) (row : List Ticket) → length places ≤ k → IsFilling places k room row → IsKept Shortest places row
-filled places k room row le f = record { jobs = f.jobs ∙ ap (λ (l : List (Option EffectiveJob)). by_estimate (waiting l)) (take_all k places le); placed = f.placed }
+pub filled : (places : List (Option EffectiveJob)) (k capacity : ℕ) (candidates : List Ticket) → length places ≤ k → IsFilling places k capacity candidates → IsKept Shortest places candidates
+filled places k capacity candidates le f = record { jobs = f.jobs ∙ ap (λ (l : List (Option EffectiveJob)). by_estimate (waiting l)) (take_all k places le); placed = f.placed }
 
-pub filling : (places : List (Option EffectiveJob)) (room : ℕ) (row : List Ticket) → row ≡ [] → length (waiting places) ≤ room → IsFilling places 0 room row
-filling places room row none le =
-    subst (IsFilling places 0 room) (sym none)
+pub filling : (places : List (Option EffectiveJob)) (capacity : ℕ) (candidates : List Ticket) → candidates ≡ [] → length (waiting places) ≤ capacity → IsFilling places 0 capacity candidates
+filling places capacity candidates none le =
+    subst (IsFilling places 0 capacity) (sym none)
     (record { jobs = refl; placed = All-nil (IsPlaced places); before = All-nil (λ (t : Ticket). t.place < 0); enough = le })

@@ -41,11 +41,11 @@ abbrev pub end_of : Placed → End
 end_of r = record { end = real_end r; expected_end = expected_end r; number = r.job.number }
 
 -- the running jobs by their expected ends, but for some first ones, even with which ended fewer processors are free than are needed: so many
-pub record IsPast (s : State) (need room : ℕ) (rest : List Placed) : Type 0 where
+pub record IsPast (s : State) (need capacity : ℕ) (rest : List Placed) : Type 0 where
   pub passed : List Placed
   pub order : by_end s.running ≡ passed ++ rest
-  pub gives : room ≡ free s + busy passed
-  pub short : room < need
+  pub gives : capacity ≡ free s + busy passed
+  pub short : capacity < need
 
 -- the most running jobs of a block of the row: so many are left to walk over, at most, until enough processors are free
 abbrev pub block_limit : ℕ

@@ -9,13 +9,13 @@ use Rattle.cluster_state.specs.Snapshot.{numbers_of, standing, restored, Fits, I
 -- a state of the plan's jobs fits the plan by its numbers, and these give it back
 abbrev pub NumbersGiveTheStateBack : Type 0
 NumbersGiveTheStateBack =
-    (s : State) (plan : Plan) → IsOfPlan s plan → busy s.running ≤ s.machine
+    (s : State) (plan : Plan) → IsOfPlan s plan → busy s.running ≤ s.procs
     → Fits (numbers_of s) plan × (restored (numbers_of s) plan ≡ s)
 
 -- two states of one machine and order, with the same numbers, are the same where these numbers have the same jobs in both plans
 abbrev pub EqualNumbersAreEqualStates : Type 0
 EqualNumbersAreEqualStates =
-    (s t : State) (p q : Plan) → IsOfPlan s p → IsOfPlan t q → p.machine ≡ q.machine → p.order ≡ q.order
+    (s t : State) (p q : Plan) → IsOfPlan s p → IsOfPlan t q → p.procs ≡ q.procs → p.order ≡ q.order
     → numbers_of s ≡ numbers_of t → ((n : ℕ) → 1 ≤ standing (numbers_of s) n → job_numbered p.jobs n ≡ job_numbered q.jobs n)
     → s ≡ t
 

@@ -1,7 +1,7 @@
 pub mod State
-pub mod Row
+pub mod Candidates
 pub mod Ends
-pub mod Rooms
+pub mod Capacities
 pub mod Parts
 pub mod Snapshot
 pub mod Laws

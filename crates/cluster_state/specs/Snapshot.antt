@@ -50,7 +50,7 @@ running_numbered jobs r = option_map (λ job. record { job = job; start = r.star
 -- the state of these numbers, where each stands for the plan's job
 abbrev pub restored : Numbers → Plan → State
 restored p plan = record {
-  machine = plan.machine;
+  procs = plan.procs;
   order = plan.order;
   waiting = filter_map (job_numbered plan.jobs) p.waiting;
   running = filter_map (running_numbered plan.jobs) p.running;
@@ -60,11 +60,11 @@ restored p plan = record {
 pub record Fits (p : Numbers) (plan : Plan) : Type 0 where
   pub waiting : All (λ n. IsSome (job_numbered plan.jobs n)) p.waiting
   pub running : All (λ r. IsSome (job_numbered plan.jobs r.number)) p.running
-  pub sizes : busy (restored p plan).running ≤ plan.machine
+  pub sizes : busy (restored p plan).running ≤ plan.procs
 
 -- the state is one of the plan's machine and order, and each of its jobs is the plan's job of its number
 pub record IsOfPlan (s : State) (plan : Plan) : Type 0 where
-  pub machine : s.machine ≡ plan.machine
+  pub procs : s.procs ≡ plan.procs
   pub order : s.order ≡ plan.order
   pub waiting : All (λ j. job_numbered plan.jobs j.number ≡ Some j) s.waiting
   pub running : All (λ r. job_numbered plan.jobs r.job.number ≡ Some r.job) s.running

@@ -10,12 +10,12 @@ use Rattle.scenarios.specs.Placed.{expected_end, real_end}
 -- A machine's processors, the order in which later jobs are looked at, the waiting jobs in order of arrival, and the
 -- running ones, with their starts, rising by number.
 pub record State : Type 0 where
-  pub machine : ℕ
+  pub procs : ℕ
   pub order : Order
   pub waiting : List EffectiveJob
   pub running : List Placed
 
--- What callers see of a cluster: its state, how many starts it has room for, and the places of the row in which the later
+-- What callers see of a cluster: its state, how many starts it has capacity for, and the places of the candidates in which the later
 -- jobs are looked at for a backfill. Who left may have left its place empty.
 pub record ClusterView : Type 0 where
   pub state : State
@@ -24,7 +24,7 @@ pub record ClusterView : Type 0 where
 
 -- a machine on which no job waits or runs
 abbrev pub empty : ℕ → Order → State
-empty procs order = record { machine = procs; order = order; waiting = []; running = [] }
+empty procs order = record { procs = procs; order = order; waiting = []; running = [] }
 
 -- the processors that running jobs hold
 abbrev pub busy : List Placed → ℕ
@@ -32,7 +32,7 @@ busy rs = sum_by (λ r. r.job.size) rs
 
 -- the processors that no running job holds
 abbrev pub free : State → ℕ
-free s = s.machine - busy s.running
+free s = s.procs - busy s.running
 
 -- the processors that a running job has given back by second t, if it runs as long as is expected
 abbrev pub back_by : ℕ → Placed → ℕ
@@ -52,7 +52,7 @@ waiting_job s n = find (λ j. nat_eq j.number n) s.waiting
 
 -- a job may join the queue: no job has its number, and it is not larger than the machine
 abbrev pub CanArrive : State → EffectiveJob → Type 0
-CanArrive s job = (holders s job.number ≡ 0) × (job.size ≤ s.machine)
+CanArrive s job = (holders s job.number ≡ 0) × (job.size ≤ s.procs)
 
 -- the job of this number may start: it waits, and fits into the free processors
 abbrev pub CanStart : State → ℕ → Type 0
@@ -60,7 +60,7 @@ CanStart s n = IsSomeAnd (waiting_job s n) (λ job. job.size ≤ free s)
 
 -- a job joins the queue, at its end
 abbrev pub arrived : State → EffectiveJob → State
-arrived s job = record { machine = s.machine; order = s.order; waiting = s.waiting ++ job ∷ []; running = s.running }
+arrived s job = record { procs = s.procs; order = s.order; waiting = s.waiting ++ job ∷ []; running = s.running }
 
 -- the jobs without the first of this number
 abbrev pub without : ℕ → List EffectiveJob → List EffectiveJob
@@ -84,7 +84,7 @@ RisesByNumber (r ∷ rs) = All (λ x. r.job.number ≤ x.job.number) rs × Rises
 
 -- a waiting job leaves the queue and runs from second `now` on
 abbrev pub started : State → EffectiveJob → ℕ → State
-started s job now = record { machine = s.machine; order = s.order; waiting = without job.number s.waiting; running = placed (record { job = job; start = now }) s.running }
+started s job now = record { procs = s.procs; order = s.order; waiting = without job.number s.waiting; running = placed (record { job = job; start = now }) s.running }
 
 -- the waiting job of this number starts at second `now`
 abbrev pub after_start : State → ℕ → ℕ → State
@@ -102,14 +102,14 @@ CanStartAll s (j ∷ js) now = (waiting_job s j.number ≡ Some j) × (j.size �
 
 -- those that end by second t have left
 abbrev pub ended_until : State → ℕ → State
-ended_until s t = record { machine = s.machine; order = s.order; waiting = s.waiting; running = filter (λ r. nat_lt t (real_end r)) s.running }
+ended_until s t = record { procs = s.procs; order = s.order; waiting = s.waiting; running = filter (λ r. nat_lt t (real_end r)) s.running }
 
 -- what is true of the state of each cluster: jobs are within the limits, running ones within the machine, and no two have one number
 pub record IsSound (s : State) : Type 0 where
-  pub limited : s.machine ≤ procs_limit
-  pub fits : busy s.running ≤ s.machine
+  pub limited : s.procs ≤ procs_limit
+  pub fits : busy s.running ≤ s.procs
   pub once : (n : ℕ) → holders s n ≤ 1
-  pub waiting_fit : All (λ j. j.size ≤ s.machine) s.waiting
+  pub waiting_fit : All (λ j. j.size ≤ s.procs) s.waiting
   pub waiting_limits : All IsWithinLimits s.waiting
   pub running_limits : All (λ r. IsWithinLimits r.job) s.running
   pub started : All (λ r. r.start < seconds_end) s.running

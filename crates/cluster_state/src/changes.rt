@@ -13,7 +13,7 @@ use swf_text::Memory;
 impl<A: Allocator + Copy> Cluster<A> {
     ghost use Rattle.cluster_state.specs.State.{arrived, after_start, started, free};
     ghost use Rattle.cluster_state.specs.State.{ended_until, holders, CanArrive, CanStart};
-    ghost use Rattle.cluster_state.specs.Row.{CanStartAt};
+    ghost use Rattle.cluster_state.specs.Candidates.{CanStartAt};
 
     /// Whether a job may join the queue: no job of its number waits or runs, and it is not larger
     /// than the machine.
@@ -29,7 +29,7 @@ impl<A: Allocator + Copy> Cluster<A> {
     /// Memory where a growth was refused; the state is then as it was.
     pub fn arrive(&mut self, job: Job) -> Result<(), Memory>
         requires absent { holders self.old.state job.number ≡ 0 }
-        requires fits { job.size ≤ self.old.state.machine }
+        requires fits { job.size ≤ self.old.state.procs }
         ensures ok { OnOk result (self.new.state ≡ arrived self.old.state job) }
         ensures err { OnErr result (self.new.state ≡ self.old.state) }
         ensures spare { self.new.spare ≡ self.old.spare }
@@ -38,12 +38,12 @@ impl<A: Allocator + Copy> Cluster<A> {
         Ok(())
     }
 
-    /// A job that arrives starts at second `now`, and doesn't join the queue before: the state is that after
-    /// its arrival and its start. It takes no memory.
+    /// A job that arrives starts at second `now`, and doesn't join the queue before: the state is that
+    /// after its arrival and its start. It takes no memory.
     pub fn start_arriving(&mut self, job: Job, now: u64)
         requires absent { holders self.old.state job.number ≡ 0 }
         requires fits { job.size ≤ free self.old.state }
-        requires room { 1 ≤ self.old.spare }
+        requires capacity { 1 ≤ self.old.spare }
         requires now { now < seconds_end }
         ensures state { self.new.state ≡ started (arrived self.old.state job) job now }
         ensures places { self.new.places ≡ self.old.places }
@@ -54,22 +54,22 @@ impl<A: Allocator + Copy> Cluster<A> {
         self.free -= taken;
     }
 
-    /// How many starts surely find room. Each start takes up one at most, and nothing else takes any.
+    /// How many starts surely find capacity. Each start takes up one at most, and nothing else takes any.
     pub fn spare_starts(&self) -> usize
         ensures { result ≡ self.now.spare }
     {
         self.running.spare()
     }
 
-    /// Makes room for so many starts. Where there is room for them it takes no memory.
+    /// Reserves capacity for so many starts. Where there is capacity for them it takes no memory.
     ///
-    /// Memory where a growth was refused; the room may then be greater than it was, too.
+    /// Memory where a growth was refused; the capacity may then be greater than it was, too.
     pub fn reserve_starts(&mut self, count: usize) -> Result<(), Memory>
         ensures state { self.new.state ≡ self.old.state }
         ensures places { self.new.places ≡ self.old.places }
         ensures ok { OnOk result (count ≤ self.new.spare) }
         ensures kept { self.old.spare ≤ self.new.spare }
-        ensures room { count ≤ self.old.spare → IsOk result }
+        ensures capacity { count ≤ self.old.spare → IsOk result }
     {
         self.running.reserve(count)
     }
@@ -86,14 +86,14 @@ impl<A: Allocator + Copy> Cluster<A> {
 
     /// The waiting job of this number starts at second `now`.
     ///
-    /// With room for a start it takes no memory. Memory where a growth was refused; the state is then
+    /// With capacity for a start it takes no memory. Memory where a growth was refused; the state is then
     /// as it was.
     pub fn start(&mut self, number: u64, now: u64) -> Result<(), Memory>
         requires fits { CanStart self.old.state number }
         requires now { now < seconds_end }
         ensures ok { OnOk result (self.new.state ≡ after_start self.old.state number now) }
         ensures err { OnErr result (self.new.state ≡ self.old.state) }
-        ensures room { 1 ≤ self.old.spare → IsOk result }
+        ensures capacity { 1 ≤ self.old.spare → IsOk result }
         ensures spare { self.old.spare ≤ self.new.spare + 1 }
     {
         let Some(job) = self.queue.find(number) else {
@@ -110,7 +110,7 @@ impl<A: Allocator + Copy> Cluster<A> {
     /// The first waiting job starts at second `now` where it fits into the free processors: which one it
     /// is. None where nobody waits or it does not fit; then nothing has changed. It takes no memory.
     pub fn start_head(&mut self, now: u64) -> Option<Job>
-        requires room { 1 ≤ self.old.spare }
+        requires capacity { 1 ≤ self.old.spare }
         requires now { now < seconds_end }
         ensures none { IfNone result (self.new ≡ self.old) }
         ensures waits { IfNone result (IfSome (slice_get self.old.state.waiting 0) (λ head. free self.old.state < head.size)) }
@@ -133,13 +133,13 @@ impl<A: Allocator + Copy> Cluster<A> {
         Some(head)
     }
 
-    /// The job at this place of the row starts at second `now`: the place from which on those behind it
-    /// stand in the row then. It takes no memory.
+    /// The job at this place of the candidates starts at second `now`: the place from which on those
+    /// behind it stand in the candidates then. It takes no memory.
     ///
-    /// In order of arrival its place is left empty; by estimate the row closes up.
+    /// In order of arrival its place is left empty; by estimate the candidates close up.
     pub fn start_at(&mut self, place: usize, now: u64) -> usize
         requires fits { CanStartAt self.old place }
-        requires room { 1 ≤ self.old.spare }
+        requires capacity { 1 ≤ self.old.spare }
         requires now { now < seconds_end }
         ensures state { IfSome (at_place self.old.places place) (λ job. self.new.state ≡ started self.old.state job now) }
         ensures rest { waiting (drop result self.new.places) ≡ waiting (drop (place + 1) self.old.places) }
@@ -167,7 +167,6 @@ impl<A: Allocator + Copy> Cluster<A> {
     }
 }
 
-// Whether one of these running jobs has this number.
 fn runs<A: Allocator + Copy>(running: RunningByEnd<'_, A>, number: u64) -> bool
     ensures { IsTrue result ↔ (1 ≤ count_by (λ r. nat_eq r.job.number number) running.entry) }
 {
@@ -179,7 +178,6 @@ fn runs<A: Allocator + Copy>(running: RunningByEnd<'_, A>, number: u64) -> bool
     false
 }
 
-// Whether one of these waiting jobs has this number.
 fn waits(waiting: Waiting<'_>, number: u64) -> bool
     ensures { IsTrue result ↔ (1 ≤ count_by (λ j. nat_eq j.number number) waiting.entry) }
 {

@@ -45,7 +45,7 @@ impl<A: Allocator + Copy> Model for Cluster<A> {
 impl<A: Allocator + Copy> Cluster<A> {
     ghost use Rattle.scenarios.specs.Placed.{real_end};
     ghost use Rattle.cluster_state.specs.State.{empty, free, IsSound, RisesByNumber, busy};
-    ghost use Rattle.cluster_state.specs.Row.{fits_offer, IsRow};
+    ghost use Rattle.cluster_state.specs.Candidates.{fits_offer, AreCandidates};
     ghost use Rattle.cluster_state.specs.Ends.{by_end, IsPast, RisesByEnd, block_limit};
     ghost use Rattle.scenarios.specs.Plan.{plan_of};
     ghost use Rattle.cluster_state.specs.Snapshot.{numbers_of, restored, Fits};
@@ -65,7 +65,6 @@ impl<A: Allocator + Copy> Cluster<A> {
         Cluster::with_order(alloc, scenario.procs(), scenario.order())
     }
 
-    // An empty machine with backfills in this order.
     fn with_order(alloc: A, procs: u64, order: Order) -> Cluster<A>
         requires { procs ≤ procs_limit }
         ensures { result.state ≡ empty procs order }
@@ -78,16 +77,15 @@ impl<A: Allocator + Copy> Cluster<A> {
         }
     }
 
-    // A machine on which these jobs run and none waits.
     fn with_running(
         alloc: A,
         procs: u64,
         order: Order,
         running: &[Placed],
     ) -> Result<Cluster<A>, Memory>
-        requires sound { IsSound (record { machine = procs; order = order; waiting = []; running = running.now }) }
+        requires sound { IsSound (record { procs = procs; order = order; waiting = []; running = running.now }) }
         requires rises { RisesByNumber running.now }
-        ensures { IfOk result (λ c. c.state ≡ record { machine = procs; order = order; waiting = []; running = running.now }) }
+        ensures { IfOk result (λ c. c.state ≡ record { procs = procs; order = order; waiting = []; running = running.now }) }
     {
         let free = procs - held(running);
         let running = RunningSet::of(alloc, running)?;
@@ -176,34 +174,34 @@ impl<A: Allocator + Copy> Cluster<A> {
         self.queue.jobs_behind(settled)
     }
 
-    /// The place of the row from which on the waiting jobs behind the first `settled` stand: in order of
-    /// arrival these alone, by estimate all, from place 0 on.
+    /// The place of the candidates from which on the waiting jobs behind the first `settled` stand: in
+    /// order of arrival these alone, by estimate all, from place 0 on.
     pub fn place_behind(&self, settled: usize) -> usize
         requires { settled ≤ length self.now.state.waiting }
         ensures within { result ≤ length self.now.places }
         ensures front { self.now.state.order ≡ Arrival → waiting (take result self.now.places) ≡ take settled self.now.state.waiting }
         ensures rest { self.now.state.order ≡ Arrival → waiting (drop result self.now.places) ≡ drop settled self.now.state.waiting }
         ensures all { self.now.state.order ≡ Shortest → result ≡ 0 }
-        ensures row { IsRow self.now }
+        ensures candidates { AreCandidates self.now }
     {
         self.queue.place_behind(settled)
     }
 
-    /// The first place of the row from one on whose job fits the offer; none where none does. The row has
-    /// the waiting jobs in the order in which they are looked at for a backfill.
+    /// The first place of the candidates from one on whose job fits the offer; none where none does. The
+    /// candidates have the waiting jobs in the order in which they are looked at for a backfill.
     pub fn next_fit(&mut self, from: usize, offer: &Offer) -> Option<usize>
         ensures first { IsFirst (holds (fits_offer offer.now)) self.old.places from (length self.old.places) result }
         ensures same { self.new ≡ self.old }
-        ensures row { IsRow self.old }
+        ensures candidates { AreCandidates self.old }
         ensures sound { IsSound self.old.state }
     {
         self.queue.next_fit(from, offer)
     }
 
-    /// The job at this place of the row; none where nobody waits there.
+    /// The job at this place of the candidates; none where nobody waits there.
     pub fn job_at(&self, place: usize) -> Option<&Job>
         ensures job { option_copied result ≡ at_place self.now.places place }
-        ensures row { IsRow self.now }
+        ensures candidates { AreCandidates self.now }
         ensures sound { IsSound self.now.state }
     {
         self.queue.get(place)
@@ -227,7 +225,7 @@ impl<A: Allocator + Copy> Cluster<A> {
     pub fn running_past(&self, need: u64) -> (u64, RunningByEnd<'_, A>)
         requires { free self.now.state < need }
         ensures past { IsPast self.now.state need result.0 result.1 }
-        ensures most { need ≤ self.now.state.machine → need ≤ result.0 + busy (take block_limit result.1) }
+        ensures most { need ≤ self.now.state.procs → need ≤ result.0 + busy (take block_limit result.1) }
         ensures sound { IsSound self.now.state }
     {
         let (held, rest) = self.running.past(need - self.free);

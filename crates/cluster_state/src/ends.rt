@@ -19,7 +19,6 @@ pub(crate) struct End {
 }
 
 impl End {
-    // When this job ends.
     pub(crate) fn of(r: &Placed) -> End
         requires { r.now.start < seconds_end }
         ensures { result ≡ end_of r.now }
@@ -32,7 +31,6 @@ impl End {
     }
 }
 
-// The least of the seconds in a heap.
 pub(crate) fn first_end<A: Allocator>(ends: &BinaryHeap<Reverse<End>, A>) -> Option<u64>
     requires { IsHeap falling (heap_items ends.now) }
     ensures first { result ≡ option_map (λ e. e.0.end) (slice_get (heap_items ends.now) 0) }
@@ -44,7 +42,6 @@ pub(crate) fn first_end<A: Allocator>(ends: &BinaryHeap<Reverse<End>, A>) -> Opt
     }
 }
 
-// Whether the first end comes by second t.
 pub(crate) fn is_by(end: Option<u64>, t: u64) -> bool
     ensures { IsTrue result ↔ IsSomeAnd end (λ u. u ≤ t) }
 {
@@ -54,7 +51,6 @@ pub(crate) fn is_by(end: Option<u64>, t: u64) -> bool
     }
 }
 
-// Takes the first end out, where it comes by second t.
 pub(crate) fn pop_until<A: Allocator>(ends: &mut BinaryHeap<Reverse<End>, A>, t: u64) -> Option<End>
     requires { IsHeap falling (heap_items ends.old) }
     ensures heap { IsHeap falling (heap_items ends.new) }

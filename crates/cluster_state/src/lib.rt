@@ -2,13 +2,13 @@
 #![tactic(auto)]
 
 mod by_end;
+mod candidates;
 mod changes;
 mod cluster;
 mod ends;
 pub mod laws;
 mod lookup;
 mod queue;
-mod row;
 mod runner;
 mod running_set;
 mod snapshot;

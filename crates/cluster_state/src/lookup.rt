@@ -12,7 +12,6 @@ use scenarios::{Placed, PlanRef};
 use std::alloc::Allocator;
 use swf_text::Memory;
 
-// Whether each number has a job.
 pub(crate) fn have_jobs<A: Allocator + Copy>(
     numbers: Standing<'_, u64>,
     plan: &PlanRef<'_, A>,
@@ -27,14 +26,13 @@ pub(crate) fn have_jobs<A: Allocator + Copy>(
     true
 }
 
-// Whether each running number has a job, and these together are within the machine.
 pub(crate) fn can_run<A: Allocator + Copy>(
     running: Standing<'_, RunningNumber>,
     plan: &PlanRef<'_, A>,
 ) -> bool
     ensures { IsTrue result
         ↔ (All (λ r. IsSome (job_numbered (plan_in plan.now).jobs r.number)) running.entry
-        × (busy (filter_map (running_numbered (plan_in plan.now).jobs) running.entry) ≤ plan.now.setting.procs)) }
+        × (busy (filter_map (running_numbered (plan_in plan.now).jobs) running.entry) ≤ plan.now.scenario.procs)) }
 {
     let mut left = plan.scenario().procs();
     for r in running {
@@ -49,7 +47,6 @@ pub(crate) fn can_run<A: Allocator + Copy>(
     true
 }
 
-// The running jobs of these numbers.
 pub(crate) fn running_in<A: Allocator + Copy>(
     alloc: A,
     running: Standing<'_, RunningNumber>,

@@ -5,9 +5,9 @@ ghost use Rattle.scenarios.specs.declared.order.Order.TheVariants.{Arrival, Shor
 ghost use Rattle.waiting_places.specs.Offers.{holds};
 ghost use Rattle.waiting_places.specs.Places.{IsFirst, at_place, waiting};
 ghost use Rattle.cluster_state.specs.State.{without};
-ghost use Rattle.cluster_state.specs.Row.{fits_offer, in_order, jobs_of};
+ghost use Rattle.cluster_state.specs.Candidates.{fits_offer, in_order, jobs_of};
 
-use crate::row::{arrive, first_fit, leave_at, take_by_estimate};
+use crate::candidates::{arrive, first_fit, leave_at, take_by_estimate};
 use crate::ticket::Ticket;
 use crate::waiter::Waiter;
 use crate::waiting::Waiting;
@@ -19,16 +19,16 @@ use swf_text::Memory;
 use waiting_places::{Offer, Places};
 
 // The jobs that wait, each at a place of its own in order of arrival; and beside them, where the later
-// ones are looked at by estimate, the row in which they are.
+// ones are looked at by estimate, the candidates in which they are.
 #[derive(Drop)]
 pub(crate) struct Queue<A: Allocator + Copy> {
     order: Order,
     jobs: Places<Waiter, A>,
-    row: Blocks<Ticket, A>,
+    candidates: Blocks<Ticket, A>,
 }
 
 impl<A: Allocator + Copy> Model for Queue<A> {
-    ghost use Rattle.cluster_state.specs.Rooms.{QueueView};
+    ghost use Rattle.cluster_state.specs.Capacities.{QueueView};
 
     ghost Value = { QueueView };
 
@@ -40,32 +40,28 @@ impl<A: Allocator + Copy> Model for Queue<A> {
 }
 
 impl<A: Allocator + Copy> Queue<A> {
-    // Nobody waits.
     pub(crate) fn new(alloc: A, order: Order) -> Queue<A>
         ensures { result ≡ record { order = order; jobs = []; places = [] } }
     {
         Queue {
             order,
             jobs: Places::new(alloc),
-            row: Blocks::new(alloc),
+            candidates: Blocks::new(alloc),
         }
     }
 
-    // The order in which the later jobs are looked at.
     pub(crate) fn order(&self) -> Order
         ensures { result ≡ self.now.order }
     {
         self.order
     }
 
-    // How many jobs wait.
     pub(crate) fn len(&self) -> usize
         ensures { result ≡ length self.now.jobs }
     {
         self.jobs.len()
     }
 
-    // The waiting jobs in order of arrival.
     pub(crate) fn jobs(&self) -> Waiting<'_>
         ensures { result ≡ self.now.jobs }
     {
@@ -93,7 +89,6 @@ impl<A: Allocator + Copy> Queue<A> {
         None
     }
 
-    // The waiting job of this number.
     pub(crate) fn find(&self, number: u64) -> Option<Job>
         ensures { result ≡ find (λ j. nat_eq j.number number) self.now.jobs }
     {
@@ -105,26 +100,25 @@ impl<A: Allocator + Copy> Queue<A> {
         None
     }
 
-    // The job at this place of the row.
     pub(crate) fn get(&self, place: usize) -> Option<&Job>
         ensures job { option_copied result ≡ at_place self.now.places place }
-        ensures row { waiting self.now.places ≡ in_order self.now.order self.now.jobs }
+        ensures candidates { waiting self.now.places ≡ in_order self.now.order self.now.jobs }
     {
         match self.order {
             Order::Arrival => job_in(&self.jobs, place),
-            Order::Shortest => job_at(&self.row, place),
+            Order::Shortest => job_at(&self.candidates, place),
         }
     }
 
-    // The place of the row from which on those behind so many first jobs stand. By estimate all stand
-    // there.
+    // The place of the candidates from which on those behind so many first jobs stand. By estimate all
+    // stand there.
     pub(crate) fn place_behind(&self, count: usize) -> usize
         requires { count ≤ length self.now.jobs }
         ensures within { result ≤ length self.now.places }
         ensures front { self.now.order ≡ Arrival → waiting (take result self.now.places) ≡ take count self.now.jobs }
         ensures rest { self.now.order ≡ Arrival → waiting (drop result self.now.places) ≡ drop count self.now.jobs }
         ensures all { self.now.order ≡ Shortest → result ≡ 0 }
-        ensures row { waiting self.now.places ≡ in_order self.now.order self.now.jobs }
+        ensures candidates { waiting self.now.places ≡ in_order self.now.order self.now.jobs }
     {
         match self.order {
             Order::Arrival => self.jobs.place_behind(count),
@@ -132,19 +126,17 @@ impl<A: Allocator + Copy> Queue<A> {
         }
     }
 
-    // The first place of the row from one on whose job fits the offer.
     pub(crate) fn next_fit(&mut self, from: usize, offer: &Offer) -> Option<usize>
         ensures first { IsFirst (holds (fits_offer offer.now)) self.old.places from (length self.old.places) result }
         ensures same { self.new ≡ self.old }
-        ensures row { waiting self.old.places ≡ in_order self.old.order self.old.jobs }
+        ensures candidates { waiting self.old.places ≡ in_order self.old.order self.old.jobs }
     {
         match self.order {
             Order::Arrival => self.jobs.first_fit(from, offer),
-            Order::Shortest => first_fit(&mut self.row, from, offer),
+            Order::Shortest => first_fit(&mut self.candidates, from, offer),
         }
     }
 
-    // A job joins the queue, at its end. Memory where a growth was refused; the same jobs wait then.
     pub(crate) fn push(&mut self, job: Job) -> Result<(), Memory>
         ensures order { self.new.order ≡ self.old.order }
         ensures ok { OnOk result (self.new.jobs ≡ self.old.jobs ++ job ∷ []) }
@@ -156,34 +148,31 @@ impl<A: Allocator + Copy> Queue<A> {
                 self.jobs.reserve(1)?;
                 self.jobs.push(Waiter { job });
             }
-            Order::Shortest => arrive(&mut self.jobs, &mut self.row, job)?,
+            Order::Shortest => arrive(&mut self.jobs, &mut self.candidates, job)?,
         }
         Ok(())
     }
 
-    // The job of this number leaves.
     pub(crate) fn remove(&mut self, number: u64)
         requires { count_by (λ j. nat_eq j.number number) self.old.jobs ≤ 1 }
         ensures order { self.new.order ≡ self.old.order }
         ensures jobs { self.new.jobs ≡ without number self.old.jobs }
     {
         if let Some(place) = place_numbered(self.jobs.as_slice(), number) {
-            leave_at(self.order, &mut self.jobs, &mut self.row, place);
+            leave_at(self.order, &mut self.jobs, &mut self.candidates, place);
         }
     }
 
-    // The first job leaves.
     pub(crate) fn take_head(&mut self)
         requires { (n : ℕ) → count_by (λ j. nat_eq j.number n) self.old.jobs ≤ 1 }
         ensures order { self.new.order ≡ self.old.order }
         ensures jobs { IfSome (slice_get self.old.jobs 0) (λ job. self.new.jobs ≡ without job.number self.old.jobs) }
     {
         if let Some(head) = self.jobs.first() {
-            leave_at(self.order, &mut self.jobs, &mut self.row, head);
+            leave_at(self.order, &mut self.jobs, &mut self.candidates, head);
         }
     }
 
-    // The job at this place of the row leaves: the place from which on those behind it stand.
     pub(crate) fn take_at(&mut self, place: usize) -> usize
         requires once { (n : ℕ) → count_by (λ j. nat_eq j.number n) self.old.jobs ≤ 1 }
         requires there { IsSome (at_place self.old.places place) }
@@ -197,7 +186,7 @@ impl<A: Allocator + Copy> Queue<A> {
                 place + 1
             }
             Order::Shortest => {
-                take_by_estimate(&mut self.jobs, &mut self.row, place);
+                take_by_estimate(&mut self.jobs, &mut self.candidates, place);
                 place
             }
         }
@@ -209,21 +198,18 @@ impl<A: Allocator + Copy> Queue<A> {
     }
 }
 
-// The job that waits at this place.
 fn job_in<A: Allocator + Copy>(jobs: &Places<Waiter, A>, place: usize) -> Option<&Job>
     ensures { option_copied result ≡ at_place jobs.now.places place }
 {
     Some(&jobs.get(place)?.job)
 }
 
-// The job at this place of a row.
-fn job_at<A: Allocator + Copy>(row: &Blocks<Ticket, A>, place: usize) -> Option<&Job>
-    ensures { option_copied result ≡ slice_get (jobs_of (flat row.now.blocks)) place }
+fn job_at<A: Allocator + Copy>(candidates: &Blocks<Ticket, A>, place: usize) -> Option<&Job>
+    ensures { option_copied result ≡ slice_get (jobs_of (flat candidates.now.blocks)) place }
 {
-    Some(&row.at(place)?.job)
+    Some(&candidates.at(place)?.job)
 }
 
-// Whether a job of this number waits at this place.
 fn has_number(place: &Option<Waiter>, number: u64) -> bool
     ensures { result ≡ holds (λ j. nat_eq j.number number) place.now }
 {
@@ -233,7 +219,6 @@ fn has_number(place: &Option<Waiter>, number: u64) -> bool
     }
 }
 
-// The first place at which a job of this number waits.
 fn place_numbered(places: &[Option<Waiter>], number: u64) -> Option<usize>
     ensures { IsFirst (holds (λ j. nat_eq j.number number)) places.now 0 (length places.now) result }
 {

@@ -46,7 +46,6 @@ impl Ranked for Runner {
     }
 }
 
-// The processors that these hold.
 pub(crate) fn held(running: &[Placed]) -> u64
     requires { busy running.now < 2 ^ 64 }
     ensures { result ≡ busy running.now }

@@ -3,7 +3,7 @@ ghost use Rattle.scenarios.specs.Limits.{seconds_end};
 ghost use Rattle.scenarios.specs.Placed.{real_end};
 ghost use Rattle.cluster_state.specs.State.{busy, placed, RisesByNumber};
 ghost use Rattle.cluster_state.specs.Ends.{by_end, by_number, block_limit};
-ghost use Rattle.cluster_state.specs.Rooms.{IsRest};
+ghost use Rattle.cluster_state.specs.Capacities.{IsRest};
 
 use crate::by_end::RunningByEnd;
 use crate::ends::{End, first_end, pop_until};
@@ -19,12 +19,12 @@ use swf_text::Memory;
 // The jobs that run, in a row by (start + estimate, number), and when each of them ends.
 #[derive(Drop)]
 pub(crate) struct RunningSet<A: Allocator + Copy> {
-    row: Blocks<Runner, A>,
+    runners: Blocks<Runner, A>,
     ends: BinaryHeap<Reverse<End>, A>,
 }
 
 impl<A: Allocator + Copy> Model for RunningSet<A> {
-    ghost use Rattle.cluster_state.specs.Rooms.{RunningView};
+    ghost use Rattle.cluster_state.specs.Capacities.{RunningView};
 
     ghost Value = { RunningView };
 
@@ -36,12 +36,11 @@ impl<A: Allocator + Copy> Model for RunningSet<A> {
 }
 
 impl<A: Allocator + Copy> RunningSet<A> {
-    // Nobody runs.
     pub(crate) fn new(alloc: A) -> RunningSet<A>
         ensures { result.running ≡ [] }
     {
         RunningSet {
-            row: Blocks::new(alloc),
+            runners: Blocks::new(alloc),
             ends: BinaryHeap::new(alloc),
         }
     }
@@ -61,19 +60,17 @@ impl<A: Allocator + Copy> RunningSet<A> {
         Ok(set)
     }
 
-    // The running jobs, rising by (start + estimate, number).
     pub(crate) fn by_end(&self) -> RunningByEnd<'_, A>
-        ensures row { result ≡ by_end self.now.running }
+        ensures runners { result ≡ by_end self.now.running }
         ensures by_number { by_number result ≡ self.now.running }
     {
-        RunningByEnd::of(self.row.iter())
+        RunningByEnd::of(self.runners.iter())
     }
 
-    // The one at this place among them; none past the end.
     pub(crate) fn at(&self, place: usize) -> Option<&Placed>
         ensures { option_copied result ≡ slice_get (by_end self.now.running) place }
     {
-        let runner = self.row.at(place)?;
+        let runner = self.runners.at(place)?;
         Some(&runner.placed)
     }
 
@@ -85,56 +82,52 @@ impl<A: Allocator + Copy> RunningSet<A> {
         ensures fewer { result.0 < processors }
         ensures most { processors ≤ busy self.now.running → processors ≤ result.0 + busy (take block_limit result.1) }
     {
-        let _filled = self.row.blocks();
-        let (blocks, held) = self.row.lighter(u128::from(processors));
-        let rest = RunningByEnd::of(self.row.iter_from(blocks));
+        let _filled = self.runners.blocks();
+        let (blocks, held) = self.runners.lighter(u128::from(processors));
+        let rest = RunningByEnd::of(self.runners.iter_from(blocks));
         (held as u64, rest)
     }
 
-    // How many they are.
     pub(crate) fn len(&self) -> usize
         ensures { result ≡ length self.now.running }
     {
-        self.row.len()
+        self.runners.len()
     }
 
-    // How many starts surely find room: in the row and in the heap.
     pub(crate) fn spare(&self) -> usize
         ensures { result ≡ self.now.spare }
     {
         let ends = self.ends.capacity() - self.ends.len();
-        self.row.spare().min(ends)
+        self.runners.spare().min(ends)
     }
 
-    // Makes room for so many starts. Memory where a growth was refused; the room may then be greater
-    // than it was, too.
+    // Reserves capacity for so many starts. Memory where a growth was refused; the capacity may then be
+    // greater than it was, too.
     pub(crate) fn reserve(&mut self, count: usize) -> Result<(), Memory>
         ensures running { self.new.running ≡ self.old.running }
         ensures ok { OnOk result (count ≤ self.new.spare) }
         ensures kept { self.old.spare ≤ self.new.spare }
-        ensures room { count ≤ self.old.spare → IsOk result }
+        ensures capacity { count ≤ self.old.spare → IsOk result }
     {
-        self.row.reserve(count)?;
+        self.runners.reserve(count)?;
         self.ends.reserve(count)?;
         Ok(())
     }
 
-    // One more job runs, where there is room for a start.
     pub(crate) fn join(&mut self, r: Placed)
-        requires room { 1 ≤ self.old.spare }
+        requires capacity { 1 ≤ self.old.spare }
         requires start { r.start < seconds_end }
         requires absent { count_by (λ x. nat_eq x.job.number r.job.number) self.old.running ≡ 0 }
         ensures running { self.new.running ≡ placed r self.old.running }
         ensures spare { self.old.spare ≤ self.new.spare + 1 }
     {
         let end = End::of(&r);
-        self.row.insert(Runner { placed: r });
+        self.runners.insert(Runner { placed: r });
         let Ok(()) = self.ends.push(Reverse(end)) else {
             unreachable!()
         };
     }
 
-    // The next one to end leaves, where it ends by second t: the processors that it gives back.
     fn drop_next(&mut self, t: u64) -> Option<u64>
         ensures kept { IfNone result (self.new.running ≡ self.old.running) }
         ensures later { IfNone result (All (λ r. t < real_end r) self.old.running) }
@@ -144,13 +137,15 @@ impl<A: Allocator + Copy> RunningSet<A> {
         ensures spare { self.old.spare ≤ self.new.spare }
     {
         let end = pop_until(&mut self.ends, t)?;
-        let Some(runner) = self.row.remove(u128::from(end.expected_end), end.number) else {
+        let Some(runner) = self
+            .runners
+            .remove(u128::from(end.expected_end), end.number)
+        else {
             unreachable!()
         };
         Some(runner.placed.job.size())
     }
 
-    // The jobs that end by second t leave: the processors that they give back.
     pub(crate) fn drop_until(&mut self, t: u64) -> u64
         requires { busy self.old.running < 2 ^ 64 }
         ensures running { self.new.running ≡ filter (λ r. nat_lt t (real_end r)) self.old.running }
@@ -164,7 +159,6 @@ impl<A: Allocator + Copy> RunningSet<A> {
         freed
     }
 
-    // The second at which the next one ends; none where nobody runs.
     pub(crate) fn next_end(&self) -> Option<u64>
         ensures none { IsNone result ↔ (self.now.running ≡ []) }
         ensures found { IfSome result (λ t. Any (λ r. real_end r ≡ t) self.now.running) }

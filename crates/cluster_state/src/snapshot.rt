@@ -67,8 +67,8 @@ impl<A: Allocator + Copy> Snapshot<A> {
     ghost use Rattle.scenarios.specs.Plan.{plan_of};
     ghost use Rattle.cluster_state.specs.Snapshot.{Fits, IsSnapshot, standing, standing_there};
 
-    /// The numbers that stand at a place of two frames, those of the waiting jobs and those of the running
-    /// ones. It shares the frames; Memory where 2^63 share one already.
+    /// The numbers that stand at a place of two frames, those of the waiting jobs and those of the
+    /// running ones. It shares the frames; Memory where 2^63 share one already.
     pub fn at(
         waiting: &Arc<Frame<u64, A>, A>,
         running: &Arc<Frame<RunningNumber, A>, A>,
@@ -86,7 +86,6 @@ impl<A: Allocator + Copy> Snapshot<A> {
         })
     }
 
-    // The numbers of these waiting jobs, and these of running ones.
     pub(crate) fn of(
         alloc: A,
         queue: &Queue<A>,
@@ -164,7 +163,6 @@ fn shared<T: Copy, A: Allocator + Copy>(
     Ok(Arc::new(alloc, frame)?)
 }
 
-// Whether these are the same items in the same order.
 fn are_same<T: Same>(one: Standing<'_, T>, other: Standing<'_, T>) -> bool
     ensures { IsTrue result ↔ (one.entry ≡ other.entry) }
 {
@@ -180,7 +178,6 @@ fn are_same<T: Same>(one: Standing<'_, T>, other: Standing<'_, T>) -> bool
     behind.next().is_none()
 }
 
-// The numbers of the waiting jobs.
 fn numbers_of<A: Allocator + Copy>(alloc: A, queue: &Queue<A>) -> Result<Vec<u64, A>, Memory>
     ensures { IfOk result (λ numbers. numbers.items ≡ map (λ (j : EffectiveJob). j.number) queue.now.jobs) }
 {
@@ -191,7 +188,6 @@ fn numbers_of<A: Allocator + Copy>(alloc: A, queue: &Queue<A>) -> Result<Vec<u64
     Ok(numbers)
 }
 
-// The numbers and starts of these running jobs, by number.
 pub(crate) fn starts_of<A: Allocator + Copy>(
     alloc: A,
     running: &RunningSet<A>,
@@ -205,7 +201,6 @@ pub(crate) fn starts_of<A: Allocator + Copy>(
     Ok(numbers)
 }
 
-// The numbers and starts of these running jobs, by their expected ends.
 fn listed<A: Allocator + Copy>(
     alloc: A,
     running: &RunningSet<A>,

@@ -1,7 +1,7 @@
 use blocks::Ranked;
 use scenarios::Job;
 
-// A waiting job as it stands in the row by estimate: behind those of its estimate whose places are
+// A waiting job as it stands in the candidates by estimate: behind those of its estimate whose places are
 // before its own, and as heavy as it is large.
 #[derive(Clone, Copy)]
 pub(crate) struct Ticket {

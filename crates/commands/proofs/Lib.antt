@@ -1,7 +1,7 @@
 mod LineWords
 mod EntryWords
 mod FewWords
-mod Told
+mod Declared
 mod Saved
 mod SavedAgain
 mod SavedBytes

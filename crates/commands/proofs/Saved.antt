@@ -13,7 +13,7 @@ use Rattle.swf_text.proofs.Lemmas.{and_first, solid_fields, spelled, fields-blan
 use Rattle.scenarios.specs.declared.order.Order.{Order}
 use Rattle.scenarios.specs.declared.order.Order.TheVariants.{Arrival, Shortest}
 use Rattle.scenarios.specs.Name.{is_name, is_name_byte}
-use Rattle.scenarios.specs.Scenario.{Setting, IsSetting}
+use Rattle.scenarios.specs.Scenario.{ScenarioView, IsScenario}
 use Rattle.commands.specs.declared.comment.ScenarioLine.{ScenarioLine}
 use Rattle.scenarios.specs.Order.{order_of, order_word}
 use Rattle.commands.specs.ScenarioLine.{short_number, line_of_words, scenario_line, scenario_comment}
@@ -51,30 +51,30 @@ some_name name h =
     le-leb : (a b : ℕ) → leb a b ≡ true → a ≤ b
     le-leb a b e = grind (arith, common_steps)
 
-comment_fields : (name : List ℕ) (setting : Setting) → is_name name ≡ true → IsSetting setting → fields (32 ∷ (name ++ 32 ∷ (decimal_text setting.procs ++ 32 ∷ (decimal_text setting.factor ++ 32 ∷ order_word setting.order)))) ≡ name ∷ decimal_text setting.procs ∷ decimal_text setting.factor ∷ order_word setting.order ∷ []
-comment_fields name setting called set =
-    let procs = decimal_text setting.procs in
-    let factor = decimal_text setting.factor in
-    let order = order_word setting.order in
+comment_fields : (name : List ℕ) (scenario : ScenarioView) → is_name name ≡ true → IsScenario scenario → fields (32 ∷ (name ++ 32 ∷ (decimal_text scenario.procs ++ 32 ∷ (decimal_text scenario.factor ++ 32 ∷ order_word scenario.order)))) ≡ name ∷ decimal_text scenario.procs ∷ decimal_text scenario.factor ∷ order_word scenario.order ∷ []
+comment_fields name scenario called set =
+    let procs = decimal_text scenario.procs in
+    let factor = decimal_text scenario.factor in
+    let order = order_word scenario.order in
     let p = set.procs_fit in
     let f = set.factor_fits in
-    let last : fields order ≡ order ∷ [] = ap fields (sym (append-nil order)) ∙ solid_fields is_name_byte name_solid order [] (named_order setting.order).0 (named_order setting.order).1 refl in
-    let third : fields (factor ++ 32 ∷ order) ≡ factor ∷ order ∷ [] = solid_fields is_ascii_digit digit_solid factor (32 ∷ order) (spelled setting.factor (omega arith)).0 (decimal_nonempty setting.factor (omega arith)) refl ∙ ap (λ (l : List (List ℕ)). factor ∷ l) (fields-blank 32 order refl ∙ last) in
-    let second : fields (procs ++ 32 ∷ (factor ++ 32 ∷ order)) ≡ procs ∷ factor ∷ order ∷ [] = solid_fields is_ascii_digit digit_solid procs (32 ∷ (factor ++ 32 ∷ order)) (spelled setting.procs (omega arith)).0 (decimal_nonempty setting.procs (omega arith)) refl ∙ ap (λ (l : List (List ℕ)). procs ∷ l) (fields-blank 32 (factor ++ 32 ∷ order) refl ∙ third) in
+    let last : fields order ≡ order ∷ [] = ap fields (sym (append-nil order)) ∙ solid_fields is_name_byte name_solid order [] (named_order scenario.order).0 (named_order scenario.order).1 refl in
+    let third : fields (factor ++ 32 ∷ order) ≡ factor ∷ order ∷ [] = solid_fields is_ascii_digit digit_solid factor (32 ∷ order) (spelled scenario.factor (omega arith)).0 (decimal_nonempty scenario.factor (omega arith)) refl ∙ ap (λ (l : List (List ℕ)). factor ∷ l) (fields-blank 32 order refl ∙ last) in
+    let second : fields (procs ++ 32 ∷ (factor ++ 32 ∷ order)) ≡ procs ∷ factor ∷ order ∷ [] = solid_fields is_ascii_digit digit_solid procs (32 ∷ (factor ++ 32 ∷ order)) (spelled scenario.procs (omega arith)).0 (decimal_nonempty scenario.procs (omega arith)) refl ∙ ap (λ (l : List (List ℕ)). procs ∷ l) (fields-blank 32 (factor ++ 32 ∷ order) refl ∙ third) in
     fields-blank 32 (name ++ 32 ∷ (procs ++ 32 ∷ (factor ++ 32 ∷ order))) refl
     ∙ solid_fields is_name_byte name_solid name (32 ∷ (procs ++ 32 ∷ (factor ++ 32 ∷ order))) (name_bytes name called) (some_name name called) refl
     ∙ ap (λ (l : List (List ℕ)). name ∷ l) (fields-blank 32 (procs ++ 32 ∷ (factor ++ 32 ∷ order)) refl ∙ second)
 
 -- the line of a scenario
-abbrev pub line_for : List ℕ → Setting → ScenarioLine
-line_for name setting = record { name = name; procs = setting.procs; factor = setting.factor; order = setting.order }
+abbrev pub line_for : List ℕ → ScenarioView → ScenarioLine
+line_for name scenario = record { name = name; procs = scenario.procs; factor = scenario.factor; order = scenario.order }
 
-pub scenario_line-comment : (name : List ℕ) (setting : Setting) → is_name name ≡ true → IsSetting setting → scenario_line (scenario_comment name setting) ≡ Some (line_for name setting)
-scenario_line-comment name setting called set =
+pub scenario_line-comment : (name : List ℕ) (scenario : ScenarioView) → is_name name ≡ true → IsScenario scenario → scenario_line (scenario_comment name scenario) ≡ Some (line_for name scenario)
+scenario_line-comment name scenario called set =
     let p = set.procs_fit in
     let f = set.factor_fits in
-    let procs = short_decimal setting.procs (omega arith) in
-    let factor = short_decimal setting.factor (omega arith) in
-    let order = (named_order setting.order).2 in
-    let words = comment_fields name setting called set in
+    let procs = short_decimal scenario.procs (omega arith) in
+    let factor = short_decimal scenario.factor (omega arith) in
+    let order = (named_order scenario.order).2 in
+    let words = comment_fields name scenario called set in
     ap line_of_words words ∙ rw (called, procs, factor, order) refl

@@ -18,15 +18,15 @@ use Rattle.swf_text.proofs.Lemmas.{and_first, and_second, spelled}
 use Rattle.scenarios.specs.declared.order.Order.{Order}
 use Rattle.scenarios.specs.declared.order.Order.TheVariants.{Arrival, Shortest}
 use Rattle.scenarios.specs.Name.{is_name, is_name_byte}
-use Rattle.scenarios.specs.Scenario.{Setting, IsSetting, setting_of}
+use Rattle.scenarios.specs.Scenario.{ScenarioView, IsScenario, scenario_with}
 use Rattle.scenarios.specs.ScenarioList.{Listed, Listing, empty, named, AreApart, IsListed, add_fault, with_scenario}
 use Rattle.scenarios.proofs.Lemmas.{bytes_eq-swap, named-append, named-first}
 use Rattle.scenarios.specs.Order.{order_word}
 use Rattle.commands.specs.ScenarioLine.{scenario_line, scenario_comment}
-use Rattle.commands.specs.Opening.{kept, with_setting, with_order, with_line, told, comment_of}
+use Rattle.commands.specs.Opening.{kept, with_added, with_order, with_line, declared, comment_of}
 use Rattle.commands.specs.Laws.{SavesSoundComments, SavesTheSame}
 use Rattle.commands.proofs.LineWords.{name_bytes, length-name}
-use Rattle.commands.proofs.Told.{kept-append, told_from, told_from-append}
+use Rattle.commands.proofs.Declared.{kept-append, declared_from, declared_from-append}
 use Rattle.commands.proofs.Saved.{line_for, scenario_line-comment}
 
 leb_of : (a b : ℕ) → a ≤ b → leb a b ≡ true
@@ -72,26 +72,26 @@ no_returns (b ∷ bs) h zero = other b (and_first _ _ h)
     other b v = grind (arith, common_steps)
 no_returns (b ∷ bs) h (suc k) = no_returns bs (and_second (is_visible b) (list_all is_visible bs) h) k
 
-comment_sound : (name : List ℕ) (setting : Setting) → is_name name ≡ true → IsSetting setting → IsComment (scenario_comment name setting)
-comment_sound name setting called set =
+comment_sound : (name : List ℕ) (scenario : ScenarioView) → is_name name ≡ true → IsScenario scenario → IsComment (scenario_comment name scenario)
+comment_sound name scenario called set =
     let p = set.procs_fit in
     let f = set.factor_fits in
-    let procs = decimal_text setting.procs in
-    let factor = decimal_text setting.factor in
-    let order = order_word setting.order in
-    let last = visible_order setting.order in
-    let third = both_visible factor (32 ∷ order) (visible_all is_ascii_digit visible_digit factor (spelled setting.factor (omega arith)).0) last.0 in
-    let second = both_visible procs (32 ∷ (factor ++ 32 ∷ order)) (visible_all is_ascii_digit visible_digit procs (spelled setting.procs (omega arith)).0) third in
+    let procs = decimal_text scenario.procs in
+    let factor = decimal_text scenario.factor in
+    let order = order_word scenario.order in
+    let last = visible_order scenario.order in
+    let third = both_visible factor (32 ∷ order) (visible_all is_ascii_digit visible_digit factor (spelled scenario.factor (omega arith)).0) last.0 in
+    let second = both_visible procs (32 ∷ (factor ++ 32 ∷ order)) (visible_all is_ascii_digit visible_digit procs (spelled scenario.procs (omega arith)).0) third in
     let first = both_visible name (32 ∷ (procs ++ 32 ∷ (factor ++ 32 ∷ order))) (visible_all is_name_byte visible_name name (name_bytes name called)) second in
-    let all : list_all is_visible (scenario_comment name setting) ≡ true = first in
+    let all : list_all is_visible (scenario_comment name scenario) ≡ true = first in
     let a : length name ≤ 16 = length-name name called in
-    let b : length procs ≤ 8 = length-decimal-le 8 setting.procs (omega arith) (omega arith) (omega arith) in
-    let c : length factor ≤ 8 = length-decimal-le 8 setting.factor (omega arith) (omega arith) (omega arith) in
+    let b : length procs ≤ 8 = length-decimal-le 8 scenario.procs (omega arith) (omega arith) (omega arith) in
+    let c : length factor ≤ 8 = length-decimal-le 8 scenario.factor (omega arith) (omega arith) (omega arith) in
     let d : length order ≤ 8 = last.1 in
     record {
       begins = refl;
-      no_feed = no_feeds (scenario_comment name setting) all;
-      no_return = no_returns (scenario_comment name setting) all (length (scenario_comment name setting) - 1);
+      no_feed = no_feeds (scenario_comment name scenario) all;
+      no_return = no_returns (scenario_comment name scenario) all (length (scenario_comment name scenario) - 1);
       fits = omega (arith, length-append name (32 ∷ (procs ++ 32 ∷ (factor ++ 32 ∷ order))), length-append procs (32 ∷ (factor ++ 32 ∷ order)), length-append factor (32 ∷ order), a, b, c, d);
     }
 
@@ -109,15 +109,15 @@ all_kept P (x ∷ xs) h = go (is_none (scenario_line x)) refl (all_kept P xs h.1
 
 comments_sound : (ss : List Listed) → AllByRecursion IsListed ss → AllByRecursion IsComment (map comment_of ss)
 comments_sound [] h = tt
-comments_sound (s ∷ ss) h = (comment_sound s.name s.setting h.0.called h.0.setting, comments_sound ss h.1)
+comments_sound (s ∷ ss) h = (comment_sound s.name s.scenario h.0.called h.0.scenario, comments_sound ss h.1)
 
 pub saves_sound : SavesSoundComments
 saves_sound comments entries list sound is = all_joined IsComment (kept comments) (map comment_of list.scenarios) (all_kept IsComment comments sound) (comments_sound list.scenarios is.listed)
 
 -- ---- what is kept
 
-line_is_told : (s : Listed) → IsListed s → scenario_line (comment_of s) ≡ Some (line_for s.name s.setting)
-line_is_told s is = scenario_line-comment s.name s.setting is.called is.setting
+line_is_declared : (s : Listed) → IsListed s → scenario_line (comment_of s) ≡ Some (line_for s.name s.scenario)
+line_is_declared s is = scenario_line-comment s.name s.scenario is.called is.scenario
 
 kept_again : (xs : List (List ℕ)) → kept (kept xs) ≡ kept xs
 kept_again [] = refl
@@ -131,55 +131,55 @@ none_is : {X : Type 0} (o : Option X) → is_none o ≡ true → o ≡ None
 none_is None h = refl
 none_is (Some x) h = absurd (cc)
 
-none_told : (list : Listing) (xs : List (List ℕ)) → told_from list (kept xs) ≡ list
-none_told list [] = refl
-none_told list (x ∷ xs) = go (is_none (scenario_line x)) refl (none_told list xs)
+none_declared : (list : Listing) (xs : List (List ℕ)) → declared_from list (kept xs) ≡ list
+none_declared list [] = refl
+none_declared list (x ∷ xs) = go (is_none (scenario_line x)) refl (none_declared list xs)
   where
-    go : (b : Bool) → is_none (scenario_line x) ≡ b → told_from list (kept xs) ≡ list → told_from list (kept (x ∷ xs)) ≡ list
-    go true e more = rw e (ap (λ o. told_from (with_line list o) (kept xs)) (none_is (scenario_line x) e) ∙ more)
+    go : (b : Bool) → is_none (scenario_line x) ≡ b → declared_from list (kept xs) ≡ list → declared_from list (kept (x ∷ xs)) ≡ list
+    go true e more = rw e (ap (λ o. declared_from (with_line list o) (kept xs)) (none_is (scenario_line x) e) ∙ more)
     go false e more = rw e more
 
 none_kept : (ss : List Listed) → AllByRecursion IsListed ss → kept (map comment_of ss) ≡ []
 none_kept [] h = refl
-none_kept (s ∷ ss) h = let told_of = line_is_told s h.0 in rw told_of (none_kept ss h.1)
+none_kept (s ∷ ss) h = let declared_of = line_is_declared s h.0 in rw declared_of (none_kept ss h.1)
 
 -- ---- what is told
 
-adds : (s : Listed) (list : Listing) → IsListed s → named s.name list.scenarios ≡ None → length list.scenarios < 64 → list.next ≤ 4294967295 → with_line list (scenario_line (comment_of s)) ≡ with_scenario s.name s.setting list
-adds s list is new room last =
-    let set = is.setting in
-    let a = leb_of 1 s.setting.procs set.some_procs in
-    let b = leb_of s.setting.procs 16777216 set.procs_fit in
-    let c = leb_of 1 s.setting.factor set.some_factor in
-    let d = leb_of s.setting.factor 100000 set.factor_fits in
+adds : (s : Listed) (list : Listing) → IsListed s → named s.name list.scenarios ≡ None → length list.scenarios < 64 → list.next ≤ 4294967295 → with_line list (scenario_line (comment_of s)) ≡ with_scenario s.name s.scenario list
+adds s list is new capacity last =
+    let set = is.scenario in
+    let a = leb_of 1 s.scenario.procs set.some_procs in
+    let b = leb_of s.scenario.procs 16777216 set.procs_fit in
+    let c = leb_of 1 s.scenario.factor set.some_factor in
+    let d = leb_of s.scenario.factor 100000 set.factor_fits in
     let called = is.called in
     let more : leb 64 (length list.scenarios) ≡ false = grind (arith, nat_tests) in
     let ids : ltb 4294967295 list.next ≡ false = grind (arith, nat_tests) in
     let free : add_fault s.name list ≡ None = rw (called, new, more, ids) refl in
-    let within : setting_of s.setting.procs s.setting.factor ≡ Some (record { procs = s.setting.procs; factor = s.setting.factor; order = Arrival }) = rw (a, b, c, d) refl in
-    ap (with_line list) (line_is_told s is)
-    ∙ ap (λ o. with_setting s.name (with_order o (line_for s.name s.setting)) list) within
-    ∙ ap (λ o. cond (is_some o) list (with_scenario s.name s.setting list)) free
+    let within : scenario_with s.scenario.procs s.scenario.factor ≡ Some (record { procs = s.scenario.procs; factor = s.scenario.factor; order = Arrival }) = rw (a, b, c, d) refl in
+    ap (with_line list) (line_is_declared s is)
+    ∙ ap (λ o. with_added s.name (with_order o (line_for s.name s.scenario)) list) within
+    ∙ ap (λ o. cond (is_some o) list (with_scenario s.name s.scenario list)) free
 
 AllNew : Listing → List Listed → Type 0
 AllNew list ss = AllByRecursion (λ (t : Listed). named t.name list.scenarios ≡ None) ss
 
-still_new : (ss : List Listed) (s : Listed) (list : Listing) → named s.name ss ≡ None → AllNew list ss → AllNew (with_scenario s.name s.setting list) ss
+still_new : (ss : List Listed) (s : Listed) (list : Listing) → named s.name ss ≡ None → AllNew list ss → AllNew (with_scenario s.name s.scenario list) ss
 unfolding AllNew
 still_new [] s list none new = tt
 still_new (t ∷ ss) s list none new =
     let first = named-first s.name t ss none in
     (named-append t.name list.scenarios _ new.0 (bytes_eq-swap s.name t.name first.0), still_new ss s list first.1 new.1)
 
-all_told : (ss : List Listed) (list : Listing) → AllByRecursion IsListed ss → AreApart ss → AllNew list ss → length list.scenarios + length ss ≤ 64 → list.next + length ss ≤ 4294967296 → map comment_of (told_from list (map comment_of ss)).scenarios ≡ map comment_of list.scenarios ++ map comment_of ss
+all_declared : (ss : List Listed) (list : Listing) → AllByRecursion IsListed ss → AreApart ss → AllNew list ss → length list.scenarios + length ss ≤ 64 → list.next + length ss ≤ 4294967296 → map comment_of (declared_from list (map comment_of ss)).scenarios ≡ map comment_of list.scenarios ++ map comment_of ss
 unfolding AllNew
-all_told [] list listed apart new room last = sym (append-nil (map comment_of list.scenarios))
-all_told (s ∷ ss) list listed apart new room last =
+all_declared [] list listed apart new capacity last = sym (append-nil (map comment_of list.scenarios))
+all_declared (s ∷ ss) list listed apart new capacity last =
     let here = adds s list listed.0 new.0 (omega arith) (omega arith) in
-    let size = length-append list.scenarios (record { name = s.name; id = list.next; setting = s.setting } ∷ []) in
-    ap (λ (l : Listing). map comment_of (told_from l (map comment_of ss)).scenarios) here
-    ∙ all_told ss (with_scenario s.name s.setting list) listed.1 apart.1 (still_new ss s list apart.0 new.1) (omega (arith, size)) (omega arith)
-    ∙ ap (λ (l : List (List ℕ)). l ++ map comment_of ss) (map-append comment_of list.scenarios (record { name = s.name; id = list.next; setting = s.setting } ∷ []))
+    let size = length-append list.scenarios (record { name = s.name; id = list.next; scenario = s.scenario } ∷ []) in
+    ap (λ (l : Listing). map comment_of (declared_from l (map comment_of ss)).scenarios) here
+    ∙ all_declared ss (with_scenario s.name s.scenario list) listed.1 apart.1 (still_new ss s list apart.0 new.1) (omega (arith, size)) (omega arith)
+    ∙ ap (λ (l : List (List ℕ)). l ++ map comment_of ss) (map-append comment_of list.scenarios (record { name = s.name; id = list.next; scenario = s.scenario } ∷ []))
     ∙ append_assoc (map comment_of list.scenarios) (comment_of s ∷ []) (map comment_of ss)
 
 all_new : (ss : List Listed) → AllNew empty ss
@@ -212,10 +212,10 @@ pub saves_same : SavesTheSame
 saves_same comments entries list table is some procs =
     let lines = map comment_of list.scenarios in
     let text = kept comments ++ lines in
-    let room : length list.scenarios ≤ 64 = is.room in
-    let rest = told text in
-    let begins : told text ≡ told_from empty lines = told_from-append empty (kept comments) lines ∙ ap (λ (l : Listing). told_from l lines) (none_told empty comments) in
-    let comments_same : map comment_of rest.scenarios ≡ lines = ap (λ (l : Listing). map comment_of l.scenarios) begins ∙ all_told list.scenarios empty is.listed is.apart (all_new list.scenarios) (omega (arith, room)) (omega (arith, room)) in
+    let capacity : length list.scenarios ≤ 64 = is.capacity in
+    let rest = declared text in
+    let begins : declared text ≡ declared_from empty lines = declared_from-append empty (kept comments) lines ∙ ap (λ (l : Listing). declared_from l lines) (none_declared empty comments) in
+    let comments_same : map comment_of rest.scenarios ≡ lines = ap (λ (l : Listing). map comment_of l.scenarios) begins ∙ all_declared list.scenarios empty is.listed is.apart (all_new list.scenarios) (omega (arith, capacity)) (omega (arith, capacity)) in
     let count : length rest.scenarios ≡ length list.scenarios = sym (length-map rest.scenarios comment_of) ∙ ap length comments_same ∙ length-map list.scenarios comment_of in
     let any : eqb (length rest.scenarios) 0 ≡ false = grind (arith, nat_tests) in
     let kept_same : kept text ≡ kept comments = kept-append (kept comments) lines ∙ ap (λ (l : List (List ℕ)). kept (kept comments) ++ l) (none_kept list.scenarios is.listed) ∙ append-nil (kept (kept comments)) ∙ kept_again comments in

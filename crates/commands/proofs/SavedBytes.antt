@@ -14,20 +14,20 @@ use Rattle.swf_text.specs.Comment.{IsComment}
 use Rattle.job_table.specs.Table.{IsTable}
 use Rattle.job_table.proofs.Lemmas.{log-table}
 use Rattle.scenarios.specs.declared.order.Order.{Order}
-use Rattle.scenarios.specs.Scenario.{Setting, IsSetting, are_within, setting_of}
+use Rattle.scenarios.specs.Scenario.{ScenarioView, IsScenario, are_within, scenario_with}
 use Rattle.scenarios.specs.ScenarioList.{Listing, IsListing, add_fault, empty}
 use Rattle.scenarios.proofs.Lemmas.{can_add, IsListing-with}
 use Rattle.commands.specs.declared.comment.ScenarioLine.{ScenarioLine}
 use Rattle.commands.specs.declared.opening_fault.OpenTextFault.{OpenTextFault}
 use Rattle.commands.specs.ScenarioLine.{scenario_line}
-use Rattle.commands.specs.Opening.{base_on, machine_of, of_setting, opened, told, with_line, with_setting}
+use Rattle.commands.specs.Opening.{base_on, machine_of, base_of, opened, declared, with_line, with_added}
 use Rattle.commands.specs.Laws.{AreSavedAgain, SavesEditedBytes, SavesTheSameBytes, saved_of}
 use Rattle.commands.proofs.SavedAgain.{saves_same, saves_sound}
-use Rattle.commands.proofs.Told.{told_from}
+use Rattle.commands.proofs.Declared.{declared_from}
 
 -- ---- the scenarios of a log are a list
 
-within_limits : (p f : ℕ) (order : Order) → are_within p f ≡ true → IsSetting (record { procs = p; factor = f; order = order })
+within_limits : (p f : ℕ) (order : Order) → are_within p f ≡ true → IsScenario (record { procs = p; factor = f; order = order })
 within_limits p f order h = record {
   some_procs = grind (arith, nat_tests);
   procs_fit = grind (arith, nat_tests);
@@ -39,12 +39,12 @@ not_some : {X : Type 0} (o : Option X) → is_some o ≡ false → o ≡ None
 not_some None h = refl
 not_some (Some x) h = absurd (cc)
 
-with_sound : (name : List ℕ) (setting : Setting) (list : Listing) → IsSetting setting → IsListing list → IsListing (with_setting name (Some setting) list)
-with_sound name setting list set is = go (is_some (add_fault name list)) refl
+with_sound : (name : List ℕ) (scenario : ScenarioView) (list : Listing) → IsScenario scenario → IsListing list → IsListing (with_added name (Some scenario) list)
+with_sound name scenario list set is = go (is_some (add_fault name list)) refl
   where
-    go : (b : Bool) → is_some (add_fault name list) ≡ b → IsListing (with_setting name (Some setting) list)
+    go : (b : Bool) → is_some (add_fault name list) ≡ b → IsListing (with_added name (Some scenario) list)
     go true e = rw e is
-    go false e = rw e (IsListing-with name setting list is (can_add name list (not_some (add_fault name list) e)) set)
+    go false e = rw e (IsListing-with name scenario list is (can_add name list (not_some (add_fault name list) e)) set)
 
 line_sound : (list : Listing) (line : Option ScenarioLine) → IsListing list → IsListing (with_line list line)
 line_sound list None is = is
@@ -54,23 +54,23 @@ line_sound list (Some line) is = go (are_within line.procs line.factor) refl
     go true e = rw e (with_sound line.name (record { procs = line.procs; factor = line.factor; order = line.order }) list (within_limits line.procs line.factor line.order e) is)
     go false e = rw e is
 
-told_sound : (list : Listing) (comments : List (List ℕ)) → IsListing list → IsListing (told_from list comments)
-told_sound list [] is = is
-told_sound list (comment ∷ comments) is = told_sound (with_line list (scenario_line comment)) comments (line_sound list (scenario_line comment) is)
+declared_sound : (list : Listing) (comments : List (List ℕ)) → IsListing list → IsListing (declared_from list comments)
+declared_sound list [] is = is
+declared_sound list (comment ∷ comments) is = declared_sound (with_line list (scenario_line comment)) comments (line_sound list (scenario_line comment) is)
 
 empty_sound : IsListing empty
-empty_sound = record { listed = tt; apart = tt; ids = omega arith; room = omega arith; last = omega arith }
+empty_sound = record { listed = tt; apart = tt; ids = omega arith; capacity = omega arith; last = omega arith }
 
 -- a list of scenarios that a log is opened with
 IsOpened : Result Listing OpenTextFault → Type 0
 IsOpened (Ok list) = IsListing list × (0 < length list.scenarios)
 IsOpened (Err fault) = Unit {0}
 
-base_sound : (procs : ℕ) → IsOpened (of_setting (setting_of procs 1000))
+base_sound : (procs : ℕ) → IsOpened (base_of (scenario_with procs 1000))
 unfolding IsOpened
 base_sound procs = go (are_within procs 1000) refl
   where
-    go : (b : Bool) → are_within procs 1000 ≡ b → IsOpened (of_setting (setting_of procs 1000))
+    go : (b : Bool) → are_within procs 1000 ≡ b → IsOpened (base_of (scenario_with procs 1000))
     go true e = rw e (IsListing-with (codes "base") _ empty empty_sound (can_add (codes "base") empty refl) (within_limits procs 1000 _ e), omega arith)
     go false e = rw e tt
 
@@ -84,11 +84,11 @@ positive n h = grind arith
 
 opened_sound : (procs : Option ℕ) (comments : List (List ℕ)) → IsOpened (opened procs comments)
 unfolding IsOpened
-opened_sound procs comments = go (eqb (length (told comments).scenarios) 0) refl
+opened_sound procs comments = go (eqb (length (declared comments).scenarios) 0) refl
   where
-    go : (b : Bool) → eqb (length (told comments).scenarios) 0 ≡ b → IsOpened (opened procs comments)
+    go : (b : Bool) → eqb (length (declared comments).scenarios) 0 ≡ b → IsOpened (opened procs comments)
     go true e = rw e (named_sound (machine_of procs comments))
-    go false e = rw e (told_sound empty comments empty_sound, positive _ (eqb-false (length (told comments).scenarios) 0 e))
+    go false e = rw e (declared_sound empty comments empty_sound, positive _ (eqb-false (length (declared comments).scenarios) 0 e))
 
 is_opened : (procs : Option ℕ) (comments : List (List ℕ)) (list : Listing) → opened procs comments ≡ Ok list → IsListing list × (0 < length list.scenarios)
 unfolding IsOpened

@@ -1,4 +1,4 @@
--- The names of faults, and the texts by which they are told: the name of a variant is its own spelling.
+-- The names of faults, and the texts in which they are written: the name of a variant is its own spelling.
 use Rattle.std.specs.Prelude.{ℕ, List, ◌++◌, codes}
 use Rattle.std.specs.Fmt.{decimal as decimal_text}
 use Rattle.commands.specs.declared.opening_fault.OpenTextFault.{OpenTextFault}

@@ -6,7 +6,7 @@ use Rattle.swf_text.specs.Number.{are_digits, digits_value}
 use Rattle.swf_text.specs.Line.{from_first, fields}
 use Rattle.scenarios.specs.declared.order.Order.{Order}
 use Rattle.scenarios.specs.declared.order.Order.TheVariants.{Arrival}
-use Rattle.scenarios.specs.Scenario.{Setting}
+use Rattle.scenarios.specs.Scenario.{ScenarioView}
 use Rattle.commands.specs.declared.comment.ScenarioLine.{ScenarioLine}
 use Rattle.scenarios.specs.Order.{order_of, order_word}
 use Rattle.commands.specs.Words.{name_of}
@@ -44,6 +44,6 @@ scenario_line (byte ∷ bytes) = if byte == 59 then after_mark (from_first bytes
 -- ---- writing
 
 -- the comment that tells of a scenario, all four words with one space between
-abbrev pub scenario_comment : List ℕ → Setting → List ℕ
-scenario_comment name setting =
-    codes "; Scenario: " ++ (name ++ 32 ∷ (decimal_text setting.procs ++ 32 ∷ (decimal_text setting.factor ++ 32 ∷ order_word setting.order)))
+abbrev pub scenario_comment : List ℕ → ScenarioView → List ℕ
+scenario_comment name scenario =
+    codes "; Scenario: " ++ (name ++ 32 ∷ (decimal_text scenario.procs ++ 32 ∷ (decimal_text scenario.factor ++ 32 ∷ order_word scenario.order)))

@@ -22,7 +22,6 @@ pub struct ScenarioLine {
     pub order: Order,
 }
 
-// The number of one to eighteen digits.
 fn short_number(word: &[u8]) -> Option<u64>
     ensures { result ≡ short_number word.now }
 {
@@ -33,7 +32,6 @@ fn short_number(word: &[u8]) -> Option<u64>
     }
 }
 
-// The line of a name, processors, a factor and an order.
 fn line_made(name: &[u8], procs: &[u8], factor: &[u8], order: Option<Order>) -> Option<ScenarioLine>
     ensures { result ≡ line_made name.now procs.now factor.now order }
 {
@@ -49,7 +47,6 @@ fn line_made(name: &[u8], procs: &[u8], factor: &[u8], order: Option<Order>) -> 
     })
 }
 
-// The line of the words behind the mark.
 fn line_of_words(words: &[&[u8]]) -> Option<ScenarioLine>
     ensures { result ≡ line_of_words (map (λ w. w.now) words.now) }
 {
@@ -62,7 +59,6 @@ fn line_of_words(words: &[&[u8]]) -> Option<ScenarioLine>
     None
 }
 
-// The line of the bytes that begin with the mark.
 fn after_mark(bytes: &[u8]) -> Option<ScenarioLine>
     ensures { result ≡ after_mark bytes.now }
 {

@@ -42,7 +42,6 @@ const KEYWORDS: [(&[u8], Keyword); 16] = [
     (b"quit", Keyword::Quit),
 ];
 
-// The command that a word begins, if any.
 pub(crate) fn keyword_of(word: &[u8]) -> Option<Keyword>
     ensures { result ≡ keyword_of word.now }
 {

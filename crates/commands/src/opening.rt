@@ -2,7 +2,7 @@ ghost use Rattle.std.specs.Prelude.{◌≡◌, ◌<◌, ◌+◌, List, ℕ, leng
 ghost use Rattle.swf_text.specs.Log.{log_of};
 ghost use Rattle.scenarios.specs.ScenarioList.{Listing};
 ghost use Rattle.commands.specs.ScenarioLine.{scenario_line};
-ghost use Rattle.commands.specs.Opening.{kept, with_line, told, machine_of, base_on, opened, IsOpenFault, IsBaseFault};
+ghost use Rattle.commands.specs.Opening.{kept, with_line, declared, machine_of, base_on, opened, IsOpenFault, IsBaseFault};
 
 use crate::comment::scenario_line;
 use crate::opening_fault::OpenTextFault;
@@ -22,8 +22,10 @@ pub struct Opening<A: Allocator + Copy> {
     pub scenarios: ScenarioList<A>,
 }
 
-// Adds the scenario that a comment tells of, where it is one and can be added.
-fn add_told<A: Allocator + Copy>(list: &mut ScenarioList<A>, comment: &[u8]) -> Result<(), Memory>
+fn add_declared<A: Allocator + Copy>(
+    list: &mut ScenarioList<A>,
+    comment: &[u8],
+) -> Result<(), Memory>
     ensures added { OnOk result (list.new ≡ with_line list.old (scenario_line comment.now)) }
     ensures one_more { OnErr result (length (with_line list.old (scenario_line comment.now)).scenarios ≡ length list.old.scenarios + 1) }
 {
@@ -39,22 +41,20 @@ fn add_told<A: Allocator + Copy>(list: &mut ScenarioList<A>, comment: &[u8]) -> 
     }
 }
 
-// The scenarios that the comments tell of.
-fn told_list<A: Allocator + Copy>(
+fn declared_list<A: Allocator + Copy>(
     alloc: A,
     comments: &[Vec<u8, A>],
 ) -> Result<ScenarioList<A>, Memory>
-    ensures list { IfOk result (λ list. list ≡ told (map (λ c. c.items) comments.now)) }
-    ensures some { OnErr result (0 < length (told (map (λ c. c.items) comments.now)).scenarios) }
+    ensures list { IfOk result (λ list. list ≡ declared (map (λ c. c.items) comments.now)) }
+    ensures some { OnErr result (0 < length (declared (map (λ c. c.items) comments.now)).scenarios) }
 {
     let mut list = ScenarioList::new(alloc);
     for comment in comments {
-        add_told(&mut list, comment.as_slice())?;
+        add_declared(&mut list, comment.as_slice())?;
     }
     Ok(list)
 }
 
-// The machine's processors, where they are named.
 fn machine_of<A: Allocator + Copy>(text: &SwfText<A>, procs: Option<u64>) -> Option<u64>
     ensures { result ≡ machine_of procs text.now.comments }
 {
@@ -63,7 +63,6 @@ fn machine_of<A: Allocator + Copy>(text: &SwfText<A>, procs: Option<u64>) -> Opt
         .or(header_number(text, b"MaxNodes"))
 }
 
-// The scenario `base` alone.
 fn base_on<A: Allocator + Copy>(
     alloc: A,
     procs: Option<u64>,
@@ -80,7 +79,6 @@ fn base_on<A: Allocator + Copy>(
     }
 }
 
-// The scenarios of a log.
 fn opened<A: Allocator + Copy>(
     alloc: A,
     text: &SwfText<A>,
@@ -89,9 +87,9 @@ fn opened<A: Allocator + Copy>(
     ensures list { IfOk result (λ list. opened procs text.now.comments ≡ Ok list) }
     ensures fault { IfErr result (IsOpenFault procs text.now.comments) }
 {
-    let told = told_list(alloc, text.comments())?;
-    if told.len() > 0 {
-        return Ok(told);
+    let declared = declared_list(alloc, text.comments())?;
+    if declared.len() > 0 {
+        return Ok(declared);
     }
     base_on(alloc, machine_of(text, procs))
 }

@@ -15,7 +15,6 @@ use swf_text::{EntryLines, Fields, LINE_LIMIT, without_returns};
 /// The greatest field.
 const FIELD_LIMIT: u64 = 255;
 
-// The command of the eighteen words behind `insert`.
 fn insert<A: Allocator + Copy>(alloc: A, words: &[&[u8]]) -> Result<Command<A>, CommandFault>
     ensures { result ≡ insert_of (map (λ w. w.now) words.now) }
 {
@@ -31,7 +30,6 @@ fn insert<A: Allocator + Copy>(alloc: A, words: &[&[u8]]) -> Result<Command<A>, 
     }
 }
 
-// The command of the word behind `remove`.
 fn remove<A: Allocator + Copy>(words: &[&[u8]]) -> Result<Command<A>, CommandFault>
     ensures { result ≡ remove_of (map (λ w. w.now) words.now) }
 {
@@ -42,7 +40,6 @@ fn remove<A: Allocator + Copy>(words: &[&[u8]]) -> Result<Command<A>, CommandFau
     Ok(Command::Remove(number))
 }
 
-// The command of the three words behind `change`.
 fn change<A: Allocator + Copy>(words: &[&[u8]]) -> Result<Command<A>, CommandFault>
     ensures { result ≡ change_of (map (λ w. w.now) words.now) }
 {
@@ -59,7 +56,6 @@ fn change<A: Allocator + Copy>(words: &[&[u8]]) -> Result<Command<A>, CommandFau
     })
 }
 
-// The command of a name, processors, a factor and an order.
 fn scenario_made<A: Allocator + Copy>(
     name: &[u8],
     procs: &[u8],
@@ -76,7 +72,6 @@ fn scenario_made<A: Allocator + Copy>(
     Ok(Command::Scenario { name, scenario })
 }
 
-// The command of the words behind `scenario`.
 fn scenario<A: Allocator + Copy>(words: &[&[u8]]) -> Result<Command<A>, CommandFault>
     ensures { result ≡ scenario_of (map (λ w. w.now) words.now) }
 {
@@ -110,7 +105,6 @@ fn no_words(words: &[&[u8]]) -> Result<(), CommandFault>
     }
 }
 
-// The command of the words behind a keyword.
 fn command<A: Allocator + Copy>(
     alloc: A,
     keyword: Keyword,
@@ -138,7 +132,6 @@ fn command<A: Allocator + Copy>(
     }
 }
 
-// The command of the words of a line.
 fn command_of_words<A: Allocator + Copy>(
     alloc: A,
     words: &[&[u8]],

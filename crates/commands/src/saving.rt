@@ -8,7 +8,6 @@ use scenarios::{Scenario, ScenarioList};
 use std::alloc::Allocator;
 use swf_text::{Memory, SwfText};
 
-// The comment that tells of a scenario.
 fn scenario_comment<A: Allocator + Copy>(
     alloc: A,
     name: &str,
@@ -28,7 +27,6 @@ fn scenario_comment<A: Allocator + Copy>(
     Ok(comment)
 }
 
-// The comment that tells of the scenario at a place of the list.
 fn comment_at<A: Allocator + Copy>(
     alloc: A,
     scenarios: &ScenarioList<A>,

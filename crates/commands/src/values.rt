@@ -7,7 +7,6 @@ use swf_text::{Value, read_digits};
 /// The greatest job number.
 pub(crate) const JOB_LIMIT: u64 = 1_000_000_000_000;
 
-// The number that the digits of a word spell, where it is within these limits.
 pub(crate) fn number_between(word: &[u8], least: u64, most: u64) -> Option<u64>
     requires { most ≤ job_limit }
     ensures { result ≡ number_between least most word.now }
@@ -19,14 +18,12 @@ pub(crate) fn number_between(word: &[u8], least: u64, most: u64) -> Option<u64>
     Some(number)
 }
 
-// The value of a number of a log.
 pub(crate) fn value_of(word: &[u8]) -> Option<Value>
     ensures { result ≡ number_of word.now }
 {
     Value::from_bytes(word)
 }
 
-// The value of a job number in digits.
 fn job_value(word: &[u8]) -> Option<Value>
     ensures { result ≡ job_value word.now }
 {
@@ -34,7 +31,6 @@ fn job_value(word: &[u8]) -> Option<Value>
     value_of(word)
 }
 
-// Whether a value may stand at this place behind `insert`.
 fn may_stand(place: u8, value: &Value) -> bool
     ensures { result ≡ may_stand place value.now }
 {
@@ -45,7 +41,6 @@ fn may_stand(place: u8, value: &Value) -> bool
     }
 }
 
-// The value of the word at this place behind `insert`, if it may stand there.
 fn entry_value(place: u8, word: &[u8]) -> Option<Value>
     ensures { result ≡ entry_value place word.now }
 {

@@ -4,13 +4,12 @@ ghost use Rattle.swf_text.specs.Line.{fields};
 use arrayvec::ArrayVec;
 use swf_text::next_word;
 
-/// Room for a command, the eighteen words of an `insert`, and one word too many.
+/// Capacity for a command, the eighteen words of an `insert`, and one word too many.
 const WORD_ROOM: usize = 20;
 
 /// The first words of a line.
 pub(crate) type Words<'a> = ArrayVec<&'a [u8], WORD_ROOM>;
 
-// The first words of the bytes, twenty at most.
 pub(crate) fn words_of(bytes: &[u8]) -> Words<'_>
     ensures { map (λ w. w.now) result.items ≡ take 20 (fields bytes.now) }
 {

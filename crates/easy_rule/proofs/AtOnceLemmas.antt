@@ -7,14 +7,14 @@ use Rattle.std.proofs.lemmas.Bool.{cases_Bool, cond-true, cond-false, eq-eqb, tr
 use Rattle.scenarios.specs.Job.{EffectiveJob}
 use Rattle.scenarios.specs.declared.placed.Placed.{Placed}
 use Rattle.cluster_state.specs.State.{State, ClusterView, IsSound, arrived, started, free, holders, without}
-use Rattle.cluster_state.specs.Row.{in_order}
+use Rattle.cluster_state.specs.Candidates.{in_order}
 use Rattle.cluster_state.proofs.Lemmas.{in_order-All, sum_by-placed, without-last}
 use Rattle.easy_rule.specs.declared.shadow_time.Shadow.{Shadow}
 use Rattle.easy_rule.specs.Rule.{next, may_backfill, shadow_of}
-use Rattle.easy_rule.specs.Pass.{less, row, IsPass}
+use Rattle.easy_rule.specs.Pass.{less, candidates, IsPass}
 use Rattle.easy_rule.specs.Decision.{IsDecision, IsSettledFront}
 use Rattle.easy_rule.specs.AtOnce.{StartsAtOnce, with_arrival}
-use Rattle.easy_rule.proofs.NextLemmas.{Member, found-member, found-passes, in_order-member, next-row}
+use Rattle.easy_rule.proofs.NextLemmas.{Member, found-member, found-passes, in_order-member, next-candidates}
 use Rattle.easy_rule.proofs.PassLemmas.{find-none, none-passes, All-in_order, next-empty, pass-started, pass-shadow, still-refused, less-extra, ways}
 use Rattle.easy_rule.proofs.BehindLemmas.{behind-is}
 use Rattle.easy_rule.proofs.Begun.{begun-none, begun-more, begun-done, head-next}
@@ -82,16 +82,16 @@ split q (x ∷ xs) job e =
     record { passed = x ∷ r.passed; rest = r.rest; parts = ap (λ l. x ∷ l) r.parts; refused = All-cons (λ j. q j ≡ false) x r.passed n r.refused })
     (cases_Bool (q x))
 
-found-only : (q : EffectiveJob → Bool) (s : State) (job : EffectiveJob) → All (λ j. q j ≡ false) s.waiting → q job ≡ true → find q (row (arrived s job)) ≡ Some job
-found-only q s job refused may = go (find q (row (arrived s job))) refl
+found-only : (q : EffectiveJob → Bool) (s : State) (job : EffectiveJob) → All (λ j. q j ≡ false) s.waiting → q job ≡ true → find q (candidates (arrived s job)) ≡ Some job
+found-only q s job refused may = go (find q (candidates (arrived s job))) refl
   where
-    go : (o : Option EffectiveJob) → find q (row (arrived s job)) ≡ o → find q (row (arrived s job)) ≡ Some job
+    go : (o : Option EffectiveJob) → find q (candidates (arrived s job)) ≡ o → find q (candidates (arrived s job)) ≡ Some job
     go None e =
-        let all = in_order-All (λ j. q j ≡ false) s.order (s.waiting ++ job ∷ []) (none-passes q (row (arrived s job)) e) in
+        let all = in_order-All (λ j. q j ≡ false) s.order (s.waiting ++ job ∷ []) (none-passes q (candidates (arrived s job)) e) in
         absurd (true≢false (sym may ∙ last-of (λ j. q j ≡ false) s.waiting job all))
     go (Some k) e =
-        let m = in_order-member s.order (s.waiting ++ job ∷ []) k (found-member q (row (arrived s job)) k e) in
-        e ∙ ap Some (sym (only-last q s.waiting job k refused (found-passes q (row (arrived s job)) k e) m))
+        let m = in_order-member s.order (s.waiting ++ job ∷ []) k (found-member q (candidates (arrived s job)) k e) in
+        e ∙ ap Some (sym (only-last q s.waiting job k refused (found-passes q (candidates (arrived s job)) k e) m))
 
 only-behind : (s : State) (now : ℕ) (w : Shadow) (job : EffectiveJob) → IsSound (arrived s job) → IsSettledFront (arrived s job) now (length s.waiting) w → may_backfill now (free s) w job ≡ true → IsOnly s now (Some (less w now job)) job
 only-behind s now w job h settled may =
@@ -102,8 +102,8 @@ only-behind s now w job h settled may =
     let q' : EffectiveJob → Bool = may_backfill now (free u) left in
     let b = behind-is t now (length s.waiting) w settled in
     let refused : All (λ j. q j ≡ false) s.waiting = subst (λ js. All (λ j. q j ≡ false) js) (front-of s.waiting (job ∷ [])) b.refused in
-    let found : find q (row t) ≡ Some job = found-only q s job refused may in
-    let parts = split q (row t) job found in
+    let found : find q (candidates t) ≡ Some job = found-only q s job refused may in
+    let parts = split q (candidates t) job found in
     let p : IsPass t now w (job ∷ parts.rest) = record { head = b.head; later = b.later; queue = b.queue; waits = b.waits; shadow = b.shadow; passed = parts.passed; parts = parts.parts; refused = parts.refused } in
     let p' : IsPass u now left parts.rest = pass-started t now w job parts.rest h p may in
     let none = nobody-has s job h in
@@ -113,15 +113,15 @@ only-behind s now w job h settled may =
     let all : All (λ j. q' j ≡ false) u.waiting = subst (λ js. All (λ j. q' j ≡ false) js) (sym (without-last job s.waiting (omega (arith, none)))) still in
     record {
       fits = (ways now (free s) w job may).0;
-      first = next-row t now b.head b.later b.queue b.waits ∙ ap (λ v. find (may_backfill now (free t) v) (row t)) (sym b.shadow) ∙ found;
-      done = next-row u now p'.head p'.later p'.queue p'.waits ∙ ap (λ v. find (may_backfill now (free u) v) (row u)) (sym p'.shadow)
-          ∙ find-none q' (row u) (All-in_order (λ j. q' j ≡ false) s.order u.waiting all);
+      first = next-candidates t now b.head b.later b.queue b.waits ∙ ap (λ v. find (may_backfill now (free t) v) (candidates t)) (sym b.shadow) ∙ found;
+      done = next-candidates u now p'.head p'.later p'.queue p'.waits ∙ ap (λ v. find (may_backfill now (free u) v) (candidates u)) (sym p'.shadow)
+          ∙ find-none q' (candidates u) (All-in_order (λ j. q' j ≡ false) s.order u.waiting all);
       shadow = pass-shadow u now left parts.rest p';
     }
 
 -- ---- either
-pub only-one : (s : State) (now : ℕ) (known : Option Shadow) (job : EffectiveJob) → IsSound (arrived s job) → StartsAtOnce s now known job → IfSome known (λ w. IsSettledFront (arrived s job) now (length s.waiting) w)
-    → IsOnly s now (option_map (λ w. less w now job) known) job
+pub only-one : (s : State) (now : ℕ) (last_shadow : Option Shadow) (job : EffectiveJob) → IsSound (arrived s job) → StartsAtOnce s now last_shadow job → IfSome last_shadow (λ w. IsSettledFront (arrived s job) now (length s.waiting) w)
+    → IsOnly s now (option_map (λ w. less w now job) last_shadow) job
 only-one s now None job h starts settled = only-alone s now job h starts.0 starts.1
 only-one s now (Some w) job h starts settled = only-behind s now w job h settled starts
 
@@ -133,9 +133,9 @@ only-decides old new now left job jobs h only is spare e =
     begun-done v new now jobs (ap (λ (z : State). next z now) is ∙ only.done) (begun-more v v new now [] jobs job h only.first is spare e (begun-none v now [] refl))
 
 -- and leaves this shadow
-pub only-leaves : (s new : State) (now : ℕ) (known left : Option Shadow) (job : EffectiveJob) → IsOnly s now (option_map (λ w. less w now job) known) job → new ≡ started (arrived s job) job now → left ≡ option_map (λ w. less w now job) known
+pub only-leaves : (s new : State) (now : ℕ) (last_shadow left : Option Shadow) (job : EffectiveJob) → IsOnly s now (option_map (λ w. less w now job) last_shadow) job → new ≡ started (arrived s job) job now → left ≡ option_map (λ w. less w now job) last_shadow
     → IfSome left (λ w. shadow_of new ≡ Some w)
-only-leaves s new now known left job only is e =
-    let moved : IfSome (option_map (λ w. less w now job) known) (λ w. shadow_of new ≡ Some w) =
-    subst (λ (z : State). IfSome (option_map (λ w. less w now job) known) (λ w. shadow_of z ≡ Some w)) (sym is) only.shadow in
+only-leaves s new now last_shadow left job only is e =
+    let moved : IfSome (option_map (λ w. less w now job) last_shadow) (λ w. shadow_of new ≡ Some w) =
+    subst (λ (z : State). IfSome (option_map (λ w. less w now job) last_shadow) (λ w. shadow_of z ≡ Some w)) (sym is) only.shadow in
     subst (λ (o : Option Shadow). IfSome o (λ w. shadow_of new ≡ Some w)) (sym e) moved

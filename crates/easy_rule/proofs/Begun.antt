@@ -8,11 +8,11 @@ use Rattle.cluster_state.specs.State.{State, ClusterView, IsSound, free, started
 use Rattle.cluster_state.proofs.Lemmas.{sum_by-placed, All-find}
 use Rattle.easy_rule.specs.Rule.{next, next_of, state_after, starts_at}
 use Rattle.easy_rule.specs.Pass.{most_starts, start_at, AreStarted}
-use Rattle.easy_rule.specs.Decision.{HasRoom, IsBegun, IsDecision}
+use Rattle.easy_rule.specs.Decision.{HasCapacity, IsBegun, IsDecision}
 use Rattle.easy_rule.proofs.NextLemmas.{found-member, next-found, next-fits, length-without}
 use Rattle.easy_rule.proofs.PassLemmas.{state_after-started, starts_at-started, state_after-done, starts_at-done}
 
--- each start leaves room for one start less
+-- each start leaves capacity for one start less
 pub fewer-started : (s : State) (now : ℕ) (job : EffectiveJob) → IsSound s → waiting_job s job.number ≡ Some job → job.size ≤ free s → most_starts (started s job now) + 1 ≤ most_starts s
 fewer-started s now job h found fits =
     let p = λ (j : EffectiveJob). nat_eq j.number job.number in
@@ -33,20 +33,20 @@ next-shorter s t now job h e is =
     let here = ap (λ (z : State). length z.waiting) is in
     omega (arith, less, here)
 
--- there is room for it, and then for all that can follow
-pub room-now : (c : ClusterView) (now len capacity : ℕ) (job : EffectiveJob) → IsSound c.state → next c.state now ≡ Some job → HasRoom c len capacity → (1 ≤ c.spare) × (len + 1 ≤ capacity)
-room-now c now len capacity job h e room =
+-- there is capacity for it, and then for all that can follow
+pub capacity-now : (c : ClusterView) (now len capacity : ℕ) (job : EffectiveJob) → IsSound c.state → next c.state now ≡ Some job → HasCapacity c len capacity → (1 ≤ c.spare) × (len + 1 ≤ capacity)
+capacity-now c now len capacity job h e enough =
     let some = next-some c.state now job h e in
-    let spare = room.spare in
-    let list = room.list in
+    let spare = enough.spare in
+    let list = enough.list in
     (omega (arith, some, spare), omega (arith, some, list))
 
-pub room-then : (c d : ClusterView) (now len capacity len' capacity' : ℕ) (job : EffectiveJob) → IsSound c.state → next c.state now ≡ Some job → HasRoom c len capacity → d.state ≡ started c.state job now → c.spare ≤ d.spare + 1 → len' ≡ len + 1 → capacity ≤ capacity' → HasRoom d len' capacity'
-room-then c d now len capacity len' capacity' job h e room is spare longer wide =
+pub capacity-then : (c d : ClusterView) (now len capacity len' capacity' : ℕ) (job : EffectiveJob) → IsSound c.state → next c.state now ≡ Some job → HasCapacity c len capacity → d.state ≡ started c.state job now → c.spare ≤ d.spare + 1 → len' ≡ len + 1 → capacity ≤ capacity' → HasCapacity d len' capacity'
+capacity-then c d now len capacity len' capacity' job h e enough is spare longer wide =
     let some = next-some c.state now job h e in
     let most = ap most_starts is in
-    let had = room.spare in
-    let list = room.list in
+    let had = enough.spare in
+    let list = enough.list in
     record { spare = omega (arith, some, most, had, spare); list = omega (arith, some, most, list, longer, wide) }
 
 -- ---- one more has started
@@ -68,7 +68,7 @@ started-more s r t now xs job h found fits e = record {
 pub begun-none : (c : ClusterView) (now : ℕ) (jobs : List EffectiveJob) → jobs ≡ [] → IsBegun c c now jobs
 begun-none c now jobs e =
     subst (IsBegun c c now) (sym e)
-    (record { state = refl; starts = refl; started = record { can = tt; state = refl }; room = omega arith; few = omega arith })
+    (record { state = refl; starts = refl; started = record { can = tt; state = refl }; capacity = omega arith; few = omega arith })
 
 pub begun-more : (old mid new : ClusterView) (now : ℕ) (jobs more : List EffectiveJob) (job : EffectiveJob) → IsSound mid.state → next mid.state now ≡ Some job → new.state ≡ started mid.state job now → mid.spare ≤ new.spare + 1
     → more ≡ jobs ++ job ∷ [] → IsBegun old mid now jobs → IsBegun old new now more
@@ -76,8 +76,8 @@ begun-more old mid new now jobs more job h e is spare m b =
     let found = next-found mid.state now job h e in
     let fits = next-fits mid.state now job e in
     let after = state_after-started mid.state now job e in
-    let told : starts_at mid.state now ≡ start_at now job ∷ starts_at new.state now = starts_at-started mid.state now job e ∙ ap (λ (z : State). start_at now job ∷ starts_at z now) (sym is) in
-    let room = b.room in
+    let outcome : starts_at mid.state now ≡ start_at now job ∷ starts_at new.state now = starts_at-started mid.state now job e ∙ ap (λ (z : State). start_at now job ∷ starts_at z now) (sym is) in
+    let capacity = b.capacity in
     let few = b.few in
     let most = ap most_starts is in
     subst (IsBegun old new now) (sym m)
@@ -85,9 +85,9 @@ begun-more old mid new now jobs more job h e is spare m b =
       state = ap (λ (z : State). state_after z now) is ∙ after ∙ b.state;
       starts =
           ap (λ l. l ++ starts_at new.state now) (map-append (start_at now) jobs (job ∷ [])) ∙ append_assoc (map (start_at now) jobs) (start_at now job ∷ []) (starts_at new.state now)
-          ∙ ap (λ l. map (start_at now) jobs ++ l) (sym told) ∙ b.starts;
+          ∙ ap (λ l. map (start_at now) jobs ++ l) (sym outcome) ∙ b.starts;
       started = started-more old.state mid.state new.state now jobs job b.started found fits is;
-      room = omega (arith, room, spare, length_push jobs job);
+      capacity = omega (arith, capacity, spare, length_push jobs job);
       few = omega (arith, few, most, fewer-started mid.state now job h found fits, length_push jobs job);
     })
 
@@ -99,7 +99,7 @@ begun-done old new now jobs e b =
       state = sym (state_after-done new.state now e) ∙ b.state;
       starts = sym (ap (λ l. map (start_at now) jobs ++ l) (starts_at-done new.state now e) ∙ append-nil (map (start_at now) jobs)) ∙ b.starts;
       started = b.started;
-      room = b.room;
+      capacity = b.capacity;
       few = omega (arith, few);
     }
 

@@ -9,17 +9,17 @@ use Rattle.scenarios.specs.Job.{EffectiveJob}
 use Rattle.scenarios.specs.declared.order.Order.{Order}
 use Rattle.scenarios.specs.declared.order.Order.TheVariants.{Arrival, Shortest}
 use Rattle.cluster_state.specs.State.{State, ClusterView, free}
-use Rattle.cluster_state.specs.Row.{in_order, IsRow}
+use Rattle.cluster_state.specs.Candidates.{in_order, AreCandidates}
 use Rattle.cluster_state.proofs.Lemmas.{in_order-All}
 use Rattle.easy_rule.specs.declared.shadow_time.Shadow.{Shadow}
 use Rattle.easy_rule.specs.Rule.{shadow_for, next, next_of, may_backfill, shadow_at, shadow_time}
-use Rattle.easy_rule.specs.Pass.{row, row_from, front, IsPass}
+use Rattle.easy_rule.specs.Pass.{candidates, candidates_from, front, IsPass}
 use Rattle.easy_rule.specs.Decision.{IsSettledFront}
-use Rattle.easy_rule.proofs.NextLemmas.{next-row, too-large}
+use Rattle.easy_rule.proofs.NextLemmas.{next-candidates, too-large}
 use Rattle.easy_rule.proofs.PassLemmas.{find-none, none-passes, All-in_order}
 
-known-is : (s : State) (head : EffectiveJob) (rest : List EffectiveJob) (w : Shadow) → free s < head.size → shadow_for s (head ∷ rest) ≡ Some w → w ≡ shadow_at s head.size
-known-is s head rest w waits e =
+last_shadow-is : (s : State) (head : EffectiveJob) (rest : List EffectiveJob) (w : Shadow) → free s < head.size → shadow_for s (head ∷ rest) ≡ Some w → w ≡ shadow_at s head.size
+last_shadow-is s head rest w waits e =
     let k : Some (shadow_at s head.size) ≡ Some w = sym (cond-false (nat_le head.size (free s)) None (Some (shadow_at s head.size)) (lt-leb head.size (free s) waits)) ∙ e in
     cc
 
@@ -49,11 +49,11 @@ pub behind-is : (s : State) (now n : ℕ) (w : Shadow) → IsSettledFront s now 
 behind-is s now n w f = go s.waiting refl f.shadow f.settled
   where
     go : (js : List EffectiveJob) → s.waiting ≡ js → shadow_for s js ≡ Some w → next_of (front s n) now (take n js) ≡ None → IsBehind s now w n
-    go [] queue known e = cc
-    go (head ∷ rest) queue known e =
+    go [] queue last_shadow e = cc
+    go (head ∷ rest) queue last_shadow e =
         ⊎_elim
         (λ (waits : free s < head.size).
-        let is = known-is s head rest w waits known in
+        let is = last_shadow-is s head rest w waits last_shadow in
         record {
           head = head;
           later = rest;
@@ -63,7 +63,7 @@ behind-is s now n w f = go s.waiting refl f.shadow f.settled
           refused = subst (λ js. All (λ j. may_backfill now (free s) w j ≡ false) (take n js)) (sym queue) (front-refused s now n w head rest waits is e);
         })
         (λ (fits : head.size ≤ free s).
-        let never : None ≡ Some w = sym (cond-true (nat_le head.size (free s)) None (Some (shadow_at s head.size)) (le-leb head.size (free s) fits)) ∙ known in
+        let never : None ≡ Some w = sym (cond-true (nat_le head.size (free s)) None (Some (shadow_at s head.size)) (le-leb head.size (free s) fits)) ∙ last_shadow in
         cc)
         (cases_lt (free s) head.size)
 
@@ -73,14 +73,14 @@ behind-done s now n w b none =
     let q = may_backfill now (free s) w in
     let fresh : All (λ j. q j ≡ false) (drop n s.waiting) = (λ k d l. false_from_ne_true (q (get_or (drop n s.waiting) k d)) (λ yes'. true≢false (sym (list_any_at q (drop n s.waiting) k d l yes') ∙ none))) in
     let all : All (λ j. q j ≡ false) s.waiting = subst (λ js. All (λ j. q j ≡ false) js) (take-append-drop n s.waiting) (All-append (λ j. q j ≡ false) (take n s.waiting) (drop n s.waiting) b.refused fresh) in
-    next-row s now b.head b.later b.queue b.waits ∙ ap (λ v. find (may_backfill now (free s) v) (row s)) (sym b.shadow)
-    ∙ find-none q (row s) (All-in_order (λ j. q j ≡ false) s.order s.waiting all)
+    next-candidates s now b.head b.later b.queue b.waits ∙ ap (λ v. find (may_backfill now (free s) v) (candidates s)) (sym b.shadow)
+    ∙ find-none q (candidates s) (All-in_order (λ j. q j ≡ false) s.order s.waiting all)
 
 -- the pass begins behind the settled ones in order of arrival, and at the front of the row by estimate
-pub behind-pass : (c : ClusterView) (now n place : ℕ) (w : Shadow) → IsRow c → (c.state.order ≡ Arrival → row_from c place ≡ drop n c.state.waiting) → (c.state.order ≡ Shortest → place ≡ 0) → IsBehind c.state now w n → IsPass c.state now w (row_from c place)
+pub behind-pass : (c : ClusterView) (now n place : ℕ) (w : Shadow) → AreCandidates c → (c.state.order ≡ Arrival → candidates_from c place ≡ drop n c.state.waiting) → (c.state.order ≡ Shortest → place ≡ 0) → IsBehind c.state now w n → IsPass c.state now w (candidates_from c place)
 behind-pass c now n place w stands arrival shortest b = go c.state.order refl
   where
-    go : (o : Order) → c.state.order ≡ o → IsPass c.state now w (row_from c place)
+    go : (o : Order) → c.state.order ≡ o → IsPass c.state now w (candidates_from c place)
     go Arrival by = record {
       head = b.head;
       later = b.later;
@@ -98,7 +98,7 @@ behind-pass c now n place w stands arrival shortest b = go c.state.order refl
       waits = b.waits;
       shadow = b.shadow;
       passed = [];
-      parts = sym (ap (row_from c) (shortest by) ∙ stands);
+      parts = sym (ap (candidates_from c) (shortest by) ∙ stands);
       refused = All-nil (λ j. may_backfill now (free c.state) w j ≡ false);
     }
 
@@ -106,8 +106,8 @@ behind-pass c now n place w stands arrival shortest b = go c.state.order refl
 pub behind-none : (s : State) (now n : ℕ) (w : Shadow) → IsBehind s now w n → next s now ≡ None → list_any (may_backfill now (free s) w) (drop n s.waiting) ≡ false
 behind-none s now n w b e =
     let q = may_backfill now (free s) w in
-    let none : find q (row s) ≡ None = sym (next-row s now b.head b.later b.queue b.waits ∙ ap (λ v. find (may_backfill now (free s) v) (row s)) (sym b.shadow)) ∙ e in
-    let all = in_order-All (λ j. q j ≡ false) s.order s.waiting (none-passes q (row s) none) in
+    let none : find q (candidates s) ≡ None = sym (next-candidates s now b.head b.later b.queue b.waits ∙ ap (λ v. find (may_backfill now (free s) v) (candidates s)) (sym b.shadow)) ∙ e in
+    let all = in_order-All (λ j. q j ≡ false) s.order s.waiting (none-passes q (candidates s) none) in
     list_any_none q (drop n s.waiting) (All-drop n s.waiting all)
   where
     All-drop : (n : ℕ) (xs : List EffectiveJob) → All (λ j. may_backfill now (free s) w j ≡ false) xs → All (λ j. may_backfill now (free s) w j ≡ false) (drop n xs)

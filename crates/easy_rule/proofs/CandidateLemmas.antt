@@ -7,38 +7,38 @@ use Rattle.waiting_places.specs.Offers.{holds}
 use Rattle.waiting_places.specs.Places.{IsFirst, at_place, waiting}
 use Rattle.waiting_places.specs.declared.offer.Offer.{Offer}
 use Rattle.cluster_state.specs.State.{State, ClusterView, IsSound, free, started}
-use Rattle.cluster_state.specs.Row.{IsRow, fits_offer}
+use Rattle.cluster_state.specs.Candidates.{AreCandidates, fits_offer}
 use Rattle.easy_rule.specs.declared.shadow_time.Shadow.{Shadow}
 use Rattle.easy_rule.specs.Rule.{next, may_backfill, shadow_at}
-use Rattle.easy_rule.specs.Pass.{less, row_from, IsCandidate, IsPass}
+use Rattle.easy_rule.specs.Pass.{less, candidates_from, IsCandidate, IsPass}
 use Rattle.easy_rule.proofs.PassLemmas.{All-in_order, pass-over, pass-next, pass-done, pass-started}
 use Rattle.easy_rule.proofs.PlaceLemmas.{first-same, skips, passes-at, waiting-at, past}
 
 -- the offer and the rule let the same jobs start
-pub offer-first : (c : ClusterView) (now room : ℕ) (w : Shadow) (offer : Offer) (from : ℕ) (r : Option ℕ) → IsSound c.state → IsRow c → room ≡ free c.state
-    → ((j : EffectiveJob) → IsWithinLimits j → fits_offer offer j ≡ may_backfill now room w j)
+pub offer-first : (c : ClusterView) (now capacity : ℕ) (w : Shadow) (offer : Offer) (from : ℕ) (r : Option ℕ) → IsSound c.state → AreCandidates c → capacity ≡ free c.state
+    → ((j : EffectiveJob) → IsWithinLimits j → fits_offer offer j ≡ may_backfill now capacity w j)
     → IsFirst (holds (fits_offer offer)) c.places from (length c.places) r → IsFirst (holds (may_backfill now (free c.state) w)) c.places from (length c.places) r
-offer-first c now room w offer from r h stands is same first =
+offer-first c now capacity w offer from r h stands is same first =
     let limits : All IsWithinLimits (waiting c.places) = subst (All IsWithinLimits) (sym stands) (All-in_order IsWithinLimits c.state.order c.state.waiting h.waiting_limits) in
     first-same (fits_offer offer) (may_backfill now (free c.state) w) c.places from (length c.places) r
     (All-weaker IsWithinLimits (λ j. fits_offer offer j ≡ may_backfill now (free c.state) w j) (λ j l. same j l ∙ ap (λ n. may_backfill now n w j) is) (waiting c.places) limits) first
 
-module _ (c : ClusterView) (now : ℕ) (w : Shadow) (from : ℕ) (p : IsPass c.state now w (row_from c from)) where
+module _ (c : ClusterView) (now : ℕ) (w : Shadow) (from : ℕ) (p : IsPass c.state now w (candidates_from c from)) where
   -- the first place at which one may start
   pub candidate-at : (place : ℕ) → IsFirst (holds (may_backfill now (free c.state) w)) c.places from (length c.places) (Some place) → (job : EffectiveJob) × IsCandidate c now w place job
   candidate-at place first =
       let q = may_backfill now (free c.state) w in
       let s = skips q c.places from place first.0 first.3 in
       let x = passes-at q c.places place first.2 in
-      let on : IsPass c.state now w (row_from c place) = pass-over c.state now w (row_from c from) s.skip (row_from c place) p s.parts s.refused in
-      let here : IsPass c.state now w (x.0 ∷ row_from c (place + 1)) = subst (IsPass c.state now w) (waiting-at c.places place x.0 x.1) on in
-      (x.0, record { stands = x.1; may = x.2; found = pass-next c.state now w x.0 (row_from c (place + 1)) here x.2; pass = on })
+      let on : IsPass c.state now w (candidates_from c place) = pass-over c.state now w (candidates_from c from) s.skip (candidates_from c place) p s.parts s.refused in
+      let here : IsPass c.state now w (x.0 ∷ candidates_from c (place + 1)) = subst (IsPass c.state now w) (waiting-at c.places place x.0 x.1) on in
+      (x.0, record { stands = x.1; may = x.2; found = pass-next c.state now w x.0 (candidates_from c (place + 1)) here x.2; pass = on })
 
   -- where there is none nobody is next
   pub candidate-none : IsFirst (holds (may_backfill now (free c.state) w)) c.places from (length c.places) None → next c.state now ≡ None
   candidate-none none =
       let q = may_backfill now (free c.state) w in
-      pass-done c.state now w (row_from c from) p
+      pass-done c.state now w (candidates_from c from) p
       (⊎_elim
       (λ (l : length c.places < from).
       subst (All (λ j. q j ≡ false)) (sym (past c.places from (omega (arith, l)))) (All-nil (λ j. q j ≡ false)))
@@ -54,20 +54,20 @@ candidate-starts c m d now w place job same k is =
     (subst (λ (v : ClusterView). IfSome (at_place v.places place) (λ j. d.state ≡ started v.state j now)) same is)
 
 -- the pass goes on behind who starts
-pub candidate-started : (c m d : ClusterView) (now : ℕ) (w w' : Shadow) (place from : ℕ) (job : EffectiveJob) → m ≡ c → IsSound c.state → IsCandidate c now w place job → d.state ≡ started c.state job now → row_from d from ≡ row_from m (place + 1) → w' ≡ less w now job
-    → IsPass d.state now w' (row_from d from)
+pub candidate-started : (c m d : ClusterView) (now : ℕ) (w w' : Shadow) (place from : ℕ) (job : EffectiveJob) → m ≡ c → IsSound c.state → IsCandidate c now w place job → d.state ≡ started c.state job now → candidates_from d from ≡ candidates_from m (place + 1) → w' ≡ less w now job
+    → IsPass d.state now w' (candidates_from d from)
 candidate-started c m d now w w' place from job same h k e rest is =
-    let here : IsPass c.state now w (job ∷ row_from c (place + 1)) = subst (IsPass c.state now w) (waiting-at c.places place job k.stands) k.pass in
-    let on = pass-started c.state now w job (row_from c (place + 1)) h here k.may in
-    let left : row_from d from ≡ row_from c (place + 1) = rest ∙ ap (λ (v : ClusterView). row_from v (place + 1)) same in
-    subst (λ (v : Shadow). IsPass d.state now v (row_from d from)) (sym is)
-    (subst (λ (s : State). IsPass s now (less w now job) (row_from d from)) (sym e) (subst (IsPass (started c.state job now) now (less w now job)) (sym left) on))
+    let here : IsPass c.state now w (job ∷ candidates_from c (place + 1)) = subst (IsPass c.state now w) (waiting-at c.places place job k.stands) k.pass in
+    let on = pass-started c.state now w job (candidates_from c (place + 1)) h here k.may in
+    let left : candidates_from d from ≡ candidates_from c (place + 1) = rest ∙ ap (λ (v : ClusterView). candidates_from v (place + 1)) same in
+    subst (λ (v : Shadow). IsPass d.state now v (candidates_from d from)) (sym is)
+    (subst (λ (s : State). IsPass s now (less w now job) (candidates_from d from)) (sym e) (subst (IsPass (started c.state job now) now (less w now job)) (sym left) on))
 
 -- ---- where a pass begins
-pub pass-first : (c : ClusterView) (now need : ℕ) (w : Shadow) (head : EffectiveJob) → IsRow c → slice_get c.state.waiting 0 ≡ Some head → need ≡ head.size → free c.state < need → w ≡ shadow_at c.state need → IsPass c.state now w (row_from c 0)
+pub pass-first : (c : ClusterView) (now need : ℕ) (w : Shadow) (head : EffectiveJob) → AreCandidates c → slice_get c.state.waiting 0 ≡ Some head → need ≡ head.size → free c.state < need → w ≡ shadow_at c.state need → IsPass c.state now w (candidates_from c 0)
 pass-first c now need w head stands first n waits is = go c.state.waiting refl first
   where
-    go : (js : List EffectiveJob) → c.state.waiting ≡ js → slice_get js 0 ≡ Some head → IsPass c.state now w (row_from c 0)
+    go : (js : List EffectiveJob) → c.state.waiting ≡ js → slice_get js 0 ≡ Some head → IsPass c.state now w (candidates_from c 0)
     go [] queue e = cc
     go (j ∷ js) queue e =
         let same : j ≡ head = cc in
@@ -82,8 +82,8 @@ pass-first c now need w head stands first n waits is = go c.state.waiting refl f
           refused = All-nil (λ j. may_backfill now (free c.state) w j ≡ false);
         }
 
-pub pass-begins : (c : ClusterView) (now room need : ℕ) (w : Shadow) (head : EffectiveJob) → IsRow c → Some head ≡ slice_get c.state.waiting 0 → room ≡ free c.state → need ≡ head.size → room < need → w ≡ shadow_at c.state need → IsPass c.state now w (row_from c 0)
-pass-begins c now room need w head stands first f n waits is = pass-first c now need w head stands (sym first) n (omega (arith, f, waits)) is
+pub pass-begins : (c : ClusterView) (now capacity need : ℕ) (w : Shadow) (head : EffectiveJob) → AreCandidates c → Some head ≡ slice_get c.state.waiting 0 → capacity ≡ free c.state → need ≡ head.size → capacity < need → w ≡ shadow_at c.state need → IsPass c.state now w (candidates_from c 0)
+pass-begins c now capacity need w head stands first f n waits is = pass-first c now need w head stands (sym first) n (omega (arith, f, waits)) is
 
 -- the job that is found at a candidate's place is the candidate
 pub candidate-is : (c d : ClusterView) (now : ℕ) (w : Shadow) (place : ℕ) (job : EffectiveJob) → d ≡ c → Some job ≡ at_place d.places place → ((j : EffectiveJob) × IsCandidate c now w place j) → IsCandidate c now w place job

@@ -5,7 +5,7 @@ use Rattle.std.proofs.lemmas.List.Elements.{All-head, All-nil, All-cons}
 use Rattle.std.proofs.lemmas.Bool.{cond-true, cond-false, cases_Bool, le-leb, false_from_ne_true, or_left, or_right, and_from, true≢false}
 use Rattle.scenarios.specs.Job.{EffectiveJob}
 use Rattle.cluster_state.specs.State.{State, IsSound, free, started}
-use Rattle.cluster_state.specs.Row.{in_order}
+use Rattle.cluster_state.specs.Candidates.{in_order}
 use Rattle.scenarios.specs.declared.placed.Placed.{Placed}
 use Rattle.cluster_state.proofs.Lemmas.{sum_by-without, sound-started}
 use Rattle.easy_rule.specs.declared.shadow_time.Shadow.{Shadow}
@@ -48,13 +48,13 @@ decided-done (suc n) s now l =
     (cases_option (next s now))
 
 -- where nobody runs and nobody is next, nobody waits
-pub nobody-waits : (s : State) (now : ℕ) (js : List EffectiveJob) → All (λ j. j.size ≤ s.machine) js → s.running ≡ [] → next_of s now js ≡ None → js ≡ []
+pub nobody-waits : (s : State) (now : ℕ) (js : List EffectiveJob) → All (λ j. j.size ≤ s.procs) js → s.running ≡ [] → next_of s now js ≡ None → js ≡ []
 nobody-waits s now [] a f e = refl
 nobody-waits s now (head ∷ rest) a f e =
-    let fits = All-head (λ (j : EffectiveJob). j.size ≤ s.machine) head rest a in
+    let fits = All-head (λ (j : EffectiveJob). j.size ≤ s.procs) head rest a in
     let none = ap (λ rs. sum_by (λ (r : Placed). r.job.size) rs) f in
-    let room : head.size ≤ free s = omega (arith, fits, none) in
-    let k : Some head ≡ None = sym (cond-true (nat_le head.size (free s)) (Some head) (find (may_backfill now (free s) (shadow_at s head.size)) (in_order s.order rest)) (le-leb head.size (free s) room)) ∙ e in
+    let capacity : head.size ≤ free s = omega (arith, fits, none) in
+    let k : Some head ≡ None = sym (cond-true (nat_le head.size (free s)) (Some head) (find (may_backfill now (free s) (shadow_at s head.size)) (in_order s.order rest)) (le-leb head.size (free s) capacity)) ∙ e in
     cc
 
 -- all starts of a decision are of its second
@@ -73,11 +73,11 @@ starts-now (suc n) s now =
     (cases_option (next s now))
 
 -- who leaves the queue is told
-pub told : (n k : ℕ) (s : State) (now : ℕ) → now < 2 ^ 49 → IsSound s
+pub outcome : (n k : ℕ) (s : State) (now : ℕ) → now < 2 ^ 49 → IsSound s
     → count_by (λ (x : Start). nat_eq x.number n) (decisions k s now) + count_by (λ (j : EffectiveJob). nat_eq j.number n) (decided k s now).waiting ≡ count_by (λ (j : EffectiveJob). nat_eq j.number n) s.waiting
 unfolding decisions decided
-told n zero s now small h = omega arith
-told n (suc k) s now small h =
+outcome n zero s now small h = omega arith
+outcome n (suc k) s now small h =
     let c : List Start → ℕ = λ l. count_by (λ (x : Start). nat_eq x.number n) l in
     let w : State → ℕ = λ z. count_by (λ (j : EffectiveJob). nat_eq j.number n) z.waiting in
     ⊎_elim
@@ -93,15 +93,15 @@ told n (suc k) s now small h =
     let x : Start = record { number = job.number; at = now } in
     let a = ap c (decisions-start (suc k) s job now (omega arith) f.1 ∙ ap (λ m. x ∷ decisions m s' now) one) in
     let b = ap w (decided-start (suc k) s job now (omega arith) f.1 ∙ ap (λ m. decided m s' now) one) in
-    let i = told n k s' now small (sound-started s job now h found (next-fits s now job f.1) small) in
+    let i = outcome n k s' now small (sound-started s job now h found (next-fits s now job f.1) small) in
     omega (arith, a, b, i, sum_by-cons (λ (x : Start). cond (nat_eq x.number n) 1 0) x (decisions k s' now), sum_by-without (λ (j : EffectiveJob). cond (nat_eq j.number n) 1 0) job.number s.waiting job found))
     (cases_option (next s now))
 
 -- who may not be backfilled now may not be later
-later-refused : (now later room : ℕ) (w : Shadow) (job : EffectiveJob) → now ≤ later → may_backfill now room w job ≡ false → may_backfill later room w job ≡ false
-later-refused now later room w job l no' =
-    false_from_ne_true (may_backfill later room w job) (λ yes'.
-    let v = ways later room w job yes' in
+later-refused : (now later capacity : ℕ) (w : Shadow) (job : EffectiveJob) → now ≤ later → may_backfill now capacity w job ≡ false → may_backfill later capacity w job ≡ false
+later-refused now later capacity w job l no' =
+    false_from_ne_true (may_backfill later capacity w job) (λ yes'.
+    let v = ways later capacity w job yes' in
     let t = nat_le (now + job.estimate) w.time in
     let x = nat_le job.size w.extra in
     let either : (t || x) ≡ true =
@@ -109,7 +109,7 @@ later-refused now later room w job l no' =
     (λ (e : later + job.estimate ≤ w.time). or_left t x (le-leb (now + job.estimate) w.time (omega arith)))
     (λ (e : job.size ≤ w.extra). or_right t x (le-leb job.size w.extra e))
     v.1 in
-    let again : may_backfill now room w job ≡ true = and_from (nat_le job.size room) (t || x) (le-leb job.size room v.0) either in
+    let again : may_backfill now capacity w job ≡ true = and_from (nat_le job.size capacity) (t || x) (le-leb job.size capacity v.0) either in
     true≢false (sym again ∙ no'))
 
 find-weaker : {X : Type 0} (p q : X → Bool) (xs : List X) → ((x : X) → p x ≡ false → q x ≡ false) → find p xs ≡ None → find q xs ≡ None
@@ -140,12 +140,12 @@ take-front [] ys = refl
 take-front (x ∷ xs) ys = ap (λ l. x ∷ l) (take-front xs ys)
 
 -- who joins the queue leaves the shadow as it is
-shadow-behind : (s z : State) (queue js : List EffectiveJob) (w : Shadow) → z.machine ≡ s.machine → z.running ≡ s.running → shadow_for s queue ≡ Some w → shadow_for z (queue ++ js) ≡ Some w
+shadow-behind : (s z : State) (queue js : List EffectiveJob) (w : Shadow) → z.procs ≡ s.procs → z.running ≡ s.running → shadow_for s queue ≡ Some w → shadow_for z (queue ++ js) ≡ Some w
 unfolding shadow_time
 shadow-behind s z [] js w m r e = cc
 shadow-behind s z (head ∷ rest) js w m r e = rw (m, r) e
 
 pub arrivals-unsettle-nobody : ArrivalsUnsettleNobody
 arrivals-unsettle-nobody s js now settled =
-    let is : front (joined s js) (length s.waiting) ≡ s = ap (λ (w : List EffectiveJob). let z : State = record { machine = s.machine; order = s.order; waiting = w; running = s.running } in z) (take-front s.waiting js) in
-    (ap (λ (z : State). next z now) is ∙ settled, λ w known. shadow-behind s (joined s js) s.waiting js w refl refl known)
+    let is : front (joined s js) (length s.waiting) ≡ s = ap (λ (w : List EffectiveJob). let z : State = record { procs = s.procs; order = s.order; waiting = w; running = s.running } in z) (take-front s.waiting js) in
+    (ap (λ (z : State). next z now) is ∙ settled, λ w last_shadow. shadow-behind s (joined s js) s.waiting js w refl refl last_shadow)

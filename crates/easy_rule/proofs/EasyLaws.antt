@@ -8,11 +8,11 @@ use Rattle.easy_rule.specs.Rule.{state_after, starts_at}
 use Rattle.easy_rule.specs.RuleLaws.{IsSettled, Settles, Keeps, Conserves, EasyIsARule}
 use Rattle.easy_rule.proofs.NextLemmas.{All-member, next-facts, next-found, next-fits}
 use Rattle.easy_rule.proofs.PassLemmas.{state_after-done, starts_at-done}
-use Rattle.easy_rule.proofs.Decisions.{decided-keeps, decided-done, starts-now, told, next-later}
+use Rattle.easy_rule.proofs.Decisions.{decided-keeps, decided-done, starts-now, outcome, next-later}
 
 easy-settles : Settles IsSettled state_after starts_at
 easy-settles = record {
-  empty_machine = λ machine order now. refl;
+  empty_machine = λ procs order now. refl;
   after_decision = λ s now. decided-done (length s.waiting) s now (omega arith);
   at_later_second = λ s now later l e. next-later s now later s.waiting l e;
   state_stays = λ s now e. state_after-done s now e;
@@ -21,7 +21,7 @@ easy-settles = record {
 
 easy-keeps : Keeps state_after starts_at
 easy-keeps = record {
-  machine = λ s now. decided-keeps (λ z. z.machine ≡ s.machine) now (λ z job e h. h) (length s.waiting) s refl;
+  procs = λ s now. decided-keeps (λ z. z.procs ≡ s.procs) now (λ z job e h. h) (length s.waiting) s refl;
   order = λ s now. decided-keeps (λ z. z.order ≡ s.order) now (λ z job e h. h) (length s.waiting) s refl;
   sound = λ s now small h. decided-keeps IsSound now (λ z job e h. sound-started z job now h (next-found z now job h e) (next-fits z now job e) small) (length s.waiting) s h;
   waits = λ p s now a.
@@ -49,7 +49,7 @@ easy-conserves = record {
         omega (arith, k.1, sum_by-placed (λ (r : Placed). f r.job) (record { job = job; start = now }) z.running, sum_by-without f job.number z.waiting job found),
       ))
       (length s.waiting) s (h, refl)).1;
-  told = λ n s now small h. told n (length s.waiting) s now small h;
+  outcome = λ n s now small h. outcome n (length s.waiting) s now small h;
 }
 
 pub easy-is-a-rule : EasyIsARule

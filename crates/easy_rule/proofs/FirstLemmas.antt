@@ -6,7 +6,7 @@ use Rattle.scenarios.specs.Job.{EffectiveJob}
 use Rattle.scenarios.specs.declared.order.Order.{Order}
 use Rattle.scenarios.specs.declared.order.Order.TheVariants.{Arrival, Shortest}
 use Rattle.cluster_state.specs.State.{free}
-use Rattle.cluster_state.specs.Row.{put, by_estimate, in_order}
+use Rattle.cluster_state.specs.Candidates.{put, by_estimate, in_order}
 use Rattle.cluster_state.proofs.Lemmas.{RisesByEstimate, put-before, put-behind, rises-by_estimate, find-put, by_estimate-All, in_order-All}
 use Rattle.easy_rule.specs.Rule.{next, next_of, may_backfill, shadow_at}
 use Rattle.easy_rule.specs.Laws.{IsFirst, IsNotAfter, NextIsTheFirst}

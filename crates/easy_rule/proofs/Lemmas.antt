@@ -6,4 +6,4 @@ pub use Rattle.easy_rule.proofs.NextLemmas.{Member, found-member, find-member, f
 -- who is not found does not pass, and what a pass that is done leaves
 pub use Rattle.easy_rule.proofs.PassLemmas.{time-kept, find-none, none-passes, state_after-done, starts_at-done}
 -- all starts of one second: what they keep, what they leave, and when they are done
-pub use Rattle.easy_rule.proofs.Decisions.{cases_option, decided-keeps, decided-done, nobody-waits, starts-now, told, next-later, arrivals-unsettle-nobody}
+pub use Rattle.easy_rule.proofs.Decisions.{cases_option, decided-keeps, decided-done, nobody-waits, starts-now, outcome, next-later, arrivals-unsettle-nobody}

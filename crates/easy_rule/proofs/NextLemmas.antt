@@ -6,7 +6,7 @@ use Rattle.std.proofs.lemmas.List.Elements.{All-head, All-tail}
 use Rattle.std.proofs.lemmas.Bool.{leb-true, lt-leb, cases_Bool, cond-true, cond-false, eq-eqb, and_parts, true≢false}
 use Rattle.scenarios.specs.Job.{EffectiveJob, IsWithinLimits}
 use Rattle.cluster_state.specs.State.{State, IsSound, free, waiting_job, started, without}
-use Rattle.cluster_state.specs.Row.{put, by_estimate, in_order}
+use Rattle.cluster_state.specs.Candidates.{put, by_estimate, in_order}
 use Rattle.cluster_state.proofs.Lemmas.{find-in_order}
 use Rattle.scenarios.specs.declared.order.Order.{Order}
 use Rattle.scenarios.specs.declared.order.Order.TheVariants.{Arrival, Shortest}
@@ -88,16 +88,16 @@ pub next-facts : (s : State) (now : ℕ) (job : EffectiveJob) (js : List Effecti
 next-facts s now job [] e = cc
 next-facts s now job (head ∷ rest) e =
     let q = may_backfill now (free s) (shadow_at s head.size) in
-    let row = in_order s.order rest in
+    let candidates = in_order s.order rest in
     ⊎_elim
     (λ (h : nat_le head.size (free s) ≡ true).
-    let k : Some head ≡ Some job = sym (cond-true (nat_le head.size (free s)) (Some head) (find q row) h) ∙ e in
+    let k : Some head ≡ Some job = sym (cond-true (nat_le head.size (free s)) (Some head) (find q candidates) h) ∙ e in
     let same : head ≡ job = cc in
     (inl same, subst (λ (j : EffectiveJob). j.size ≤ free s) same (leb-true head.size (free s) h)))
     (λ (h : nat_le head.size (free s) ≡ false).
-    let k : find q row ≡ Some job = sym (cond-false (nat_le head.size (free s)) (Some head) (find q row) h) ∙ e in
-    let p = found-passes q row job k in
-    (inr (in_order-member s.order rest job (found-member q row job k)), leb-true job.size (free s) (and_parts _ _ p).0))
+    let k : find q candidates ≡ Some job = sym (cond-false (nat_le head.size (free s)) (Some head) (find q candidates) h) ∙ e in
+    let p = found-passes q candidates job k in
+    (inr (in_order-member s.order rest job (found-member q candidates job k)), leb-true job.size (free s) (and_parts _ _ p).0))
     (cases_Bool (nat_le head.size (free s)))
 
 pub next-found : (s : State) (now : ℕ) (job : EffectiveJob) → IsSound s → next s now ≡ Some job → waiting_job s job.number ≡ Some job
@@ -107,12 +107,12 @@ pub next-fits : (s : State) (now : ℕ) (job : EffectiveJob) → next s now ≡ 
 next-fits s now job e = (next-facts s now job s.waiting e).1
 
 -- who does not fit may not be backfilled
-pub too-large : (now room : ℕ) (w : Shadow) (job : EffectiveJob) → room < job.size → may_backfill now room w job ≡ false
-too-large now room w job l = ap (λ b. b && (nat_le (now + job.estimate) w.time || nat_le job.size w.extra)) (lt-leb job.size room l)
+pub too-large : (now capacity : ℕ) (w : Shadow) (job : EffectiveJob) → capacity < job.size → may_backfill now capacity w job ≡ false
+too-large now capacity w job l = ap (λ b. b && (nat_le (now + job.estimate) w.time || nat_le job.size w.extra)) (lt-leb job.size capacity l)
 
 -- with a head that does not fit, the search goes over the whole row, the head among them
-pub next-row : (s : State) (now : ℕ) (head : EffectiveJob) (rest : List EffectiveJob) → s.waiting ≡ head ∷ rest → free s < head.size → next s now ≡ find (may_backfill now (free s) (shadow_at s head.size)) (in_order s.order s.waiting)
-next-row s now head rest queue l =
+pub next-candidates : (s : State) (now : ℕ) (head : EffectiveJob) (rest : List EffectiveJob) → s.waiting ≡ head ∷ rest → free s < head.size → next s now ≡ find (may_backfill now (free s) (shadow_at s head.size)) (in_order s.order s.waiting)
+next-candidates s now head rest queue l =
     let q = may_backfill now (free s) (shadow_at s head.size) in
     ap (next_of s now) queue
     ∙ cond-false (nat_le head.size (free s)) (Some head) (find q (in_order s.order rest)) (lt-leb head.size (free s) l)

@@ -9,25 +9,25 @@ use Rattle.scenarios.specs.declared.order.Order.{Order}
 use Rattle.scenarios.specs.declared.order.Order.TheVariants.{Arrival, Shortest}
 use Rattle.scenarios.specs.declared.placed.Placed.{Placed}
 use Rattle.cluster_state.specs.State.{State, IsSound, free, busy, available, back_by, waiting_job, started, without}
-use Rattle.cluster_state.specs.Row.{in_order}
+use Rattle.cluster_state.specs.Candidates.{in_order}
 use Rattle.cluster_state.proofs.Lemmas.{sum_by-placed, without-by_estimate, sum_by-by_estimate, All-by_estimate}
 use Rattle.easy_rule.specs.declared.shadow_time.Shadow.{Shadow}
 use Rattle.easy_rule.specs.Rule.{next, next_of, may_backfill, shadow_at, shadow_for, shadow_of, shadow_time, decided, decisions, state_after, starts_at}
-use Rattle.easy_rule.specs.Pass.{less, row, IsPass}
+use Rattle.easy_rule.specs.Pass.{less, candidates, IsPass}
 use Rattle.easy_rule.proofs.RuleLemmas.{shadow_time-IsLeast, back_by-le}
-use Rattle.easy_rule.proofs.NextLemmas.{next-facts, next-found, next-row, length-without, decided-start, decisions-start, decided-stop, decisions-stop}
+use Rattle.easy_rule.proofs.NextLemmas.{next-facts, next-found, next-candidates, length-without, decided-start, decisions-start, decided-stop, decisions-stop}
 
 -- what a start changes of what is available
-pub available-started : (s : State) (job : EffectiveJob) (now t : ℕ) → busy s.running ≤ s.machine → job.size ≤ free s → available (started s job now) t + job.size ≡ available s t + back_by t (record { job = job; start = now })
+pub available-started : (s : State) (job : EffectiveJob) (now t : ℕ) → busy s.running ≤ s.procs → job.size ≤ free s → available (started s job now) t + job.size ≡ available s t + back_by t (record { job = job; start = now })
 available-started s job now t fits small =
     let r : Placed = record { job = job; start = now } in
     omega (arith, sum_by-placed (back_by t) r s.running, sum_by-placed (λ (x : Placed). x.job.size) r s.running)
 
 -- the two ways to be backfilled
-pub ways : (now room : ℕ) (w : Shadow) (job : EffectiveJob) → may_backfill now room w job ≡ true → (job.size ≤ room) × ((now + job.estimate ≤ w.time) ⊎ (job.size ≤ w.extra))
-ways now room w job h =
-    let p = and_parts (nat_le job.size room) (nat_le (now + job.estimate) w.time || nat_le job.size w.extra) h in (
-      leb-true job.size room p.0,
+pub ways : (now capacity : ℕ) (w : Shadow) (job : EffectiveJob) → may_backfill now capacity w job ≡ true → (job.size ≤ capacity) × ((now + job.estimate ≤ w.time) ⊎ (job.size ≤ w.extra))
+ways now capacity w job h =
+    let p = and_parts (nat_le job.size capacity) (nat_le (now + job.estimate) w.time || nat_le job.size w.extra) h in (
+      leb-true job.size capacity p.0,
       ⊎_elim
           (λ (e : nat_le (now + job.estimate) w.time ≡ true). inl (leb-true (now + job.estimate) w.time e))
           (λ (e : nat_le job.size w.extra ≡ true). inr (leb-true job.size w.extra e))
@@ -35,7 +35,7 @@ ways now room w job h =
     )
 
 -- a backfilled job leaves the head its time
-pub time-kept : (s : State) (need now : ℕ) (job : EffectiveJob) → busy s.running ≤ s.machine → need ≤ s.machine → may_backfill now (free s) (shadow_at s need) job ≡ true → shadow_time (started s job now) need ≡ shadow_time s need
+pub time-kept : (s : State) (need now : ℕ) (job : EffectiveJob) → busy s.running ≤ s.procs → need ≤ s.procs → may_backfill now (free s) (shadow_at s need) job ≡ true → shadow_time (started s job now) need ≡ shadow_time s need
 time-kept s need now job fits within may =
     let r : Placed = record { job = job; start = now } in
     let s' = started s job now in
@@ -57,7 +57,7 @@ time-kept s need now job fits within may =
     omega arith
 
 -- and takes from the extra processors where it runs past it
-pub shadow-kept : (s : State) (need now : ℕ) (job : EffectiveJob) → busy s.running ≤ s.machine → need ≤ s.machine → may_backfill now (free s) (shadow_at s need) job ≡ true → shadow_at (started s job now) need ≡ less (shadow_at s need) now job
+pub shadow-kept : (s : State) (need now : ℕ) (job : EffectiveJob) → busy s.running ≤ s.procs → need ≤ s.procs → may_backfill now (free s) (shadow_at s need) job ≡ true → shadow_at (started s job now) need ≡ less (shadow_at s need) now job
 shadow-kept s need now job fits within may =
     let r : Placed = record { job = job; start = now } in
     let s' = started s job now in
@@ -80,10 +80,10 @@ shadow-kept s need now job fits within may =
     ap (λ x. P x (available s' x - need)) same ∙ ap (P t) extra
 
 -- who was refused stays refused
-pub still-refused : (now room room' : ℕ) (w w' : Shadow) (job : EffectiveJob) → room' ≤ room → w'.time ≤ w.time → w'.extra ≤ w.extra → may_backfill now room w job ≡ false → may_backfill now room' w' job ≡ false
-still-refused now room room' w w' job a b c no' =
-    false_from_ne_true (may_backfill now room' w' job) (λ yes'.
-    let v = ways now room' w' job yes' in
+pub still-refused : (now capacity capacity' : ℕ) (w w' : Shadow) (job : EffectiveJob) → capacity' ≤ capacity → w'.time ≤ w.time → w'.extra ≤ w.extra → may_backfill now capacity w job ≡ false → may_backfill now capacity' w' job ≡ false
+still-refused now capacity capacity' w w' job a b c no' =
+    false_from_ne_true (may_backfill now capacity' w' job) (λ yes'.
+    let v = ways now capacity' w' job yes' in
     let t = nat_le (now + job.estimate) w.time in
     let x = nat_le job.size w.extra in
     let either : (t || x) ≡ true =
@@ -91,7 +91,7 @@ still-refused now room room' w w' job a b c no' =
     (λ (e : now + job.estimate ≤ w'.time). or_left t x (le-leb (now + job.estimate) w.time (omega arith)))
     (λ (e : job.size ≤ w'.extra). or_right t x (le-leb job.size w.extra (omega arith)))
     v.1 in
-    let again : may_backfill now room w job ≡ true = and_from (nat_le job.size room) (t || x) (le-leb job.size room (let z = v.0 in omega arith)) either in
+    let again : may_backfill now capacity w job ≡ true = and_from (nat_le job.size capacity) (t || x) (le-leb job.size capacity (let z = v.0 in omega arith)) either in
     true≢false (sym again ∙ no'))
 
 pub less-extra : (w : Shadow) (now : ℕ) (job : EffectiveJob) → (less w now job).extra ≤ w.extra
@@ -180,18 +180,18 @@ pass-over s now w left skip rest p e refused = record {
   refused = All-append (λ j. may_backfill now (free s) w j ≡ false) p.passed skip p.refused refused;
 }
 
-pass-row : (s : State) (now : ℕ) (w : Shadow) (left : List EffectiveJob) (p : IsPass s now w left) → next s now ≡ find (may_backfill now (free s) w) left
-pass-row s now w left p =
+pass-candidates : (s : State) (now : ℕ) (w : Shadow) (left : List EffectiveJob) (p : IsPass s now w left) → next s now ≡ find (may_backfill now (free s) w) left
+pass-candidates s now w left p =
     let q = may_backfill now (free s) w in
-    next-row s now p.head p.later p.queue p.waits ∙ ap (λ v. find (may_backfill now (free s) v) (row s)) (sym p.shadow) ∙ ap (find q) p.parts ∙ find-behind q p.passed left p.refused
+    next-candidates s now p.head p.later p.queue p.waits ∙ ap (λ v. find (may_backfill now (free s) v) (candidates s)) (sym p.shadow) ∙ ap (find q) p.parts ∙ find-behind q p.passed left p.refused
 
 -- who may start is next
 pub pass-next : (s : State) (now : ℕ) (w : Shadow) (job : EffectiveJob) (rest : List EffectiveJob) → IsPass s now w (job ∷ rest) → may_backfill now (free s) w job ≡ true → next s now ≡ Some job
-pass-next s now w job rest p may = pass-row s now w (job ∷ rest) p ∙ cond-true (may_backfill now (free s) w job) (Some job) (find (may_backfill now (free s) w) rest) may
+pass-next s now w job rest p may = pass-candidates s now w (job ∷ rest) p ∙ cond-true (may_backfill now (free s) w job) (Some job) (find (may_backfill now (free s) w) rest) may
 
 -- and nobody is where none of those that are left may
 pub pass-done : (s : State) (now : ℕ) (w : Shadow) (left : List EffectiveJob) → IsPass s now w left → All (λ j. may_backfill now (free s) w j ≡ false) left → next s now ≡ None
-pass-done s now w left p refused = pass-row s now w left p ∙ find-none (may_backfill now (free s) w) left refused
+pass-done s now w left p refused = pass-candidates s now w left p ∙ find-none (may_backfill now (free s) w) left refused
 
 pub pass-shadow : (s : State) (now : ℕ) (w : Shadow) (left : List EffectiveJob) → IsPass s now w left → shadow_of s ≡ Some w
 pass-shadow s now w left p =
@@ -207,8 +207,8 @@ other-job s head job rest queue waits small found =
     omega arith)
 
 -- who starts leaves the row
-row-started : (s : State) (now : ℕ) (job : EffectiveJob) (passed rest : List EffectiveJob) → IsSound s → row s ≡ passed ++ job ∷ rest → row (started s job now) ≡ passed ++ rest
-row-started s now job passed rest h e =
+candidates-started : (s : State) (now : ℕ) (job : EffectiveJob) (passed rest : List EffectiveJob) → IsSound s → candidates s ≡ passed ++ job ∷ rest → candidates (started s job now) ≡ passed ++ rest
+candidates-started s now job passed rest h e =
     let p : EffectiveJob → ℕ = λ j. cond (nat_eq j.number job.number) 1 0 in
     let once : count_by (λ (j : EffectiveJob). nat_eq j.number job.number) s.waiting ≤ 1 = omega (arith, h.once job.number) in
     sym (without-in_order job.number s.order s.waiting once) ∙ ap (without job.number) e
@@ -223,7 +223,7 @@ pass-started s now w job rest h p may =
     let need = p.head.size in
     let r : Placed = record { job = job; start = now } in
     let freed : free s' ≤ free s = omega (arith, sum_by-placed (λ (x : Placed). x.job.size) r s.running) in
-    let within : need ≤ s.machine = All-head (λ (j : EffectiveJob). j.size ≤ s.machine) p.head p.later (subst (All (λ (j : EffectiveJob). j.size ≤ s.machine)) p.queue h.waiting_fit) in
+    let within : need ≤ s.procs = All-head (λ (j : EffectiveJob). j.size ≤ s.procs) p.head p.later (subst (All (λ (j : EffectiveJob). j.size ≤ s.procs)) p.queue h.waiting_fit) in
     let found = next-found s now job h (pass-next s now w job rest p may) in
     record {
       head = p.head;
@@ -232,7 +232,7 @@ pass-started s now w job rest h p may =
       waits = let z = p.waits in omega arith;
       shadow = ap (λ v. less v now job) p.shadow ∙ sym (shadow-kept s need now job h.fits within (subst (λ v. may_backfill now (free s) v job ≡ true) p.shadow may));
       passed = p.passed;
-      parts = row-started s now job p.passed rest h p.parts;
+      parts = candidates-started s now job p.passed rest h p.parts;
       refused =
           All-weaker (λ j. may_backfill now (free s) w j ≡ false) (λ j. may_backfill now (free s') (less w now job) j ≡ false)
           (λ j. still-refused now (free s) (free s') w (less w now job) j freed (omega arith) (less-extra w now job)) p.passed p.refused;

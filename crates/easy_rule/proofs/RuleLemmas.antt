@@ -57,7 +57,7 @@ back-all t (r ∷ rs) l =
     omega (arith, one, others, sum_by-cons (back_by t) r rs, sum_by-cons (λ (x : Placed). x.job.size) r rs)
 
 -- the least second at which so much is available
-pub shadow_time-IsLeast : (s : State) (need : ℕ) → busy s.running ≤ s.machine → need ≤ s.machine → IsLeast (λ t. need ≤ available s t) (shadow_time s need)
+pub shadow_time-IsLeast : (s : State) (need : ℕ) → busy s.running ≤ s.procs → need ≤ s.procs → IsLeast (λ t. need ≤ available s t) (shadow_time s need)
 unfolding shadow_time
 shadow_time-IsLeast s need fits within =
     let p : ℕ → Bool = λ t. nat_le need (available s t) in
@@ -114,7 +114,7 @@ ends-suffice rs now need best (suc v) short enough all =
     (split (λ r. need ≤ now + sum_by (back_by (expected_end r)) rs → best ≤ expected_end r) (suc v) rs all)
 
 -- the shadow time is a number that the code can write
-pub shadow_time-small : (s : State) (need : ℕ) → IsSound s → need ≤ s.machine → shadow_time s need ≤ 18446744073709551615
+pub shadow_time-small : (s : State) (need : ℕ) → IsSound s → need ≤ s.procs → shadow_time s need ≤ 18446744073709551615
 shadow_time-small s need h within =
     let ends : All (λ r. expected_end r ≤ 18446744073709551615) s.running =
     (λ k d l. let a = h.started k d l in let b = h.running_limits k d l in omega (arith, a, b.within_limit)) in
@@ -133,7 +133,7 @@ seen-more s need time time' i r rs l less is all here =
     (subst P is here)
 
 -- once all are seen
-pub seen-all : (s : State) (need time i : ℕ) → IsSound s → free s < need → need ≤ s.machine → length s.running ≤ i → shadow_time s need ≤ time
+pub seen-all : (s : State) (need time i : ℕ) → IsSound s → free s < need → need ≤ s.procs → length s.running ≤ i → shadow_time s need ≤ time
     → All (λ r. need ≤ available s (expected_end r) → time ≤ expected_end r) (take i s.running)
     → time ≡ shadow_time s need
 seen-all s need time i h wants within past low all =
@@ -142,5 +142,5 @@ seen-all s need time i h wants within past low all =
     let up = ends-suffice s.running (free s) need time (shadow_time s need) wants least.holds every in
     omega arith
 
-pub available-le : (s : State) (t : ℕ) → IsSound s → available s t ≤ s.machine
+pub available-le : (s : State) (t : ℕ) → IsSound s → available s t ≤ s.procs
 available-le s t h = omega (arith, back-le-busy t s.running, h.fits)

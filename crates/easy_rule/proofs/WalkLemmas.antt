@@ -49,19 +49,19 @@ few (r ∷ rs) a =
 -- is enough they are expected to have ended by its second. The others are not expected to end before it, and before that
 -- second too little is available. It has read at most one end for each behind it. Enough has come back with what is left of a block;
 -- where it has, the walk has read at most a block but one, beside those that are expected to end at its second.
-pub record IsWalk (s : State) (need room time reads : ℕ) (rest : List Placed) : Type 0 where
+pub record IsWalk (s : State) (need capacity time reads : ℕ) (rest : List Placed) : Type 0 where
   pub behind : List Placed
   pub order : by_end s.running ≡ behind ++ rest
-  pub gives : room ≡ free s + busy behind
-  pub ended : need ≤ room → All (λ r. expected_end r ≤ time) behind
+  pub gives : capacity ≡ free s + busy behind
+  pub ended : need ≤ capacity → All (λ r. expected_end r ≤ time) behind
   pub later : All (λ r. time ≤ expected_end r) rest
   pub short : (u : ℕ) → u < time → available s u < need
   pub counted : reads ≤ length behind
-  pub near : need ≤ room + busy (take (block_limit - reads) rest)
-  pub early : need ≤ room → reads + 1 ≤ block_limit + count_by (λ r. nat_eq (expected_end r) time) behind
+  pub near : need ≤ capacity + busy (take (block_limit - reads) rest)
+  pub early : need ≤ capacity → reads + 1 ≤ block_limit + count_by (λ r. nat_eq (expected_end r) time) behind
 
 -- a walk that begins behind some first ones
-pub walk-begins : {s : State} {need room : ℕ} {rest : List Placed} → IsPast s need room rest → need ≤ room + busy (take block_limit rest) → IsWalk s need room 0 0 rest
+pub walk-begins : {s : State} {need capacity : ℕ} {rest : List Placed} → IsPast s need capacity rest → need ≤ capacity + busy (take block_limit rest) → IsWalk s need capacity 0 0 rest
 walk-begins p most =
     record {
       behind = p.passed;
@@ -92,7 +92,7 @@ one-ends t rs r e =
     let f : Placed → ℕ = λ x. cond (nat_eq (expected_end x) t) 1 0 in
     omega (arith, sum_by_push f rs r, cond-true {A = ℕ} (nat_eq (expected_end r) t) 1 0 (eq-eqb (expected_end r) t e))
 
-module _ {s : State} {need room time reads : ℕ} {rest : List Placed} (w : IsWalk s need room time reads rest) where
+module _ {s : State} {need capacity time reads : ℕ} {rest : List Placed} (w : IsWalk s need capacity time reads rest) where
   -- what is available, by the place of the walk
   available-at : (t : ℕ) → available s t ≡ free s + sum_by (back_by t) w.behind + sum_by (back_by t) rest
   available-at t = omega (arith, sum_by-by_end (back_by t) s.running, ap (sum_by (back_by t)) w.order, sum_by-append (back_by t) w.behind rest)
@@ -112,7 +112,7 @@ module _ {s : State} {need room time reads : ℕ} {rest : List Placed} (w : IsWa
     held_here = held ∙ ap (λ (l : List Placed). busy w.behind + busy l) next ∙ ap (λ (n : ℕ). busy w.behind + n) (sum_by-cons (λ (x : Placed). x.job.size) r after)
 
     -- where too little has come back, nobody who is left gives anything before this one ends
-    too_little : room < need → (u : ℕ) → u < expected_end r → available s u < need
+    too_little : capacity < need → (u : ℕ) → u < expected_end r → available s u < need
     too_little m u lt =
         let from : All (λ x. u < expected_end x) rest = subst (All (λ (x : Placed). u < expected_end x)) (sym next)
         (All-cons (λ x. u < expected_end x) r after lt (All-weaker (λ x. expected_end r ≤ expected_end x) (λ x. u < expected_end x) (λ x h. omega arith) after near.1)) in
@@ -123,13 +123,13 @@ module _ {s : State} {need room time reads : ℕ} {rest : List Placed} (w : IsWa
         omega (arith, none, some, all, gives, m)
 
     -- what is left of a block gives enough, and so no whole block is behind where too little has come back
-    near_here : need ≤ room + r.job.size + busy (take (block_limit - (reads + 1)) after)
+    near_here : need ≤ capacity + r.job.size + busy (take (block_limit - (reads + 1)) after)
     near_here =
         let near = w.near in
         let left : block_limit - reads - 1 ≡ block_limit - (reads + 1) = omega arith in
         omega (arith, near, ap (λ (l : List Placed). busy (take (block_limit - reads) l)) next, first-gives (block_limit - reads) r after, ap (λ (n : ℕ). busy (take n after)) left)
 
-    in_block : room < need → reads + 1 ≤ block_limit
+    in_block : capacity < need → reads + 1 ≤ block_limit
     in_block m =
         ⊎_elim
         (λ (lt : reads < block_limit). omega (arith, lt))
@@ -139,21 +139,21 @@ module _ {s : State} {need room time reads : ℕ} {rest : List Placed} (w : IsWa
         absurd (omega (arith, near, m, ap (λ (n : ℕ). busy (take n rest)) none, none-holds rest)))
         (cases_lt reads block_limit)
 
-    early_here : (room < need) ⊎ (expected_end r ≤ time) → reads + 1 + 1 ≤ block_limit + count_by (λ x. nat_eq (expected_end x) (expected_end r)) (w.behind ++ r ∷ [])
+    early_here : (capacity < need) ⊎ (expected_end r ≤ time) → reads + 1 + 1 ≤ block_limit + count_by (λ x. nat_eq (expected_end x) (expected_end r)) (w.behind ++ r ∷ [])
     early_here why =
         let joins = one-ends (expected_end r) w.behind r refl in
         ⊎_elim
-        (λ (m : room < need). let few = in_block m in omega (arith, few, joins))
-        (λ (enough : need ≤ room).
+        (λ (m : capacity < need). let few = in_block m in omega (arith, few, joins))
+        (λ (enough : need ≤ capacity).
         let same : time ≡ expected_end r = ⊎_elim
-        (λ (m : room < need). absurd (omega (arith, m, enough)))
+        (λ (m : capacity < need). absurd (omega (arith, m, enough)))
         (λ (m : expected_end r ≤ time). let later = All-head (λ (x : Placed). time ≤ expected_end x) r after (subst (All (λ (x : Placed). time ≤ expected_end x)) next w.later) in omega (arith, m, later))
         why in
         let so_far = w.early enough in
         omega (arith, so_far, joins, ap (λ (t : ℕ). count_by (λ x. nat_eq (expected_end x) t) w.behind) same))
-        (cases_lt room need)
+        (cases_lt capacity need)
 
-    pub walk-more : (room < need) ⊎ (expected_end r ≤ time) → IsWalk s need (room + r.job.size) (expected_end r) (reads + 1) after
+    pub walk-more : (capacity < need) ⊎ (expected_end r ≤ time) → IsWalk s need (capacity + r.job.size) (expected_end r) (reads + 1) after
     walk-more why =
         record {
           behind = w.behind ++ r ∷ [];
@@ -161,7 +161,7 @@ module _ {s : State} {need room time reads : ℕ} {rest : List Placed} (w : IsWa
           gives = let gives = w.gives in omega (arith, gives, sum_by_push (λ (x : Placed). x.job.size) w.behind r);
           ended = λ _. All-push (λ x. expected_end x ≤ expected_end r) w.behind r near.0 (omega arith);
           later = near.1;
-          short = λ u lt. ⊎_elim (λ (m : room < need). too_little m u lt) (λ (m : expected_end r ≤ time). w.short u (omega (arith, m, lt))) why;
+          short = λ u lt. ⊎_elim (λ (m : capacity < need). too_little m u lt) (λ (m : expected_end r ≤ time). w.short u (omega (arith, m, lt))) why;
           counted = let counted = w.counted in omega (arith, counted, length_push w.behind r);
           near = near_here;
           early = λ _. early_here why;
@@ -173,16 +173,16 @@ module _ {s : State} {need room time reads : ℕ} {rest : List Placed} (w : IsWa
         subst (All (λ (x : Placed). time < expected_end x)) (sym next)
         (All-cons (λ x. time < expected_end x) r after later (All-weaker (λ x. expected_end r ≤ expected_end x) (λ x. time < expected_end x) (λ x h. omega (arith, later, h)) after near.1))
 
-    -- the room stays within the machine
-    pub walk-room : IsSound s → room + r.job.size ≤ s.machine
-    walk-room h = let gives = w.gives in let fits = h.fits in omega (arith, gives, fits, held_here)
+    -- the capacity stays within the machine
+    pub walk-capacity : IsSound s → capacity + r.job.size ≤ s.procs
+    walk-capacity h = let gives = w.gives in let fits = h.fits in omega (arith, gives, fits, held_here)
 
     pub early-end : IsSound s → r.start < 2 ^ 49
     early-end h = All-head (λ (x : Placed). x.start < 2 ^ 49) r after (all-back (λ (x : Placed). x.start < 2 ^ 49) w.behind (r ∷ after) (subst (All (λ (x : Placed). x.start < 2 ^ 49)) order_here (All-by_end (λ (x : Placed). x.start < 2 ^ 49) s.running h.started)))
 
   -- ---- at the end of the row
   -- all has come back
-  pub walk-ends : IsSound s → need ≤ s.machine → rest ≡ [] → (need ≤ room) × All (λ x. time < expected_end x) rest
+  pub walk-ends : IsSound s → need ≤ s.procs → rest ≡ [] → (need ≤ capacity) × All (λ x. time < expected_end x) rest
   walk-ends h within none =
       let gives = w.gives in
       let fits = h.fits in
@@ -190,22 +190,22 @@ module _ {s : State} {need room time reads : ℕ} {rest : List Placed} (w : IsWa
       (omega (arith, gives, fits, held, left, within), subst (All (λ (x : Placed). time < expected_end x)) (sym none) (All-nil (λ x. time < expected_end x)))
 
   -- as many ends are read as jobs run, at most
-  pub walk-few : IsSound s → reads ≤ s.machine
+  pub walk-few : IsSound s → reads ≤ s.procs
   walk-few h =
       let counted = w.counted in
       let fits = h.fits in
       omega (arith, counted, fits, few s.running h.running_limits, length-by_end s.running, ap (λ (l : List Placed). length l) w.order, length-append w.behind rest)
 
   -- ---- where enough has come back, and the others are expected to end later
-  module _ (enough : need ≤ room) (late : All (λ r. time < expected_end r) rest) where
+  module _ (enough : need ≤ capacity) (late : All (λ r. time < expected_end r) rest) where
     -- that is the shadow
-    done : IsSound s → need ≤ s.machine → (available s time ≡ room) × (time ≡ shadow_time s need)
+    done : IsSound s → need ≤ s.procs → (available s time ≡ capacity) × (time ≡ shadow_time s need)
     done h within =
         let a = available-at time in
         let b = back-each time w.behind (w.ended enough) in
         let c = back-none time rest late in
         let gives = w.gives in
-        let there : available s time ≡ room = omega (arith, a, b, c, gives) in
+        let there : available s time ≡ capacity = omega (arith, a, b, c, gives) in
         let least = shadow_time-IsLeast s need h.fits within in
         let down : shadow_time s need ≤ time = least.least time (omega (arith, there, enough)) in (
           there,
@@ -215,14 +215,14 @@ module _ {s : State} {need room time reads : ℕ} {rest : List Placed} (w : IsWa
               (cases_lt (shadow_time s need) time),
         )
 
-    pub walk-shadow : (extra : ℕ) → IsSound s → need ≤ s.machine → extra ≡ room - need → let v : Shadow = record { time = time; extra = extra } in v ≡ shadow_at s need
+    pub walk-shadow : (extra : ℕ) → IsSound s → need ≤ s.procs → extra ≡ capacity - need → let v : Shadow = record { time = time; extra = extra } in v ≡ shadow_at s need
     walk-shadow extra h within e =
         let f = done h within in
         let P : ℕ → ℕ → Shadow = λ a b. record { time = a; extra = b } in
         let over : extra ≡ available s time - need = omega (arith, e, f.0) in
         ap (P time) over ∙ ap (λ x. P x (available s x - need)) f.1
 
-    pub walk-least : IsSound s → need ≤ s.machine → IsLeast (λ t. need ≤ available s t) time
+    pub walk-least : IsSound s → need ≤ s.procs → IsLeast (λ t. need ≤ available s t) time
     walk-least h within = subst (IsLeast (λ t. need ≤ available s t)) (sym (done h within).1) (shadow_time-IsLeast s need h.fits within)
 
 -- ---- how many ends are read
@@ -234,7 +234,7 @@ count-all t (r ∷ rs) a =
     let l = count-all t rs (All-tail (λ r. expected_end r ≤ t) r rs a) in
     omega (arith, one, k, l)
 
-module _ {s : State} {need room time reads : ℕ} {rest : List Placed} (w : IsWalk s need room time reads rest) (enough : need ≤ room) where
+module _ {s : State} {need capacity time reads : ℕ} {rest : List Placed} (w : IsWalk s need capacity time reads rest) (enough : need ≤ capacity) where
   -- those behind the walk end by its second
   walk-counts : length w.behind ≤ count_by (λ r. nat_le (expected_end r) time) s.running
   walk-counts =

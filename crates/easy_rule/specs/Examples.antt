@@ -23,7 +23,7 @@ abbrev pub start : ℕ → ℕ → Start
 start number at = record { number = number; at = at }
 
 abbrev pub on_ten : Order → List EffectiveJob → Plan
-on_ten order jobs = record { machine = 10; order = order; jobs = jobs }
+on_ten order jobs = record { procs = 10; order = order; jobs = jobs }
 
 -- the starts of this plan, in order of starting
 abbrev pub Gives : Plan → List Start → Type 0

@@ -3,7 +3,7 @@ use Rattle.std.specs.Prelude.{◌≡◌, ℕ, ◌+◌, ◌-◌, ◌<◌, min, tr
 use Rattle.scenarios.specs.Job.{EffectiveJob}
 use Rattle.waiting_places.specs.Places.{at_place, waiting}
 use Rattle.cluster_state.specs.State.{State, ClusterView, free, all_started, CanStartAll}
-use Rattle.cluster_state.specs.Row.{in_order}
+use Rattle.cluster_state.specs.Candidates.{in_order}
 use Rattle.easy_rule.specs.declared.shadow_time.Shadow.{Shadow}
 use Rattle.easy_rule.specs.declared.start.Start.{Start}
 use Rattle.easy_rule.specs.Rule.{may_backfill, next, shadow_at}
@@ -26,18 +26,18 @@ pub record AreStarted (s : State) (now : ℕ) (jobs : List EffectiveJob) (t : St
   pub state : t ≡ all_started s jobs now
 
 -- the waiting jobs in the order in which they are looked at, the head among them
-abbrev pub row : State → List EffectiveJob
-row s = in_order s.order s.waiting
+abbrev pub candidates : State → List EffectiveJob
+candidates s = in_order s.order s.waiting
 
 -- the state with the first n of the queue alone
 abbrev pub front : State → ℕ → State
-front s n = record { machine = s.machine; order = s.order; waiting = take n s.waiting; running = s.running }
+front s n = record { procs = s.procs; order = s.order; waiting = take n s.waiting; running = s.running }
 
--- those who stand in the row from a place on
-abbrev pub row_from : ClusterView → ℕ → List EffectiveJob
-row_from c place = waiting (drop place c.places)
+-- those who stand in the candidates from a place on
+abbrev pub candidates_from : ClusterView → ℕ → List EffectiveJob
+candidates_from c place = waiting (drop place c.places)
 
--- What the pass knows where these are left of the row: the head does not fit, w is what it leaves, and nobody in front of them may start.
+-- What the pass knows where these are left of the candidates: the head does not fit, w is what it leaves, and nobody in front of them may start.
 pub record IsPass (s : State) (now : ℕ) (w : Shadow) (left : List EffectiveJob) : Type 0 where
   pub head : EffectiveJob
   pub later : List EffectiveJob
@@ -45,12 +45,12 @@ pub record IsPass (s : State) (now : ℕ) (w : Shadow) (left : List EffectiveJob
   pub waits : free s < head.size
   pub shadow : w ≡ shadow_at s head.size
   pub passed : List EffectiveJob
-  pub parts : row s ≡ passed ++ left
+  pub parts : candidates s ≡ passed ++ left
   pub refused : All (λ j. may_backfill now (free s) w j ≡ false) passed
 
--- the job at this place of the row is a later one that starts next, and nobody in front of it may start
+-- the job at this place of the candidates is a later one that starts next, and nobody in front of it may start
 pub record IsCandidate (c : ClusterView) (now : ℕ) (w : Shadow) (place : ℕ) (job : EffectiveJob) : Type 0 where
   pub stands : at_place c.places place ≡ Some job
   pub may : may_backfill now (free c.state) w job ≡ true
   pub found : next c.state now ≡ Some job
-  pub pass : IsPass c.state now w (row_from c place)
+  pub pass : IsPass c.state now w (candidates_from c place)

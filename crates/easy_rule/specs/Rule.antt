@@ -4,7 +4,7 @@ use Rattle.std.specs.Option.{option_map_or}
 use Rattle.scenarios.specs.Job.{EffectiveJob}
 use Rattle.scenarios.specs.Placed.{expected_end}
 use Rattle.cluster_state.specs.State.{State, free, available, started}
-use Rattle.cluster_state.specs.Row.{in_order}
+use Rattle.cluster_state.specs.Candidates.{in_order}
 use Rattle.easy_rule.specs.declared.shadow_time.Shadow.{Shadow}
 use Rattle.easy_rule.specs.declared.start.Start.{Start}
 

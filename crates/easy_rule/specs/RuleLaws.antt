@@ -16,7 +16,7 @@ IsSettled s now = next s now ≡ None
 -- on an empty machine nobody may start. A decision leaves a settled state, and changes no settled one. Who may not start
 -- now may not at a later second of the same state.
 pub record Settles (Settled : State → ℕ → Type 0) (after : State → ℕ → State) (starts : State → ℕ → List Start) : Type 0 where
-  pub empty_machine : (machine : ℕ) (order : Order) (now : ℕ) → Settled (empty machine order) now
+  pub empty_machine : (procs : ℕ) (order : Order) (now : ℕ) → Settled (empty procs order) now
   pub after_decision : (s : State) (now : ℕ) → Settled (after s now) now
   pub at_later_second : (s : State) (now later : ℕ) → now ≤ later → Settled s now → Settled s later
   pub state_stays : (s : State) (now : ℕ) → Settled s now → after s now ≡ s
@@ -25,7 +25,7 @@ pub record Settles (Settled : State → ℕ → Type 0) (after : State → ℕ �
 -- A decision keeps the machine, the order and all that is true of a sound state. Who waits after it waited before; who
 -- runs ran before or waited and started at `now`; and every start is of `now`.
 pub record Keeps (after : State → ℕ → State) (starts : State → ℕ → List Start) : Type 0 where
-  pub machine : (s : State) (now : ℕ) → (after s now).machine ≡ s.machine
+  pub procs : (s : State) (now : ℕ) → (after s now).procs ≡ s.procs
   pub order : (s : State) (now : ℕ) → (after s now).order ≡ s.order
   pub sound : (s : State) (now : ℕ) → now < seconds_end → IsSound s → IsSound (after s now)
   pub waits : (p : EffectiveJob → Bool) (s : State) (now : ℕ) → All (λ j. p j ≡ true) s.waiting → All (λ j. p j ≡ true) (after s now).waiting
@@ -33,12 +33,12 @@ pub record Keeps (after : State → ℕ → State) (starts : State → ℕ → L
   pub starts_now : (s : State) (now : ℕ) → All (λ x. x.at ≡ now) (starts s now)
 
 -- A decision loses no job and makes none: whatever is added up over the jobs stays the same, and each that leaves the
--- queue is told as a start.
+-- queue is answered as a start.
 pub record Conserves (after : State → ℕ → State) (starts : State → ℕ → List Start) : Type 0 where
   pub work :
       (f : EffectiveJob → ℕ) (s : State) (now : ℕ) → now < seconds_end → IsSound s
       → sum_by f (after s now).waiting + sum_by (λ r. f r.job) (after s now).running ≡ sum_by f s.waiting + sum_by (λ r. f r.job) s.running
-  pub told :
+  pub outcome :
       (number : ℕ) (s : State) (now : ℕ) → now < seconds_end → IsSound s
       → count_by (λ x. nat_eq x.number number) (starts s now) + count_by (λ j. nat_eq j.number number) (after s now).waiting ≡ count_by (λ j. nat_eq j.number number) s.waiting
 

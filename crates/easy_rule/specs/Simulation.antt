@@ -10,7 +10,7 @@ use Rattle.scenarios.specs.Plan.{Plan}
 
 -- the running jobs that end at second t leave
 abbrev pub ended : State → ℕ → State
-ended s t = record { machine = s.machine; order = s.order; waiting = s.waiting; running = filter (λ r. not (nat_eq (real_end r) t)) s.running }
+ended s t = record { procs = s.procs; order = s.order; waiting = s.waiting; running = filter (λ r. not (nat_eq (real_end r) t)) s.running }
 
 -- the jobs that are submitted at second t, in the order of the log
 abbrev pub submitted : Plan → ℕ → List EffectiveJob
@@ -18,7 +18,7 @@ submitted plan t = filter (λ j. nat_eq j.submit t) plan.jobs
 
 -- jobs join the queue, at its end
 abbrev pub joined : State → List EffectiveJob → State
-joined s js = record { machine = s.machine; order = s.order; waiting = s.waiting ++ js; running = s.running }
+joined s js = record { procs = s.procs; order = s.order; waiting = s.waiting ++ js; running = s.running }
 
 -- the state of second t before the rule is applied: first jobs end, then jobs arrive
 abbrev pub ready : Plan → State → ℕ → State
@@ -30,7 +30,7 @@ second plan s t = state_after (ready plan s t) t
 
 -- the state before second t
 unfoldable pub before : Plan → ℕ → State
-before plan zero = empty plan.machine plan.order
+before plan zero = empty plan.procs plan.order
 before plan (suc t) = second plan (before plan t) t
 
 -- the starts of second t, in order

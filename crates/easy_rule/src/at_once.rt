@@ -21,13 +21,13 @@ use swf_text::Memory;
 pub fn starts_at_once<A: Allocator + Copy>(
     cluster: &Cluster<A>,
     job: &Job,
-    known: Option<Shadow>,
+    last_shadow: Option<Shadow>,
     now: u64,
 ) -> bool
-    ensures { IsTrue result ↔ StartsAtOnce cluster.now.state now known job.now }
+    ensures { IsTrue result ↔ StartsAtOnce cluster.now.state now last_shadow job.now }
 {
     let free = cluster.free();
-    match known {
+    match last_shadow {
         None => cluster.waiting_count() == 0 && job.size() <= free,
         Some(shadow) => backfills(job, now, free, shadow),
     }
@@ -43,13 +43,13 @@ pub fn start_at_once<A: Allocator + Copy>(
     cluster: &mut Cluster<A>,
     chosen: &mut Vec<Job, A>,
     job: Job,
-    known: Option<Shadow>,
+    last_shadow: Option<Shadow>,
     now: u64,
 ) -> Result<Option<Shadow>, Memory>
     requires now { now < seconds_end }
     requires sound { IsSound (arrived cluster.old.state job) }
-    requires starts { StartsAtOnce cluster.old.state now known job }
-    requires settled { IfSome known (λ w. IsSettledFront (arrived cluster.old.state job) now (length cluster.old.state.waiting) w) }
+    requires starts { StartsAtOnce cluster.old.state now last_shadow job }
+    requires settled { IfSome last_shadow (λ w. IsSettledFront (arrived cluster.old.state job) now (length cluster.old.state.waiting) w) }
     ensures ok { OnOk result (IsDecision (with_arrival cluster.old job) cluster.new now chosen.new.items) }
     ensures shadow { IfOk result (λ left. IfSome left (λ w. shadow_of cluster.new.state ≡ Some w)) }
     ensures err { OnErr result (IsUndecided cluster.old cluster.new chosen.new.items) }
@@ -61,14 +61,13 @@ pub fn start_at_once<A: Allocator + Copy>(
     let Ok(()) = chosen.push(job) else {
         unreachable!()
     };
-    Ok(left_at_once(known, now, &job))
+    Ok(left_at_once(last_shadow, now, &job))
 }
 
-// What the head leaves once this job runs too, where that is known.
-fn left_at_once(known: Option<Shadow>, now: u64, job: &Job) -> Option<Shadow>
-    ensures { result ≡ option_map (λ w. less w now job.now) known }
+fn left_at_once(last_shadow: Option<Shadow>, now: u64, job: &Job) -> Option<Shadow>
+    ensures { result ≡ option_map (λ w. less w now job.now) last_shadow }
 {
-    match known {
+    match last_shadow {
         None => None,
         Some(shadow) => Some(left_by(shadow, now, job)),
     }

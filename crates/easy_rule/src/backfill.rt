@@ -1,6 +1,6 @@
 ghost use Rattle.std.specs.Prelude.{◌≡◌};
 ghost use Rattle.scenarios.specs.Job.{EffectiveJob, IsWithinLimits};
-ghost use Rattle.cluster_state.specs.Row.{fits_offer};
+ghost use Rattle.cluster_state.specs.Candidates.{fits_offer};
 ghost use Rattle.easy_rule.specs.Rule.{may_backfill};
 ghost use Rattle.easy_rule.specs.Pass.{less};
 
@@ -8,7 +8,6 @@ use crate::shadow_time::Shadow;
 use scenarios::Job;
 use waiting_places::Offer;
 
-// Whether a later job may start now, in the place of the head.
 pub(crate) fn backfills(job: &Job, now: u64, free: u64, shadow: Shadow) -> bool
     ensures { result ≡ may_backfill now free shadow job.now }
 {
@@ -16,7 +15,6 @@ pub(crate) fn backfills(job: &Job, now: u64, free: u64, shadow: Shadow) -> bool
         && (now <= shadow.time && job.estimate() <= shadow.time - now || job.size() <= shadow.extra)
 }
 
-// What the later jobs are offered now: who fits it may start in the place of the head.
 pub(crate) fn offer(now: u64, free: u64, shadow: Shadow) -> Offer
     ensures { (j : EffectiveJob) → IsWithinLimits j → fits_offer result j ≡ may_backfill now free shadow j }
 {
@@ -27,7 +25,6 @@ pub(crate) fn offer(now: u64, free: u64, shadow: Shadow) -> Offer
     }
 }
 
-// What the head leaves once this later job runs too.
 pub(crate) fn left_by(shadow: Shadow, now: u64, job: &Job) -> Shadow
     ensures { result ≡ less shadow now job.now }
 {

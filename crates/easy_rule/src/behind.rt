@@ -6,14 +6,13 @@ ghost use Rattle.easy_rule.specs.Rule.{may_backfill, next, shadow_of};
 ghost use Rattle.easy_rule.specs.Decision.{IsDecision, IsSettledFront, IsUndecided};
 
 use crate::backfill::backfills;
-use crate::pass::{pass_on, room_for_starts};
+use crate::pass::{capacity_for_starts, pass_on};
 use crate::shadow_time::Shadow;
 use cluster_state::Cluster;
 use scenarios::Job;
 use std::alloc::Allocator;
 use swf_text::Memory;
 
-// Whether one of the waiting jobs behind the first `settled` may start now, in the place of the head.
 fn may_any<A: Allocator + Copy>(
     cluster: &Cluster<A>,
     settled: usize,
@@ -54,7 +53,7 @@ pub fn decide_behind<A: Allocator + Copy>(
     if !may_any(cluster, settled, now, shadow) {
         return Ok(shadow);
     }
-    room_for_starts(cluster, chosen)?;
+    capacity_for_starts(cluster, chosen)?;
     let place = cluster.place_behind(settled);
     Ok(pass_on(cluster, chosen, shadow, place, now))
 }

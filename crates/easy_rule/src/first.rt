@@ -1,7 +1,7 @@
 ghost use Rattle.std.specs.Prelude.{◌≡◌, ◌<◌, [], IfSome, slice_get, vec_len, vec_capacity};
 ghost use Rattle.scenarios.specs.Limits.{seconds_end};
 ghost use Rattle.cluster_state.specs.State.{ClusterView, free};
-ghost use Rattle.easy_rule.specs.Decision.{HasRoom, IsBegun, IsDecision, IsTold};
+ghost use Rattle.easy_rule.specs.Decision.{HasCapacity, IsBegun, IsDecision, IsAnswered};
 ghost use Rattle.easy_rule.specs.First.{IsFirstStart};
 
 use crate::candidate::next_place;
@@ -19,11 +19,10 @@ pub(crate) enum FirstStart {
     Nobody(Option<Shadow>),
     // The first waiting job.
     Head,
-    // A later one, at this place of the row. The first waiting job leaves this shadow.
+    // A later one, at this place of the candidates. The first waiting job leaves this shadow.
     Later(Shadow, usize),
 }
 
-// Who starts first at second `now`.
 pub(crate) fn first_start<A: Allocator + Copy>(cluster: &mut Cluster<A>, now: u64) -> FirstStart
     ensures first { IsFirstStart cluster.old now result }
     ensures same { cluster.new ≡ cluster.old }
@@ -57,9 +56,9 @@ pub(crate) fn start_from<A: Allocator + Copy>(
     requires now { now < seconds_end }
     requires first { IsFirstStart cluster.old now first }
     requires none { chosen.old.items ≡ [] }
-    requires room { HasRoom cluster.old (vec_len chosen.old) (vec_capacity chosen.old) }
+    requires capacity { HasCapacity cluster.old (vec_len chosen.old) (vec_capacity chosen.old) }
     ensures decided { IsDecision cluster.old cluster.new now chosen.new.items }
-    ensures told { IsTold cluster.new.state result }
+    ensures outcome { IsAnswered cluster.new.state result }
 {
     match first {
         FirstStart::Nobody(left) => left,
@@ -81,9 +80,9 @@ fn start_later<A: Allocator + Copy>(
 ) -> Option<Shadow>
     requires now { now < seconds_end }
     requires head { IfSome (slice_get cluster.old.state.waiting 0) (λ head. free cluster.old.state < head.size) }
-    requires room { HasRoom cluster.old (vec_len chosen.old) (vec_capacity chosen.old) }
+    requires capacity { HasCapacity cluster.old (vec_len chosen.old) (vec_capacity chosen.old) }
     ensures decided { (first : ClusterView) → IsBegun first cluster.old now chosen.old.items → IsDecision first cluster.new now chosen.new.items }
-    ensures told { IsTold cluster.new.state result }
+    ensures outcome { IsAnswered cluster.new.state result }
 {
     match first_start(cluster, now) {
         FirstStart::Nobody(left) => left,

@@ -2,8 +2,8 @@ ghost use Rattle.std.specs.Prelude.{◌≡◌, ◌↔◌, ◌<◌, ◌≤◌, []
 ghost use Rattle.scenarios.specs.Limits.{seconds_end};
 ghost use Rattle.cluster_state.specs.State.{ClusterView, IsSound, free};
 ghost use Rattle.easy_rule.specs.Rule.{shadow_of};
-ghost use Rattle.easy_rule.specs.Pass.{most_starts, row_from, IsPass};
-ghost use Rattle.easy_rule.specs.Decision.{HasRoom, IsBegun, IsDecision};
+ghost use Rattle.easy_rule.specs.Pass.{most_starts, candidates_from, IsPass};
+ghost use Rattle.easy_rule.specs.Decision.{HasCapacity, IsBegun, IsDecision};
 
 use crate::backfill::left_by;
 use crate::candidate::next_candidate;
@@ -13,15 +13,14 @@ use scenarios::Job;
 use std::alloc::Allocator;
 use swf_text::Memory;
 
-// How many starts there can be at once.
 pub(crate) fn most_starts<A: Allocator + Copy>(cluster: &Cluster<A>) -> usize
     ensures { result ≡ most_starts cluster.now.state }
 {
     cluster.waiting_count().min(cluster.free() as usize)
 }
 
-// Makes room for as many starts as there can be at once: in the cluster, and in a list of jobs.
-pub(crate) fn room_for_starts<A: Allocator + Copy>(
+// Reserves capacity for as many starts as there can be at once: in the cluster, and in a list of jobs.
+pub(crate) fn capacity_for_starts<A: Allocator + Copy>(
     cluster: &mut Cluster<A>,
     chosen: &mut Vec<Job, A>,
 ) -> Result<(), Memory>
@@ -29,7 +28,7 @@ pub(crate) fn room_for_starts<A: Allocator + Copy>(
     ensures places { cluster.new.places ≡ cluster.old.places }
     ensures jobs { chosen.new.items ≡ chosen.old.items }
     ensures kept { cluster.old.spare ≤ cluster.new.spare }
-    ensures room { OnOk result (HasRoom cluster.new (vec_len chosen.new) (vec_capacity chosen.new)) }
+    ensures capacity { OnOk result (HasCapacity cluster.new (vec_len chosen.new) (vec_capacity chosen.new)) }
 {
     let count = most_starts(cluster);
     cluster.reserve_starts(count)?;
@@ -37,7 +36,6 @@ pub(crate) fn room_for_starts<A: Allocator + Copy>(
     Ok(())
 }
 
-// Whether the first waiting job fits into the free processors.
 fn head_fits<A: Allocator + Copy>(cluster: &Cluster<A>) -> bool
     ensures fits { IsTrue result ↔ IsSomeAnd (slice_get cluster.now.state.waiting 0) (λ head. head.size ≤ free cluster.now.state) }
     ensures sound { IsSound cluster.now.state }
@@ -57,10 +55,10 @@ pub(crate) fn start_heads<A: Allocator + Copy>(
 )
     requires now { now < seconds_end }
     requires none { chosen.old.items ≡ [] }
-    requires room { HasRoom cluster.old (vec_len chosen.old) (vec_capacity chosen.old) }
+    requires capacity { HasCapacity cluster.old (vec_len chosen.old) (vec_capacity chosen.old) }
     ensures begun { IsBegun cluster.old cluster.new now chosen.new.items }
     ensures head { IfSome (slice_get cluster.new.state.waiting 0) (λ head. free cluster.new.state < head.size) }
-    ensures room { HasRoom cluster.new (vec_len chosen.new) (vec_capacity chosen.new) }
+    ensures capacity { HasCapacity cluster.new (vec_len chosen.new) (vec_capacity chosen.new) }
 {
     'heads: while head_fits(cluster) {
         let Some(head) = cluster.start_head(now) else {
@@ -72,8 +70,8 @@ pub(crate) fn start_heads<A: Allocator + Copy>(
     }
 }
 
-// Chooses and starts later jobs in one pass over the row from a place on, and answers what the head
-// leaves then. Whatever decision those chosen before began is complete then.
+// Chooses and starts later jobs in one pass over the candidates from a place on, and answers what the
+// head leaves then. Whatever decision those chosen before began is complete then.
 pub(crate) fn pass_on<A: Allocator + Copy>(
     cluster: &mut Cluster<A>,
     chosen: &mut Vec<Job, A>,
@@ -82,8 +80,8 @@ pub(crate) fn pass_on<A: Allocator + Copy>(
     now: u64,
 ) -> Shadow
     requires now { now < seconds_end }
-    requires pass { IsPass cluster.old.state now shadow (row_from cluster.old place) }
-    requires room { HasRoom cluster.old (vec_len chosen.old) (vec_capacity chosen.old) }
+    requires pass { IsPass cluster.old.state now shadow (candidates_from cluster.old place) }
+    requires capacity { HasCapacity cluster.old (vec_len chosen.old) (vec_capacity chosen.old) }
     ensures decided { (first : ClusterView) → IsBegun first cluster.old now chosen.old.items → IsDecision first cluster.new now chosen.new.items }
     ensures shadow { shadow_of cluster.new.state ≡ Some result }
 {

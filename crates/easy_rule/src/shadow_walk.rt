@@ -16,33 +16,33 @@ use std::alloc::Allocator;
 // enough together are passed over, so that the first 128 of the others do.
 fn walk<A: Allocator + Copy>(cluster: &Cluster<A>, need: u64) -> (Shadow, u64)
     requires wants { free cluster.now.state < need }
-    requires within { need ≤ cluster.now.state.machine }
+    requires within { need ≤ cluster.now.state.procs }
     ensures shadow { result.0 ≡ shadow_at cluster.now.state need }
     ensures least { IsLeast (λ t. need ≤ available cluster.now.state t) result.0.time }
     ensures reads { result.1 ≤ ends_read cluster.now.state result.0.time }
     ensures few { result.1 ≤ block_limit + ends_at cluster.now.state result.0.time }
 {
-    let (mut room, rest) = cluster.running_past(need);
+    let (mut capacity, rest) = cluster.running_past(need);
     let mut time = 0;
     let mut reads = 0;
     for r in rest {
         let end = r.expected_end();
         reads += 1;
-        if need <= room && time < end {
-            let extra = room - need;
+        if need <= capacity && time < end {
+            let extra = capacity - need;
             return (Shadow { time, extra }, reads);
         }
         time = end;
-        room += r.job.size();
+        capacity += r.job.size();
     }
-    let extra = room - need;
+    let extra = capacity - need;
     (Shadow { time, extra }, reads)
 }
 
 // The least second at which so much is available, and what is over then.
 pub(crate) fn shadow_for<A: Allocator + Copy>(cluster: &Cluster<A>, need: u64) -> Shadow
     requires wants { free cluster.now.state < need }
-    requires within { need ≤ cluster.now.state.machine }
+    requires within { need ≤ cluster.now.state.procs }
     ensures shadow { result ≡ shadow_at cluster.now.state need }
     ensures least { IsLeast (λ t. need ≤ available cluster.now.state t) result.time }
 {

@@ -16,7 +16,7 @@ pub struct Start {
 
 /// Adds the starts of these jobs at second `now` to a list, in order.
 ///
-/// It takes no memory where the list has room for them. Memory where a growth was refused; the list
+/// It takes no memory where the list has capacity for them. Memory where a growth was refused; the list
 /// is then as it was.
 pub fn add_starts<A: Allocator>(
     starts: &mut Vec<Start, A>,
@@ -24,7 +24,7 @@ pub fn add_starts<A: Allocator>(
     now: u64,
 ) -> Result<(), Memory>
     ensures ok { OnOk result (starts.new.items ≡ starts.old.items ++ map (start_at now) jobs.now) }
-    ensures room { vec_len starts.old + length jobs.now ≤ vec_capacity starts.old → IsOk result }
+    ensures capacity { vec_len starts.old + length jobs.now ≤ vec_capacity starts.old → IsOk result }
     ensures err { OnErr result (starts.new.items ≡ starts.old.items) }
 {
     starts.reserve(jobs.len())?;

@@ -85,30 +85,30 @@ does_leads opening who old new call answer l fits = (call_fits opening who old n
 -- ---- views
 
 -- what a book shows where the machine stands is true there
-true_there : (opening : Machine) (before after : List Happened) (who id seen : ℕ) (told : Result PublishedView (Refusal ViewFault))
-    → CalledAt opening before (caller.Session who) (View id seen) (view_answer told) after → IsShownAt (state_after opening before) id seen told → IsTrueOf (state_after opening before) id told
-true_there opening before after who id seen told at (inl short) = subst (λ (t : Result PublishedView (Refusal ViewFault)). IsTrueOf (state_after opening before) id t) (sym short) tt
-true_there opening before after who id seen told at (inr h) =
-    let missing : told ≡ Err (why.Fault view.NoSuchScenario) → reply_to (View id seen) (machine_of h.0) ≡ reply.NoSuchScenario = λ is.
+true_there : (opening : Machine) (before after : List Happened) (who id seen : ℕ) (outcome : Result PublishedView (Refusal ViewFault))
+    → CalledAt opening before (caller.Session who) (View id seen) (view_answer outcome) after → IsShownAt (state_after opening before) id seen outcome → IsTrueOf (state_after opening before) id outcome
+true_there opening before after who id seen outcome at (inl short) = subst (λ (t : Result PublishedView (Refusal ViewFault)). IsTrueOf (state_after opening before) id t) (sym short) tt
+true_there opening before after who id seen outcome at (inr h) =
+    let missing : outcome ≡ Err (why.Fault view.NoSuchScenario) → reply_to (View id seen) (machine_of h.0) ≡ reply.NoSuchScenario = λ is.
     let there : CalledAt opening before (caller.Session who) (View id seen) (view_answer (Err (why.Fault view.NoSuchScenario))) after = subst (λ (t : Result PublishedView (Refusal ViewFault)). CalledAt opening before (caller.Session who) (View id seen) (view_answer t) after) is at in
     ap (reply_to (View id seen)) h.2 ∙ sym there.1 in
-    subst (λ (m : Machine). IsTrueOf m id told) h.2 (shown-true h.0 id seen told h.1 h.3 missing)
+    subst (λ (m : Machine). IsTrueOf m id outcome) h.2 (shown-true h.0 id seen outcome h.1 h.3 missing)
 
-pub views_leads : (opening : Machine) (who : ℕ) (old new : SessionView) (id : ℕ) (told : Result PublishedView (Refusal ViewFault)) → IsViewed (desk_rules opening) old id told new
-    → Leads (IsFitting who) (IsWhole who) old new (IsViewed (rules_along opening who) (place_of old) id told (place_of new))
-views_leads opening who old new id told v fits =
-    let l : IsListed opening old (View id old.seen) (view_answer told) new = v.call in (
-      call_fits opening who old new (View id old.seen) (view_answer told) l fits,
+pub views_leads : (opening : Machine) (who : ℕ) (old new : SessionView) (id : ℕ) (outcome : Result PublishedView (Refusal ViewFault)) → IsViewed (desk_rules opening) old id outcome new
+    → Leads (IsFitting who) (IsWhole who) old new (IsViewed (rules_along opening who) (place_of old) id outcome (place_of new))
+views_leads opening who old new id outcome v fits =
+    let l : IsListed opening old (View id old.seen) (view_answer outcome) new = v.call in (
+      call_fits opening who old new (View id old.seen) (view_answer outcome) l fits,
       λ whole.
-          let made = call_whole opening who old new (View id old.seen) (view_answer told) l fits whole in
+          let made = call_whole opening who old new (View id old.seen) (view_answer outcome) l fits whole in
           let h = v.shown whole.0 in
-          let at : CalledAt opening h.1.0 (caller.Session who) (View id old.seen) (view_answer told) new.front.events = subst (λ (n : ℕ). CalledAt opening h.1.0 (caller.Session n) (View id old.seen) (view_answer told) new.front.events) fits.0 h.1.2 in
-          let gained : length new.list ≡ length old.list + noted (view_answer told) = list_noted old.list new.list (View id old.seen) (view_answer told) l.list in
-          let so = unmissed opening who old new (View id old.seen) (view_answer told) h.1.0 gained (fits.1 h.0) h.1.1 at whole.1 in (
+          let at : CalledAt opening h.1.0 (caller.Session who) (View id old.seen) (view_answer outcome) new.front.events = subst (λ (n : ℕ). CalledAt opening h.1.0 (caller.Session n) (View id old.seen) (view_answer outcome) new.front.events) fits.0 h.1.2 in
+          let gained : length new.list ≡ length old.list + noted (view_answer outcome) = list_noted old.list new.list (View id old.seen) (view_answer outcome) l.list in
+          let so = unmissed opening who old new (View id old.seen) (view_answer outcome) h.1.0 gained (fits.1 h.0) h.1.1 at whole.1 in (
             made.0,
             record {
               call = made.1;
-              shown = record { before = h.1.0; goes = so.1; answered = at; true_there = true_there opening h.1.0 new.front.events who id old.seen told at h.1.3 };
+              shown = record { before = h.1.0; goes = so.1; answered = at; true_there = true_there opening h.1.0 new.front.events who id old.seen outcome at h.1.3 };
             },
           ),
     )
@@ -145,9 +145,9 @@ reads_leads opening who old new Holds r fits = (
       (so.0, record { goes = so.1; holds = h.2; seen = ap (λ (s : SessionView). s.seen) r.1 }),
 )
 
-pub settles_leads : (opening : Machine) (who : ℕ) (old new : SessionView) (told : SettleState) → (desk_rules opening).settles old told new
-    → Leads (IsFitting who) (IsWhole who) old new (Waits opening who (place_of old) told (place_of new))
-settles_leads opening who old new told r fits = (
+pub settles_leads : (opening : Machine) (who : ℕ) (old new : SessionView) (outcome : SettleState) → (desk_rules opening).settles old outcome new
+    → Leads (IsFitting who) (IsWhole who) old new (Waits opening who (place_of old) outcome (place_of new))
+settles_leads opening who old new outcome r fits = (
   stays_fitting who old new r.1 (λ kept. let h = r.0 kept in (h.0, h.1)) fits,
   λ whole.
       let h = r.0 whole.0 in
@@ -156,9 +156,9 @@ settles_leads opening who old new told r fits = (
 )
 
 -- how a wait ended, by the state
-pub told_by : (opening : Machine) (mine old new : SessionView) (ended : Settled) (told : SettleState) → mine ≡ old → ended ≡ ended_by told
-    → Settles opening mine.front mine.seen ended new.front → new ≡ record mine { front = new.front } → (desk_rules opening).settles old told new
-told_by opening mine old new ended told is so s same = subst (λ (v : SessionView). (desk_rules opening).settles v told new) is (subst (λ (e : Settled). Settles opening mine.front mine.seen e new.front) so s, same)
+pub outcome_by : (opening : Machine) (mine old new : SessionView) (ended : Settled) (outcome : SettleState) → mine ≡ old → ended ≡ ended_by outcome
+    → Settles opening mine.front mine.seen ended new.front → new ≡ record mine { front = new.front } → (desk_rules opening).settles old outcome new
+outcome_by opening mine old new ended outcome is so s same = subst (λ (v : SessionView). (desk_rules opening).settles v outcome new) is (subst (λ (e : Settled). Settles opening mine.front mine.seen e new.front) so s, same)
 
 -- ---- all of them
 

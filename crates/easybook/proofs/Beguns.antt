@@ -174,8 +174,8 @@ fault-read log procs fault within first = go fault.kind first where
   go kinds.TooManyJobs h = (within, h (λ e. absurd cc))
 
 -- what is answered with a fault
-pub told-so : {X : Type 0} (P : ProgramFault → Type 0) (r : Result X ProgramFault) (fault : ProgramFault) → r ≡ Err fault → P fault → IfErr r P
-told-so {X} P r fault is h = subst (λ (s : Result X ProgramFault). IfErr s P) (sym is) h
+pub outcome-so : {X : Type 0} (P : ProgramFault → Type 0) (r : Result X ProgramFault) (fault : ProgramFault) → r ≡ Err fault → P fault → IfErr r P
+outcome-so {X} P r fault is h = subst (λ (s : Result X ProgramFault). IfErr s P) (sym is) h
 
 pub refused-so : {X : Type 0} (A : Type 0) (log : List ℕ) (script : Option (List ℕ)) (procs : Option ℕ) (old : Option (List ℕ)) (fault : ProgramFault) (r : Result X ProgramFault) → r ≡ Err fault → IsFaultOf log procs fault → RunsParts A log script procs old old r
 refused-so {X} A log script procs old fault r is h = subst (λ (s : Result X ProgramFault). RunsParts A log script procs old old s) (sym is) (parts-refused X A log script procs old fault h)

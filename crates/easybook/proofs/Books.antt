@@ -18,10 +18,10 @@ pub record Added (old new : BookView) (scenarios : List Listed) (place : ℕ) : 
 take_got : (xs : List Listed) (place : ℕ) (x : Listed) → slice_get xs place ≡ Some x → take (place + 1) xs ≡ take place xs ++ x ∷ []
 take_got xs place x is = take_more xs place x (slice_get_within xs place x is) ∙ ap (λ (y : Listed). take place xs ++ y ∷ []) (get_or_from_slice_get xs place x x is)
 
-pub added-more : (old mid new : BookView) (scenarios : List Listed) (place : ℕ) (s : Listed) → Added old mid scenarios place → Some s ≡ slice_get scenarios place → machine_of new ≡ after (AddScenario s.name s.setting) (machine_of mid) → new.state.spacing ≡ mid.state.spacing → Added old new scenarios (place + 1)
+pub added-more : (old mid new : BookView) (scenarios : List Listed) (place : ℕ) (s : Listed) → Added old mid scenarios place → Some s ≡ slice_get scenarios place → machine_of new ≡ after (AddScenario s.name s.scenario) (machine_of mid) → new.state.spacing ≡ mid.state.spacing → Added old new scenarios (place + 1)
 added-more old mid new scenarios place s added is machine spacing = record {
   machine =
-      machine ∙ ap (after (AddScenario s.name s.setting)) added.machine ∙ sym (with-one (machine_of old) (take place scenarios) s)
+      machine ∙ ap (after (AddScenario s.name s.scenario)) added.machine ∙ sym (with-one (machine_of old) (take place scenarios) s)
       ∙ ap (with_scenarios (machine_of old)) (sym (take_got scenarios place s (sym is)));
   spacing = spacing ∙ added.spacing;
 }

@@ -11,7 +11,7 @@ use Rattle.book_machine.specs.Machine.{Machine}
 use Rattle.chronicle.specs.Events.{Happened}
 use Rattle.swf_text.specs.Text.{lines}
 use Rattle.workers.specs.Callers.{IsNewSession, SessionView, WorkerView}
-use Rattle.workers.specs.Closing.{IsTold, StandInOne}
+use Rattle.workers.specs.Closing.{IsAnswered, StandInOne}
 use Rattle.workers.specs.Lists.{part_of}
 use Rattle.scripts.specs.Analysts.{LinesBy}
 use Rattle.scripts.specs.Transcript.{looked_at}
@@ -92,9 +92,9 @@ has_place (x ∷ xs) (z ∷ ys) zero y same is = (x, refl)
 has_place (x ∷ xs) (z ∷ ys) (suc k) y same is = has_place xs ys k y (omega (arith, same)) is
 
 pub all_along : (A : Type 0) (comments scripts : List (List ℕ)) (opening : Machine) (sessions : List SessionView) (texts : List (List ℕ)) (workers : List WorkerView) (notes : List Noted)
-    → AreAtDesk A opening comments scripts sessions texts → StandInOne opening sessions notes → IsTold sessions workers notes → length texts ≡ length scripts
+    → AreAtDesk A opening comments scripts sessions texts → StandInOne opening sessions notes → IsAnswered sessions workers notes → length texts ≡ length scripts
     → AreAnsweredAlong A comments opening scripts texts
-all_along A comments scripts opening sessions texts workers notes desk one told count = record {
+all_along A comments scripts opening sessions texts workers notes desk one outcome count = record {
   events = one.0;
   legal = one.1;
   as_many = count;
@@ -103,7 +103,7 @@ all_along A comments scripts opening sessions texts workers notes desk one told 
       let s : SessionView = has.0 in
       let h = desk.each k s text has.1 is_text in
       let seen = at_place (λ (x : SessionView). (x.front.kept ≡ true) × IsPrefix x.front.events one.0) sessions k s one.3 has.1 in
-      let mine : s.list ≡ part_of (caller.Session s.number) notes = at_place (λ (x : SessionView). x.list ≡ part_of (caller.Session x.number) notes) sessions k s told.by_sessions has.1 in
+      let mine : s.list ≡ part_of (caller.Session s.number) notes = at_place (λ (x : SessionView). x.list ≡ part_of (caller.Session x.number) notes) sessions k s outcome.by_sessions has.1 in
       let there : s.list ≡ own s.number one.0 = mine ∙ ap (part_of (caller.Session s.number)) (sym one.2) in
       along_one A comments scripts opening one.0 k s text script h.0 h.1 seen is_script there;
 }

@@ -22,8 +22,8 @@ use Rattle.easybook.proofs.Sessions.{keeps}
 
 -- a buffer that holds nothing has the bytes of the reader behind it
 pub fresh : {T A : Type 0} (remaining : T → Option (List ℕ)) (r : BufReader T A) (inner : T) → reader_inner r ≡ inner → reader_buffer r ≡ [] → reader_capacity r ≡ 8192 → reader_remaining remaining r ≡ remaining inner
-fresh remaining r inner is empty room =
-    let test : eqb (reader_capacity r) 0 ≡ false = ne_eqb (reader_capacity r) 0 (λ none. omega (arith, none, room)) in
+fresh remaining r inner is empty capacity =
+    let test : eqb (reader_capacity r) 0 ≡ false = ne_eqb (reader_capacity r) 0 (λ none. omega (arith, none, capacity)) in
     rw (test, empty) (prepend_known-nil (remaining (reader_inner r)) ∙ ap remaining is)
 
 -- a conversation that was held on the book of a log
@@ -42,16 +42,16 @@ held A log procs spacing comments shown book known heard left old new result b s
     }
 
 -- and that ended before its input did
-pub ended_so : {X : Type 0} (A : Type 0) (log : List ℕ) (procs : Option ℕ) (known old new : Option (List ℕ)) (fault : LiveFault) (told : Result X ProgramFault) → told ≡ Err (fault_of_talk fault) → IsHeld {X = X} A log procs known old new (Err fault) → RunsLive A log procs known old new told
-ended_so {X} A log procs known old new fault told is h = subst (λ (r : Result X ProgramFault). RunsLive A log procs known old new r) (sym is) (go fault h) where
+pub ended_so : {X : Type 0} (A : Type 0) (log : List ℕ) (procs : Option ℕ) (known old new : Option (List ℕ)) (fault : LiveFault) (outcome : Result X ProgramFault) → outcome ≡ Err (fault_of_talk fault) → IsHeld {X = X} A log procs known old new (Err fault) → RunsLive A log procs known old new outcome
+ended_so {X} A log procs known old new fault outcome is h = subst (λ (r : Result X ProgramFault). RunsLive A log procs known old new r) (sym is) (go fault h) where
   go : (f : LiveFault) → IsHeld {X = X} A log procs known old new (Err f) → RunsLive {X = X} A log procs known old new (Err (fault_of_talk f))
   go live.Read h = h
   go live.Write h = h
   go live.Memory h = (tt, h.talks.1)
 
 -- no conversation began for lack of memory
-pub no_room : {X : Type 0} (A : Type 0) (log : List ℕ) (procs : Option ℕ) (known old : Option (List ℕ)) (told : Result X ProgramFault) → told ≡ Err faults.Memory → RunsLive A log procs known old old told
-no_room {X} A log procs known old told is =
+pub no_capacity : {X : Type 0} (A : Type 0) (log : List ℕ) (procs : Option ℕ) (known old : Option (List ℕ)) (outcome : Result X ProgramFault) → outcome ≡ Err faults.Memory → RunsLive A log procs known old old outcome
+no_capacity {X} A log procs known old outcome is =
     let short : RunsLive {X = X} A log procs known old old (Err faults.Memory) = (tt, keeps old) in
     subst (λ (r : Result X ProgramFault). RunsLive A log procs known old old r) (sym is) short
 
@@ -104,8 +104,8 @@ talk_from {X} A file named procs known old new (Err faults.BadMachine) is h = of
 talk_from {X} A file named procs known old new (Err (faults.Close f)) is h = of_source file named (λ l. RunsLive {X = X} A l procs known old new (Err (faults.Close f))) is h
 
 -- a log that is not opened
-pub refused : {X : Type 0} (A : Type 0) (log : List ℕ) (procs : Option ℕ) (known old : Option (List ℕ)) (fault : ProgramFault) (told : Result X ProgramFault) → told ≡ Err fault → IsFaultOf log procs fault → RunsLive A log procs known old old told
-refused {X} A log procs known old fault told is h = subst (λ (r : Result X ProgramFault). RunsLive A log procs known old old r) (sym is) (go fault h) where
+pub refused : {X : Type 0} (A : Type 0) (log : List ℕ) (procs : Option ℕ) (known old : Option (List ℕ)) (fault : ProgramFault) (outcome : Result X ProgramFault) → outcome ≡ Err fault → IsFaultOf log procs fault → RunsLive A log procs known old old outcome
+refused {X} A log procs known old fault outcome is h = subst (λ (r : Result X ProgramFault). RunsLive A log procs known old old r) (sym is) (go fault h) where
   go : (f : ProgramFault) → IsFaultOf log procs f → RunsLive {X = X} A log procs known old old (Err f)
   go faults.TooLong h = (h, keeps old)
   go faults.Read h = absurd h

@@ -11,7 +11,7 @@ use Rattle.book_machine.specs.Call.{BookCall}
 use Rattle.book_machine.specs.History.{Noted}
 use Rattle.book_machine.specs.Machine.{Machine}
 use Rattle.chronicle.specs.Events.{Happened, Called, note_in, notes_of}
-use Rattle.version_book.specs.Steps.{Answer, full, memory, told, note_of}
+use Rattle.version_book.specs.Steps.{Answer, full, memory, outcome, note_of}
 use Rattle.workers.specs.History.{CalledAt}
 use Rattle.workers.specs.Lists.{Exchanged, Gains, exchanged, exchanged_by, part_of, same_caller}
 use Rattle.easybook.specs.Along.{Goes}
@@ -42,17 +42,17 @@ one who call reply =
 abbrev pub noted : Answer → ℕ
 noted full = 0
 noted memory = 0
-noted (told reply) = 1
+noted (outcome reply) = 1
 
 pub list_noted : (old new : List Exchanged) (call : BookCall) (answer : Answer) → Gains old new call answer → length new ≡ length old + noted answer
 list_noted old new call full g = omega (arith, ap length g)
 list_noted old new call memory g = omega (arith, ap length g)
-list_noted old new call (told reply) g = ap length g ∙ length-append old (exchanged call reply ∷ [])
+list_noted old new call (outcome reply) g = ap length g ∙ length-append old (exchanged call reply ∷ [])
 
 pub own_noted : (opening : Machine) (who : ℕ) (before : List Happened) (call : BookCall) (answer : Answer) (after : List Happened) → CalledAt opening before (caller.Session who) call answer after → length (own who after) ≡ length (own who before) + noted answer
 own_noted opening who before call full after h = omega (arith, ap (λ (es : List Happened). length (own who es)) h.1)
 own_noted opening who before call memory after h = omega (arith, ap (λ (es : List Happened). length (own who es)) h)
-own_noted opening who before call (told reply) after h =
+own_noted opening who before call (outcome reply) after h =
     ap (λ (es : List Happened). length (own who es)) h.2 ∙ (own_length who before (Called (note_of (caller.Session who) call reply) ∷ []) ∙ ap (λ (n : ℕ). length (own who before) + n) (one who call reply))
 
 -- a beginning has no more of them

@@ -18,8 +18,8 @@ pub opens : (log : List ℕ) (procs : Option ℕ) (spacing : ℕ) (comments : Li
 opens log procs spacing comments book b = (comments, b.table, b.scenarios, b.is_opened)
 
 -- the log is opened, and the script is not had
-pub unread : {X : Type 0} (A : Type 0) (log : List ℕ) (procs : Option ℕ) (spacing : ℕ) (comments : List (List ℕ)) (book : BookView) (known old : Option (List ℕ)) (fault : ProgramFault) (told : Result X ProgramFault) → IsBookOf log procs spacing comments book → IsInputFault known script_limit fault → told ≡ Err fault → RunsAlone A log procs known old old told
-unread {X} A log procs spacing comments book known old fault told b h is = subst (λ (r : Result X ProgramFault). RunsAlone A log procs known old old r) (sym is) (go fault h) where
+pub unread : {X : Type 0} (A : Type 0) (log : List ℕ) (procs : Option ℕ) (spacing : ℕ) (comments : List (List ℕ)) (book : BookView) (known old : Option (List ℕ)) (fault : ProgramFault) (outcome : Result X ProgramFault) → IsBookOf log procs spacing comments book → IsInputFault known script_limit fault → outcome ≡ Err fault → RunsAlone A log procs known old old outcome
+unread {X} A log procs spacing comments book known old fault outcome b h is = subst (λ (r : Result X ProgramFault). RunsAlone A log procs known old old r) (sym is) (go fault h) where
   go : (f : ProgramFault) → IsInputFault known script_limit f → RunsAlone {X = X} A log procs known old old (Err f)
   go faults.TooLong h = (inr (opens log procs spacing comments book b, h), keeps old)
   go faults.Read h = (opens log procs spacing comments book b, keeps old)
@@ -42,8 +42,8 @@ answered A log procs spacing comments book script text b few t = record {
 }
 
 -- the writer failed
-pub cut_off : {X : Type 0} (A : Type 0) (log : List ℕ) (procs : Option ℕ) (spacing : ℕ) (held shown : List (List ℕ)) (book : BookView) (known old new : Option (List ℕ)) (bytes script text : List ℕ) (n : ℕ) (told : Result X ProgramFault) → IsBookOf log procs spacing held book → shown ≡ held → IfSome known (λ all. bytes ≡ all) → length script ≤ script_limit → script ≡ bytes → IsTranscriptOf A shown (record { machine = machine_of book; seen = 0 }) script text → Appends old new (take n text) → told ≡ Err faults.Write → RunsAlone A log procs known old new told
-cut_off {X} A log procs spacing held shown book known old new bytes script text n told b same all few read t wrote is =
+pub cut_off : {X : Type 0} (A : Type 0) (log : List ℕ) (procs : Option ℕ) (spacing : ℕ) (held shown : List (List ℕ)) (book : BookView) (known old new : Option (List ℕ)) (bytes script text : List ℕ) (n : ℕ) (outcome : Result X ProgramFault) → IsBookOf log procs spacing held book → shown ≡ held → IfSome known (λ all. bytes ≡ all) → length script ≤ script_limit → script ≡ bytes → IsTranscriptOf A shown (record { machine = machine_of book; seen = 0 }) script text → Appends old new (take n text) → outcome ≡ Err faults.Write → RunsAlone A log procs known old new outcome
+cut_off {X} A log procs spacing held shown book known old new bytes script text n outcome b same all few read t wrote is =
     let over_held = subst (λ (comments : List (List ℕ)). IsTranscriptOf A comments (record { machine = machine_of book; seen = 0 }) script text) same t in
     let of_bytes = subst (λ (s : List ℕ). IsTranscriptOf A held (record { machine = machine_of book; seen = 0 }) s text) read over_held in
     let few_bytes = subst (λ (s : List ℕ). length s ≤ script_limit) read few in

@@ -33,8 +33,8 @@ answers_of A log procs spacing held shown book scripts texts b same along = reco
 pub shared_written : {X : Type 0} (x : X) (A : Type 0) (log : List ℕ) (procs : Option ℕ) (spacing : ℕ) (held shown : List (List ℕ)) (book : BookView) (scripts texts : List (List ℕ)) (old new : Option (List ℕ)) → IsBookOf log procs spacing held book → shown ≡ held → AreWithin scripts → AreAnsweredAlong A shown (machine_of book) scripts texts → Appends old new (headed 1 texts) → RunsShared A log procs scripts old new (Ok x)
 shared_written x A log procs spacing held shown book scripts texts old new b same within along wrote = (within, (texts, answers_of A log procs spacing held shown book scripts texts b same along, wrote))
 
-pub shared_stopped : {X : Type 0} (told : Result X ProgramFault) (A : Type 0) (log : List ℕ) (procs : Option ℕ) (spacing : ℕ) (held shown : List (List ℕ)) (book : BookView) (scripts texts : List (List ℕ)) (old new : Option (List ℕ)) → told ≡ Err faults.Write → IsBookOf log procs spacing held book → shown ≡ held → AreWithin scripts → AreAnsweredAlong A shown (machine_of book) scripts texts → (n : ℕ) × Appends old new (take n (headed 1 texts)) → RunsShared A log procs scripts old new told
-shared_stopped {X} told A log procs spacing held shown book scripts texts old new is b same within along wrote =
+pub shared_stopped : {X : Type 0} (outcome : Result X ProgramFault) (A : Type 0) (log : List ℕ) (procs : Option ℕ) (spacing : ℕ) (held shown : List (List ℕ)) (book : BookView) (scripts texts : List (List ℕ)) (old new : Option (List ℕ)) → outcome ≡ Err faults.Write → IsBookOf log procs spacing held book → shown ≡ held → AreWithin scripts → AreAnsweredAlong A shown (machine_of book) scripts texts → (n : ℕ) × Appends old new (take n (headed 1 texts)) → RunsShared A log procs scripts old new outcome
+shared_stopped {X} outcome A log procs spacing held shown book scripts texts old new is b same within along wrote =
     let stopped : RunsShared {X = X} A log procs scripts old new (Err faults.Write) = (within, (texts, answers_of A log procs spacing held shown book scripts texts b same along, wrote)) in
     subst (λ (r : Result X ProgramFault). RunsShared A log procs scripts old new r) (sym is) stopped
 
@@ -46,8 +46,8 @@ pub shared_long_script : (X A : Type 0) (log : List ℕ) (procs : Option ℕ) (s
 shared_long_script X A log procs scripts old long = (inr long, keeps old)
 
 -- the log is not opened
-pub shared_unopened : {X : Type 0} (told : Result X ProgramFault) (A : Type 0) (log : List ℕ) (procs : Option ℕ) (scripts : List (List ℕ)) (old : Option (List ℕ)) (fault : ProgramFault) → told ≡ Err fault → AreWithin scripts → IsFaultOf log procs fault → RunsShared A log procs scripts old old told
-shared_unopened {X} told A log procs scripts old fault is within h = subst (λ (r : Result X ProgramFault). RunsShared A log procs scripts old old r) (sym is) (go fault h) where
+pub shared_unopened : {X : Type 0} (outcome : Result X ProgramFault) (A : Type 0) (log : List ℕ) (procs : Option ℕ) (scripts : List (List ℕ)) (old : Option (List ℕ)) (fault : ProgramFault) → outcome ≡ Err fault → AreWithin scripts → IsFaultOf log procs fault → RunsShared A log procs scripts old old outcome
+shared_unopened {X} outcome A log procs scripts old fault is within h = subst (λ (r : Result X ProgramFault). RunsShared A log procs scripts old old r) (sym is) (go fault h) where
   go : (f : ProgramFault) → IsFaultOf log procs f → RunsShared {X = X} A log procs scripts old old (Err f)
   go faults.TooLong h = (inl h, keeps old)
   go (faults.Log f) h = (within, h, keeps old)
@@ -59,8 +59,8 @@ shared_unopened {X} told A log procs scripts old fault is within h = subst (λ (
   go (faults.Close f) h = absurd h
 
 -- the scripts end without their texts
-pub shared_failed : {X : Type 0} (told : Result X ProgramFault) (A : Type 0) (log : List ℕ) (procs : Option ℕ) (scripts : List (List ℕ)) (old : Option (List ℕ)) (fault : SharedFault) → told ≡ Err (fault_of_scripts fault) → RunsShared A log procs scripts old old told
-shared_failed {X} told A log procs scripts old fault is = subst (λ (r : Result X ProgramFault). RunsShared A log procs scripts old old r) (sym is) (go fault) where
+pub shared_failed : {X : Type 0} (outcome : Result X ProgramFault) (A : Type 0) (log : List ℕ) (procs : Option ℕ) (scripts : List (List ℕ)) (old : Option (List ℕ)) (fault : SharedFault) → outcome ≡ Err (fault_of_scripts fault) → RunsShared A log procs scripts old old outcome
+shared_failed {X} outcome A log procs scripts old fault is = subst (λ (r : Result X ProgramFault). RunsShared A log procs scripts old old r) (sym is) (go fault) where
   go : (f : SharedFault) → RunsShared {X = X} A log procs scripts old old (Err (fault_of_scripts f))
   go (shared.Close f) = keeps old
   go shared.Memory = keeps old
@@ -71,7 +71,7 @@ ends_with sources [] log live procs known old new result some h = absurd (omega 
 ends_with sources (s ∷ ss) log live procs known old new result some h = h
 
 -- and a fault comes of them
-pub ends_so : {X : Type 0} (sources : Sources) (told : Result X Stop) (words : List Text) (choice : Choice) (fault : ProgramFault) (known old new : Option (List ℕ)) → told ≡ Err (Fault fault) → chosen words ≡ Some choice → EndsWith {X = X} sources choice.scripts choice.log choice.live choice.procs known old new (Err fault) → Ends sources words known old new told
-ends_so {X} sources told words choice fault known old new is taken h =
+pub ends_so : {X : Type 0} (sources : Sources) (outcome : Result X Stop) (words : List Text) (choice : Choice) (fault : ProgramFault) (known old new : Option (List ℕ)) → outcome ≡ Err (Fault fault) → chosen words ≡ Some choice → EndsWith {X = X} sources choice.scripts choice.log choice.live choice.procs known old new (Err fault) → Ends sources words known old new outcome
+ends_so {X} sources outcome words choice fault known old new is taken h =
     let stops : Ends {X = X} sources words known old new (Err (Fault fault)) = (choice, taken, h) in
     subst (λ (r : Result X Stop). Ends sources words known old new r) (sym is) stops

@@ -48,11 +48,11 @@ module _ (opening : Machine) (who : ℕ) where
     pub seen : new.seen ≡ seen_of old.seen answer
 
   -- What a view shows is true at the place of its call: the run is that of the log of its version, under the scenario.
-  pub record Shows (old : Place) (id : ℕ) (told : Result PublishedView (Refusal ViewFault)) (new : Place) : Type 0 where
+  pub record Shows (old : Place) (id : ℕ) (outcome : Result PublishedView (Refusal ViewFault)) (new : Place) : Type 0 where
     pub before : List Happened
     pub goes : Goes who old.events before
-    pub answered : CalledAt opening before (caller.Session who) (View id old.seen) (view_answer told) new.events
-    pub true_there : IsTrueOf (state_after opening before) id told
+    pub answered : CalledAt opening before (caller.Session who) (View id old.seen) (view_answer outcome) new.events
+    pub true_there : IsTrueOf (state_after opening before) id outcome
 
   -- The history goes on, and there the session reads what holds of the machine.
   pub record Looks (old : Place) (Holds : Machine → Type 0) (new : Place) : Type 0 where
@@ -61,9 +61,9 @@ module _ (opening : Machine) (who : ℕ) where
     pub seen : new.seen ≡ old.seen
 
   -- The history goes on until no work is waited for, or behind a stop.
-  pub record Waits (old : Place) (told : SettleState) (new : Place) : Type 0 where
+  pub record Waits (old : Place) (outcome : SettleState) (new : Place) : Type 0 where
     pub goes : Goes who old.events new.events
-    pub settled : IsSettledAt opening new.events old.seen (ended_by told)
+    pub settled : IsSettledAt opening new.events old.seen (ended_by outcome)
     pub seen : new.seen ≡ old.seen
 
   abbrev pub rules_along : Rules Place

@@ -32,11 +32,11 @@ IsRead opening old Holds new = Reads opening old.front Holds new.front × (new �
 abbrev pub desk_rules : Machine → Rules SessionView
 desk_rules opening = record {
   does = IsListed opening;
-  sees = λ old id told new. Views opening old.front (caller.Session old.number) id old.seen told new.front;
+  sees = λ old id outcome new. Views opening old.front (caller.Session old.number) id old.seen outcome new.front;
   finds = λ old name found new. IsRead opening old (λ m. found ≡ id_of name m.listing) new;
   counts = λ old number new. IsRead opening old (λ m. number ≡ version m) new;
   reads = λ old moment new. IsRead opening old (λ m. IsPresent m moment) new;
-  settles = λ old told new. Settles opening old.front old.seen (ended_by told) new.front × (new ≡ record old { front = new.front });
+  settles = λ old outcome new. Settles opening old.front old.seen (ended_by outcome) new.front × (new ≡ record old { front = new.front });
   seen = λ s. s.seen;
 }
 

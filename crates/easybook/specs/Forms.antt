@@ -4,6 +4,7 @@ use Rattle.std.specs.Option.{option_map}
 use Rattle.swf_text.specs.Number.{are_digits}
 use Rattle.commands.specs.Words.{machine, number_between}
 use Rattle.checkpoints.specs.Spacing.{spacing_limit}
+use Rattle.workers.specs.Callers.{callers_limit}
 use Rattle.easybook.specs.Words.{Choice, chosen}
 
 -- on this machine, with the spacing that holds where none is named, with the log on standard input
@@ -52,7 +53,7 @@ NextSpacingChooses =
 -- `--workers=N` chooses what N spells, and is bad where that is not 1 to 64
 abbrev pub JoinedWorkersChoose : Type 0
 JoinedWorkersChoose =
-    (name number : List ℕ) → chosen (name ∷ (codes "--workers=" ++ number) ∷ []) ≡ option_map with_workers (number_between 1 64 number)
+    (name number : List ℕ) → chosen (name ∷ (codes "--workers=" ++ number) ∷ []) ≡ option_map with_workers (number_between 1 callers_limit number)
 
 -- `--script=FILE` names a script, and two of them two, in their order
 abbrev pub ScriptsAreChosen : Type 0

@@ -27,8 +27,8 @@ pub record IsScheduleOf (log : List ℕ) (procs : Option ℕ) (text : List ℕ) 
   pub opened_with : opened procs read.comments ≡ Ok scenarios
   pub first : Listed
   pub is_first : slice_get scenarios.scenarios 0 ≡ Some first
-  pub schedule : text ≡ schedule_text first.name 0 (plan_of (log_of read.entries) first.setting)
-  pub lines_of_jobs : HasALineForEachJob first.name 0 (plan_of (log_of read.entries) first.setting) text
+  pub schedule : text ≡ schedule_text first.name 0 (plan_of (log_of read.entries) first.scenario)
+  pub lines_of_jobs : HasALineForEachJob first.name 0 (plan_of (log_of read.entries) first.scenario) text
 
 -- the log is a text that is not opened, for this reason
 pub record IsNotOpened (log : List ℕ) (procs : Option ℕ) (fault : OpenTextFault) : Type 0 where

@@ -10,6 +10,7 @@ use Rattle.clap.specs.declared.parser.matches.Found.{Found}
 use Rattle.clap.specs.declared.builder.action.ArgAction.TheVariants.{Append, Set, SetTrue}
 use Rattle.commands.specs.Words.{machine, number_between}
 use Rattle.checkpoints.specs.Spacing.{spacing_limit}
+use Rattle.workers.specs.Callers.{callers_limit}
 use Rattle.easybook.specs.declared.words.Words.{Words}
 use Rattle.easybook.specs.declared.words.WordsFault.{WordsFault}
 use Rattle.easybook.specs.declared.words.WordsFault.TheVariants.{BadWords, Memory}
@@ -71,14 +72,14 @@ abbrev pub spacing_of : Option Text → Option ℕ
 spacing_of None = Some 256
 spacing_of (Some text) = number_between 1 spacing_limit text
 
--- no value chooses 2 workers; a value chooses the number that its digits spell, from 1 to 64, and any other is bad
+-- no value chooses 2 workers; a value chooses the number that its digits spell, from 1 to the limit of a desk, and any other is bad
 abbrev pub workers_of : Option Text → Option ℕ
 workers_of None = Some 2
-workers_of (Some text) = number_between 1 64 text
+workers_of (Some text) = number_between 1 callers_limit text
 
--- at most 64 files of scripts; more are bad
+-- at most so many files of scripts as a desk opens sessions; more are bad
 abbrev pub scripts_of : List Text → Option (List Text)
-scripts_of paths = if nat_le (length paths) 64 then Some paths else None
+scripts_of paths = if nat_le (length paths) callers_limit then Some paths else None
 
 -- the value of `--live` is the word `true` where it stands
 abbrev pub is_live : Option Text → Bool

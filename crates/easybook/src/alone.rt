@@ -15,7 +15,6 @@ use std::thread::Threads;
 /// The most bytes of a script.
 pub(crate) const SCRIPT_LIMIT: u64 = 16_777_216;
 
-// Works a script on an opened log, and writes the response to each command.
 pub(crate) fn work_script<R: Read + Drop, W: Write, A: Allocator + Copy>(
     alloc: A,
     script: R,

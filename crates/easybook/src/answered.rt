@@ -25,7 +25,6 @@ impl<A: Allocator + Copy, J: Naming + Works> Model for Answered<A, J> {
 }
 
 impl<A: Allocator + Copy, J: Naming + Works> Answered<A, J> {
-    // The session and the text.
     pub(crate) fn into_both(self) -> (Session<A, J>, Vec<u8, A>)
         ensures { IsAnsweredAtDesk A J.opening J.comments J.scripts (record { session = result.0; text = result.1.items }) }
     {

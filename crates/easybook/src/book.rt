@@ -63,7 +63,6 @@ fn add<A: Allocator + Copy>(
     }
 }
 
-// Adds the scenarios of a list, in their order.
 fn add_all<A: Allocator + Copy>(
     book: &mut Book<A>,
     scenarios: &ScenarioList<A>,
@@ -80,7 +79,6 @@ fn add_all<A: Allocator + Copy>(
     Ok(())
 }
 
-// The book of an opened log. Memory also where a scenario cannot be noted.
 pub(crate) fn book_over<A: Allocator + Copy>(
     alloc: A,
     opening: Opening<A>,
@@ -100,7 +98,6 @@ pub(crate) fn book_over<A: Allocator + Copy>(
     Ok(OpenedBook { book, comments })
 }
 
-// The book of a log.
 pub(crate) fn opened_book<T: Threads + Sync, A: Allocator + Copy>(
     rt: &T,
     alloc: A,
@@ -115,7 +112,6 @@ pub(crate) fn opened_book<T: Threads + Sync, A: Allocator + Copy>(
     Ok(opened)
 }
 
-// The book of a log of which the front was read; its other bytes are dropped.
 pub(crate) fn begun_book<T: Threads + Sync, A: Allocator + Copy>(
     rt: &T,
     alloc: A,

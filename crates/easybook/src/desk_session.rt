@@ -30,7 +30,6 @@ impl<'d, A: Allocator + Copy, J: Naming, R: Wait> Model for DeskSession<'d, A, J
     ghost view = { λ s. s.session };
 }
 
-// How far the scenarios are, by how a wait for them ended.
 fn state_of(ended: Settled) -> SettleState
     ensures { ended ≡ ended_by result }
 {

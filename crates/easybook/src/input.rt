@@ -10,7 +10,6 @@ use std::io::{ErrorKind, Read};
 use std::marker::Sync;
 use std::thread::Threads;
 
-// Why a reader, or memory for what it has, failed.
 pub(crate) fn fault_of_reader(error: io::Error) -> ProgramFault
     ensures { IsReadFault result }
 {
@@ -20,7 +19,6 @@ pub(crate) fn fault_of_reader(error: io::Error) -> ProgramFault
     }
 }
 
-// Reads all of a reader, up to one byte past a limit.
 pub(crate) fn read_front<R: Read + Drop, A: Allocator + Copy>(
     alloc: A,
     reader: R,
@@ -84,7 +82,6 @@ fn read_rest<R: Read, A: Allocator + Copy>(
     }
 }
 
-// Reads all of a reader, up to one byte past a limit, and meanwhile the front of the log that it begins with.
 pub(crate) fn begin_front<T: Threads + Sync, R: Read + Drop, A: Allocator + Copy>(
     rt: &T,
     alloc: A,
@@ -109,7 +106,6 @@ pub(crate) fn begin_front<T: Threads + Sync, R: Read + Drop, A: Allocator + Copy
     Ok(BegunInput { front, rest })
 }
 
-// Reads all that a reader has, at most `limit` bytes, and meanwhile the front of the log that they begin with.
 pub(crate) fn begin_input<T: Threads + Sync, R: Read + Drop, A: Allocator + Copy>(
     rt: &T,
     alloc: A,

@@ -28,7 +28,6 @@ fn buffered<R: Read + Drop, A: Allocator + Copy>(
     }
 }
 
-// Holds a conversation on an opened log.
 fn talk<R: Read + Drop, W: Write, A: Allocator + Copy>(
     alloc: A,
     opened: OpenedBook<A>,
@@ -70,8 +69,8 @@ pub fn run_live<R: Read + Drop, W: Write, T: Threads + Sync, A: Allocator + Copy
     talk(alloc, opened, reader, writer)
 }
 
-// Reads a log as it comes, at most one byte past its limit, and holds a conversation on it. Read where the
-// log cannot be read.
+// Reads a log as it comes, at most one byte past its limit, and holds a conversation on it. Read where
+// the log cannot be read.
 pub(crate) fn talk_on_file<
     L: Read + Drop,
     R: Read + Drop,

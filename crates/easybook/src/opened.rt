@@ -13,7 +13,6 @@ use std::thread::Threads;
 /// The most bytes of a log.
 pub(crate) const LOG_LIMIT: usize = 1_073_741_824;
 
-// Opens a log: its jobs, its scenarios, and its other comments.
 pub(crate) fn opening_of<T: Threads + Sync, A: Allocator + Copy>(
     rt: &T,
     alloc: A,

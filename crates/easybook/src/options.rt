@@ -1,5 +1,6 @@
 ghost use Rattle.std.specs.Prelude.{◌≤◌};
 ghost use Rattle.checkpoints.specs.Spacing.{spacing_limit};
+ghost use Rattle.workers.specs.Callers.{callers_limit};
 
 /// What the program's words choose.
 #[derive(Clone, Copy, Debug, PartialEq, Eq)]
@@ -13,5 +14,5 @@ pub struct Options {
     ghost some_spacing: { 1 ≤ spacing },
     ghost spacing_fits: { spacing ≤ spacing_limit },
     ghost some_workers: { 1 ≤ workers },
-    ghost workers_fit: { workers ≤ 64 },
+    ghost workers_fit: { workers ≤ callers_limit },
 }

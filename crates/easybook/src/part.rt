@@ -67,7 +67,6 @@ impl<A: Allocator + Copy, J: Naming + Works> Model for Part<A, J> {
 }
 
 impl<A: Allocator + Copy, J: Naming + Works> Part<A, J> {
-    // The part of a new session.
     pub(crate) fn new(session: Session<A, J>) -> Part<A, J>
         requires { IsNewSession session }
     {

@@ -16,7 +16,6 @@ use std::marker::Sync;
 use std::sync::Arc;
 use std::thread::Threads;
 
-// Writes the schedule of a table under a scenario of this name: the plan, which can go.
 fn write_under<W: Write, T: Threads + Sync, A: Allocator + Copy>(
     rt: &T,
     alloc: A,
@@ -33,7 +32,6 @@ fn write_under<W: Write, T: Threads + Sync, A: Allocator + Copy>(
     Ok(plan)
 }
 
-// Writes the schedule of an opened log's first scenario: the plan, which can go.
 pub(crate) fn write_first<W: Write, T: Threads + Sync, A: Allocator + Copy>(
     rt: &T,
     alloc: A,

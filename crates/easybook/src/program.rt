@@ -31,8 +31,8 @@ use std::thread::Threads;
 /// The most bytes of standard input where it holds the log.
 const INPUT_LIMIT: u64 = 1_200_000_000;
 
-// Reads a log as it comes, at most one byte past its limit, then a script likewise, and works the script on
-// the log. Read where either cannot be read, whatever the other holds.
+// Reads a log as it comes, at most one byte past its limit, then a script likewise, and works the script
+// on the log. Read where either cannot be read, whatever the other holds.
 fn run_file<L: Read + Drop, R: Read + Drop, W: Write, T: Threads + Sync, A: Allocator + Copy>(
     rt: &T,
     alloc: A,
@@ -49,8 +49,8 @@ fn run_file<L: Read + Drop, R: Read + Drop, W: Write, T: Threads + Sync, A: Allo
     work_script(alloc, script.as_slice(), writer, opened)
 }
 
-// Writes the schedule of an opened log's first scenario. Its jobs are not dropped one by one, since the process
-// ends behind it.
+// Writes the schedule of an opened log's first scenario. Its jobs are not dropped one by one, since the
+// process ends behind it.
 fn write_last<W: Write, T: Threads + Sync, A: Allocator + Copy>(
     rt: &T,
     alloc: A,
@@ -97,7 +97,6 @@ fn run_input<R: Read + Drop, W: Write, T: Threads + Sync, A: Allocator + Copy>(
     }
 }
 
-// Reads the script with this name, at most one byte past its limit.
 fn read_script<S: Sources>(alloc: Global, sources: &S, name: &str) -> Result<Vec<u8>, ProgramFault>
     ensures front { IfOk result (λ bytes. IfSome (S.known sources.now name.now) (λ all. bytes.items ≡ take (script_limit + 1) all)) }
     ensures fault { IfErr result IsReadFault }
@@ -105,7 +104,6 @@ fn read_script<S: Sources>(alloc: Global, sources: &S, name: &str) -> Result<Vec
     read_front(alloc, open(sources, name)?, SCRIPT_LIMIT)
 }
 
-// Reads the scripts with these names, in their order, each at most one byte past its limit.
 fn read_scripts<S: Sources>(
     alloc: Global,
     sources: &S,
@@ -135,8 +133,8 @@ fn begin_named<S: Sources, T: Threads + Sync>(
     begin_front(rt, alloc, open(sources, name)?, LOG_LIMIT as u64)
 }
 
-// Reads a log as it comes, at most one byte past its limit, or all of the input where it is the log, which
-// may have 1,200,000,000 bytes.
+// Reads a log as it comes, at most one byte past its limit, or all of the input where it is the log,
+// which may have 1,200,000,000 bytes.
 fn begin_log<S: Sources, T: Threads + Sync, R: Read + Drop>(
     alloc: Global,
     rt: &T,
@@ -153,7 +151,6 @@ fn begin_log<S: Sources, T: Threads + Sync, R: Read + Drop>(
     }
 }
 
-// Reads a log and the scripts beside it, and works the scripts side by side.
 fn run_beside<S: Sources, T: Threads + Wait + Sync, R: Read + Drop, W: Write>(
     alloc: Global,
     rt: &T,
@@ -169,7 +166,6 @@ fn run_beside<S: Sources, T: Threads + Wait + Sync, R: Read + Drop, W: Write>(
     run_shared_begun(rt, alloc, scripts.as_slice(), writer, begun, words.options)
 }
 
-// Opens what has this name.
 fn open<S: Sources>(sources: &S, name: &str) -> Result<S::Source, ProgramFault>
     ensures known { IfOk result (λ source. IfSome (S.known sources.now name.now) (λ bytes. S.Source.remaining source ≡ Some bytes)) }
     ensures fault { IfErr result IsReadFault }
@@ -180,7 +176,6 @@ fn open<S: Sources>(sources: &S, name: &str) -> Result<S::Source, ProgramFault>
     }
 }
 
-// Opens the log with this name, and holds a conversation on it, or works the script that the reader has.
 fn run_on_named<S: Sources, T: Threads + Sync, R: Read + Drop, W: Write>(
     alloc: Global,
     rt: &T,
@@ -204,15 +199,15 @@ fn run_on_named<S: Sources, T: Threads + Sync, R: Read + Drop, W: Write>(
 /// Where the words name scripts, these are worked side by side by `run_shared` on the log, which is the
 /// named file or all of the reader's bytes. Where they name none but a log, the reader's bytes are the
 /// script, which `run_alone` works, or with `--live` a conversation, which `run_live` holds. Where they
-/// name neither, the reader's bytes are cut by `split_input`: a script in them is worked by `run_alone` on the log
-/// before it, and a log alone is run as by `run_plain`.
+/// name neither, the reader's bytes are cut by `split_input`: a script in them is worked by `run_alone`
+/// on the log before it, and a log alone is run as by `run_plain`.
 ///
 /// The faults in their order: those of `read_words`; Read where the file cannot be opened or read;
-/// without a file TooLong where the reader has over 1,200,000,000 bytes; Read where the reader
-/// returns an error; those of the called function. A log in a file is read to at most one byte past
-/// 1,073,741,824, a script beside it to one past 16,777,216. Memory where a growth is refused. Where
-/// the words are bad or the input cannot be read, nothing is written. The memory of a log alone is not given back, since the
-/// process ends behind this call.
+/// without a file TooLong where the reader has over 1,200,000,000 bytes; Read where the reader returns
+/// an error; those of the called function. A log in a file is read to at most one byte past
+/// 1,073,741,824, a script beside it to one past 16,777,216. Memory where a growth is refused. Where the
+/// words are bad or the input cannot be read, nothing is written. The memory of a log alone is not given
+/// back, since the process ends behind this call.
 pub fn run_words<F: Files + Threads + Wait + Sync, R: Read + Drop, W: Write>(
     alloc: Global,
     files: &F,

@@ -16,7 +16,6 @@ pub(crate) struct ScriptList<'s, A: Allocator + Copy, J: Works> {
 }
 
 impl<'s, A: Allocator + Copy, J: Works> ScriptList<'s, A, J> {
-    // These scripts and comments.
     pub(crate) fn new(comments: &'s [Vec<u8, A>], scripts: &'s [Vec<u8, A>]) -> ScriptList<'s, A, J>
         requires comments { J.comments ≡ map (λ c. c.items) comments.now }
         requires scripts { J.scripts ≡ map (λ s. s.items) scripts.now }
@@ -28,21 +27,18 @@ impl<'s, A: Allocator + Copy, J: Works> ScriptList<'s, A, J> {
         }
     }
 
-    // How many scripts there are.
     pub(crate) fn count(&self) -> usize
         ensures { result ≡ length J.scripts }
     {
         self.scripts.len()
     }
 
-    // The log's comments.
     pub(crate) fn comments(&self) -> &'s [Vec<u8, A>]
         ensures { map (λ c. c.items) result.now ≡ J.comments }
     {
         self.comments
     }
 
-    // The script at this place, if there is one.
     pub(crate) fn at(&self, place: usize) -> Option<&'s [u8]>
         ensures { IfSome result (λ script. slice_get J.scripts place ≡ Some script.now) }
     {

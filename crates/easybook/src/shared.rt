@@ -30,7 +30,6 @@ fn is_within<A: Allocator + Copy>(script: &Vec<u8, A>) -> bool
     script.len() as u64 <= SCRIPT_LIMIT
 }
 
-// Whether each of these has.
 fn are_within<A: Allocator + Copy>(scripts: &[Vec<u8, A>]) -> bool
     ensures { result ≡ list_all (λ s. nat_le (length s.items) script_limit) scripts.now }
 {
@@ -47,7 +46,6 @@ fn write_head<W: Write>(writer: &mut W, number: u64) -> Result<(), WriteFault>
     write_bytes(writer, b"\n")
 }
 
-// Writes the text of the script with this number.
 fn write_one<W: Write>(writer: &mut W, number: u64, text: &[u8]) -> Result<(), WriteFault>
     ensures { Writes result (W.contents writer.old) (W.contents writer.new) (head_line number ++ text.now) }
 {
@@ -55,7 +53,6 @@ fn write_one<W: Write>(writer: &mut W, number: u64, text: &[u8]) -> Result<(), W
     write_bytes(writer, text)
 }
 
-// Writes the texts of the scripts, one after another, the first of which has this number.
 fn write_all<W: Write, A: Allocator + Copy>(
     writer: &mut W,
     number: u64,
@@ -71,7 +68,6 @@ fn write_all<W: Write, A: Allocator + Copy>(
     write_all(writer, number + 1, rest)
 }
 
-// Works scripts within their limit side by side on an opened log.
 fn share<W: Write, A: Allocator + Copy + Send + Sync, R: Threads + Wait + Sync, G: Gate + Sync>(
     rt: &R,
     alloc: A,
@@ -106,9 +102,9 @@ fn share<W: Write, A: Allocator + Copy + Send + Sync, R: Threads + Wait + Sync, 
 /// in the scripts' order, each after a line `== k`, k from 1. The scripts are 1 to 64.
 ///
 /// There is one legal history of the log's book along which each script is answered: the reply to each
-/// of its calls is that of the book's machine at the call's place, each report is that of the log of
-/// the version that the view shows there, and each reading is that of a place between those of the
-/// lines before and behind. The history's calls of session k, k from 0, are those of script k + 1, in their
+/// of its calls is that of the book's machine at the call's place, each report is that of the log of the
+/// version that the view shows there, and each reading is that of a place between those of the lines
+/// before and behind. The history's calls of session k, k from 0, are those of script k + 1, in their
 /// order.
 ///
 /// The log is opened as by `run_alone`. The faults in their order: TooLong where the log has over
@@ -157,7 +153,6 @@ pub fn run_shared_gated<
     share(rt, alloc, scripts, writer, opened, options, gate)
 }
 
-// As `run_shared`, on a log of which the front was read.
 pub(crate) fn run_shared_begun<
     W: Write,
     A: Allocator + Copy + Send + Sync,

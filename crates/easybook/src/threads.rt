@@ -17,7 +17,6 @@ use swf_text::Memory;
 use version_book::Book;
 use workers::{CloseFault, Desk, Gate, Session, Worker, close};
 
-// This many parts, each with a new session.
 fn parts_of<A: Allocator + Copy, J: Naming + Works, R: Wait>(
     rt: &R,
     alloc: A,
@@ -129,7 +128,6 @@ struct Outputs<A: Allocator + Copy, J: Naming> {
     texts: Vec<Vec<u8, A>, A>,
 }
 
-// The sessions and the texts of all parts, in their order.
 fn outputs_of<A: Allocator + Copy, J: Naming + Works>(
     alloc: A,
     parts: Vec<Part<A, J>, A>,

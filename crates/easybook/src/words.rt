@@ -5,6 +5,7 @@ ghost use Rattle.clap.specs.declared.error.kind.ErrorKind.TheVariants.{OutOfMemo
 ghost use Rattle.commands.specs.Words.{number_between};
 ghost use Rattle.scenarios.specs.Limits.{procs_limit};
 ghost use Rattle.checkpoints.specs.Spacing.{spacing_limit};
+ghost use Rattle.workers.specs.Callers.{callers_limit};
 ghost use Rattle.easybook.specs.Words.{IsWordsFault, choice_of, chosen, command_line, found_scripts, is_allowed, is_live, live_rule, option_rule, procs_of, script_rule, spacing_of, with_numbers, workers_of};
 ghost use Rattle.easybook.specs.declared.words.WordsFault.TheVariants.{BadWords};
 
@@ -82,7 +83,6 @@ fn refused(error: clap::Error) -> WordsFault
     }
 }
 
-// An option of this name, with a value behind it or behind `=`.
 fn option<'a>(alloc: Global, name: &'a str) -> Arg<'a>
     ensures rule { rule_of result ≡ option_rule name.now }
     ensures local { result.global ≡ false }
@@ -90,7 +90,6 @@ fn option<'a>(alloc: Global, name: &'a str) -> Arg<'a>
     Arg::new(alloc, name).long(name).action(ArgAction::Set)
 }
 
-// The option that names a script, any number of times.
 fn script<'a>(alloc: Global) -> Arg<'a>
     ensures rule { rule_of result ≡ script_rule }
     ensures local { result.global ≡ false }
@@ -100,7 +99,6 @@ fn script<'a>(alloc: Global) -> Arg<'a>
         .action(ArgAction::Append)
 }
 
-// The option that asks for a conversation.
 fn live<'a>(alloc: Global) -> Arg<'a>
     ensures rule { rule_of result ≡ live_rule }
     ensures local { result.global ≡ false }
@@ -110,7 +108,6 @@ fn live<'a>(alloc: Global) -> Arg<'a>
         .action(ArgAction::SetTrue)
 }
 
-// The command with one more argument.
 fn with_argument<'a>(command: Command<'a>, arg: Arg<'a>) -> Result<Command<'a>, AllocError>
     requires { arg.global ≡ false }
     ensures { IfOk result (λ c. app_of c ≡ with_rule (app_of command.entry) (rule_of arg.entry)) }
@@ -118,7 +115,6 @@ fn with_argument<'a>(command: Command<'a>, arg: Arg<'a>) -> Result<Command<'a>, 
     command.arg(arg)
 }
 
-// The command with the options that have a number behind them.
 fn with_numbers<'a>(alloc: Global, command: Command<'a>) -> Result<Command<'a>, AllocError>
     ensures { IfOk result (λ c. app_of c ≡ with_numbers (app_of command.entry)) }
 {
@@ -127,7 +123,6 @@ fn with_numbers<'a>(alloc: Global, command: Command<'a>) -> Result<Command<'a>, 
     with_argument(command, option(alloc, "workers"))
 }
 
-// The words that the program takes.
 fn command<'a>(alloc: Global) -> Result<Command<'a>, AllocError>
     ensures { IfOk result (λ command. app_of command ≡ command_line) }
 {
@@ -138,7 +133,6 @@ fn command<'a>(alloc: Global) -> Result<Command<'a>, AllocError>
     with_argument(command, live(alloc))
 }
 
-// What stands behind the words that the program takes.
 fn matched<'a>(alloc: Global, words: &'a [&'a str]) -> Result<ArgMatches<'a>, WordsFault>
     ensures taken { IfOk result (λ _. fault_of command_line (map (λ w. w.now) words.now) ≡ []) }
     ensures rows { IfOk result (λ m. rows_of (found_of m) ≡ matches_of command_line (map (λ w. w.now) words.now)) }
@@ -163,7 +157,6 @@ fn number(text: &str, most: u64) -> Option<u64>
     Some(number)
 }
 
-// The machine that the words name, if they name one; None where what they name is none.
 fn machine(matches: &ArgMatches<'_>) -> Option<Option<u64>>
     ensures value { result ≡ procs_of (first_value (found_of matches.now) (codes "procs")) }
     ensures within { IfSome result (λ procs. IfSome procs (λ n. (1 ≤ n) × (n ≤ procs_limit))) }
@@ -191,7 +184,7 @@ fn spacing(matches: &ArgMatches<'_>) -> Option<u32>
 // name is none.
 fn workers(matches: &ArgMatches<'_>) -> Option<u32>
     ensures value { result ≡ workers_of (first_value (found_of matches.now) (codes "workers")) }
-    ensures within { IfSome result (λ n. (1 ≤ n) × (n ≤ 64)) }
+    ensures within { IfSome result (λ n. (1 ≤ n) × (n ≤ callers_limit)) }
 {
     let Some(text) = matches.get_str("workers") else {
         return Some(WORKERS);
@@ -200,7 +193,6 @@ fn workers(matches: &ArgMatches<'_>) -> Option<u32>
     Some(workers as u32)
 }
 
-// The files of scripts that the words name.
 fn scripts<'a>(alloc: Global, matches: &ArgMatches<'a>) -> Result<Vec<&'a str>, AllocError>
     ensures { IfOk result (λ paths. map (λ p. p.now) paths.items ≡ found_scripts (found_of matches.now)) }
 {
@@ -210,7 +202,6 @@ fn scripts<'a>(alloc: Global, matches: &ArgMatches<'a>) -> Result<Vec<&'a str>, 
     }
 }
 
-// Whether the words ask for a conversation.
 fn is_live(matches: &ArgMatches<'_>) -> bool
     ensures { result ≡ is_live (first_value (found_of matches.now) (codes "live")) }
 {
@@ -240,8 +231,8 @@ pub fn read_words<'a>(alloc: Global, words: &'a [&'a str]) -> Result<Words<'a>, 
     ensures chosen { IfOk result (λ w. chosen (map (λ w. w.now) words.now) ≡ Some (choice_of w)) }
     ensures refused { IfErr result (IsWordsFault (map (λ w. w.now) words.now)) }
     ensures machine { IfOk result (λ w. IfSome w.options.procs (λ n. (1 ≤ n) × (n ≤ procs_limit))) }
-    ensures workers { IfOk result (λ w. (1 ≤ w.options.workers) × (w.options.workers ≤ 64)) }
-    ensures scripts { IfOk result (λ w. vec_len w.scripts ≤ 64) }
+    ensures workers { IfOk result (λ w. (1 ≤ w.options.workers) × (w.options.workers ≤ callers_limit)) }
+    ensures scripts { IfOk result (λ w. vec_len w.scripts ≤ callers_limit) }
 {
     let matches = matched(alloc, words)?;
     let Some(procs) = machine(&matches) else {

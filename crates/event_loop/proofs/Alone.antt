@@ -6,9 +6,9 @@ use Rattle.std.proofs.lemmas.Bool.{cases_lt}
 use Rattle.scenarios.specs.Job.{EffectiveJob}
 use Rattle.scenarios.specs.Plan.{from_on}
 use Rattle.scenarios.proofs.Lemmas.{from-out}
-use Rattle.event_loop.specs.Coming.{NonFalling, NextJobs, IsComing, first_submit, without_first}
+use Rattle.event_loop.specs.Upcoming.{NonFalling, NextJobs, IsUpcoming, first_submit, without_first}
 use Rattle.event_loop.proofs.ToCome.{at_second, at-in, at-none, from-same, later-all}
-use Rattle.event_loop.proofs.Rows.{row-falling, row-from, row-has, coming-after}
+use Rattle.event_loop.proofs.Rows.{row-falling, row-from, row-has, upcoming-after}
 
 -- the submit second of the second job
 pub second-first : (js : List EffectiveJob) → first_submit (drop 1 js) ≡ option_map (λ (j : EffectiveJob). j.submit) (slice_get js 1)
@@ -38,9 +38,9 @@ rest-later t (j ∷ js) r a other =
 -- it is the only one of its second, and then the others come
 pub record IsAlone (c : NextJobs) (t : ℕ) (jobs : List EffectiveJob) (job : EffectiveJob) : Type 0 where
   pub only : at_second t jobs ≡ job ∷ []
-  pub rest : IsComing (without_first c) (t + 1) jobs
+  pub rest : IsUpcoming (without_first c) (t + 1) jobs
 
-pub alone-at : (c : NextJobs) (t : ℕ) (jobs : List EffectiveJob) (job : EffectiveJob) → NonFalling jobs → IsComing c t jobs → IfSome c.later (λ u. t < u) → job.submit ≡ t → slice_get c.row 0 ≡ Some job → first_submit (drop 1 c.row) ≢ Some t → IsAlone c t jobs job
+pub alone-at : (c : NextJobs) (t : ℕ) (jobs : List EffectiveJob) (job : EffectiveJob) → NonFalling jobs → IsUpcoming c t jobs → IfSome c.later (λ u. t < u) → job.submit ≡ t → slice_get c.row 0 ≡ Some job → first_submit (drop 1 c.row) ≢ Some t → IsAlone c t jobs job
 alone-at c t jobs job r h l at first other =
     let rest = drop 1 c.row in
     let parts : c.row ≡ job ∷ rest = first-of c.row job first in
@@ -50,7 +50,7 @@ alone-at c t jobs job r h l at first other =
     let out : job.submit < t + 1 = omega (arith, at) in
     record {
       only = sym (row-has c t jobs h l) ∙ ap (at_second t) parts ∙ at-in t job rest at ∙ ap (λ js. job ∷ js) (at-none t rest later);
-      rest = coming-after c (without_first c) t jobs h l
+      rest = upcoming-after c (without_first c) t jobs h l
           (sym (ap (from_on (t + 1)) parts ∙ from-out (t + 1) job rest out
           ∙ from-same (t + 1) rest (All-weaker (λ (j : EffectiveJob). t < j.submit) (λ (j : EffectiveJob). t + 1 ≤ j.submit) (λ j m. omega (arith, m)) rest later)))
           refl;
@@ -59,9 +59,9 @@ alone-at c t jobs job r h l at first other =
 -- so for the job that is found, where one is
 pub record IsAloneIf (c : NextJobs) (t : ℕ) (jobs : List EffectiveJob) (o : Option EffectiveJob) : Type 0 where
   pub only : IfSome o (λ job. at_second t jobs ≡ job ∷ [])
-  pub rest : IfSome o (λ job. IsComing (without_first c) (t + 1) jobs)
+  pub rest : IfSome o (λ job. IsUpcoming (without_first c) (t + 1) jobs)
 
-pub alone-if : (c : NextJobs) (t : ℕ) (jobs : List EffectiveJob) (o : Option EffectiveJob) → NonFalling jobs → IsComing c t jobs → IfSome c.later (λ u. t < u) → IfSome o (λ job. (job.submit ≡ t) × (slice_get c.row 0 ≡ Some job)) → IfSome o (λ _. first_submit (drop 1 c.row) ≢ Some t)
+pub alone-if : (c : NextJobs) (t : ℕ) (jobs : List EffectiveJob) (o : Option EffectiveJob) → NonFalling jobs → IsUpcoming c t jobs → IfSome c.later (λ u. t < u) → IfSome o (λ job. (job.submit ≡ t) × (slice_get c.row 0 ≡ Some job)) → IfSome o (λ _. first_submit (drop 1 c.row) ≢ Some t)
     → IsAloneIf c t jobs o
 alone-if c t jobs None r h l first other = record { only = tt; rest = tt }
 alone-if c t jobs (Some job) r h l first other =

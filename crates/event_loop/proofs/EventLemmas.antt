@@ -16,11 +16,11 @@ use Rattle.easy_rule.specs.Simulation.{before, ready, submitted, IsEvent, bound,
 use Rattle.scenarios.specs.SoundPlan.{IsPlan}
 use Rattle.timeline.specs.Laws.{IsQuiet}
 use Rattle.timeline.proofs.Lemmas.{run-before, sound-arrivals, quiet-seconds-change-nothing, all-have-ended, all-end-by-the-bound, short-plan, submitted-none, only-ends-unsettle}
-use Rattle.event_loop.specs.Coming.{NonFalling, NextJobs, IsComing, first_submit}
+use Rattle.event_loop.specs.Upcoming.{NonFalling, NextJobs, IsUpcoming, first_submit}
 use Rattle.event_loop.specs.Events.{IsNextEvent, IsMidway, earlier, IsEngine, Progress}
 use Rattle.event_loop.proofs.ToCome.{non-falling, at_second, at-in, at-from, at-none, from-All, from-falling, from-later, from-same}
 use Rattle.scenarios.proofs.Lemmas.{from-in, from-out}
-use Rattle.event_loop.proofs.Rows.{coming-on}
+use Rattle.event_loop.proofs.Rows.{upcoming-on}
 
 -- ---- the next submit second
 
@@ -81,8 +81,8 @@ from-quiet plan a t l quiet p = go (from_on a plan.jobs) refl
         (cases_lt j.submit t)
 
 -- so an engine knows them still
-pub coming-quiet : (plan : Plan) (coming : NextJobs) (a t : ℕ) → a ≤ t → IsQuiet plan a t → IsPlan plan → IsComing coming a plan.jobs → IsComing coming t plan.jobs
-coming-quiet plan coming a t l quiet p h = coming-on coming a t plan.jobs (from-quiet plan a t l quiet p) h
+pub upcoming-quiet : (plan : Plan) (upcoming : NextJobs) (a t : ℕ) → a ≤ t → IsQuiet plan a t → IsPlan plan → IsUpcoming upcoming a plan.jobs → IsUpcoming upcoming t plan.jobs
+upcoming-quiet plan upcoming a t l quiet p h = upcoming-on upcoming a t plan.jobs (from-quiet plan a t l quiet p) h
 
 -- ---- who runs ends at the position or later
 pub lasting-before : (plan : Plan) (t : ℕ) → IsPlan plan → All (λ r. t ≤ real_end r) (before plan t).running
@@ -197,24 +197,24 @@ event-by-bound plan t p (inr (k, x, l, at, here)) =
     omega (arith, a, e, here)
 
 -- ---- an engine at its next event second
-pub record Ready (plan : Plan) (s : State) (coming : NextJobs) (a t : ℕ) : Type 0 where
+pub record Ready (plan : Plan) (s : State) (upcoming : NextJobs) (a t : ℕ) : Type 0 where
   pub is : s ≡ before plan t
   pub small : t < 2 ^ 49 - 1
   pub first : a ≤ t
-  pub next : IsComing coming t plan.jobs
+  pub next : IsUpcoming upcoming t plan.jobs
 
 abbrev pub seen : Plan → ℕ → ℕ → Bool → Progress
 seen plan a h f = record { plan = plan; position = a; handled = h; failed = f }
 
-pub ready-at : (now : Progress) (plan : Plan) (s : State) (coming : NextJobs) (known : Option Shadow) (a h t : ℕ) (f : Bool) → seen plan a h f ≡ now → IsEngine plan s coming known a h f → now.failed ≡ false → IsNextEvent now.plan now.position (Some t) → Ready plan s coming a t
-ready-at now plan s coming known a h t f view engine going next =
+pub ready-at : (now : Progress) (plan : Plan) (s : State) (upcoming : NextJobs) (last_shadow : Option Shadow) (a h t : ℕ) (f : Bool) → seen plan a h f ≡ now → IsEngine plan s upcoming last_shadow a h f → now.failed ≡ false → IsNextEvent now.plan now.position (Some t) → Ready plan s upcoming a t
+ready-at now plan s upcoming last_shadow a h t f view engine going next =
     let next' : IsNextEvent plan a (Some t) = subst (λ (p : Progress). IsNextEvent p.plan p.position (Some t)) (sym view) next in
     let going' : f ≡ false = ap (λ (p : Progress). p.failed) view ∙ going in
     record {
       is = engine.state_is going' ∙ sym (quiet-seconds-change-nothing plan a t next'.0 next'.2).0;
       small = let b = event-by-bound plan t engine.is_plan next'.1 in let k = short-plan plan engine.is_plan in omega (arith, b, k);
       first = next'.0;
-      next = coming-quiet plan coming a t next'.0 next'.2 engine.is_plan (engine.coming_is going');
+      next = upcoming-quiet plan upcoming a t next'.0 next'.2 engine.is_plan (engine.upcoming_is going');
     }
 
 -- where no job ends at second t, the queue of before is a settled front of the state of t, and the shadow of before is that state's
@@ -228,14 +228,14 @@ stands-at plan s ready' t is at later =
     omega (arith, h, e, here) in
     let law = only-ends-unsettle plan t none in (
       ap (λ (z : State). next (front z (length s.waiting)) t) at ∙ ap (λ (z : State). next (front (ready plan (before plan t) t) (length z.waiting)) t) is ∙ law.0,
-      λ w known. ap shadow_of at ∙ law.1 w (ap shadow_of (sym is) ∙ known),
+      λ w last_shadow. ap shadow_of at ∙ law.1 w (ap shadow_of (sym is) ∙ last_shadow),
     )
 
 -- so for the shadow that is known, where it stands
-pub known-front : (plan : Plan) (s ready' : State) (t n : ℕ) (known o : Option Shadow) → s ≡ before plan t → ready' ≡ ready plan (before plan t) t → n ≡ length s.waiting → IfSome known (λ w. shadow_of s ≡ Some w) → IfSome o (λ w. known ≡ Some w) → IfSome o (λ _. All (λ r. t < real_end r) s.running)
+pub last_shadow-front : (plan : Plan) (s ready' : State) (t n : ℕ) (last_shadow o : Option Shadow) → s ≡ before plan t → ready' ≡ ready plan (before plan t) t → n ≡ length s.waiting → IfSome last_shadow (λ w. shadow_of s ≡ Some w) → IfSome o (λ w. last_shadow ≡ Some w) → IfSome o (λ _. All (λ r. t < real_end r) s.running)
     → IfSome o (λ w. IsSettledFront ready' t n w)
-known-front plan s ready' t n known None is at many holds same later = tt
-known-front plan s ready' t n known (Some w) is at many holds same later =
+last_shadow-front plan s ready' t n last_shadow None is at many holds same later = tt
+last_shadow-front plan s ready' t n last_shadow (Some w) is at many holds same later =
     let stands = stands-at plan s ready' t is at later in
     let wait : length ready'.waiting ≡ length (before plan t).waiting + length (submitted plan t) = ap (λ (z : State). length z.waiting) at ∙ length-append (before plan t).waiting (submitted plan t) in
     let waited = ap (λ (z : State). length z.waiting) is in
@@ -252,9 +252,9 @@ sound-ready plan s s' t p small is f =
     (sound-arrivals plan s s' t (length plan.jobs) (omega arith) p is f)
 
 -- who runs where the work on an event second was given up
-pub midway-at : (now : Progress) (plan : Plan) (s ended new : State) (coming : NextJobs) (known : Option Shadow) (a h t : ℕ) (f : Bool) → seen plan a h f ≡ now → IsEngine plan s coming known a h f → now.failed ≡ false → IsNextEvent now.plan now.position (Some t) → ended ≡ ended_until s t
+pub midway-at : (now : Progress) (plan : Plan) (s ended new : State) (upcoming : NextJobs) (last_shadow : Option Shadow) (a h t : ℕ) (f : Bool) → seen plan a h f ≡ now → IsEngine plan s upcoming last_shadow a h f → now.failed ≡ false → IsNextEvent now.plan now.position (Some t) → ended ≡ ended_until s t
     → new.running ≡ ended.running → IsMidway plan a new.running
-midway-at now plan s ended new coming known a h t f view engine going next end same =
+midway-at now plan s ended new upcoming last_shadow a h t f view engine going next end same =
     let next' : IsNextEvent plan a (Some t) = subst (λ (p : Progress). IsNextEvent p.plan p.position (Some t)) (sym view) next in
     let here : s ≡ before plan a = engine.state_is (ap (λ (p : Progress). p.failed) view ∙ going) in
     inr (t, next', same ∙ ap (λ (z : State). z.running) end ∙ ap (λ (z : State). (ended_until z t).running) here)

@@ -20,7 +20,7 @@ one-each (r ∷ rs) h =
     let rest = one-each rs (All-tail (λ r. IsWithinLimits r.job) r rs h) in
     omega (arith, size, rest, sum_by-cons (λ (r : Placed). r.job.size) r rs)
 
-pub few-running : (s : State) → IsSound s → length s.running ≤ s.machine
+pub few-running : (s : State) → IsSound s → length s.running ≤ s.procs
 few-running s h = let a = one-each s.running h.running_limits in let b = h.fits in omega (arith, a, b)
 
 pub few-waiting : (plan : Plan) (t : ℕ) → IsPlan plan → length (before plan t).waiting ≤ length plan.jobs

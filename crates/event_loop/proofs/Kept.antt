@@ -35,7 +35,7 @@ of-plan-started : (plan : Plan) (now : ℕ) (s : State) (job : EffectiveJob) →
 of-plan-started plan now s job e h =
     let waits = (next-facts s now job s.waiting e).0 in
     record {
-      machine = h.machine;
+      procs = h.procs;
       order = h.order;
       waiting = All-without (Own plan) job.number s.waiting h.waiting;
       running = All-placed (λ r. job_numbered plan.jobs r.job.number ≡ Some r.job) (record { job = job; start = now }) s.running (member-holds (Own plan) s.waiting job waits h.waiting) h.running;
@@ -43,7 +43,7 @@ of-plan-started plan now s job e h =
 
 of-plan-ready : (plan : Plan) (s : State) (t : ℕ) → IsPlan plan → IsOfPlan s plan → IsOfPlan (ready plan s t) plan
 of-plan-ready plan s t p h = record {
-  machine = h.machine;
+  procs = h.procs;
   order = h.order;
   waiting = All-append (Own plan) s.waiting (submitted plan t) h.waiting (All-filter (λ (j : EffectiveJob). nat_eq j.submit t) (Own plan) plan.jobs (own-jobs plan p));
   running = All-filter (λ (r : Placed). not (nat_eq (real_end r) t)) (λ r. job_numbered plan.jobs r.job.number ≡ Some r.job) s.running h.running;
@@ -52,7 +52,7 @@ of-plan-ready plan s t p h = record {
 pub before-of-plan : (plan : Plan) (t : ℕ) → IsPlan plan → IsOfPlan (before plan t) plan
 unfolding before
 before-of-plan plan zero p = record {
-  machine = refl;
+  procs = refl;
   order = refl;
   waiting = All-nil (Own plan);
   running = All-nil (λ r. job_numbered plan.jobs r.job.number ≡ Some r.job);

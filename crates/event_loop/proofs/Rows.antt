@@ -4,12 +4,12 @@ use Rattle.std.proofs.lemmas.List.Elements.{All-nil, All-cons, All-head, All-tai
 use Rattle.std.proofs.lemmas.Bool.{cases_lt}
 use Rattle.scenarios.specs.Job.{EffectiveJob}
 use Rattle.scenarios.specs.Plan.{from_on}
-use Rattle.event_loop.specs.Coming.{NonFalling, NextJobs, IsComing, from_any, first_submit, next_of}
+use Rattle.event_loop.specs.Upcoming.{NonFalling, NextJobs, IsUpcoming, from_any, first_submit, next_of}
 use Rattle.scenarios.proofs.Lemmas.{from-out}
 use Rattle.event_loop.proofs.ToCome.{at_second, at-from, at-none, from-All, from-falling, from-later, from-same}
 
-abbrev coming_of : List EffectiveJob → Option ℕ → NextJobs
-coming_of row later = record { row = row; later = later }
+abbrev upcoming_of : List EffectiveJob → Option ℕ → NextJobs
+upcoming_of row later = record { row = row; later = later }
 
 All-front : (P : EffectiveJob → Type 0) (xs ys : List EffectiveJob) → All P (xs ++ ys) → All P xs
 All-front P [] ys a = All-nil P
@@ -42,10 +42,10 @@ from-first t jobs j js r e =
 -- ---- at a position
 
 -- none in the row
-pub coming-first : (t : ℕ) (jobs : List EffectiveJob) (later : Option ℕ) → NonFalling jobs → later ≡ first_submit (from_on t jobs) → IsComing (coming_of [] later) t jobs
-coming-first t jobs later r e = subst (λ (o : Option ℕ). IsComing (coming_of [] o) t jobs) (sym e) (go (from_on t jobs) refl)
+pub upcoming-first : (t : ℕ) (jobs : List EffectiveJob) (later : Option ℕ) → NonFalling jobs → later ≡ first_submit (from_on t jobs) → IsUpcoming (upcoming_of [] later) t jobs
+upcoming-first t jobs later r e = subst (λ (o : Option ℕ). IsUpcoming (upcoming_of [] o) t jobs) (sym e) (go (from_on t jobs) refl)
   where
-    go : (js : List EffectiveJob) → from_on t jobs ≡ js → IsComing (coming_of [] (first_submit js)) t jobs
+    go : (js : List EffectiveJob) → from_on t jobs ≡ js → IsUpcoming (upcoming_of [] (first_submit js)) t jobs
     go [] h = record { all = h; first = refl; before = tt }
     go (j ∷ js) h =
         let same = from-first t jobs j js r h in
@@ -56,30 +56,30 @@ coming-first t jobs later r e = subst (λ (o : Option ℕ). IsComing (coming_of 
         }
 
 -- the submit second of the next
-pub next-is : (c : NextJobs) (t : ℕ) (jobs : List EffectiveJob) → IsComing c t jobs → next_of c ≡ first_submit (from_on t jobs)
+pub next-is : (c : NextJobs) (t : ℕ) (jobs : List EffectiveJob) → IsUpcoming c t jobs → next_of c ≡ first_submit (from_on t jobs)
 next-is c t jobs h = go c.row refl
   where
     go : (row : List EffectiveJob) → c.row ≡ row → next_of c ≡ first_submit (from_on t jobs)
-    go [] e = ap (λ (js : List EffectiveJob). next_of (coming_of js c.later)) e ∙ h.first ∙ ap (λ (js : List EffectiveJob). first_submit (js ++ from_any c.later jobs)) (sym e) ∙ ap first_submit (sym h.all)
+    go [] e = ap (λ (js : List EffectiveJob). next_of (upcoming_of js c.later)) e ∙ h.first ∙ ap (λ (js : List EffectiveJob). first_submit (js ++ from_any c.later jobs)) (sym e) ∙ ap first_submit (sym h.all)
     go (j ∷ js) e =
-        ap (λ (js : List EffectiveJob). next_of (coming_of js c.later)) e ∙ ap (λ (js : List EffectiveJob). first_submit (js ++ from_any c.later jobs)) (sym e) ∙ ap first_submit (sym h.all)
+        ap (λ (js : List EffectiveJob). next_of (upcoming_of js c.later)) e ∙ ap (λ (js : List EffectiveJob). first_submit (js ++ from_any c.later jobs)) (sym e) ∙ ap first_submit (sym h.all)
 
 -- the same at another position, from which on the same jobs come
-pub coming-on : (c : NextJobs) (a b : ℕ) (jobs : List EffectiveJob) → from_on a jobs ≡ from_on b jobs → IsComing c a jobs → IsComing c b jobs
-coming-on c a b jobs e h = record { all = sym e ∙ h.all; first = h.first; before = h.before }
+pub upcoming-on : (c : NextJobs) (a b : ℕ) (jobs : List EffectiveJob) → from_on a jobs ≡ from_on b jobs → IsUpcoming c a jobs → IsUpcoming c b jobs
+upcoming-on c a b jobs e h = record { all = sym e ∙ h.all; first = h.first; before = h.before }
 
 -- the row is in order, and from the position on
-pub row-falling : (c : NextJobs) (t : ℕ) (jobs : List EffectiveJob) → NonFalling jobs → IsComing c t jobs → NonFalling c.row
+pub row-falling : (c : NextJobs) (t : ℕ) (jobs : List EffectiveJob) → NonFalling jobs → IsUpcoming c t jobs → NonFalling c.row
 row-falling c t jobs r h = falling-front c.row (from_any c.later jobs) (subst NonFalling h.all (from-falling t jobs r))
 
-all-from : (c : NextJobs) (t : ℕ) (jobs : List EffectiveJob) → IsComing c t jobs → All (λ (j : EffectiveJob). t ≤ j.submit) (c.row ++ from_any c.later jobs)
+all-from : (c : NextJobs) (t : ℕ) (jobs : List EffectiveJob) → IsUpcoming c t jobs → All (λ (j : EffectiveJob). t ≤ j.submit) (c.row ++ from_any c.later jobs)
 all-from c t jobs h = subst (All (λ (j : EffectiveJob). t ≤ j.submit)) h.all (from-All t jobs)
 
-pub row-from : (c : NextJobs) (t : ℕ) (jobs : List EffectiveJob) → IsComing c t jobs → All (λ (j : EffectiveJob). t ≤ j.submit) c.row
+pub row-from : (c : NextJobs) (t : ℕ) (jobs : List EffectiveJob) → IsUpcoming c t jobs → All (λ (j : EffectiveJob). t ≤ j.submit) c.row
 row-from c t jobs h = All-front (λ (j : EffectiveJob). t ≤ j.submit) c.row (from_any c.later jobs) (all-from c t jobs h)
 
 -- where jobs behind the row are submitted at the position, the row is empty
-pub row-none : (c : NextJobs) (t : ℕ) (jobs : List EffectiveJob) → IsComing c t jobs → c.later ≡ Some t → c.row ≡ []
+pub row-none : (c : NextJobs) (t : ℕ) (jobs : List EffectiveJob) → IsUpcoming c t jobs → c.later ≡ Some t → c.row ≡ []
 row-none c t jobs h at = go c.row (row-from c t jobs h) (subst (λ (o : Option ℕ). IfSome o (λ u. All (λ (j : EffectiveJob). j.submit < u) c.row)) at h.before)
   where
     go : (row : List EffectiveJob) → All (λ (j : EffectiveJob). t ≤ j.submit) row → All (λ (j : EffectiveJob). j.submit < t) row → row ≡ []
@@ -90,7 +90,7 @@ row-none c t jobs h at = go c.row (row-from c t jobs h) (subst (λ (o : Option �
         absurd (omega (arith, l, m))
 
 -- where none of them is, they are submitted later
-pub behind-later : (c : NextJobs) (t : ℕ) (jobs : List EffectiveJob) → IsComing c t jobs → c.later ≢ Some t → IfSome c.later (λ u. t < u)
+pub behind-later : (c : NextJobs) (t : ℕ) (jobs : List EffectiveJob) → IsUpcoming c t jobs → c.later ≢ Some t → IfSome c.later (λ u. t < u)
 behind-later c t jobs h other = go c.later (from_any c.later jobs) h.first (All-back (λ (j : EffectiveJob). t ≤ j.submit) c.row (from_any c.later jobs) (all-from c t jobs h)) other
   where
     go : (later : Option ℕ) (js : List EffectiveJob) → later ≡ first_submit js → All (λ (j : EffectiveJob). t ≤ j.submit) js → later ≢ Some t → IfSome later (λ u. t < u)
@@ -117,16 +117,16 @@ behind-stays t (Some u) jobs l =
     from-same (t + 1) (from_on u jobs) (All-weaker (λ (j : EffectiveJob). u ≤ j.submit) (λ (j : EffectiveJob). t + 1 ≤ j.submit) (λ j m. omega (arith, l, m)) (from_on u jobs) (from-All u jobs))
 
 -- they all stand in it
-pub row-has : (c : NextJobs) (t : ℕ) (jobs : List EffectiveJob) → IsComing c t jobs → IfSome c.later (λ u. t < u) → at_second t c.row ≡ at_second t jobs
+pub row-has : (c : NextJobs) (t : ℕ) (jobs : List EffectiveJob) → IsUpcoming c t jobs → IfSome c.later (λ u. t < u) → at_second t c.row ≡ at_second t jobs
 row-has c t jobs h l =
     sym (append-nil (at_second t c.row)) ∙ ap (λ (js : List EffectiveJob). at_second t c.row ++ js) (sym (behind-none t c.later jobs l))
     ∙ sym (filter-append _ c.row (from_any c.later jobs)) ∙ ap (at_second t) (sym h.all) ∙ at-from t t jobs (omega arith)
 
 -- and the others come from the next second on
-pub coming-after : (c d : NextJobs) (t : ℕ) (jobs : List EffectiveJob) → IsComing c t jobs → IfSome c.later (λ u. t < u) → d.row ≡ from_on (t + 1) c.row → d.later ≡ c.later → IsComing d (t + 1) jobs
-coming-after c d t jobs h l row later =
-    subst (λ (o : Option ℕ). IsComing (coming_of d.row o) (t + 1) jobs) (sym later)
-    (subst (λ (js : List EffectiveJob). IsComing (coming_of js c.later) (t + 1) jobs) (sym row) (record {
+pub upcoming-after : (c d : NextJobs) (t : ℕ) (jobs : List EffectiveJob) → IsUpcoming c t jobs → IfSome c.later (λ u. t < u) → d.row ≡ from_on (t + 1) c.row → d.later ≡ c.later → IsUpcoming d (t + 1) jobs
+upcoming-after c d t jobs h l row later =
+    subst (λ (o : Option ℕ). IsUpcoming (upcoming_of d.row o) (t + 1) jobs) (sym later)
+    (subst (λ (js : List EffectiveJob). IsUpcoming (upcoming_of js c.later) (t + 1) jobs) (sym row) (record {
       all = sym (from-later t (t + 1) jobs (omega arith)) ∙ ap (from_on (t + 1)) h.all ∙ from-append (t + 1) c.row (from_any c.later jobs)
           ∙ ap (λ (js : List EffectiveJob). from_on (t + 1) c.row ++ js) (behind-stays t c.later jobs l);
       first = h.first;
@@ -172,7 +172,7 @@ taking-more t last row row' left rest jobs job h e is =
     })
 
 -- it stops before a job of a later second
-pub taking-stop : (t last : ℕ) (row left rest jobs : List EffectiveJob) (job : EffectiveJob) → Taking t last row left jobs → left ≡ job ∷ rest → last < job.submit → IsComing (coming_of row (Some job.submit)) t jobs
+pub taking-stop : (t last : ℕ) (row left rest jobs : List EffectiveJob) (job : EffectiveJob) → Taking t last row left jobs → left ≡ job ∷ rest → last < job.submit → IsUpcoming (upcoming_of row (Some job.submit)) t jobs
 taking-stop t last row left rest jobs job h e later =
     let h' = subst (λ (js : List EffectiveJob). Taking t last row js jobs) e h in
     let since = h'.since in

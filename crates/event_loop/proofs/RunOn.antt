@@ -12,11 +12,11 @@ use Rattle.easy_rule.specs.declared.start.Start.{Start}
 use Rattle.easy_rule.specs.Simulation.{IsEvent, before, starts_before, starts_in, submitted, bound, sim}
 use Rattle.scenarios.specs.SoundPlan.{IsPlan}
 use Rattle.timeline.specs.Laws.{IsQuiet}
-use Rattle.event_loop.specs.Coming.{NextJobs}
+use Rattle.event_loop.specs.Upcoming.{NextJobs}
 use Rattle.event_loop.specs.Events.{IsNextEvent, IsEngine, Progress, has_event, events_before}
 use Rattle.event_loop.specs.Going.{IsFurther, IsRunOn, IsLast}
 use Rattle.timeline.proofs.Lemmas.{short-plan, starts_before-more, quiet-seconds-change-nothing}
-use Rattle.event_loop.proofs.EventLemmas.{event-by-bound, coming-quiet, seen}
+use Rattle.event_loop.proofs.EventLemmas.{event-by-bound, upcoming-quiet, seen}
 
 pub events_before-more : (plan : Plan) (t : ℕ) → events_before plan (t + 1) ≡ events_before plan t + cond (has_event plan t) 1 0
 unfolding events_before
@@ -99,7 +99,7 @@ run-on-first old f = record {
   was = f;
   going = f;
   further = record { plan = refl; first = omega arith; counted = refl };
-  told = append-nil (starts_before old.plan old.position);
+  outcome = append-nil (starts_before old.plan old.position);
 }
 
 -- one event second more
@@ -124,7 +124,7 @@ run-on-step old now new xs ys t h next is e =
         first = let a = h.further.first in let b = next'.0 in omega (arith, a, b, pos);
         counted = let k = h.further.counted in omega (arith, k, hand, more, one, quiet.2, at);
       };
-      told = sym (append_assoc (starts_before q old.position) xs ys) ∙ ap (λ l. l ++ ys) h.told ∙ ap (λ l. l ++ ys) (sym quiet.1) ∙ ap (λ l. starts_before q t ++ l) starts
+      outcome = sym (append_assoc (starts_before q old.position) xs ys) ∙ ap (λ l. l ++ ys) h.outcome ∙ ap (λ l. l ++ ys) (sym quiet.1) ∙ ap (λ l. starts_before q t ++ l) starts
           ∙ sym (starts_before-more q t) ∙ ap (starts_before q) (sym pos);
     }
 
@@ -143,7 +143,7 @@ run-on-quiet old now new xs b h l quiet e =
         first = let a = h.further.first in omega (arith, a, l, pos);
         counted = let c = h.further.counted in omega (arith, c, hand, k.2, at);
       };
-      told = h.told ∙ sym k.1 ∙ ap (starts_before old.plan) (sym pos);
+      outcome = h.outcome ∙ sym k.1 ∙ ap (starts_before old.plan) (sym pos);
     }
 
 -- what a failure keeps
@@ -159,8 +159,8 @@ further-failed old now new h e =
     }
 
 -- once no event second is left, all starts were told
-pub told-all : (plan : Plan) (a : ℕ) → IsPlan plan → ((u : ℕ) → a ≤ u → IsEvent plan u → ⊥) → starts_before plan a ≡ sim plan
-told-all plan a p none =
+pub outcome-all : (plan : Plan) (a : ℕ) → IsPlan plan → ((u : ℕ) → a ≤ u → IsEvent plan u → ⊥) → starts_before plan a ≡ sim plan
+outcome-all plan a p none =
     let b = bound plan + 1 in
     ⊎_elim
     (λ (l : a < b). sym (quiet-between plan a b (omega arith) (λ u x y. none u x)).1)
@@ -176,9 +176,9 @@ last-same old now new (inl e) k = inl (k ∙ e)
 last-same old now new (inr (t, e, v)) k = inr (t, k ∙ e, v)
 
 -- an engine at the end of quiet seconds
-pub engine-on : (old now : Progress) (plan : Plan) (s : State) (coming : NextJobs) (known : Option Shadow) (a h b : ℕ) (f : Bool) → seen plan a h f ≡ now → IsEngine plan s coming known a h f → now.plan ≡ old.plan → now.failed ≡ false → IsQuiet old.plan now.position b → now.position ≤ b
-    → IsEngine plan s coming known b h f
-engine-on old now plan s coming known a h b f view e same going quiet le =
+pub engine-on : (old now : Progress) (plan : Plan) (s : State) (upcoming : NextJobs) (last_shadow : Option Shadow) (a h b : ℕ) (f : Bool) → seen plan a h f ≡ now → IsEngine plan s upcoming last_shadow a h f → now.plan ≡ old.plan → now.failed ≡ false → IsQuiet old.plan now.position b → now.position ≤ b
+    → IsEngine plan s upcoming last_shadow b h f
+engine-on old now plan s upcoming last_shadow a h b f view e same going quiet le =
     let here : a ≡ now.position = ap (λ (p : Progress). p.position) view in
     let plan-same : plan ≡ old.plan = ap (λ (p : Progress). p.plan) view ∙ same in
     let quiet' : IsQuiet plan a b = (λ u l k v. quiet u (omega (arith, here, l)) k (subst (λ (p : Plan). IsEvent p u) plan-same v)) in
@@ -187,8 +187,8 @@ engine-on old now plan s coming known a h b f view e same going quiet le =
       is_plan = e.is_plan;
       counted = let k = e.counted in omega (arith, k, le');
       state_is = λ g. e.state_is g ∙ sym (quiet-between plan a b le' quiet').0;
-      coming_is = λ g. coming-quiet plan coming a b le' quiet' e.is_plan (e.coming_is g);
-      known_is = e.known_is;
+      upcoming_is = λ g. upcoming-quiet plan upcoming a b le' quiet' e.is_plan (e.upcoming_is g);
+      last_shadow_is = e.last_shadow_is;
       failed_is = λ g. absurd (true≢false (sym g ∙ ap (λ (p : Progress). p.failed) view ∙ going));
     }
 

@@ -9,7 +9,7 @@ use Rattle.cluster_state.specs.State.{State, IsSound, holders}
 use Rattle.easy_rule.specs.Simulation.{joined}
 use Rattle.scenarios.specs.SoundPlan as sound
 use Rattle.scenarios.proofs.Lemmas.{Lex, Lex-true, from-in, from-out}
-use Rattle.event_loop.specs.Coming.{NonFalling, first_submit}
+use Rattle.event_loop.specs.Upcoming.{NonFalling, first_submit}
 
 -- those of second t
 abbrev pub at_second : ℕ → List EffectiveJob → List EffectiveJob
@@ -95,7 +95,7 @@ later-all t j js l r = All-cons (λ (k : EffectiveJob). t < k.submit) j js l (Al
 -- ---- the loop over those that arrive
 
 abbrev with_queue : State → List EffectiveJob → State
-with_queue s js = record { machine = s.machine; order = s.order; waiting = js; running = s.running }
+with_queue s js = record { procs = s.procs; order = s.order; waiting = js; running = s.running }
 
 pub joined-none : (s : State) → joined s [] ≡ s
 joined-none s = ap (with_queue s) (append-nil s.waiting)
@@ -114,21 +114,21 @@ arriving-here s z t jobs left rest job h e low =
 
 -- who comes next is not there yet, and fits the machine
 pub can-arrive : (s z : State) (t : ℕ) (jobs left rest : List EffectiveJob) (job : EffectiveJob) → Arriving s z t jobs left → left ≡ job ∷ rest → job.submit ≤ t → IsSound (joined s (at_second t jobs))
-    → (holders z job.number ≡ 0) × (job.size ≤ z.machine)
+    → (holders z job.number ≡ 0) × (job.size ≤ z.procs)
 can-arrive s z t jobs left rest job h e low sound =
     let here = arriving-here s z t jobs left rest job h e low in
     let same : joined s (at_second t jobs) ≡ joined z (job ∷ at_second t rest) = sym h.state ∙ ap (λ xs. joined z (at_second t xs)) e ∙ ap (joined z) (at-in t job rest here) in
     let there : IsSound (joined z (job ∷ at_second t rest)) = subst IsSound same sound in
     let f : EffectiveJob → ℕ = λ j. cond (nat_eq j.number job.number) 1 0 in
     let one = cond-true {A = ℕ} (nat_eq job.number job.number) 1 0 (eq-eqb job.number job.number refl) in
-    let fit : All (λ (j : EffectiveJob). j.size ≤ z.machine) (job ∷ at_second t rest) = behind z.waiting (job ∷ at_second t rest) there.waiting_fit in (
+    let fit : All (λ (j : EffectiveJob). j.size ≤ z.procs) (job ∷ at_second t rest) = behind z.waiting (job ∷ at_second t rest) there.waiting_fit in (
       omega (arith, there.once job.number, one, sum_by-append f z.waiting (job ∷ at_second t rest), sum_by-cons f job (at_second t rest)),
-      All-head (λ (j : EffectiveJob). j.size ≤ z.machine) job (at_second t rest) fit,
+      All-head (λ (j : EffectiveJob). j.size ≤ z.procs) job (at_second t rest) fit,
     )
   where
-    behind : (xs ys : List EffectiveJob) → All (λ (j : EffectiveJob). j.size ≤ z.machine) (xs ++ ys) → All (λ (j : EffectiveJob). j.size ≤ z.machine) ys
+    behind : (xs ys : List EffectiveJob) → All (λ (j : EffectiveJob). j.size ≤ z.procs) (xs ++ ys) → All (λ (j : EffectiveJob). j.size ≤ z.procs) ys
     behind [] ys a = a
-    behind (x ∷ xs) ys a = behind xs ys (All-tail (λ (j : EffectiveJob). j.size ≤ z.machine) x (xs ++ ys) a)
+    behind (x ∷ xs) ys a = behind xs ys (All-tail (λ (j : EffectiveJob). j.size ≤ z.procs) x (xs ++ ys) a)
 
 -- where the first that is left is none of second t
 pub arriving-done : (s z : State) (t : ℕ) (jobs left : List EffectiveJob) → Arriving s z t jobs left → first_submit left ≢ Some t

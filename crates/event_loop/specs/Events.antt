@@ -9,7 +9,7 @@ use Rattle.easy_rule.specs.Rule.{shadow_of}
 use Rattle.easy_rule.specs.Simulation.{IsEvent, before, submitted}
 use Rattle.scenarios.specs.SoundPlan.{IsPlan}
 use Rattle.timeline.specs.Laws.{IsQuiet}
-use Rattle.event_loop.specs.Coming.{NextJobs, IsComing}
+use Rattle.event_loop.specs.Upcoming.{NextJobs, IsUpcoming}
 
 -- the next event second, from a position on
 abbrev pub IsNextEvent : Plan → ℕ → Option ℕ → Type 0
@@ -44,12 +44,12 @@ IsMidway plan position running =
 
 -- what the fields keep: unless the engine failed, its state is the model's, it knows which jobs come next, and a shadow that it knows is the state's;
 -- where it failed, who runs tells how far it came
-pub record IsEngine (plan : Plan) (state : State) (coming : NextJobs) (known : Option Shadow) (position handled : ℕ) (failed : Bool) : Type 0 where
+pub record IsEngine (plan : Plan) (state : State) (upcoming : NextJobs) (last_shadow : Option Shadow) (position handled : ℕ) (failed : Bool) : Type 0 where
   pub is_plan : IsPlan plan
   pub counted : handled ≤ position
   pub state_is : failed ≡ false → state ≡ before plan position
-  pub coming_is : failed ≡ false → IsComing coming position plan.jobs
-  pub known_is : failed ≡ false → IfSome known (λ w. shadow_of state ≡ Some w)
+  pub upcoming_is : failed ≡ false → IsUpcoming upcoming position plan.jobs
+  pub last_shadow_is : failed ≡ false → IfSome last_shadow (λ w. shadow_of state ≡ Some w)
   pub failed_is : failed ≡ true → IsMidway plan position state.running
 
 -- the earlier of two seconds that may be missing

@@ -12,7 +12,7 @@ IsStepFault old new Failed = (old.failed ≡ true) × (new ≡ old)
 IsStepFault old new Memory = (old.failed ≡ false) × (new ≡ record old { failed = true })
 
 -- it failed before and stays as it is, or it fails now: where it was, or with the next event second worked whole, whose
--- starts found no room to be told
+-- starts found no capacity to be answered
 abbrev pub IsTellFault : Progress → Progress → EngineFault → Type 0
 IsTellFault old new Failed = (old.failed ≡ true) × (new ≡ old)
 IsTellFault old new Memory =
@@ -31,7 +31,7 @@ pub record IsRunOn (old new : Progress) (starts : List Start) : Type 0 where
   pub was : old.failed ≡ false
   pub going : new.failed ≡ false
   pub further : IsFurther old new
-  pub told : starts_before old.plan old.position ++ starts ≡ starts_before old.plan new.position
+  pub outcome : starts_before old.plan old.position ++ starts ≡ starts_before old.plan new.position
 
 -- its position is what it was, or one past an event second
 abbrev pub IsLast : Progress → Progress → Type 0

@@ -1,4 +1,4 @@
-pub mod Coming
+pub mod Upcoming
 pub mod Events
 pub mod Going
 pub mod Stepped

@@ -8,14 +8,14 @@ use Rattle.easy_rule.specs.Rule.{state_after, starts_at}
 use Rattle.easy_rule.specs.Pass.{start_at, AreStarted}
 use Rattle.easy_rule.specs.Decision.{IsSettledFront}
 use Rattle.easy_rule.specs.Simulation.{joined, submitted}
-use Rattle.event_loop.specs.Coming.{NextJobs, IsComing}
+use Rattle.event_loop.specs.Upcoming.{NextJobs, IsUpcoming}
 
 -- A second of a plan, of a state whose ended jobs have left: these jobs come next, those that are submitted at it can
 -- join the queue, and by a shadow that is known none of those who wait before them may start.
-pub record IsDue (plan : Plan) (second : ℕ) (state : State) (coming : NextJobs) (known : Option Shadow) : Type 0 where
-  pub next : IsComing coming second plan.jobs
+pub record IsDue (plan : Plan) (second : ℕ) (state : State) (upcoming : NextJobs) (last_shadow : Option Shadow) : Type 0 where
+  pub next : IsUpcoming upcoming second plan.jobs
   pub sound : IsSound (joined state (submitted plan second))
-  pub settled : IfSome known (λ w. IsSettledFront (joined state (submitted plan second)) second (length state.waiting) w)
+  pub settled : IfSome last_shadow (λ w. IsSettledFront (joined state (submitted plan second)) second (length state.waiting) w)
 
 -- of a state at second `now` these jobs are all that start, in order, and they leave this one
 pub record IsDecided (ready : State) (now : ℕ) (jobs : List EffectiveJob) (left : State) : Type 0 where

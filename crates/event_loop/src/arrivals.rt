@@ -4,7 +4,7 @@ ghost use Rattle.scenarios.specs.PlanView.{plan_in};
 ghost use Rattle.cluster_state.specs.State.{IsSound};
 ghost use Rattle.easy_rule.specs.Simulation.{joined};
 ghost use Rattle.scenarios.specs.SoundPlan.{IsPlan};
-ghost use Rattle.event_loop.specs.Coming.{IsComing, NonFalling, first_submit};
+ghost use Rattle.event_loop.specs.Upcoming.{IsUpcoming, NonFalling, first_submit};
 
 use cluster_state::Cluster;
 use scenarios::{Job, PlanRef};
@@ -15,7 +15,6 @@ use swf_text::Memory;
 /// A row that is filled has at least so many jobs, where so many are to come.
 const FULL_ROW: usize = 64;
 
-// The submit second of the next job, from a second on.
 pub(crate) fn next_submit<A: Allocator + Copy>(plan: &PlanRef<'_, A>, second: u64) -> Option<u64>
     ensures plan { IsPlan (plan_in plan.now) }
     ensures next { result ≡ first_submit (from_on second (plan_in plan.now).jobs) }
@@ -40,12 +39,12 @@ pub(crate) fn fill<A: Allocator + Copy>(
     second: u64,
 ) -> Result<Option<u64>, Memory>
     requires { row.old.items ≡ [] }
-    ensures coming { IfOk result (λ o. IsComing (record { row = row.new.items; later = o }) second (plan_in plan.now).jobs) }
+    ensures upcoming { IfOk result (λ o. IsUpcoming (record { row = row.new.items; later = o }) second (plan_in plan.now).jobs) }
     ensures later { IfOk result (λ o. IfSome o (λ t. second < t)) }
 {
     let mut last = second;
-    let mut coming = plan.from_second(second);
-    'jobs: while let Some(job) = coming.next() {
+    let mut upcoming = plan.from_second(second);
+    'jobs: while let Some(job) = upcoming.next() {
         let submit = job.submit();
         if may_end(row.len(), last, submit) {
             return Ok(Some(submit));
@@ -56,7 +55,6 @@ pub(crate) fn fill<A: Allocator + Copy>(
     Ok(None)
 }
 
-// The first job of a row, where it is submitted at this second.
 fn first_at<A: Allocator + Copy>(row: &VecDeque<Job, A>, second: u64) -> Option<Job>
     ensures some { IfSome result (λ job. (job.submit ≡ second) × (slice_get row.now.items 0 ≡ Some job)) }
     ensures none { IfNone result (first_submit row.now.items ≢ Some second) }
@@ -68,7 +66,6 @@ fn first_at<A: Allocator + Copy>(row: &VecDeque<Job, A>, second: u64) -> Option<
     None
 }
 
-// Whether the job behind the first of a row is submitted at this second, too.
 fn is_behind_at<A: Allocator + Copy>(row: &VecDeque<Job, A>, second: u64) -> bool
     ensures { IsTrue result ↔ (first_submit (drop 1 row.now.items) ≡ Some second) }
 {
@@ -90,7 +87,6 @@ pub(crate) fn only_at<A: Allocator + Copy>(row: &VecDeque<Job, A>, second: u64) 
     Some(job)
 }
 
-// The jobs of a second leave the row and join the queue.
 pub(crate) fn arrive_all<A: Allocator + Copy>(
     cluster: &mut Cluster<A>,
     row: &mut VecDeque<Job, A>,

@@ -4,11 +4,11 @@ ghost use Rattle.scenarios.specs.PlanView.{plan_in};
 ghost use Rattle.scenarios.specs.SoundPlan.{IsPlan};
 ghost use Rattle.easy_rule.specs.Rule.{shadow_of};
 ghost use Rattle.easy_rule.specs.Simulation.{joined, submitted};
-ghost use Rattle.event_loop.specs.Coming.{IsComing};
+ghost use Rattle.event_loop.specs.Upcoming.{IsUpcoming};
 ghost use Rattle.event_loop.specs.Second.{IsDecided, IsDue};
 
-use crate::coming::Coming;
-use crate::known::decide_knowing;
+use crate::last_shadow::decide_knowing;
+use crate::upcoming::Upcoming;
 use cluster_state::Cluster;
 use easy_rule::{Shadow, start_at_once, starts_at_once};
 use scenarios::{Job, PlanRef};
@@ -23,28 +23,28 @@ use swf_text::Memory;
 // were.
 pub(crate) fn arrive_and_decide<A: Allocator + Copy>(
     cluster: &mut Cluster<A>,
-    coming: &mut Coming<A>,
+    upcoming: &mut Upcoming<A>,
     plan: &PlanRef<'_, A>,
     started: &mut Vec<Job, A>,
-    known: Option<Shadow>,
+    last_shadow: Option<Shadow>,
     second: u64,
 ) -> Result<Option<Shadow>, Memory>
     requires now { second < seconds_end }
     requires plan { IsPlan (plan_in plan.now) }
-    requires due { IsDue (plan_in plan.now) second cluster.old.state coming.old known }
+    requires due { IsDue (plan_in plan.now) second cluster.old.state upcoming.old last_shadow }
     ensures decided { OnOk result (IsDecided (joined cluster.old.state (submitted (plan_in plan.now) second)) second started.new.items cluster.new.state) }
-    ensures coming { OnOk result (IsComing coming.new (second + 1) (plan_in plan.now).jobs) }
+    ensures upcoming { OnOk result (IsUpcoming upcoming.new (second + 1) (plan_in plan.now).jobs) }
     ensures shadow { IfOk result (λ left. IfSome left (λ w. shadow_of cluster.new.state ≡ Some w)) }
     ensures running { OnErr result (cluster.new.state.running ≡ cluster.old.state.running) }
     ensures empty { OnErr result (started.old.items ≡ [] → started.new.items ≡ []) }
 {
-    if let Some(job) = coming.only_at(plan, second)? {
-        if starts_at_once(cluster, &job, known, second) {
-            coming.pass();
-            return start_at_once(cluster, started, job, known, second);
+    if let Some(job) = upcoming.only_at(plan, second)? {
+        if starts_at_once(cluster, &job, last_shadow, second) {
+            upcoming.pass();
+            return start_at_once(cluster, started, job, last_shadow, second);
         }
     }
     let settled = cluster.waiting_count();
-    coming.arrive(cluster, plan, second)?;
-    decide_knowing(cluster, started, known, settled, second)
+    upcoming.arrive(cluster, plan, second)?;
+    decide_knowing(cluster, started, last_shadow, settled, second)
 }

@@ -1,8 +1,8 @@
 ghost use Rattle.std.specs.Prelude.{◌≡◌, ◌+◌, ◌<◌, ◌^◌, None, IfOk, IfErr, length, true, false};
 ghost use Rattle.event_loop.specs.Events.{earlier};
 
-use crate::coming::Coming;
 use crate::fault::EngineFault;
+use crate::upcoming::Upcoming;
 use cluster_state::{Cluster, RunningByEnd, Snapshot};
 use easy_rule::Shadow;
 use job_table::JobTable;
@@ -21,8 +21,8 @@ pub struct Engine<A: Allocator + Copy> {
     pub(crate) alloc: A,
     pub(crate) plan: Plan<A>,
     pub(crate) cluster: Cluster<A>,
-    pub(crate) coming: Coming<A>,
-    pub(crate) known: Option<Shadow>,
+    pub(crate) upcoming: Upcoming<A>,
+    pub(crate) last_shadow: Option<Shadow>,
     pub(crate) position: u64,
     pub(crate) handled: u64,
     pub(crate) failed: bool,
@@ -36,7 +36,7 @@ impl<A: Allocator + Copy> Model for Engine<A> {
 
     ghost view = { λ e. record { plan = plan_in e.plan; position = e.position; handled = e.handled; failed = e.failed } };
 
-    ghost invariant = { λ e. IsEngine (plan_in e.plan) e.cluster.state e.coming e.known e.position e.handled e.failed };
+    ghost invariant = { λ e. IsEngine (plan_in e.plan) e.cluster.state e.upcoming e.last_shadow e.position e.handled e.failed };
 }
 
 impl<A: Allocator + Copy> Engine<A> {
@@ -51,13 +51,13 @@ impl<A: Allocator + Copy> Engine<A> {
         ensures { result ≡ begun (plan_of (arc_value table) scenario) 0 }
     {
         let plan = Plan::new(table, scenario);
-        let coming = Coming::at(alloc, &plan.view(), 0);
+        let upcoming = Upcoming::at(alloc, &plan.view(), 0);
         Engine {
             alloc,
             plan,
             cluster: Cluster::for_scenario(alloc, &scenario),
-            coming,
-            known: None,
+            upcoming,
+            last_shadow: None,
             position: 0,
             handled: 0,
             failed: false,
@@ -77,14 +77,14 @@ impl<A: Allocator + Copy> Engine<A> {
         ensures { IfOk result (λ e. e ≡ begun (plan_of (arc_value table) scenario) second) }
     {
         let plan = Plan::new(table, scenario);
-        let coming = Coming::at(alloc, &plan.view(), second);
+        let upcoming = Upcoming::at(alloc, &plan.view(), second);
         let cluster = Cluster::restore(alloc, snapshot, plan.table(), &scenario)?;
         Ok(Engine {
             alloc,
             plan,
             cluster,
-            coming,
-            known: None,
+            upcoming,
+            last_shadow: None,
             position: second,
             handled: 0,
             failed: false,
@@ -115,7 +115,7 @@ impl<A: Allocator + Copy> Engine<A> {
         if self.failed {
             return None;
         }
-        earlier(self.coming.next(), self.cluster.next_end())
+        earlier(self.upcoming.next(), self.cluster.next_end())
     }
 
     /// How many jobs wait and run before the position; 0 in an engine that has failed. It goes over the
@@ -147,7 +147,6 @@ impl<A: Allocator + Copy> Engine<A> {
     }
 }
 
-// How many jobs these are.
 fn count_of<A: Allocator + Copy>(running: RunningByEnd<'_, A>) -> usize
     requires { length running < 2 ^ 64 }
     ensures { result ≡ length running.entry }
@@ -159,7 +158,6 @@ fn count_of<A: Allocator + Copy>(running: RunningByEnd<'_, A>) -> usize
     count
 }
 
-// The earlier of two seconds that may be missing.
 fn earlier(a: Option<u64>, b: Option<u64>) -> Option<u64>
     ensures { result ≡ earlier a b }
 {

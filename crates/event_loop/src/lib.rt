@@ -3,12 +3,12 @@
 
 mod arrivals;
 mod arriving;
-mod coming;
 mod engine;
 mod fault;
-mod known;
+mod last_shadow;
 mod stepped;
 mod stepping;
+mod upcoming;
 
 pub use engine::Engine;
 pub use fault::EngineFault;

@@ -20,7 +20,6 @@ impl<A: Allocator + Copy> Model for Stepped<A> {
 }
 
 impl<A: Allocator + Copy> Stepped<A> {
-    // The second, with its starts.
     pub(crate) fn new(second: u64, starts: Vec<Start, A>) -> Stepped<A>
         ensures { result ≡ record { second = second; starts = starts.items } }
     {

@@ -4,7 +4,7 @@ ghost use Rattle.std.specs.Prelude.{◌≡◌, ◌+◌, ◌++◌, ◌≤◌, ◌
 use crate::arriving::arrive_and_decide;
 use crate::engine::Engine;
 use crate::fault::EngineFault;
-use crate::known::standing_at;
+use crate::last_shadow::standing_at;
 use crate::stepped::Stepped;
 use easy_rule::{Start, add_starts};
 use scenarios::Job;
@@ -22,7 +22,7 @@ impl<A: Allocator + Copy> Engine<A> {
     ///
     /// Failed in an engine that has failed. Memory where a growth was refused; the engine has failed
     /// then, with that second not worked, or worked whole where it is the list of starts that found no
-    /// room.
+    /// capacity.
     pub fn step(&mut self) -> Result<Option<Stepped<A>>, EngineFault>
         ensures none { IfOk result (λ o. IfNone o ((self.old.failed ≡ false) × IsNextEvent self.old.plan self.old.position None × (self.new ≡ self.old))) }
         ensures some { IfOk result (λ o. IfSome o (λ s. (self.old.failed ≡ false) × IsNextEvent self.old.plan self.old.position (Some s.second) × (s.starts ≡ starts_in self.old.plan s.second) × (self.new ≡ record self.old { position = s.second + 1; handled = self.old.handled + 1 }))) }
@@ -44,9 +44,9 @@ impl<A: Allocator + Copy> Engine<A> {
     /// start at it are left, in order, in a lent list; what was in it before is forgotten, and it is
     /// empty where no second was worked.
     ///
-    /// Of the list, it takes memory only where there is no room for as many jobs as can start at once.
-    /// Failed in an engine that has failed. Memory where a growth was refused; the engine has failed
-    /// then, with that second not worked.
+    /// Of the list, it takes memory only where there is no capacity for as many jobs as can start at
+    /// once. Failed in an engine that has failed. Memory where a growth was refused; the engine has
+    /// failed then, with that second not worked.
     pub fn step_into(&mut self, started: &mut Vec<Job, A>) -> Result<Option<u64>, EngineFault>
         ensures none { IfOk result (λ o. IfNone o ((self.old.failed ≡ false) × IsNextEvent self.old.plan self.old.position None × (self.new ≡ self.old))) }
         ensures some { IfOk result (λ o. IfSome o (λ t. (self.old.failed ≡ false) × IsNextEvent self.old.plan self.old.position (Some t) × (self.new ≡ record self.old { position = t + 1; handled = self.old.handled + 1 }))) }
@@ -71,7 +71,7 @@ impl<A: Allocator + Copy> Engine<A> {
     /// Failed in an engine that has failed. Memory where a growth was refused; the engine has failed
     /// then, one past the last event second that it worked whole, and never past `second`. A second
     /// is worked whole once its jobs have ended, arrived and started, whether or not its starts
-    /// found room in the list.
+    /// found capacity in the list.
     pub fn advance_to(&mut self, second: u64) -> Result<Vec<Start, A>, EngineFault>
         requires { self.old.position ≤ second }
         ensures position { OnOk result (self.new.position ≡ second) }
@@ -152,18 +152,18 @@ impl<A: Allocator + Copy> Engine<A> {
         ensures memory { IfErr result (λ f. f ≡ EngineFault.Memory) }
     {
         self.failed = true;
-        let known = standing_at(&self.cluster, self.known, second);
+        let last_shadow = standing_at(&self.cluster, self.last_shadow, second);
         self.cluster.finish_until(second);
         let left = arrive_and_decide(
             &mut self.cluster,
-            &mut self.coming,
+            &mut self.upcoming,
             &self.plan.view(),
             started,
-            known,
+            last_shadow,
             second,
         )?;
         self.failed = false;
-        self.known = left;
+        self.last_shadow = left;
         self.position = second + 1;
         self.handled += 1;
         Ok(())

@@ -88,14 +88,12 @@ impl<T: Keyed, A: Allocator + Copy> Frame<T, A> {
     }
 }
 
-// How many of these stretches have an item that stands at a place.
 fn count_at<T: Copy>(stretches: &[Stretch<T>], place: u32) -> usize
     ensures { result ≡ count_by (stands place) stretches.now }
 {
     stretches.iter().filter(|s| s.stands(place)).count()
 }
 
-// Whether one of those that stand at a place has this key.
 #[tactic(auto, using(crate::proofs::Splits::one_there, crate::proofs::Splits::none_here))]
 fn holds_key<T: Keyed>(stretches: &[Stretch<T>], place: u32, key: u64) -> bool
     ensures { IsTrue result ↔ (1 ≤ count_by (λ item. nat_eq (T.key item) key) (standing_at place stretches.now)) }

@@ -21,7 +21,6 @@ impl<'a, T: Copy> Model for Standing<'a, T> {
     ghost view = { λ s. standing_at s.place s.stretches.now };
 }
 
-// The first item that stands at a place, and the stretches behind it; None where none does.
 #[tactic(auto, using(crate::proofs::Splits::here, crate::proofs::Splits::elsewhere))]
 fn split<'a, T: Copy>(stretches: &'a [Stretch<T>], place: u32) -> Option<(&'a T, &'a [Stretch<T>])>
     ensures { MatchOption result (standing_at place stretches.now ≡ []) (λ found. standing_at place stretches.now ≡ found.0.now ∷ standing_at place found.1.now) }
@@ -37,7 +36,6 @@ fn split<'a, T: Copy>(stretches: &'a [Stretch<T>], place: u32) -> Option<(&'a T,
 }
 
 impl<'a, T: Copy> Standing<'a, T> {
-    // Those of these stretches that stand at a place.
     pub(crate) fn of(stretches: &'a [Stretch<T>], place: u32) -> Standing<'a, T>
         ensures { result ≡ standing_at place stretches.now }
     {

@@ -17,7 +17,7 @@ use Rattle.job_table.proofs.Tables.{table-rising, table-apart, table-placed, tab
 
 -- ---- an entry more
 pub table-more : (e : LogEntry) (old : List LogEntry) → IsTable old → IsEntry e → entry_of (number_of_entry e) old ≡ None → length old < 4194304 → IsTable (placed submit_of number_of_entry e old)
-table-more e old t h new room = table-placed e old t h (Lacks-from_none submit_of number_of_entry (number_of_entry e) old new) room
+table-more e old t h new capacity = table-placed e old t h (Lacks-from_none submit_of number_of_entry (number_of_entry e) old new) capacity
 
 pub log-more : (e : LogEntry) (old : List LogEntry) → IsTable old → placed submit_of number_of_entry e old ≡ with_entry e (log_of old)
 log-more e old t = placed-is e old ∙ ap (with_entry e) (sym (log_of-rising old (table-rising old t)))

@@ -80,16 +80,16 @@ pub has-copied : (n : ℕ) (ps : List Numbered) (o : Option Numbered) → Number
 has-copied n ps o h e = ap (has n) e ∙ has-is n ps h
 
 -- what is told of a number by the pair at its place
-abbrev pub told : ℕ → Option Numbered → Option ℕ
-told n None = None
-told n (Some p) = if number_in p == n then Some (second_in p) else None
+abbrev pub outcome : ℕ → Option Numbered → Option ℕ
+outcome n None = None
+outcome n (Some p) = if number_in p == n then Some (second_in p) else None
 
-pub told-is : (n : ℕ) (ps : List Numbered) → NumbersRise ps → told n (slice_get ps (place_in number_in number_in n n ps)) ≡ second_of ps n
-told-is n [] h = refl
-told-is n (p ∷ ps) h = go (stands number_in number_in n n p) refl (number_in p == n) refl (told-is n ps h.1)
+pub outcome-is : (n : ℕ) (ps : List Numbered) → NumbersRise ps → outcome n (slice_get ps (place_in number_in number_in n n ps)) ≡ second_of ps n
+outcome-is n [] h = refl
+outcome-is n (p ∷ ps) h = go (stands number_in number_in n n p) refl (number_in p == n) refl (outcome-is n ps h.1)
   where
-    go : (b : Bool) → stands number_in number_in n n p ≡ b → (d : Bool) → (number_in p == n) ≡ d → told n (slice_get ps (place_in number_in number_in n n ps)) ≡ second_of ps n
-        → told n (slice_get (p ∷ ps) (place_in number_in number_in n n (p ∷ ps))) ≡ second_of (p ∷ ps) n
+    go : (b : Bool) → stands number_in number_in n n p ≡ b → (d : Bool) → (number_in p == n) ≡ d → outcome n (slice_get ps (place_in number_in number_in n n ps)) ≡ second_of ps n
+        → outcome n (slice_get (p ∷ ps) (place_in number_in number_in n n (p ∷ ps))) ≡ second_of (p ∷ ps) n
     go true t true u i = absurd (let lt : number_in p < n = comes-less (number_in p) n t in omega (arith, lt, same_number (number_in p) n u))
     go true t false u i = rw (t, u, one_more) i
     go false t true u i = rw (t, u) refl
@@ -98,8 +98,8 @@ told-is n (p ∷ ps) h = go (stands number_in number_in n n p) refl (number_in p
         let none : second_of ps n ≡ None = ap (λ (o : Option Numbered). option_map second_in o) (found-Lacks number_in number_in n ps (lacks-below n ps (below-down n (number_in p) ps le h.0))) in
         rw (t, u) (sym none)
 
-pub told-copied : (n : ℕ) (ps : List Numbered) (o : Option Numbered) → NumbersRise ps → o ≡ slice_get ps (place_in number_in number_in n n ps) → told n o ≡ second_of ps n
-told-copied n ps o h e = ap (told n) e ∙ told-is n ps h
+pub outcome-copied : (n : ℕ) (ps : List Numbered) (o : Option Numbered) → NumbersRise ps → o ≡ slice_get ps (place_in number_in number_in n n ps) → outcome n o ≡ second_of ps n
+outcome-copied n ps o h e = ap (outcome n) e ∙ outcome-is n ps h
 
 -- ---- a number more
 given : (b : Bool) (p : Numbered) (o : Option Numbered) → option_map second_in (if b then Some p else o) ≡ (if b then Some (second_in p) else option_map second_in o)

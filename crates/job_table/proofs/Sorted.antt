@@ -25,7 +25,7 @@ pub log-table : (es : List LogEntry) → IsLog es → IsTable (log_of es)
 log-table es l =
     table-from (log_of es) (subst (AllByRecursion IsEntry) (arranged-is es) (all-arranged IsEntry es l.sound))
     (Apart-counted submit_of number_of_entry (log_of es) (λ n. omega (arith, log-counted es l n, numbered-permutation number_of_entry es (log_of es) (log_of-permutes es) n)))
-    (let same = length_permutation es (log_of es) (log_of-permutes es) in omega (arith, same, l.room))
+    (let same = length_permutation es (log_of es) (log_of-permutes es) in omega (arith, same, l.capacity))
     (log_of-rises es (log-counted es l))
 
 -- the order that the code sorts by

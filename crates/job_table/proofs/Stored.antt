@@ -27,11 +27,11 @@ length-less n (x ∷ es) e a h = go (number_of_entry x == n) refl h (length-less
 module _ (old new : List LogEntry) (ps qs : List Numbered) (len : ℕ) (st : IsStored old ps len) where
   pub stored-more : (e : LogEntry) (n s : ℕ) → IsEntry e → entry_of (number_of_entry e) old ≡ None → length old < 4194304 → new ≡ with_entry e old → n ≡ number_of_entry e → s ≡ submit_of e
       → NumbersRise qs → ((q : ℕ) → second_of qs q ≡ (if n == q then Some s else second_of ps q)) → IsStored new qs (len + 1)
-  stored-more e n s h none room f a b up u =
+  stored-more e n s h none capacity f a b up u =
       let lacks = Lacks-from_none submit_of number_of_entry (number_of_entry e) old none in
       let put : placed submit_of number_of_entry e old ≡ new = placed-is e old ∙ sym f in
       record {
-        table = subst IsTable put (table-placed e old st.table h lacks room);
+        table = subst IsTable put (table-placed e old st.table h lacks capacity);
         index = record {
           rising = up;
           gives = subst (λ (es : List LogEntry). (q : ℕ) → second_of qs q ≡ option_map submit_of (entry_of q es)) put (indexes_at submit_of number_of_entry e old (second_of ps) (second_of qs) n s st.index.gives lacks a b u);
@@ -128,11 +128,11 @@ pub left-some : (n s : ℕ) (es left : List LogEntry) → IsTable es → Some s 
 left-some n s es left t k e h = let there = entry-there n s es k in omega (arith, length-less n es there.0 (table-apart es t) there.1, ap length e, h)
 
 -- a job that is there is told of by the index
-pub told-of : (n : ℕ) (es old : List LogEntry) (ps : List Numbered) → IsIndex ps es → es ≡ old → IsTrue (holds n old) → is_some (second_of ps n) ≡ true
-told-of n es old ps i e h = known-is n es old ps i e ∙ h
+pub outcome-of : (n : ℕ) (es old : List LogEntry) (ps : List Numbered) → IsIndex ps es → es ≡ old → IsTrue (holds n old) → is_some (second_of ps n) ≡ true
+outcome-of n es old ps i e h = known-is n es old ps i e ∙ h
 
-pub entry-told : (n : ℕ) (es old : List LogEntry) (r : Option (Bor LogEntry)) → option_copied r ≡ entry_of n es → es ≡ old → IsTrue (holds n old) → IsSome r
-entry-told n es old r e v h = go r (ap is_some e ∙ ap (holds n) v ∙ h)
+pub entry-outcome : (n : ℕ) (es old : List LogEntry) (r : Option (Bor LogEntry)) → option_copied r ≡ entry_of n es → es ≡ old → IsTrue (holds n old) → IsSome r
+entry-outcome n es old r e v h = go r (ap is_some e ∙ ap (holds n) v ∙ h)
   where
     go : (o : Option (Bor LogEntry)) → is_some (option_copied o) ≡ true → IsSome o
     go None k = cc

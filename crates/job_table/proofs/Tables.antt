@@ -180,7 +180,7 @@ table-from es a d few r = record {
   log = record {
     sound = a;
     distinct = λ n. subst (λ k. k ≤ 1) (sym (counts n es a)) (counted-Apart submit_of number_of_entry n es d);
-    room = few;
+    capacity = few;
   };
   rising = IsRising-Rises es r;
 }
@@ -199,22 +199,22 @@ log_of-rising es r = sym (arranged-is es) ∙ arranged-rising submit_of number_o
 
 -- ---- tables after an edit
 pub table-placed : (e : LogEntry) (es : List LogEntry) → IsTable es → IsEntry e → Lacks submit_of number_of_entry (number_of_entry e) es → length es < 4194304 → IsTable (placed submit_of number_of_entry e es)
-table-placed e es t h l room =
+table-placed e es t h l capacity =
     table-from (placed submit_of number_of_entry e es) (all-placed submit_of number_of_entry IsEntry e es h t.log.sound) (distinct-placed submit_of number_of_entry e es (table-apart es t) l)
     (omega (arith, length-placed submit_of number_of_entry e es)) (rising-placed submit_of number_of_entry e es (table-rising es t) l)
 
 pub table-left : (n : ℕ) (es : List LogEntry) → IsTable es → IsTable (left submit_of number_of_entry n es)
 table-left n es t =
     table-from (left submit_of number_of_entry n es) (all-left submit_of number_of_entry IsEntry n es t.log.sound) (distinct-without submit_of number_of_entry n es (table-apart es t))
-    (omega (arith, length-left submit_of number_of_entry n es, t.log.room)) (rising-without submit_of number_of_entry n es (table-rising es t))
+    (omega (arith, length-left submit_of number_of_entry n es, t.log.capacity)) (rising-without submit_of number_of_entry n es (table-rising es t))
 
 pub table-moved : (n : ℕ) (was e : LogEntry) (es : List LogEntry) → IsTable es → found submit_of number_of_entry n es ≡ Some was → IsEntry e → number_of_entry e ≡ n → IsTable (placed submit_of number_of_entry e (left submit_of number_of_entry n es))
 table-moved n was e es t there h same =
     table-placed e (left submit_of number_of_entry n es) (table-left n es t) h
     (subst (λ m. Lacks submit_of number_of_entry m (left submit_of number_of_entry n es)) (sym same) (Lacks-itself submit_of number_of_entry n es))
-    (omega (arith, length-moved submit_of number_of_entry n was es there, t.log.room))
+    (omega (arith, length-moved submit_of number_of_entry n was es there, t.log.capacity))
 
 pub table-drop : (k : ℕ) (es : List LogEntry) → IsTable es → IsTable (drop k es)
 table-drop k es t =
     table-from (drop k es) (all-drop IsEntry k es t.log.sound) (Apart-drop submit_of number_of_entry k es (table-apart es t))
-    (omega (arith, length-rest k es, t.log.room)) (Rise-drop submit_of number_of_entry k es (table-rising es t))
+    (omega (arith, length-rest k es, t.log.capacity)) (Rise-drop submit_of number_of_entry k es (table-rising es t))

@@ -71,7 +71,7 @@ fault_of (Insert entry) log =
 fault_of (Remove number) log = if holds number log then None else Some faults.NoSuchJob
 fault_of (Change number place value) log = if holds number log then change_fault place value else Some faults.NoSuchJob
 
--- what a refused edit is told: its first fault, or out of memory where it has none
+-- what a refused edit is answered: its first fault, or out of memory where it has none
 abbrev pub IsRefusal : EditFault → LogEdit → List LogEntry → Type 0
 IsRefusal faults.Memory edit log = fault_of edit log ≡ None
 IsRefusal fault edit log = fault_of edit log ≡ Some fault

@@ -10,7 +10,6 @@ use swf_text::{Entry, Memory};
 /// The submit second of each job, by its number.
 pub(crate) type Index<A> = Chunks<Numbered, A>;
 
-// The number and the submit second of each of these entries.
 pub(crate) fn pairs_of<A: Allocator + Copy>(
     alloc: A,
     rows: &[Entry<A>],
@@ -43,7 +42,6 @@ fn sort_pairs<A: Allocator + Copy>(pairs: &mut Vec<Numbered, A>) -> Result<(), M
     Ok(())
 }
 
-// The index of these pairs.
 pub(crate) fn index_of<A: Allocator + Copy>(
     alloc: A,
     mut pairs: Vec<Numbered, A>,
@@ -55,7 +53,6 @@ pub(crate) fn index_of<A: Allocator + Copy>(
     Ok(Chunks::of(alloc, pairs)?)
 }
 
-// Whether an index has a job number.
 pub(crate) fn has_number<A: Allocator + Copy>(index: &Index<A>, number: u64) -> bool
     requires { NumbersRise (flat index.now) }
     ensures { result ≡ is_some (second_of (flat index.now) number) }
@@ -66,7 +63,6 @@ pub(crate) fn has_number<A: Allocator + Copy>(index: &Index<A>, number: u64) -> 
     }
 }
 
-// The submit second of a pair, where it has this number.
 fn second_if(pair: &Numbered, number: u64) -> Option<u64>
     ensures { result ≡ (if pair.now.number == number then Some pair.now.submit else None) }
 {
@@ -76,7 +72,6 @@ fn second_if(pair: &Numbered, number: u64) -> Option<u64>
     None
 }
 
-// The submit second of a job number.
 pub(crate) fn second<A: Allocator + Copy>(index: &Index<A>, number: u64) -> Option<u64>
     requires { NumbersRise (flat index.now) }
     ensures { result ≡ second_of (flat index.now) number }
@@ -87,7 +82,6 @@ pub(crate) fn second<A: Allocator + Copy>(index: &Index<A>, number: u64) -> Opti
     }
 }
 
-// The index with one number more.
 pub(crate) fn with_number<A: Allocator + Copy>(
     index: &Index<A>,
     number: u64,
@@ -96,7 +90,7 @@ pub(crate) fn with_number<A: Allocator + Copy>(
 ) -> Result<Index<A>, Memory>
     requires rising { NumbersRise (flat index.now) }
     requires new { second_of (flat index.now) number ≡ None }
-    requires room { count.old ≤ 768 }
+    requires capacity { count.old ≤ 768 }
     ensures set { IfOk result (λ new. SetsSecond (flat index.now) number (Some submit) (flat new)) }
     ensures count { OnOk result (count.new ≡ count.old + joining (place_in number_in number_in number number (flat index.now)) index.now) }
     ensures least { 1 ≤ length (flat index.now) → OnOk result (count.old < count.new) }
@@ -113,7 +107,7 @@ pub(crate) fn without_number<A: Allocator + Copy>(
 ) -> Result<Index<A>, Memory>
     requires rising { NumbersRise (flat index.now) }
     requires there { is_some (second_of (flat index.now) number) ≡ true }
-    requires room { count.old ≤ 768 }
+    requires capacity { count.old ≤ 768 }
     ensures set { IfOk result (λ new. SetsSecond (flat index.now) number None (flat new)) }
     ensures count { OnOk result (count.new ≡ count.old + touched (place_in number_in number_in number number (flat index.now)) index.now) }
     ensures least { OnOk result (count.old < count.new) }
@@ -122,7 +116,6 @@ pub(crate) fn without_number<A: Allocator + Copy>(
     Ok(index.without(number, number, count)?)
 }
 
-// Sets another submit second of a number that the index has.
 pub(crate) fn set_second<A: Allocator + Copy>(
     index: &mut Index<A>,
     number: u64,
@@ -131,7 +124,7 @@ pub(crate) fn set_second<A: Allocator + Copy>(
 ) -> Result<(), Memory>
     requires rising { NumbersRise (flat index.old) }
     requires there { is_some (second_of (flat index.old) number) ≡ true }
-    requires room { count.old ≤ 768 }
+    requires capacity { count.old ≤ 768 }
     ensures set { OnOk result (SetsSecond (flat index.old) number (Some submit) (flat index.new)) }
     ensures kept { OnErr result (index.new ≡ index.old) }
     ensures count { OnOk result (CountsNoneOr (touched (place_in number_in number_in number number (flat index.old)) index.old) count.old count.new) }

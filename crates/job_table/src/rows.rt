@@ -12,7 +12,6 @@ use swf_text::{Entry, Memory, Value};
 /// The entries of a table, in their order.
 pub(crate) type Rows<A> = Chunks<Entry<A>, A>;
 
-// The same entries once more.
 pub(crate) fn copy_of<A: Allocator + Copy>(
     alloc: A,
     rows: &[Entry<A>],
@@ -26,7 +25,6 @@ pub(crate) fn copy_of<A: Allocator + Copy>(
     Ok(copy)
 }
 
-// The entries that are left, once more.
 pub(crate) fn copy_rest<A: Allocator + Copy>(
     alloc: A,
     mut rest: Rest<'_, Entry<A>, A>,
@@ -41,7 +39,6 @@ pub(crate) fn copy_rest<A: Allocator + Copy>(
     Ok(copy)
 }
 
-// The entry with a job number, which was submitted in this second.
 pub(crate) fn entry_at<A: Allocator + Copy>(
     rows: &Rows<A>,
     submit: u64,
@@ -54,7 +51,6 @@ pub(crate) fn entry_at<A: Allocator + Copy>(
     rows.find(submit, number)
 }
 
-// The entries with this submit second or a later one.
 pub(crate) fn rest_from<A: Allocator + Copy>(rows: &Rows<A>, second: u64) -> Rest<'_, Entry<A>, A>
     requires { IsTable (flat rows.now) }
     ensures { result ≡ entries_from second (flat rows.now) }
@@ -62,14 +58,13 @@ pub(crate) fn rest_from<A: Allocator + Copy>(rows: &Rows<A>, second: u64) -> Res
     rows.rest(second, 0)
 }
 
-// The entries with one more, at its place.
 pub(crate) fn with_one<A: Allocator + Copy>(
     rows: &Rows<A>,
     entry: Entry<A>,
     count: &mut u32,
 ) -> Result<Rows<A>, Memory>
     requires table { IsTable (flat rows.now) }
-    requires room { count.old ≤ 768 }
+    requires capacity { count.old ≤ 768 }
     ensures rows { IfOk result (λ new. flat new ≡ with_entry entry (flat rows.now)) }
     ensures count { OnOk result (count.new ≡ count.old + joining (place_in submit_of number_of_entry (submit_of entry) (number_of_entry entry) (flat rows.now)) rows.now) }
     ensures least { 1 ≤ length (flat rows.now) → OnOk result (count.old < count.new) }
@@ -87,7 +82,7 @@ pub(crate) fn without_one<A: Allocator + Copy>(
 ) -> Result<Rows<A>, Memory>
     requires table { IsTable (flat rows.now) }
     requires known { Some submit ≡ option_map submit_of (entry_of number (flat rows.now)) }
-    requires room { count.old ≤ 768 }
+    requires capacity { count.old ≤ 768 }
     ensures rows { IfOk result (λ new. flat new ≡ without number (flat rows.now)) }
     ensures count { OnOk result (count.new ≡ count.old + touched (place_in submit_of number_of_entry submit number (flat rows.now)) rows.now) }
     ensures least { OnOk result (count.old < count.new) }
@@ -106,7 +101,7 @@ pub(crate) fn with_moved<A: Allocator + Copy>(
 ) -> Result<Rows<A>, Memory>
     requires table { IsTable (flat rows.now) }
     requires known { Some submit ≡ option_map submit_of (entry_of (number_of_entry entry) (flat rows.now)) }
-    requires room { count.old ≤ 512 }
+    requires capacity { count.old ≤ 512 }
     ensures rows { IfOk result (λ new. flat new ≡ with_entry entry (without (number_of_entry entry) (flat rows.now))) }
     ensures least { OnOk result (count.old < count.new) }
     ensures both { 2 ≤ length (flat rows.now) → OnOk result (count.old + 1 < count.new) }
@@ -116,7 +111,6 @@ pub(crate) fn with_moved<A: Allocator + Copy>(
     Ok(with_one(&left, entry, count)?)
 }
 
-// Puts another entry in place of that with its job number and its submit second.
 pub(crate) fn exchange<A: Allocator + Copy>(
     rows: &mut Rows<A>,
     entry: Entry<A>,
@@ -124,7 +118,7 @@ pub(crate) fn exchange<A: Allocator + Copy>(
 ) -> Result<(), Memory>
     requires table { IsTable (flat rows.old) }
     requires known { Some (submit_of entry) ≡ option_map submit_of (entry_of (number_of_entry entry) (flat rows.old)) }
-    requires room { count.old ≤ 768 }
+    requires capacity { count.old ≤ 768 }
     ensures rows { OnOk result (flat rows.new ≡ with_entry entry (without (number_of_entry entry) (flat rows.old))) }
     ensures kept { OnErr result (rows.new ≡ rows.old) }
     ensures count { OnOk result (CountsNoneOr (touched (place_in submit_of number_of_entry (submit_of entry) (number_of_entry entry) (flat rows.old)) rows.old) count.old count.new) }
@@ -134,7 +128,6 @@ pub(crate) fn exchange<A: Allocator + Copy>(
     rows.exchange(entry, count)
 }
 
-// An entry with another value in a field.
 pub(crate) fn changed_entry<A: Allocator + Copy>(
     was: &Entry<A>,
     field: u8,
@@ -163,14 +156,12 @@ fn are_equal(one: &[Value], other: &[Value]) -> bool
     same
 }
 
-// Whether two entries have the same lines.
 fn is_same<A: Allocator + Copy>(one: &Entry<A>, other: &Entry<A>) -> bool
     ensures { IsTrue result ↔ (one.now ≡ other.now) }
 {
     are_equal(one.main().0.as_slice(), other.main().0.as_slice()) && one.parts() == other.parts()
 }
 
-// Whether the entries that are left are the same, in the same order.
 pub(crate) fn are_same<A: Allocator + Copy>(
     mut some: Rest<'_, Entry<A>, A>,
     mut others: Rest<'_, Entry<A>, A>,

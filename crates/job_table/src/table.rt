@@ -150,7 +150,6 @@ impl<A: Allocator + Copy> JobTable<A> {
         are_same(self.rows.iter(), other.rows.iter())
     }
 
-    // Whether a job has this number.
     fn knows(&self, number: u64) -> bool
         ensures { result ≡ holds number self.now }
     {
@@ -193,10 +192,9 @@ impl<A: Allocator + Copy> JobTable<A> {
         }
     }
 
-    // An entry more, whose number is new. Answers the count of `apply_counted`.
     fn insert(&mut self, entry: &EntryLines<A>) -> Result<u32, Memory>
         requires new { entry_of (number_of_entry entry.now) self.old ≡ None }
-        requires room { length self.old < entry_limit }
+        requires capacity { length self.old < entry_limit }
         ensures ok { OnOk result (self.new ≡ log_of (entry.now ∷ self.old)) }
         ensures err { OnErr result (self.new ≡ self.old) }
         ensures least { IfOk result (λ count. fewest (Insert entry.now) self.old ≤ count) }
@@ -212,7 +210,6 @@ impl<A: Allocator + Copy> JobTable<A> {
         Ok(count)
     }
 
-    // The entry with this number, which there is, leaves. Answers the count of `apply_counted`.
     fn remove(&mut self, number: u64) -> Result<u32, Memory>
         requires { IsTrue (holds number self.old) }
         ensures ok { OnOk result (self.new ≡ log_of (without number self.old)) }

@@ -24,7 +24,6 @@ pub(crate) type Days<A> = Vec<DayEntry, A>;
 // The seconds of a day.
 pub(crate) const DAY: u64 = 86400;
 
-// More processor-seconds of one day.
 fn add_day<A: Allocator + Copy>(days: &mut Days<A>, day: u64, busy: u128) -> Result<(), AllocError>
     requires list { IsDayList days.old.items }
     requires fits { day_total day days.old.items + busy < 2 ^ 128 }
@@ -39,7 +38,6 @@ fn add_day<A: Allocator + Copy>(days: &mut Days<A>, day: u64, busy: u128) -> Res
     Ok(())
 }
 
-// The processor-seconds of a day, where some are taken.
 pub(crate) fn busy_at(days: &[DayEntry], day: u64) -> Option<u128>
     requires { IsStrictlySortedBy nat_cmp (keys_of days.now) }
     ensures { result ≡ lookup (is_at (nat_cmp day)) days.now }
@@ -50,7 +48,6 @@ pub(crate) fn busy_at(days: &[DayEntry], day: u64) -> Option<u128>
     }
 }
 
-// The processor-seconds that the job takes in the day.
 fn busy_in(placed: &Placed, day: u64) -> u64
     requires placed { IsPlaced placed.now }
     requires day { day ≤ 2 ^ 40 }
@@ -61,7 +58,6 @@ fn busy_in(placed: &Placed, day: u64) -> u64
     placed.job.size() * to.saturating_sub(from)
 }
 
-// The processor-seconds of one more job, in each day of which it takes some.
 fn add_job<A: Allocator + Copy>(days: &mut Days<A>, placed: &Placed) -> Result<(), AllocError>
     requires placed { IsPlaced placed.now }
     requires list { IsDayList days.old.items }
@@ -77,7 +73,6 @@ fn add_job<A: Allocator + Copy>(days: &mut Days<A>, placed: &Placed) -> Result<(
     Ok(())
 }
 
-// The processor-seconds of some jobs.
 pub(crate) fn of_jobs<A: Allocator + Copy>(
     alloc: A,
     placed: &[Placed],
@@ -93,7 +88,6 @@ pub(crate) fn of_jobs<A: Allocator + Copy>(
     Ok(days)
 }
 
-// The processor-seconds of both lists.
 pub(crate) fn merge<A: Allocator + Copy>(
     alloc: A,
     left: &[DayEntry],

@@ -60,7 +60,6 @@ fn utilization(busy: u128, procs: u64, seconds: u64) -> u128
     divide(busy * 100_000, u128::from(procs) * u128::from(seconds))
 }
 
-// The seconds from the least submission to the greatest end.
 fn span(totals: &Totals) -> u64
     ensures { result ≡ span_of totals.now }
 {

@@ -23,7 +23,6 @@ pub(crate) struct ShortSums {
 }
 
 impl ShortSums {
-    // These sums, where each fits.
     fn of(sums: &UserSums) -> Option<ShortSums>
         ensures { IfSome result (λ short. long short ≡ sums.now) }
     {
@@ -35,7 +34,6 @@ impl ShortSums {
         })
     }
 
-    // The sums that it stands for.
     fn long(&self) -> UserSums
         ensures { result ≡ long self.now }
     {
@@ -79,7 +77,6 @@ impl<A: Allocator + Copy> Stored<A> {
         }
     }
 
-    // These entries.
     pub(crate) fn of(alloc: A, entries: &[UserEntry]) -> Result<Stored<A>, AllocError>
         ensures { IfOk result (λ stored. stored ≡ entries.now) }
     {
@@ -101,7 +98,6 @@ impl<A: Allocator + Copy> Stored<A> {
         Ok(users)
     }
 
-    // The sums over the jobs of a user, where it has some.
     pub(crate) fn at(&self, user: i64) -> Option<UserSums>
         requires { IsStrictlySortedBy int_cmp (keys_of self.now) }
         ensures { result ≡ lookup (is_at (int_cmp user)) self.now }
@@ -113,7 +109,6 @@ impl<A: Allocator + Copy> Stored<A> {
     }
 }
 
-// The first of these entries, up to one whose sums don't fit.
 fn short_front<A: Allocator + Copy>(
     alloc: A,
     entries: &[UserEntry],
@@ -131,7 +126,6 @@ fn short_front<A: Allocator + Copy>(
     Ok(short)
 }
 
-// The sums of a user among these, where it has some.
 fn short_at(users: &[ShortEntry], user: i64) -> Option<ShortSums>
     requires { IsStrictlySortedBy int_cmp (keys_of users.now) }
     ensures { result ≡ lookup (is_at (int_cmp user)) users.now }
@@ -142,7 +136,6 @@ fn short_at(users: &[ShortEntry], user: i64) -> Option<ShortSums>
     }
 }
 
-// The sums of both lists.
 pub(crate) fn merge<A: Allocator + Copy>(
     alloc: A,
     left: &Stored<A>,

@@ -51,7 +51,6 @@ impl<A: Allocator + Copy> Tables<A> {
     }
 }
 
-// A row a user.
 fn user_rows<A: Allocator + Copy>(
     alloc: A,
     users: &[UserEntry],
@@ -65,7 +64,6 @@ fn user_rows<A: Allocator + Copy>(
     Ok(rows)
 }
 
-// A row a day.
 fn day_rows<A: Allocator + Copy>(
     alloc: A,
     procs: u64,
@@ -83,7 +81,8 @@ fn day_rows<A: Allocator + Copy>(
 
 impl<A: Allocator + Copy> Part<A> {
     /// The tables of the part's jobs, on a machine of `procs` processors and with these counts of
-    /// skipped entries. Means are cut down, and 0 where there is no job. Memory where a growth was refused.
+    /// skipped entries. Means are cut down, and 0 where there is no job. Memory where a growth was
+    /// refused.
     pub fn tables(&self, procs: u64, skips: Skips) -> Result<Tables<A>, Memory>
         ensures { IfOk result (λ tables. tables ≡ tables_of procs skips self.now) }
     {

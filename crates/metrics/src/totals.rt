@@ -22,7 +22,6 @@ pub struct Totals {
     pub greatest_end: Option<u64>,
 }
 
-// The lesser of two seconds that may be missing.
 fn earlier(a: Option<u64>, b: Option<u64>) -> Option<u64>
     ensures { result ≡ earlier_of a b }
 {
@@ -33,7 +32,6 @@ fn earlier(a: Option<u64>, b: Option<u64>) -> Option<u64>
     }
 }
 
-// The greater of two seconds that may be missing.
 fn later(a: Option<u64>, b: Option<u64>) -> Option<u64>
     ensures { result ≡ later_of a b }
 {
@@ -62,7 +60,6 @@ impl Totals {
         }
     }
 
-    // The sums over some jobs.
     pub(crate) fn of_jobs(placed: &[Placed]) -> Totals
         requires { CanSum placed.now }
         ensures value { result ≡ totals placed.now }
@@ -75,7 +72,6 @@ impl Totals {
         sums
     }
 
-    // The sums over one job.
     fn of_job(placed: &Placed) -> Totals
         requires { CanStart placed.now }
         ensures value { result ≡ totals_alone placed.now }
@@ -94,7 +90,6 @@ impl Totals {
         }
     }
 
-    // The sums over the jobs of both.
     pub(crate) fn plus(&self, other: &Totals) -> Totals
         requires { FitsJoined self.now other.now }
         ensures { result ≡ joined self.now other.now }

@@ -25,7 +25,6 @@ pub struct UserSums {
 }
 
 impl UserSums {
-    // The sums over one job.
     pub(crate) fn of_job(placed: &Placed) -> UserSums
         requires { CanStart placed.now }
         ensures { result ≡ alone placed.now }
@@ -38,7 +37,6 @@ impl UserSums {
         }
     }
 
-    // The sums over the jobs of both.
     pub(crate) fn plus(&self, other: &UserSums) -> UserSums
         requires { CanAdd self.now other.now }
         ensures { result ≡ plus self.now other.now }
@@ -58,7 +56,6 @@ pub(crate) type UserEntry = (i64, UserSums);
 // Sums by user, by rising user.
 pub(crate) type Users<A> = Vec<UserEntry, A>;
 
-// More sums of one user.
 fn add_user<A: Allocator + Copy>(
     users: &mut Users<A>,
     user: i64,
@@ -77,7 +74,6 @@ fn add_user<A: Allocator + Copy>(
     Ok(())
 }
 
-// The jobs, those of a user behind one another.
 fn by_user<A: Allocator + Copy>(alloc: A, placed: &[Placed]) -> Result<Vec<&Placed, A>, AllocError>
     ensures { IfOk result (λ jobs. IsPermutation placed.now (map (λ job. job.now) jobs.items)) }
 {
@@ -89,7 +85,6 @@ fn by_user<A: Allocator + Copy>(alloc: A, placed: &[Placed]) -> Result<Vec<&Plac
     Ok(jobs)
 }
 
-// The sums over the jobs of a user, where it has some.
 pub(crate) fn sums_at(users: &[UserEntry], user: i64) -> Option<UserSums>
     requires { IsStrictlySortedBy int_cmp (keys_of users.now) }
     ensures { result ≡ lookup (is_at (int_cmp user)) users.now }
@@ -101,12 +96,11 @@ pub(crate) fn sums_at(users: &[UserEntry], user: i64) -> Option<UserSums>
 }
 
 // How many users the jobs have, where those of a user stand behind one another. It decides only how
-// much room is reserved.
+// much capacity is reserved.
 fn count_users(jobs: &[&Placed]) -> usize {
     jobs.chunk_by(|a, b| a.job.user() == b.job.user()).count()
 }
 
-// The sums of some jobs.
 pub(crate) fn of_jobs<A: Allocator + Copy>(
     alloc: A,
     placed: &[Placed],
@@ -123,7 +117,6 @@ pub(crate) fn of_jobs<A: Allocator + Copy>(
     Ok(users)
 }
 
-// The sums of both lists.
 pub(crate) fn merge<A: Allocator + Copy>(
     alloc: A,
     left: &[UserEntry],

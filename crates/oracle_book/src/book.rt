@@ -69,7 +69,6 @@ impl<A: Allocator + Copy> PlainBook<A> {
         SettleState::Failed(behind as u64)
     }
 
-    // An edit makes the next version, or is told its fault.
     fn edit(&mut self, edit: &NotedEdit<A>) -> Result<Reply, Memory> {
         let edit = edit.edit()?;
         match self.log.apply(&edit) {
@@ -101,7 +100,6 @@ impl<A: Allocator + Copy> PlainBook<A> {
         }
     }
 
-    // The scenario and its tickets go.
     fn drop_named(&mut self, name: &str) -> Reply {
         match self.names.drop_named(name) {
             Ok(id) => {
@@ -113,12 +111,10 @@ impl<A: Allocator + Copy> PlainBook<A> {
         }
     }
 
-    // The place of the scenario with this id.
     fn place_of(&self, id: ScenarioId) -> Option<usize> {
         self.scenarios.iter().position(|scenario| scenario.id == id)
     }
 
-    // The ticket with this number.
     fn ticket(&self, number: u64) -> Option<PlainTicket> {
         for ticket in &self.tickets {
             if ticket.number == number {
@@ -133,7 +129,6 @@ impl<A: Allocator + Copy> PlainBook<A> {
         self.tickets.retain(|ticket| ticket.number != number);
     }
 
-    // The scenario may be claimed again.
     fn retry(&mut self, id: ScenarioId) -> Reply {
         let Some(place) = self.place_of(id) else {
             return Reply::NoSuchScenario;
@@ -167,7 +162,6 @@ impl<A: Allocator + Copy> PlainBook<A> {
         None
     }
 
-    // A worker gets the next ticket.
     fn claim(&mut self) -> Result<Reply, Memory> {
         let Some(scenario) = self.first_missing() else {
             return Ok(Reply::NoneDue);
@@ -190,7 +184,6 @@ impl<A: Allocator + Copy> PlainBook<A> {
         })
     }
 
-    // A run for a ticket, which is shown where it is newer.
     fn finish(&mut self, number: u64, fits: bool) -> Reply {
         let Some(ticket) = self.ticket(number) else {
             return Reply::UnknownTicket;
@@ -229,7 +222,6 @@ impl<A: Allocator + Copy> PlainBook<A> {
         Reply::GivenUp
     }
 
-    // What a session sees that has seen this version.
     fn view(&self, id: ScenarioId, seen: u64) -> Reply {
         let Some(place) = self.place_of(id) else {
             return Reply::NoSuchScenario;

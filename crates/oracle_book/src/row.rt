@@ -11,7 +11,6 @@ pub(crate) struct PlainScenario {
 }
 
 impl PlainScenario {
-    // Whether a run of this version or a newer one is shown.
     pub(crate) fn shows(&self, version: u64) -> bool {
         match self.shown {
             Some(shown) => shown >= version,
@@ -19,7 +18,6 @@ impl PlainScenario {
         }
     }
 
-    // Whether its run was given up at this version.
     pub(crate) fn was_given_up(&self, version: u64) -> bool {
         match self.given_up {
             Some(at) => at == version,

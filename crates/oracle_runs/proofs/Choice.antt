@@ -5,7 +5,7 @@ use Rattle.scenarios.specs.Job.{EffectiveJob}
 use Rattle.scenarios.specs.declared.order.Order.{Order}
 use Rattle.cluster_state.specs.State.{State, free}
 use Rattle.easy_rule.specs.Rule.{next, next_of, may_backfill, shadow_at}
-use Rattle.cluster_state.specs.Row.{put, by_estimate, in_order}
+use Rattle.cluster_state.specs.Candidates.{put, by_estimate, in_order}
 use Rattle.cluster_state.proofs.Lemmas.{All-find, RisesByEstimate, put-before, put-behind, rises-by_estimate, find-put}
 
 -- a shorter one is found before one more that passes

@@ -12,7 +12,7 @@ use Rattle.std.proofs.lemmas.List.{take_more}
 use Rattle.swf_text.specs.Entry.{LogEntry, HasNumber, has_number, whole_number, number_of_entry, submit_of, field}
 use Rattle.swf_text.specs.Log.{comes_before, with_entry, log_of}
 use Rattle.scenarios.specs.Job.{EffectiveJob, IsWithinLimits}
-use Rattle.scenarios.specs.Scenario.{Setting}
+use Rattle.scenarios.specs.Scenario.{ScenarioView}
 use Rattle.scenarios.specs.declared.skip.Skip.{Skip}
 use Rattle.scenarios.specs.declared.skip.Skip.TheVariants.{TooLarge, TooLong}
 use Rattle.scenarios.specs.Effective.{effective, of_size, of_size_and_run, unless_too_long, job_of, size_of, run_of, estimate_of, base_of}
@@ -26,12 +26,12 @@ abbrev num : EffectiveJob → ℕ
 num job = job.number
 
 -- what has been collected of these entries
-pub record IsCollected (es : List LogEntry) (s : Setting) (jobs : List EffectiveJob) : Type 0 where
+pub record IsCollected (es : List LogEntry) (s : ScenarioView) (jobs : List EffectiveJob) : Type 0 where
   pub are : jobs ≡ jobs_of es s
   pub limits : All IsWithinLimits jobs
   pub numbered : (n : ℕ) → count_by (λ j. nat_eq j.number n) jobs ≤ count_by (has_number n) es
 
-pub collected-none : (s : Setting) → IsCollected [] s []
+pub collected-none : (s : ScenarioView) → IsCollected [] s []
 collected-none s = record { are = refl; limits = All-nil IsWithinLimits; numbered = λ n. omega arith }
 
 -- one more entry
@@ -50,7 +50,7 @@ counts n e job h =
     one true e = rw (e, eq-eqb n job.number (sym (eqb-true job.number n e))) (omega arith)
     one false e = rw e (omega arith)
 
-pub collected-more : (es : List LogEntry) (s : Setting) (jobs : List EffectiveJob) (i : ℕ) (e : LogEntry) (o : Option EffectiveJob) → i < length es → e ≡ get_or es i e
+pub collected-more : (es : List LogEntry) (s : ScenarioView) (jobs : List EffectiveJob) (i : ℕ) (e : LogEntry) (o : Option EffectiveJob) → i < length es → e ≡ get_or es i e
     → o ≡ result_ok (effective e s) → IfSome o IsWithinLimits → IfSome o (λ job. HasNumber e.main job.number)
     → IsCollected (take i es) s jobs → IsCollected (take (i + 1) es) s (jobs ++ option_to_list o)
 collected-more es s jobs i e o l at is limits numbered c =
@@ -70,12 +70,12 @@ collected-more es s jobs i e o l at is limits numbered c =
     }
 
 -- ---- what an effective job takes from its entry
-record Takes (e : LogEntry) (s : Setting) (job : EffectiveJob) : Type 0 where
+record Takes (e : LogEntry) (s : ScenarioView) (job : EffectiveJob) : Type 0 where
   submit : job.submit ≡ submit_of e
   number : job.number ≡ number_of_entry e
   fits : job.size ≤ s.procs
 
-takes : (e : LogEntry) (s : Setting) (job : EffectiveJob) → result_ok (effective e s) ≡ Some job → Takes e s job
+takes : (e : LogEntry) (s : ScenarioView) (job : EffectiveJob) → result_ok (effective e s) ≡ Some job → Takes e s job
 takes e s job h = by_size (size_of e.main) h
   where
     by_long : (b : Bool) (made : EffectiveJob) → made.submit ≡ submit_of e → made.number ≡ number_of_entry e → made.size ≤ s.procs
@@ -109,10 +109,10 @@ two-options None p xs = IsPermutation-refl (cons_option p xs)
 two-options (Some a) None xs = IsPermutation-refl (a ∷ xs)
 two-options (Some a) (Some b) xs = IsPermutation-append_left xs (a ∷ b ∷ []) (b ∷ a ∷ []) (IsPermutation-append_comm (a ∷ []) (b ∷ []))
 
-abbrev kept : Setting → LogEntry → Option EffectiveJob
+abbrev kept : ScenarioView → LogEntry → Option EffectiveJob
 kept s e = result_ok (effective e s)
 
-placed-permutes : (s : Setting) (e : LogEntry) (es : List LogEntry) → IsPermutation (cons_option (kept s e) (jobs_of es s)) (jobs_of (with_entry e es) s)
+placed-permutes : (s : ScenarioView) (e : LogEntry) (es : List LogEntry) → IsPermutation (cons_option (kept s e) (jobs_of es s)) (jobs_of (with_entry e es) s)
 placed-permutes s e [] = IsPermutation-refl (cons_option (kept s e) [])
 placed-permutes s e (x ∷ es) = go (comes_before x e) (placed-permutes s e es)
   where
@@ -123,7 +123,7 @@ placed-permutes s e (x ∷ es) = go (comes_before x e) (placed-permutes s e es)
         (with-option (kept s x) (cons_option (kept s e) (jobs_of es s)) (jobs_of (with_entry e es) s) i)
     go false i = IsPermutation-refl (cons_option (kept s e) (cons_option (kept s x) (jobs_of es s)))
 
-pub log-permutes : (s : Setting) (es : List LogEntry) → IsPermutation (jobs_of es s) (jobs_of (log_of es) s)
+pub log-permutes : (s : ScenarioView) (es : List LogEntry) → IsPermutation (jobs_of es s) (jobs_of (log_of es) s)
 log-permutes s [] = IsPermutation-refl []
 log-permutes s (e ∷ es) =
     IsPermutation-trans (cons_option (kept s e) (jobs_of es s)) (cons_option (kept s e) (jobs_of (log_of es) s)) (jobs_of (with_entry e (log_of es)) s)
@@ -131,7 +131,7 @@ log-permutes s (e ∷ es) =
     (placed-permutes s e (log_of es))
 
 -- ---- the jobs of a log do not fall
-Opens-jobs : (s : Setting) (e : LogEntry) (job : EffectiveJob) (es : List LogEntry) → kept s e ≡ Some job → Opens submit_of number_of_entry e es → Opens at num job (jobs_of es s)
+Opens-jobs : (s : ScenarioView) (e : LogEntry) (job : EffectiveJob) (es : List LogEntry) → kept s e ≡ Some job → Opens submit_of number_of_entry e es → Opens at num job (jobs_of es s)
 Opens-jobs s e job [] h o = tt
 Opens-jobs s e job (x ∷ es) h o = go (kept s x) refl (Opens-jobs s e job es h o.1)
   where
@@ -142,7 +142,7 @@ Opens-jobs s e job (x ∷ es) h o = go (kept s x) refl (Opens-jobs s e job es h 
         let b = takes x s other k in
         (rw (a.submit, a.number, b.submit, b.number) o.0, i)
 
-Climbs-jobs : (s : Setting) (es : List LogEntry) → Climbs submit_of number_of_entry es → Climbs at num (jobs_of es s)
+Climbs-jobs : (s : ScenarioView) (es : List LogEntry) → Climbs submit_of number_of_entry es → Climbs at num (jobs_of es s)
 Climbs-jobs s [] c = tt
 Climbs-jobs s (e ∷ es) c = go (kept s e) refl (Climbs-jobs s es c.1)
   where
@@ -150,11 +150,11 @@ Climbs-jobs s (e ∷ es) c = go (kept s e) refl (Climbs-jobs s es c.1)
     go None k i = i
     go (Some job) k i = (Opens-jobs s e job es k c.0, i)
 
-pub Climbs-log-jobs : (s : Setting) (es : List LogEntry) → Climbs at num (jobs_of (log_of es) s)
+pub Climbs-log-jobs : (s : ScenarioView) (es : List LogEntry) → Climbs at num (jobs_of (log_of es) s)
 Climbs-log-jobs s es = Climbs-jobs s (log_of es) (Climbs-log es)
 
 -- ---- sizes and lengths of lists
-pub jobs_of-fit : (s : Setting) (es : List LogEntry) → All (λ j. j.size ≤ s.procs) (jobs_of es s)
+pub jobs_of-fit : (s : ScenarioView) (es : List LogEntry) → All (λ j. j.size ≤ s.procs) (jobs_of es s)
 jobs_of-fit s [] = All-nil (λ (j : EffectiveJob). j.size ≤ s.procs)
 jobs_of-fit s (e ∷ es) = go (kept s e) refl (jobs_of-fit s es)
   where
@@ -162,7 +162,7 @@ jobs_of-fit s (e ∷ es) = go (kept s e) refl (jobs_of-fit s es)
     go None k i = i
     go (Some job) k i = All-cons (λ (j : EffectiveJob). j.size ≤ s.procs) job (jobs_of es s) (takes e s job k).fits i
 
-pub length-jobs_of : (s : Setting) (es : List LogEntry) → length (jobs_of es s) ≤ length es
+pub length-jobs_of : (s : ScenarioView) (es : List LogEntry) → length (jobs_of es s) ≤ length es
 length-jobs_of s [] = omega arith
 length-jobs_of s (e ∷ es) = go (kept s e) (length-jobs_of s es)
   where

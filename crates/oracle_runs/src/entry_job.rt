@@ -19,7 +19,6 @@ fn rounded(millionths: i64) -> i64
     (millionths + 500_000).div_euclid(1_000_000)
 }
 
-// A field of a line, to the nearest whole number.
 fn whole_field(line: &Fields, place: usize) -> i64
     requires low { 1 ≤ place }
     requires high { place ≤ 18 }
@@ -40,7 +39,6 @@ fn positive(number: i64) -> Option<u64>
     Some(number as u64)
 }
 
-// The processors that a job asks for, or else was given.
 fn size_of(line: &Fields) -> Option<u64>
     ensures { result ≡ size_of line.now.0 }
 {
@@ -51,7 +49,6 @@ fn size_of(line: &Fields) -> Option<u64>
     positive(whole_field(line, 5))
 }
 
-// The base times the factor in thousandths, rounded up, and at least one second.
 fn estimate_of(base: u64, factor: u64) -> u64
     requires base { base ≤ 1000000000000 }
     requires factor { factor ≤ factor_limit }

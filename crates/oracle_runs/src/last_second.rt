@@ -17,7 +17,6 @@ pub(crate) fn last_submit(jobs: &[PlainJob]) -> u64
     last
 }
 
-// The seconds that these jobs run, one after another.
 fn total_length(jobs: &[PlainJob]) -> u64
     requires { length jobs.now ≤ entry_limit }
     ensures value { result ≡ sum_by (λ j. j.length) jobs.now }
@@ -30,7 +29,6 @@ fn total_length(jobs: &[PlainJob]) -> u64
     total
 }
 
-// A second by which all of these jobs have ended: the greatest submit second and all lengths.
 pub(crate) fn bound(jobs: &[PlainJob]) -> u64
     requires { length jobs.now ≤ entry_limit }
     ensures { (plan : Plan) → plan.jobs ≡ jobs.now → result ≡ bound plan }

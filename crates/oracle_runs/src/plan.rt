@@ -27,9 +27,9 @@ impl<A: Allocator + Copy> Model for LogPlan<A> {
 
     ghost Value = { Plan };
 
-    ghost view = { λ p. record { machine = p.scenario.procs; order = p.scenario.order; jobs = p.jobs.items } };
+    ghost view = { λ p. record { procs = p.scenario.procs; order = p.scenario.order; jobs = p.jobs.items } };
 
-    ghost invariant = { λ p. IsPlan (record { machine = p.scenario.procs; order = p.scenario.order; jobs = p.jobs.items }) };
+    ghost invariant = { λ p. IsPlan (record { procs = p.scenario.procs; order = p.scenario.order; jobs = p.jobs.items }) };
 }
 
 // The job of an entry, where it is not skipped.
@@ -88,8 +88,8 @@ impl<A: Allocator + Copy> LogPlan<A> {
     }
 
     /// The machine's processors.
-    pub fn machine(&self) -> u64
-        ensures machine { result ≡ self.now.machine }
+    pub fn procs(&self) -> u64
+        ensures procs { result ≡ self.now.procs }
         ensures plan { IsPlan self.now }
     {
         self.scenario.procs()
@@ -102,9 +102,8 @@ impl<A: Allocator + Copy> LogPlan<A> {
         self.scenario.order()
     }
 
-    // The scenario that it was made under.
     pub(crate) fn scenario(&self) -> &Scenario
-        ensures procs { result.now.procs ≡ self.now.machine }
+        ensures procs { result.now.procs ≡ self.now.procs }
         ensures order { result.now.order ≡ self.now.order }
     {
         &self.scenario

@@ -1,7 +1,7 @@
 ghost use Rattle.std.specs.Prelude.{◌≡◌, ◌<◌, ◌≤◌, IfOk, OnOk, find};
 ghost use Rattle.scenarios.specs.Limits.{seconds_end};
 ghost use Rattle.cluster_state.specs.State.{free, IsSound};
-ghost use Rattle.cluster_state.specs.Row.{by_estimate};
+ghost use Rattle.cluster_state.specs.Candidates.{by_estimate};
 ghost use Rattle.easy_rule.specs.Rule.{may_backfill, next, shadow_time, starts_at, state_after};
 
 use crate::job::PlainJob;
@@ -28,7 +28,7 @@ struct Gap {
 // have surely ended, the least at which they are.
 fn shadow_time<A: Allocator + Copy>(state: &PlainState<A>, need: u64) -> u64
     requires wants { free state.now < need }
-    requires within { need ≤ state.now.machine }
+    requires within { need ≤ state.now.procs }
     ensures { result ≡ shadow_time state.now need }
 {
     let mut time = u64::MAX;
@@ -41,7 +41,6 @@ fn shadow_time<A: Allocator + Copy>(state: &PlainState<A>, need: u64) -> u64
     time
 }
 
-// Whether a later job may start now, in the place of the head.
 fn may_start(job: &PlainJob, gap: Gap) -> bool
     ensures { result ≡ may_backfill gap.second gap.free (record { time = gap.shadow; extra = gap.extra }) job.now }
 {
@@ -49,14 +48,12 @@ fn may_start(job: &PlainJob, gap: Gap) -> bool
     job.size() <= gap.free && (end <= u128::from(gap.shadow) || job.size() <= gap.extra)
 }
 
-// The first of these jobs that may start.
 fn first(jobs: &[PlainJob], gap: Gap) -> Option<PlainJob>
     ensures { result ≡ find (may_backfill gap.second gap.free (record { time = gap.shadow; extra = gap.extra })) jobs.now }
 {
     jobs.iter().copied().find(move |job| may_start(job, gap))
 }
 
-// The job with the shortest estimate of those that may start; of one estimate the first.
 fn shortest(jobs: &[PlainJob], gap: Gap) -> Option<PlainJob>
     ensures { result ≡ find (may_backfill gap.second gap.free (record { time = gap.shadow; extra = gap.extra })) (by_estimate jobs.now) }
 {

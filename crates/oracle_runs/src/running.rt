@@ -27,21 +27,18 @@ impl Model for PlainRunning {
 }
 
 impl PlainRunning {
-    // Its job.
     pub(crate) fn job(&self) -> &PlainJob
         ensures { result.now ≡ self.now.job }
     {
         &self.job
     }
 
-    // The second by which it has surely ended.
     pub(crate) fn expected_end(&self) -> u64
         ensures { result ≡ expected_end self.now }
     {
         self.start + self.job.estimate()
     }
 
-    // The second at which it ends.
     pub(crate) fn end(&self) -> u64
         ensures { result ≡ real_end self.now }
     {

@@ -12,14 +12,13 @@ use easy_rule::Start;
 use std::alloc::Allocator;
 use swf_text::Memory;
 
-// The jobs that are submitted at second t join the queue.
 fn arrive_at<A: Allocator + Copy>(
     state: &mut PlainState<A>,
     jobs: &[PlainJob],
     t: u64,
 ) -> Result<(), Memory>
     requires sound { (k : ℕ) → IsSound (joined state.old (filter (λ j. nat_eq j.submit t) (take k jobs.now))) }
-    requires sizes { All (λ j. j.size ≤ state.old.machine) jobs.now }
+    requires sizes { All (λ j. j.size ≤ state.old.procs) jobs.now }
     ensures { OnOk result (state.new ≡ joined state.old (filter (λ j. nat_eq j.submit t) jobs.now)) }
 {
     for job in jobs {

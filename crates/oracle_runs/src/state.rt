@@ -12,7 +12,6 @@ use std::alloc::Allocator;
 use std::marker::Model;
 use swf_text::Memory;
 
-// The processors that running jobs hold.
 fn busy(running: &[PlainRunning]) -> u64
     requires { busy running.now < 2 ^ 64 }
     ensures { result ≡ busy running.now }
@@ -31,7 +30,6 @@ fn back_by(r: &PlainRunning, t: u64) -> u64
     }
 }
 
-// The processors that come back by second t.
 fn all_back_by(running: &[PlainRunning], t: u64) -> u64
     requires { busy running.now ≤ procs_limit }
     ensures { result ≡ sum_by (back_by t) running.now }
@@ -43,14 +41,12 @@ fn all_back_by(running: &[PlainRunning], t: u64) -> u64
     sum
 }
 
-// The place of the first job of this number.
 fn place_of(jobs: &[PlainJob], number: u64) -> Option<usize>
     ensures { result ≡ position (λ j. nat_eq j.number number) jobs.now }
 {
     jobs.iter().position(|j| j.number() == number)
 }
 
-// Takes the first job of this number out.
 fn take_out<A: Allocator>(jobs: &mut Vec<PlainJob, A>, number: u64)
     ensures { jobs.new.items ≡ without number jobs.old.items }
 {
@@ -62,14 +58,12 @@ fn take_out<A: Allocator>(jobs: &mut Vec<PlainJob, A>, number: u64)
     }
 }
 
-// The place of the first with a greater number.
 fn place_before(running: &[PlainRunning], number: u64) -> Option<usize>
     ensures { result ≡ position (λ r. nat_lt number r.job.number) running.now }
 {
     running.iter().position(|r| number < r.job().number())
 }
 
-// Puts a running job in its place by number.
 fn put_in<A: Allocator>(running: &mut Vec<PlainRunning, A>, r: PlainRunning) -> Result<(), Memory>
     ensures ok { OnOk result (running.new.items ≡ placed r running.old.items) }
     ensures err { OnErr result (running.new.items ≡ running.old.items) }
@@ -79,7 +73,6 @@ fn put_in<A: Allocator>(running: &mut Vec<PlainRunning, A>, r: PlainRunning) -> 
     Ok(())
 }
 
-// Those that end at second t leave.
 fn drop_at<A: Allocator>(running: &mut Vec<PlainRunning, A>, t: u64)
     ensures { running.new.items ≡ filter (λ r. not (nat_eq (real_end r) t)) running.old.items }
 {
@@ -89,7 +82,7 @@ fn drop_at<A: Allocator>(running: &mut Vec<PlainRunning, A>, t: u64)
 /// A machine at some second: the waiting jobs in order of arrival, and the running ones by number.
 #[derive(Drop)]
 pub(crate) struct PlainState<A: Allocator + Copy> {
-    machine: u64,
+    procs: u64,
     order: Order,
     waiting: Vec<PlainJob, A>,
     running: Vec<PlainRunning, A>,
@@ -100,34 +93,31 @@ impl<A: Allocator + Copy> Model for PlainState<A> {
 
     ghost Value = { State };
 
-    ghost view = { λ s. record { machine = s.machine; order = s.order; waiting = s.waiting.items; running = s.running.items } };
+    ghost view = { λ s. record { procs = s.procs; order = s.order; waiting = s.waiting.items; running = s.running.items } };
 
-    ghost invariant = { λ s. IsSound (record { machine = s.machine; order = s.order; waiting = s.waiting.items; running = s.running.items }) };
+    ghost invariant = { λ s. IsSound (record { procs = s.procs; order = s.order; waiting = s.waiting.items; running = s.running.items }) };
 }
 
 impl<A: Allocator + Copy> PlainState<A> {
     ghost use Rattle.cluster_state.specs.State.{State, IsSound};
 
-    // An empty machine.
     pub(crate) fn new(alloc: A, scenario: &Scenario) -> PlainState<A>
         ensures { result ≡ empty scenario.now.procs scenario.now.order }
     {
         PlainState {
-            machine: scenario.procs(),
+            procs: scenario.procs(),
             order: scenario.order(),
             waiting: Vec::new(alloc),
             running: Vec::new(alloc),
         }
     }
 
-    // The order of backfills.
     pub(crate) fn order(&self) -> Order
         ensures { result ≡ self.now.order }
     {
         self.order
     }
 
-    // The waiting jobs in order of arrival.
     pub(crate) fn waiting(&self) -> &[PlainJob]
         ensures jobs { result.now ≡ self.now.waiting }
         ensures sound { IsSound self.now }
@@ -135,7 +125,6 @@ impl<A: Allocator + Copy> PlainState<A> {
         self.waiting.as_slice()
     }
 
-    // The running jobs by number.
     pub(crate) fn running(&self) -> &[PlainRunning]
         ensures jobs { result.now ≡ self.now.running }
         ensures sound { IsSound self.now }
@@ -155,20 +144,18 @@ impl<A: Allocator + Copy> PlainState<A> {
         ensures value { result ≡ free self.now }
         ensures sound { IsSound self.now }
     {
-        self.machine - busy(&self.running)
+        self.procs - busy(&self.running)
     }
 
-    // The processors that are free now or come back by second t.
     pub(crate) fn available(&self, t: u64) -> u64
         ensures { result ≡ available self.now t }
     {
         self.free() + all_back_by(&self.running, t)
     }
 
-    // A job joins the queue, at its end.
     pub(crate) fn arrive(&mut self, job: PlainJob) -> Result<(), Memory>
         requires absent { holders self.old job.number ≡ 0 }
-        requires fits { job.size ≤ self.old.machine }
+        requires fits { job.size ≤ self.old.procs }
         ensures { OnOk result (self.new ≡ arrived self.old job) }
     {
         prove!(job.size() <= MAX_PROCS);
@@ -176,7 +163,6 @@ impl<A: Allocator + Copy> PlainState<A> {
         Ok(())
     }
 
-    // A waiting job starts at second `now`.
     pub(crate) fn start(&mut self, job: PlainJob, now: u64) -> Result<(), Memory>
         requires waits { waiting_job self.old job.number ≡ Some job }
         requires fits { job.size ≤ free self.old }
@@ -188,7 +174,6 @@ impl<A: Allocator + Copy> PlainState<A> {
         Ok(())
     }
 
-    // The running jobs that end at second t leave.
     pub(crate) fn end_at(&mut self, t: u64)
         ensures { self.new ≡ ended self.old t }
     {

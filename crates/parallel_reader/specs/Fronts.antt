@@ -14,7 +14,7 @@ use Rattle.parallel_reader.specs.Jobs.{AreRead, portion_lines}
 abbrev pub EndsLine : List ℕ → Type 0
 EndsLine bytes = (bytes ≡ []) ⊎ ((front : List ℕ) × (bytes ≡ front ++ 10 ∷ []))
 
--- what is told of a front: what its lines hold, how many they are, and how many bytes it has
+-- what is known of a front: what its lines hold, how many they are, and how many bytes it has
 pub record Progress : Type 0 where
   pub text : LogText
   pub lines : ℕ

@@ -17,7 +17,7 @@ const LEAST_LINE: usize = 36;
 /// The most lines of a batch.
 const MOST_LINES: usize = 65_536;
 
-/// Some lines that follow one another in a log, and what each of them is. Its room is used again by
+/// Some lines that follow one another in a log, and what each of them is. Its capacity is used again by
 /// the lines behind them.
 #[derive(Drop)]
 pub(crate) struct Batch<'a, A: Allocator + Copy> {
@@ -25,7 +25,6 @@ pub(crate) struct Batch<'a, A: Allocator + Copy> {
     readings: Vec<LineRead, A>,
 }
 
-// Puts the next lines of the bytes in the place of those that were there: what is left of the bytes.
 fn take_lines<'a, A: Allocator + Copy>(
     taken: &mut Vec<&'a [u8], A>,
     bytes: &'a [u8],
@@ -44,7 +43,6 @@ fn take_lines<'a, A: Allocator + Copy>(
     Ok(rest)
 }
 
-// Reads each line by itself, side by side, and puts what it is at its place.
 fn read_lines<R: Threads + Sync>(rt: &R, lines: &[&[u8]], readings: &mut [LineRead])
     requires { length readings.old ≡ length lines.now }
     ensures { readings.new ≡ read_texts lines.now }
@@ -61,7 +59,6 @@ fn read_lines<R: Threads + Sync>(rt: &R, lines: &[&[u8]], readings: &mut [LineRe
     );
 }
 
-// Adds one line after another, the first of which has this number.
 fn add_lines<A: Allocator + Copy>(
     alloc: A,
     text: &mut Builder<A>,
@@ -70,7 +67,7 @@ fn add_lines<A: Allocator + Copy>(
     readings: &[LineRead],
 ) -> Result<(), SwfFault>
     requires readings { readings.now ≡ read_texts lines.now }
-    requires room { first + length lines.now < 2 ^ 64 }
+    requires capacity { first + length lines.now < 2 ^ 64 }
     ensures { AddsLines first text.old (texts lines.now) text.new result }
 {
     for (place, line) in lines.iter().enumerate() {
@@ -97,7 +94,7 @@ fn read_and_add<R: Threads + Sync, A: Allocator + Copy>(
 ) -> Result<(), SwfFault>
     requires ready { ready.now.readings.items ≡ read_texts ready.now.lines.items }
     requires number { first + length ready.now.lines.items < 2 ^ 64 }
-    requires room { length readings.old ≡ length lines.now }
+    requires capacity { length readings.old ≡ length lines.now }
     ensures read { readings.new ≡ read_texts lines.now }
     ensures added { AddsLines first text.old (texts ready.now.lines.items) text.new result }
 {
@@ -133,25 +130,23 @@ impl<'a, A: Allocator + Copy> Batch<'a, A> {
         }
     }
 
-    // Whether neither it nor the bytes behind it have a line.
     pub(crate) fn is_last(&self, rest: &[u8]) -> bool
         ensures { result ≡ (length self.now.lines.items + length rest.now == 0) }
     {
         self.lines.is_empty() && rest.is_empty()
     }
 
-    // How many lines it has.
     pub(crate) fn count(&self) -> u64
         ensures { result ≡ length self.now.lines.items }
     {
         self.lines.len() as u64
     }
 
-    // Takes the next lines of the bytes in the place of those that were there, and room for what
+    // Takes the next lines of the bytes in the place of those that were there, and capacity for what
     // each of them is: what is left of the bytes.
     pub(crate) fn take(&mut self, bytes: &'a [u8]) -> Result<&'a [u8], Memory>
         ensures lines { IfOk result (λ rest. texts self.new.lines.items ++ lines rest.now ≡ lines bytes.now) }
-        ensures room { OnOk result (length self.new.readings.items ≡ length self.new.lines.items) }
+        ensures capacity { OnOk result (length self.new.readings.items ≡ length self.new.lines.items) }
         ensures some { OnOk result (0 < length bytes.now → 0 < length self.new.lines.items) }
         ensures count { IfOk result (λ rest. length self.new.lines.items + length rest.now ≤ length bytes.now) }
     {
@@ -172,7 +167,7 @@ impl<'a, A: Allocator + Copy> Batch<'a, A> {
     ) -> Result<(), SwfFault>
         requires ready { ready.now.readings.items ≡ read_texts ready.now.lines.items }
         requires number { first + length ready.now.lines.items < 2 ^ 64 }
-        requires room { length self.old.readings.items ≡ length self.old.lines.items }
+        requires capacity { length self.old.readings.items ≡ length self.old.lines.items }
         ensures lines { self.new.lines.items ≡ self.old.lines.items }
         ensures read { self.new.readings.items ≡ read_texts self.old.lines.items }
         ensures added { AddsLines first text.old (texts ready.now.lines.items) text.new result }
@@ -196,7 +191,7 @@ pub(crate) fn add_batches<R: Threads + Sync, A: Allocator + Copy>(
     ensures { AddsLines (count + 1) text.old (lines bytes.now) text.new result }
 {
     // Where this is refused, the capacity grows as entries come.
-    let _refused = text.make_room(bytes.len() / LEAST_LINE);
+    let _refused = text.reserve(bytes.len() / LEAST_LINE);
     let mut ready = Batch::new(alloc);
     let mut next = Batch::new(alloc);
     let mut rest = bytes;

@@ -7,7 +7,6 @@ use std::io::{ErrorKind, Read};
 /// So often is a read tried again that a signal interrupted.
 const MOST_INTERRUPTS: u32 = 4_294_967_295;
 
-// Reads once, behind the first bytes of a buffer.
 fn read_at<R: Read>(reader: &mut R, buffer: &mut [u8], at: usize) -> io::Result<usize>
     requires { at < length buffer.old }
     ensures same { length buffer.new ≡ length buffer.old }
@@ -48,7 +47,6 @@ fn fill_behind<R: Read>(reader: &mut R, buffer: &mut [u8], at: usize) -> io::Res
     Ok(filled)
 }
 
-// Puts bytes at the beginning of a buffer.
 fn put_front(buffer: &mut [u8], front: &[u8])
     requires { length front.now ≤ length buffer.old }
     ensures same { length buffer.new ≡ length buffer.old }
@@ -57,8 +55,8 @@ fn put_front(buffer: &mut [u8], front: &[u8])
     buffer[..front.len()].copy_from_slice(front);
 }
 
-// Puts bytes at the beginning of a buffer, and unless a reader is known to have no more, reads behind them
-// until it is full or the reader has no more: how many bytes are in it then.
+// Puts bytes at the beginning of a buffer, and unless a reader is known to have no more, reads behind
+// them until it is full or the reader has no more: how many bytes are in it then.
 pub(crate) fn refill<R: Read>(
     reader: &mut R,
     buffer: &mut [u8],

@@ -42,7 +42,6 @@ impl<A: Allocator + Copy> Model for LogFront<A> {
     ghost invariant = { λ f. record { below : Below f.next f.entries.items; within : f.headed ≤ length f.entries.items; head : text_of f.head.items ≡ Ok (record { comments = map (λ c. c.items) f.comments.items; entries = take f.headed f.entries.items }) } };
 }
 
-// How many lines some bytes are.
 fn count_lines(bytes: &[u8]) -> u64
     ensures { result ≡ length (lines bytes.now) }
 {
@@ -72,7 +71,6 @@ impl<A: Allocator + Copy> LogFront<A> {
         }
     }
 
-    // Reads the first lines of a log. None where one has a fault, or a growth was refused.
     pub(crate) fn of_head(alloc: A, head: &[u8]) -> Option<LogFront<A>>
         requires { EndsLine head.now }
         ensures { IfSome result (IsFront head.now) }
@@ -106,7 +104,8 @@ impl<A: Allocator + Copy> LogFront<A> {
         self.bytes
     }
 
-    // Adds the lines of a piece, if that can be by its job lines: whether it was. If not, it is as before.
+    // Adds the lines of a piece, if that can be by its job lines: whether it was. If not, it is as
+    // before.
     pub(crate) fn add(&mut self, alloc: A, piece: &Piece<A>) -> bool
         ensures { Grows self.old piece.now self.new result }
     {
@@ -135,13 +134,12 @@ impl<A: Allocator + Copy> LogFront<A> {
         }
     }
 
-    // What is known where lines behind it are read. None where a growth was refused.
     fn builder<R: Threads + Sync>(&self, rt: &R, alloc: A) -> Option<Builder<A>>
         ensures { IfSome result (λ text. text ≡ self.now.text) }
     {
         let mut text = Builder::new(alloc);
         // Where this is refused, the capacity grows as entries come.
-        let _refused = text.make_room(self.entries.len());
+        let _refused = text.reserve(self.entries.len());
         let Ok(()) = add_batches(rt, alloc, &mut text, 0, self.head.as_slice()) else {
             return None;
         };

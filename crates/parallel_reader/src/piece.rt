@@ -16,8 +16,8 @@ use std::io::Read;
 use std::marker::{Model, Sync};
 use std::thread::{Threads, join_mut};
 
-/// Bytes that were read at once: whole lines, and the beginning of another behind them. Its memory is used
-/// again by the bytes behind them.
+/// Bytes that were read at once: whole lines, and the beginning of another behind them. Its memory is
+/// used again by the bytes behind them.
 #[derive(Drop)]
 pub(crate) struct Piece<A: Allocator + Copy> {
     bytes: Vec<u8, A>,
@@ -37,7 +37,6 @@ impl<A: Allocator + Copy> Model for Piece<A> {
     ghost invariant = { λ p. record { whole : p.whole ≤ p.filled; filled : p.filled ≤ length p.bytes.items; ends : EndsLine (take p.whole p.bytes.items) } };
 }
 
-// Where the last whole line of some bytes ends.
 fn end_of_lines(bytes: &[u8]) -> usize
     ensures within { result ≤ length bytes.now }
     ensures ends { EndsLine (take result bytes.now) }
@@ -48,7 +47,6 @@ fn end_of_lines(bytes: &[u8]) -> usize
     }
 }
 
-// Cuts bytes into portions.
 fn portions_of<'a, A: Allocator + Copy>(alloc: A, bytes: &'a [u8]) -> io::Result<Vec<&'a [u8], A>>
     ensures { IfOk result (λ portions. portion_lines (texts portions.items) ≡ lines bytes.now) }
 {
@@ -62,7 +60,6 @@ fn portions_of<'a, A: Allocator + Copy>(alloc: A, bytes: &'a [u8]) -> io::Result
     Ok(portions)
 }
 
-// Reads each portion by itself, and puts its job lines at its place.
 fn read_portions(portions: &[&[u8]], jobs: &mut [JobLines])
     requires { length jobs.old ≡ length portions.now }
     ensures { AreJobsOf portions.now jobs.new }
@@ -72,8 +69,8 @@ fn read_portions(portions: &[&[u8]], jobs: &mut [JobLines])
     }
 }
 
-// Reads portions in so many threads, while this one does something else. Each thread is started by this one: one that
-// another starts may wait until this one has done.
+// Reads portions in so many threads, while this one does something else. Each thread is started by this
+// one: one that another starts may wait until this one has done.
 #[cycle(readers)]
 fn read_while<T: Threads + Sync, F: FnMut() -> B, B>(
     rt: &T,
@@ -97,7 +94,6 @@ fn read_while<T: Threads + Sync, F: FnMut() -> B, B>(
     read_some_while(rt, readers, texts, lines, texts_behind, lines_behind, work)
 }
 
-// Reads the first portions in a thread, and the others in one thread fewer.
 #[cycle(readers)]
 fn read_some_while<T: Threads + Sync, F: FnMut() -> B, B>(
     rt: &T,
@@ -197,7 +193,6 @@ impl<A: Allocator + Copy> Piece<A> {
         })
     }
 
-    // The whole lines.
     pub(crate) fn lines(&self) -> &[u8]
         ensures lines { result.now ≡ self.now.lines }
         ensures ends { EndsLine self.now.lines }
@@ -205,21 +200,18 @@ impl<A: Allocator + Copy> Piece<A> {
         &self.bytes[..self.whole]
     }
 
-    // What stands behind them.
     pub(crate) fn tail(&self) -> &[u8]
         ensures { result.now ≡ self.now.tail }
     {
         &self.bytes[self.whole..self.filled]
     }
 
-    // All bytes.
     pub(crate) fn all(&self) -> &[u8]
         ensures { result.now ≡ self.now.lines ++ self.now.tail }
     {
         &self.bytes[..self.filled]
     }
 
-    // The job lines that were read of portions.
     pub(crate) fn jobs(&self) -> &[JobLines]
         ensures { result.now ≡ self.now.jobs }
     {
@@ -246,9 +238,10 @@ impl<A: Allocator + Copy> Piece<A> {
         Ok(is_end || filled < self.bytes.len())
     }
 
-    // Reads its lines in so many threads, while those of the piece before it are added to a front, and then
-    // puts what stands behind the lines in that piece's place, and behind it what a reader has: whether it has no more. None
-    // where the lines of that piece can't be added; then they, and the reader, are as before.
+    // Reads its lines in so many threads, while those of the piece before it are added to a front, and
+    // then puts what stands behind the lines in that piece's place, and behind it what a reader has:
+    // whether it has no more. None where the lines of that piece can't be added; then they, and the
+    // reader, are as before.
     pub(crate) fn read_beside<T: Threads + Sync, R: Read>(
         &mut self,
         rt: &T,

@@ -36,7 +36,6 @@ pub struct BegunLog<A: Allocator + Copy> {
     pub is_end: bool,
 }
 
-// A front, and the bytes of two slices behind it.
 fn with_rest<A: Allocator + Copy>(
     alloc: A,
     front: LogFront<A>,
@@ -58,8 +57,8 @@ fn with_rest<A: Allocator + Copy>(
     })
 }
 
-// How many threads read lines while this one adds entries, of so many that may run at once: two at least, since one that
-// starts alone often waits on this one's processor.
+// How many threads read lines while this one adds entries, of so many that may run at once: two at
+// least, since one that starts alone often waits on this one's processor.
 fn readers_beside(threads: usize) -> usize {
     match threads {
         0 | 1 => 0,

@@ -42,15 +42,14 @@ pub(crate) fn split_portion(bytes: &[u8]) -> (&[u8], &[u8])
     bytes.split_at(bytes.len() - after.len())
 }
 
-// Whether a line is blank.
 fn is_blank(line: &[u8]) -> bool
     ensures { IsTrue result → line_of line.now ≡ Blank }
 {
     matches!(read_line(line), LineRead::Blank)
 }
 
-// Reads the job line that some bytes begin with into the next place, if there is one: what follows the line.
-// None where it says nothing; places before that one stay.
+// Reads the job line that some bytes begin with into the next place, if there is one: what follows the
+// line. None where it says nothing; places before that one stay.
 fn read_front<'a>(jobs: &mut [PackedLine], count: usize, bytes: &'a [u8]) -> Option<&'a [u8]>
     ensures same { length jobs.new ≡ length jobs.old }
     ensures kept { take count jobs.new ≡ take count jobs.old }
@@ -63,7 +62,6 @@ fn read_front<'a>(jobs: &mut [PackedLine], count: usize, bytes: &'a [u8]) -> Opt
     packed_front(&mut jobs[count], bytes)
 }
 
-// Reads the job lines of some bytes into these places: how many they are.
 fn read_jobs(bytes: &[u8], jobs: &mut [PackedLine]) -> Option<Counts>
     ensures same { length jobs.new ≡ length jobs.old }
     ensures read { IsReadOf (lines bytes.now) jobs.new result }
@@ -107,7 +105,6 @@ impl JobLines {
         }
     }
 
-    // Those of some bytes, in the place of those that were there.
     pub(crate) fn read(&mut self, bytes: &[u8])
         ensures { IsReadOf (lines bytes.now) self.new.jobs self.new.count }
     {

@@ -14,7 +14,6 @@ use swf_text::{FaultKind, SwfFault, SwfText, read_swf};
 /// Fewer bytes than these are read by one thread.
 const LEAST_BYTES: usize = 262_144;
 
-// Whether bytes are best read by one thread, in one.
 pub(crate) fn is_for_one<R: Threads>(rt: &R, bytes: &[u8]) -> bool
     ensures { result ≡ false → 0 < length bytes.now }
 {

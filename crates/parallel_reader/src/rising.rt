@@ -7,7 +7,6 @@ use crate::portion::{JobLines, split_portion};
 use std::alloc::Allocator;
 use swf_text::{ENTRY_LIMIT, Entry, PackedLine};
 
-// One above the greatest job number.
 pub(crate) fn number_behind<A: Allocator + Copy>(entries: &[Entry<A>]) -> u64
     ensures { Below result entries.now }
 {
@@ -44,7 +43,6 @@ fn add_job<A: Allocator + Copy>(
     }
 }
 
-// Adds the entries of job lines, one after another.
 fn add_jobs<A: Allocator + Copy>(
     alloc: A,
     entries: &mut Vec<Entry<A>, A>,
@@ -66,7 +64,6 @@ fn add_jobs<A: Allocator + Copy>(
     Some(next)
 }
 
-// Adds the entries of a portion's job lines.
 fn add_portion<A: Allocator + Copy>(
     alloc: A,
     entries: &mut Vec<Entry<A>, A>,

@@ -36,7 +36,6 @@ impl Gate for AddedAgain {
 }
 
 impl<R: Wait, J: Naming> DeskHandle<'_, R, Global, J> {
-    // Adds the scenario `big`, and tells its id.
     fn adds_big(&self, session: &mut Session<Global, J>) -> Result<ScenarioId, Wrong> {
         let (name, scenario) = ("big", ten()?);
         match self.reply(session, &SessionCall::Add { name, scenario })? {
@@ -82,7 +81,6 @@ impl Script<Global> for AddedAgain {
     }
 }
 
-// Whether a ticket was handed in that is unknown.
 fn has_unknown_ticket(book: &Book<Global>) -> bool {
     let mut is_found = false;
     for note in book.journal() {

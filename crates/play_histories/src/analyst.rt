@@ -1,5 +1,5 @@
-// The calls of a session at a desk whose growths are refused one by one. Whether their replies are right is
-// seen when the desk is closed and its journal judged.
+// The calls of a session at a desk whose growths are refused one by one. Whether their replies are right
+// is seen when the desk is closed and its journal judged.
 use crate::answers::{Answer, Unanswered};
 use crate::desk_handle::{DeskHandle, is_seen};
 use crate::growing::Growing;
@@ -37,7 +37,6 @@ impl<A: Allocator + Copy> Growing<'_, A> {
         right_if(is_unchanged, Wrong::Changed)
     }
 
-    // What a call answers, which is made once more where memory runs out.
     fn answer<R: Wait, J: Naming>(
         &self,
         handle: &DeskHandle<'_, R, A, J>,
@@ -54,7 +53,6 @@ impl<A: Allocator + Copy> Growing<'_, A> {
         Ok(handle.known(session, call))
     }
 
-    // Makes a call, which is listed once, and tells its reply.
     fn reply<R: Wait, J: Naming>(
         &self,
         handle: &DeskHandle<'_, R, A, J>,
@@ -74,7 +72,6 @@ impl<A: Allocator + Copy> Growing<'_, A> {
         Ok(reply)
     }
 
-    // Reads where the book stands once more, after memory ran out.
     fn reads_again<R: Wait, J: Naming>(
         &self,
         handle: &DeskHandle<'_, R, A, J>,
@@ -85,7 +82,6 @@ impl<A: Allocator + Copy> Growing<'_, A> {
         right_if(handle.is_read(session), Wrong::Reply)
     }
 
-    // Reads where the book stands, once more where memory runs out.
     fn reads<R: Wait, J: Naming>(
         &self,
         handle: &DeskHandle<'_, R, A, J>,
@@ -98,7 +94,6 @@ impl<A: Allocator + Copy> Growing<'_, A> {
         }
     }
 
-    // The id of `base`.
     fn base<R: Wait, J: Naming>(
         &self,
         handle: &DeskHandle<'_, R, A, J>,
@@ -134,7 +129,6 @@ impl<A: Allocator + Copy> Growing<'_, A> {
         Ok(())
     }
 
-    // Waits for the runs, after what was given up is tried again.
     fn settles<R: Wait, J: Naming>(
         &self,
         handle: &DeskHandle<'_, R, A, J>,
@@ -165,7 +159,8 @@ impl<A: Allocator + Copy> Growing<'_, A> {
         Ok(matches!(settled, Settled::Done))
     }
 
-    // The scenario `more`, the second of the book, joins, and leaves after an edit; it is then no scenario.
+    // The scenario `more`, the second of the book, joins, and leaves after an edit; it is then no
+    // scenario.
     fn adds_and_drops<R: Wait, J: Naming>(
         &self,
         handle: &DeskHandle<'_, R, A, J>,
@@ -197,8 +192,8 @@ impl<A: Allocator + Copy> Growing<'_, A> {
         Ok(one && two)
     }
 
-    /// Looks after a worker that was told this last has made one run and the desk was stopped, and once more
-    /// after an edit.
+    /// Looks after a worker that was answered this last has made one run and the desk was stopped, and
+    /// once more after an edit.
     pub(crate) fn looks_after<R: Wait, J: Naming>(
         &self,
         handle: &DeskHandle<'_, R, A, J>,

@@ -22,8 +22,8 @@ pub(crate) enum Unanswered {
 /// What a call answers.
 pub(crate) type Answer = Result<Reply, Unanswered>;
 
-pub(crate) fn of_edit(told: Result<u64, EditRefusal>) -> Answer {
-    match told {
+pub(crate) fn of_edit(outcome: Result<u64, EditRefusal>) -> Answer {
+    match outcome {
         Ok(version) => Ok(Reply::Edited { version }),
         Err(EditRefusal::Fault(fault)) => Ok(Reply::EditRefused(fault)),
         Err(EditRefusal::JournalFull) => Err(Unanswered::JournalFull),
@@ -31,8 +31,8 @@ pub(crate) fn of_edit(told: Result<u64, EditRefusal>) -> Answer {
     }
 }
 
-pub(crate) fn of_add(told: Result<ScenarioId, AddRefusal>) -> Answer {
-    match told {
+pub(crate) fn of_add(outcome: Result<ScenarioId, AddRefusal>) -> Answer {
+    match outcome {
         Ok(id) => Ok(Reply::Added { id }),
         Err(AddRefusal::Fault(fault)) => Ok(Reply::AddRefused(fault)),
         Err(AddRefusal::JournalFull) => Err(Unanswered::JournalFull),
@@ -40,8 +40,8 @@ pub(crate) fn of_add(told: Result<ScenarioId, AddRefusal>) -> Answer {
     }
 }
 
-pub(crate) fn of_drop(told: Result<ScenarioId, DropRefusal>) -> Answer {
-    match told {
+pub(crate) fn of_drop(outcome: Result<ScenarioId, DropRefusal>) -> Answer {
+    match outcome {
         Ok(id) => Ok(Reply::Dropped { id }),
         Err(DropRefusal::Fault(NoSuchScenario)) => Ok(Reply::NoSuchScenario),
         Err(DropRefusal::JournalFull) => Err(Unanswered::JournalFull),
@@ -49,8 +49,8 @@ pub(crate) fn of_drop(told: Result<ScenarioId, DropRefusal>) -> Answer {
     }
 }
 
-pub(crate) fn of_retry(told: Result<(), RetryRefusal>) -> Answer {
-    match told {
+pub(crate) fn of_retry(outcome: Result<(), RetryRefusal>) -> Answer {
+    match outcome {
         Ok(()) => Ok(Reply::Retried),
         Err(RetryRefusal::Fault(NoSuchScenario)) => Ok(Reply::NoSuchScenario),
         Err(RetryRefusal::JournalFull) => Err(Unanswered::JournalFull),
@@ -69,8 +69,8 @@ fn of_view_refusal(refusal: ViewRefusal) -> Answer {
     }
 }
 
-pub(crate) fn of_view<A: Allocator + Copy>(told: &Result<Published<A>, ViewRefusal>) -> Answer {
-    match told {
+pub(crate) fn of_view<A: Allocator + Copy>(outcome: &Result<Published<A>, ViewRefusal>) -> Answer {
+    match outcome {
         Ok(published) => Ok(Reply::Shown {
             version: published.version(),
         }),
@@ -78,7 +78,6 @@ pub(crate) fn of_view<A: Allocator + Copy>(told: &Result<Published<A>, ViewRefus
     }
 }
 
-// The version of a base.
 fn version_of(base: Option<&Base<Global>>) -> Option<u64> {
     match base {
         Some(base) => Some(base.version()),
@@ -86,8 +85,8 @@ fn version_of(base: Option<&Base<Global>>) -> Option<u64> {
     }
 }
 
-pub(crate) fn of_claim(told: &Result<Option<Task<Global>>, ClaimRefusal>) -> Answer {
-    match told {
+pub(crate) fn of_claim(outcome: &Result<Option<Task<Global>>, ClaimRefusal>) -> Answer {
+    match outcome {
         Ok(None) => Ok(Reply::NoneDue),
         Ok(Some(task)) => Ok(Reply::Claimed {
             ticket: task.ticket(),
@@ -101,8 +100,8 @@ pub(crate) fn of_claim(told: &Result<Option<Task<Global>>, ClaimRefusal>) -> Ans
     }
 }
 
-pub(crate) fn of_finish(told: Result<u64, FinishRefusal>) -> Answer {
-    match told {
+pub(crate) fn of_finish(outcome: Result<u64, FinishRefusal>) -> Answer {
+    match outcome {
         Ok(version) => Ok(Reply::Finished { version }),
         Err(FinishRefusal::Fault(FinishFault::UnknownTicket)) => Ok(Reply::UnknownTicket),
         Err(FinishRefusal::Fault(FinishFault::Stranger)) => Ok(Reply::Stranger),
@@ -114,8 +113,8 @@ pub(crate) fn of_finish(told: Result<u64, FinishRefusal>) -> Answer {
     }
 }
 
-pub(crate) fn of_give_up(told: Result<(), GiveUpRefusal>) -> Answer {
-    match told {
+pub(crate) fn of_give_up(outcome: Result<(), GiveUpRefusal>) -> Answer {
+    match outcome {
         Ok(()) => Ok(Reply::GivenUp),
         Err(GiveUpRefusal::Fault(UnknownTicket)) => Ok(Reply::UnknownTicket),
         Err(GiveUpRefusal::JournalFull) => Err(Unanswered::JournalFull),

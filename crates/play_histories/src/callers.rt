@@ -27,7 +27,6 @@ impl Script<Global> for OneMore {
         right_if(is_last, Wrong::Opened)
     }
 
-    // Nothing was called.
     fn judge(&self, book: &mut Book<Global>) -> Result<(), Wrong> {
         right_if(book.journal().is_empty(), Wrong::Opened)
     }

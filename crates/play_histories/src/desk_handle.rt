@@ -13,7 +13,8 @@ use std::sync::Wait;
 use version_book::{Published, ViewRefusal};
 use workers::{Desk, Session, Settled};
 
-/// Whether what a session has seen goes with what it was told: what it was told last, and never less.
+/// Whether what a session has seen goes with what it was answered: what it was answered last, and never
+/// less.
 pub(crate) fn is_seen(before: u64, after: u64, reply: &Reply) -> bool {
     match reply {
         Reply::Edited { version } | Reply::Shown { version } => {
@@ -24,10 +25,10 @@ pub(crate) fn is_seen(before: u64, after: u64, reply: &Reply) -> bool {
 }
 
 // What a view answers; a run of the known log is to be that of its version.
-fn of_known<A: Allocator + Copy>(told: &Result<Published<A>, ViewRefusal>) -> Answer {
-    match told {
+fn of_known<A: Allocator + Copy>(outcome: &Result<Published<A>, ViewRefusal>) -> Answer {
+    match outcome {
         Ok(shown) if !is_right(shown) => Err(Unanswered::OtherRun),
-        _ => answers::of_view(told),
+        _ => answers::of_view(outcome),
     }
 }
 

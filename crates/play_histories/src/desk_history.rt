@@ -37,7 +37,6 @@ const KINDS: usize = 9;
 const FEWEST: u64 = 20;
 
 impl<R: Wait, J: Naming> DeskHandle<'_, R, Global, J> {
-    // Edits.
     fn edits(
         &self,
         alloc: Global,
@@ -50,7 +49,6 @@ impl<R: Wait, J: Naming> DeskHandle<'_, R, Global, J> {
         }
     }
 
-    // Adds a scenario.
     fn adds(
         &self,
         session: &mut Session<Global, J>,
@@ -73,7 +71,6 @@ impl<R: Wait, J: Naming> DeskHandle<'_, R, Global, J> {
         }
     }
 
-    // One call.
     fn calls(
         &self,
         alloc: Global,
@@ -106,7 +103,6 @@ impl<R: Wait, J: Naming> DeskHandle<'_, R, Global, J> {
         }
     }
 
-    // Settles, and looks at the scenario `base`; where there is none, adds it.
     fn settles(&self, session: &mut Session<Global, J>) -> Result<Reply, Wrong> {
         match self.find(session, "base") {
             Some(id) => self.sees(session, id),
@@ -120,7 +116,6 @@ impl<R: Wait, J: Naming> DeskHandle<'_, R, Global, J> {
         }
     }
 
-    // One turn, which is one call that is noted.
     fn turn(
         &self,
         alloc: Global,
@@ -143,7 +138,6 @@ struct Chances {
 }
 
 impl Script<Global> for Chances {
-    // Makes all calls of a session, each of which is listed.
     fn play<R: Wait, J: Naming>(
         &self,
         handle: &DeskHandle<'_, R, Global, J>,
@@ -171,7 +165,6 @@ pub(crate) fn is_legal<A: Allocator + Copy>(alloc: A, notes: &[Note<A>]) -> Resu
     right_if(wrong.is_none(), Wrong::Journal)
 }
 
-// How often the rarest of these kinds of replies came.
 fn fewest(notes: &[Note<Global>]) -> u64 {
     let mut tally = Tally::NONE;
     tally.add(notes);

@@ -10,7 +10,6 @@ use scenarios::{Scenario, ScenarioId};
 use std::alloc::Global;
 use version_book::Published;
 
-// Whether a run has these rows.
 fn has_rows(run: &Run<Global>, rows: &[Row]) -> bool {
     match run.schedule() {
         Ok(others) => others.as_slice() == rows,
@@ -18,7 +17,6 @@ fn has_rows(run: &Run<Global>, rows: &[Row]) -> bool {
     }
 }
 
-// Whether two runs have equal schedules.
 fn same_schedules(one: &Run<Global>, two: &Run<Global>) -> bool {
     match one.schedule() {
         Ok(rows) => has_rows(two, rows.as_slice()),
@@ -26,14 +24,12 @@ fn same_schedules(one: &Run<Global>, two: &Run<Global>) -> bool {
     }
 }
 
-// Whether two runs have equal tables.
 fn same_tables(one: &Run<Global>, two: &Run<Global>) -> bool {
     one.tables().overall() == two.tables().overall()
         && one.tables().users() == two.tables().users()
         && one.tables().days() == two.tables().days()
 }
 
-// Whether a run is that of this log under this scenario.
 fn is_run_of(
     alloc: Global,
     run: &Run<Global>,
@@ -63,7 +59,6 @@ fn first_wrong_note(player: &Player<'_>) -> Option<Wrong> {
 }
 
 impl Player<'_> {
-    // Whether what is shown of a scenario is the run of its version's log.
     fn is_right(
         &self,
         shown: &Published<Global>,
@@ -76,7 +71,6 @@ impl Player<'_> {
         }
     }
 
-    // Looks at a scenario, and at the run that is shown.
     fn look(&mut self, id: ScenarioId, scenario: Scenario, logs: &[JobTable<Global>]) {
         if let Some(shown) = self.show(0, id, 0) {
             let is_right = self.is_right(&shown, scenario, logs);
@@ -84,7 +78,6 @@ impl Player<'_> {
         }
     }
 
-    // Looks at all scenarios.
     fn look_at_all(&mut self, logs: &[JobTable<Global>]) {
         for place in 0..self.book.scenarios().len() {
             if let Some((_, id, scenario)) = self.book.scenarios().at(place) {
@@ -93,7 +86,6 @@ impl Player<'_> {
         }
     }
 
-    // Whether the book's log and version are those after all edits.
     fn is_last(&self, logs: &[JobTable<Global>]) -> bool {
         match logs.split_last() {
             Some((last, before)) => {
@@ -113,7 +105,6 @@ impl Player<'_> {
         true
     }
 
-    // Compares the logs and what is shown.
     fn end_logs(&mut self) {
         match logs_of(self.alloc, &self.opening, self.book.journal()) {
             Some(logs) => {
@@ -125,7 +116,6 @@ impl Player<'_> {
         }
     }
 
-    // Compares all that is to hold at the end of a list.
     pub(crate) fn end(&mut self) {
         self.end_logs();
         let is_settled_alike = self.is_settled_alike();

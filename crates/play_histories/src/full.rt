@@ -1,4 +1,4 @@
-// A desk whose journal has room for one note more.
+// A desk whose journal has capacity for one note more.
 use crate::answers::Unanswered;
 use crate::desk_handle::DeskHandle;
 use crate::desk_history::is_legal;
@@ -26,7 +26,6 @@ fn fills(book: &mut Book<Global>) {
     }
 }
 
-// The book with the scenario `base`, and with room for one note more.
 fn nearly_full(alloc: Global) -> Result<Book<Global>, Wrong> {
     let mut book = with_base(alloc)?;
     fills(&mut book);
@@ -34,12 +33,10 @@ fn nearly_full(alloc: Global) -> Result<Book<Global>, Wrong> {
 }
 
 impl<R: Wait, J: Naming> DeskHandle<'_, R, Global, J> {
-    // Whether a call is refused for the journal.
     fn is_full(&self, session: &mut Session<Global, J>, call: &SessionCall<'_, Global>) -> bool {
         matches!(self.answer(session, call), Err(Unanswered::JournalFull))
     }
 
-    // Whether each call is refused for the journal.
     fn are_full(
         &self,
         session: &mut Session<Global, J>,
@@ -88,7 +85,6 @@ impl Script<Global> for Refused {
         right_if(handle.is_stopped(session), Wrong::Settled)
     }
 
-    // The journal is full and legal.
     fn judge(&self, book: &mut Book<Global>) -> Result<(), Wrong> {
         right_if(book.journal().len() as u64 == NOTES, Wrong::Listed)?;
         is_legal(self.alloc, book.journal())

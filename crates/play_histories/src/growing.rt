@@ -15,9 +15,9 @@ use std::thread::Threads;
 use version_book::Book;
 use workers::{Desk, Gate, NoGate, Session, Worker, WorkerEnd};
 
-/// What a session plays beside a worker: the edit by which the fifth job joins, how often it was told want of
-/// memory, whether a run was not there, and how often a ticket was given up. Beside the allocator that refuses
-/// there is one that has enough.
+/// What a session plays beside a worker: the edit by which the fifth job joins, how often it was
+/// answered want of memory, whether a run was not there, and how often a ticket was given up. Beside the
+/// allocator that refuses there is one that has enough.
 #[derive(Drop)]
 pub(crate) struct Growing<'a, A: Allocator + Copy> {
     enough: A,
@@ -39,7 +39,6 @@ impl<'a, A: Allocator + Copy> Growing<'a, A> {
     }
 }
 
-// How often a ticket was given up.
 fn given_up<A: Allocator + Copy>(notes: &[Note<A>]) -> u64 {
     let mut count = 0u64;
     for note in notes {
@@ -98,7 +97,6 @@ pub(crate) struct Wants {
     pub(crate) was_first: bool,
 }
 
-// What a worker was told last.
 fn last_reply<A: Allocator + Copy>(worker: &Worker<A>) -> Option<Reply> {
     match worker.list().last() {
         Some(listed) => Some(listed.reply),
@@ -181,9 +179,9 @@ fn wants_of<A: Allocator + Copy>(
     has_ended: bool,
     was_first: bool,
 ) -> Wants {
-    let told = script.wants.load(Ordering::SeqCst);
+    let outcome = script.wants.load(Ordering::SeqCst);
     Wants {
-        all: told.saturating_add(u64::from(has_ended)),
+        all: outcome.saturating_add(u64::from(has_ended)),
         was_first,
     }
 }
@@ -208,7 +206,7 @@ pub(crate) fn played<
         return Ok(wants_of(script, has_ended, has_ended && first == First::Work));
     }
     script.begins(handle, session, first)?;
-    let was_told = script.wants.load(Ordering::SeqCst) > 0;
+    let was_answered = script.wants.load(Ordering::SeqCst) > 0;
     let has_ended = plays_beside(handle, sessions, workers, script)?;
-    Ok(wants_of(script, has_ended, was_told))
+    Ok(wants_of(script, has_ended, was_answered))
 }

@@ -37,7 +37,6 @@ fn with_given_up(wants: Wants, given_up: u64, first: First) -> Wants {
     }
 }
 
-// Plays a history with the callers of a desk.
 fn played_at<R: Threads + Wait + Sync, A: Allocator + Copy + Send + Sync, J: Naming + Send + Sync>(
     rt: &R,
     open: &mut OpenDesk<A, J>,
@@ -80,7 +79,6 @@ fn history_on<J: Naming + Send + Sync, R: Threads + Wait + Sync, A: Allocator + 
     Ok(Some(with_given_up(wants, script.given_up(), first)))
 }
 
-// The same of the book with the scenario `base`.
 fn history_with<R: Threads + Wait + Sync, A: Allocator + Copy + Send + Sync>(
     rt: &R,
     alloc: A,
@@ -93,7 +91,6 @@ fn history_with<R: Threads + Wait + Sync, A: Allocator + Copy + Send + Sync>(
     }
 }
 
-// The same with the edit by which the fifth job joins.
 fn history_of<R: Threads + Wait + Sync, A: Allocator + Copy + Send + Sync>(
     rt: &R,
     alloc: A,
@@ -117,7 +114,6 @@ enum Met {
     Once { by_first: bool },
 }
 
-// What came of a history while the growth of this number was refused.
 fn met_at<R: Threads + Wait + Sync>(
     rt: &R,
     alloc: Global,
@@ -147,19 +143,19 @@ fn is_right_after<R: Threads + Wait + Sync>(
     alloc: Global,
     first: First,
 ) -> Result<(), Wrong> {
-    let mut was_told = false;
+    let mut was_answered = false;
     for nth in 1..MANY {
         match met_at(rt, alloc, nth, first)? {
-            Met::Nothing => return right_if(was_told, Wrong::Untold),
+            Met::Nothing => return right_if(was_answered, Wrong::Untold),
             Met::Before => {}
-            Met::Once { by_first } => was_told = was_told || by_first,
+            Met::Once { by_first } => was_answered = was_answered || by_first,
         }
     }
     Err(Wrong::Endless)
 }
 
 /// Refuses each growth in turn, with each call once the first one: every history ends, nothing changes
-/// by a refused call, each refused growth is told once, and every desk closes with a legal journal.
+/// by a refused call, each refused growth is answered once, and every desk closes with a legal journal.
 pub(crate) fn is_right<R: Threads + Wait + Sync>(rt: &R, alloc: Global) -> Result<(), Wrong> {
     for first in FIRSTS {
         is_right_after(rt, alloc, first)?;

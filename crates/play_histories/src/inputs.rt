@@ -42,7 +42,6 @@ const VALUES: [&[u8]; 8] = [b"-1", b"0", b"1", b"2", b"3.5", b"7", b"20", b"35"]
 /// What the estimates are multiplied by, in thousandths.
 const FACTORS: [u64; 3] = [500, 1000, 1500];
 
-// Adds a line of the log.
 fn add_line(log: &mut String, chance: &mut Chance, number: u64) -> Option<()> {
     let submit = 5 * chance.below(8);
     let run = 5 * chance.below(7);
@@ -71,14 +70,12 @@ pub(crate) fn opening(alloc: Global, chance: &mut Chance) -> Option<JobTable<Glo
     table_of(alloc, log.as_bytes())
 }
 
-// An edit by which a job of this number joins, which may stand already.
 fn insertion(alloc: Global, chance: &mut Chance, number: u64) -> Option<Edit<Global>> {
     let mut line = String::new(alloc);
     add_line(&mut line, chance, number)?;
     Some(Edit::Insert(entry_of(alloc, line.as_bytes())?))
 }
 
-// A change of a field.
 fn change(chance: &mut Chance, number: u64) -> Option<Edit<Global>> {
     let field = FIELDS[chance.place(8)];
     let value = Value::from_bytes(VALUES[chance.place(8)])?;
@@ -89,7 +86,6 @@ fn change(chance: &mut Chance, number: u64) -> Option<Edit<Global>> {
     })
 }
 
-// An edit of a job of any number below a limit, which may have a fault.
 pub(crate) fn edit(alloc: Global, chance: &mut Chance, limit: u64) -> Option<Edit<Global>>
     requires { 0 < limit }
 {
@@ -122,7 +118,6 @@ pub(crate) fn scenario(chance: &mut Chance) -> Option<Scenario> {
     Some(Scenario::new(procs, factor)?.ordered(order))
 }
 
-// Adds the ids that a list gives to eight scenarios.
 fn add_ids(ids: &mut Vec<ScenarioId>, list: &mut ScenarioList<Global>) -> Option<()> {
     let scenario = Scenario::new(10, 1000)?;
     for name in ["a", "b", "c", "d", "e", "f", "g", "h"] {

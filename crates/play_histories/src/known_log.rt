@@ -44,7 +44,6 @@ pub(crate) fn book_of<A: Allocator + Copy>(alloc: A, spacing: u32) -> Result<Boo
     }
 }
 
-// Adds the scenario `base`; whether that was accepted.
 fn adds_base<A: Allocator + Copy>(book: &mut Book<A>) -> bool {
     match ten() {
         Ok(ten) => book.add_scenario(0, "base", ten).is_ok(),
@@ -70,7 +69,6 @@ pub(crate) fn fifth<A: Allocator + Copy>(alloc: A) -> Result<Edit<A>, Wrong> {
     }
 }
 
-// Whether a table has all these jobs.
 fn has_all<A: Allocator + Copy>(table: &JobTable<A>, jobs: &[u64]) -> bool {
     let mut all = true;
     for number in jobs {
@@ -79,7 +77,6 @@ fn has_all<A: Allocator + Copy>(table: &JobTable<A>, jobs: &[u64]) -> bool {
     all
 }
 
-// Whether these are the jobs of a version.
 fn has_jobs<A: Allocator + Copy>(table: &JobTable<A>, version: u64) -> bool {
     match JOBS.get(version as usize) {
         Some(jobs) => table.len() == jobs.len() && has_all(table, jobs),
@@ -87,7 +84,6 @@ fn has_jobs<A: Allocator + Copy>(table: &JobTable<A>, version: u64) -> bool {
     }
 }
 
-// Whether what is shown has these starts.
 fn has_starts<A: Allocator + Copy>(shown: &Published<A>, starts: &[(u64, u64)]) -> bool {
     let mut all = true;
     for start in starts {

@@ -72,7 +72,7 @@ impl Script<Global> for Held {
     }
 }
 
-// Whether this is the finish of the first ticket, which was told that a newer run is published.
+// Whether this is the finish of the first ticket, which was answered that a newer run is published.
 fn is_stale(note: &Note<Global>) -> bool {
     match (&note.call, &note.reply) {
         (Call::Finish { ticket, fits }, Reply::Stale { published }) => {
@@ -82,7 +82,6 @@ fn is_stale(note: &Note<Global>) -> bool {
     }
 }
 
-// Whether a journal has that note.
 fn is_first_stale(book: &Book<Global>) -> bool {
     let mut is_found = false;
     for note in book.journal() {

@@ -39,12 +39,10 @@ pub(crate) struct Difference {
     pub(crate) wrong: Wrong,
 }
 
-// A list differs there.
 fn differs(seed: u64, calls: u64, wrong: Wrong) -> Difference {
     Difference { seed, calls, wrong }
 }
 
-// The list of this number.
 fn list_of(seed: u64) -> List {
     if seed < SHORT_LISTS {
         return List {
@@ -60,7 +58,6 @@ fn list_of(seed: u64) -> List {
     }
 }
 
-// A call that fills the book with scenarios and tickets.
 fn crowd(player: &mut Player<'_>, chance: &mut Chance) {
     match chance.below(20) {
         0 => player.edit(chance),
@@ -69,7 +66,6 @@ fn crowd(player: &mut Player<'_>, chance: &mut Chance) {
     }
 }
 
-// Any call.
 fn call(player: &mut Player<'_>, chance: &mut Chance, is_crowded: bool) {
     match chance.below(40) {
         0..=8 => player.edit(chance),
@@ -83,7 +79,6 @@ fn call(player: &mut Player<'_>, chance: &mut Chance, is_crowded: bool) {
     }
 }
 
-// Makes the calls of a list, up to the first one that is wrong.
 fn play(player: &mut Player<'_>, chance: &mut Chance, list: List) {
     for place in 0..list.calls {
         if player.wrong.is_some() {
@@ -111,7 +106,6 @@ fn play_and_count(
     Some(differs(list.seed, player.calls as u64, wrong))
 }
 
-// Plays a list, and tells where it differs.
 fn differing(
     alloc: Global,
     ids: &[ScenarioId],
@@ -126,7 +120,6 @@ fn differing(
     }
 }
 
-// Plays all lists up to the first difference; how many calls were made.
 fn play_each(alloc: Global, ids: &[ScenarioId], tally: &mut Tally) -> Result<u64, Difference> {
     let mut calls = 0u64;
     for seed in 0..LISTS {
@@ -149,8 +142,8 @@ fn play_counted(alloc: Global, ids: &[ScenarioId]) -> Result<u64, Difference> {
     Ok(calls)
 }
 
-/// Plays all lists, in which each kind of replies comes so often at least: how many calls were made, or where
-/// a list differs.
+/// Plays all lists, in which each kind of replies comes so often at least: how many calls were made, or
+/// where a list differs.
 pub(crate) fn play_all(alloc: Global) -> Result<u64, Difference> {
     match inputs::ids(alloc) {
         Some(ids) => play_counted(alloc, ids.as_slice()),

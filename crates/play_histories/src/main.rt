@@ -1,12 +1,13 @@
-//! Plays lists of calls that are made up on a book, valid ones and others, by several sessions and workers, and
-//! judges each answer, each note and the end of each list by the plain program; hands in runs of logs that are
-//! equal to a ticket's in all but one field, which are all to be refused; and plays at desks: sessions and
-//! workers that gates and flags hold, what they are told, when they wait and end, and how a desk is closed; as
-//! many of them as a desk opens; eight sessions on threads that edit a log, add, drop and retry scenarios,
-//! settle and look at them, as it comes by chance, while four workers make the runs; a session and a worker on
-//! an allocator that refuses each growth in turn; and both at a full journal. The journals of these last three
-//! are judged by the plain program. It prints eleven lines, whatever the threads' order; at the first thing
-//! wrong it tells so on standard error, and its status is 1.
+//! Plays lists of calls that are made up on a book, valid ones and others, by several sessions and
+//! workers, and judges each answer, each note and the end of each list by the plain program; hands in
+//! runs of logs that are equal to a ticket's in all but one field, which are all to be refused; and
+//! plays at desks: sessions and workers that gates and flags hold, what they are answered, when they
+//! wait and end, and how a desk is closed; as many of them as a desk opens; eight sessions on threads
+//! that edit a log, add, drop and retry scenarios, settle and look at them, as it comes by chance, while
+//! four workers make the runs; a session and a worker on an allocator that refuses each growth in turn;
+//! and both at a full journal. The journals of these last three are judged by the plain program. It
+//! prints eleven lines, whatever the threads' order; at the first thing wrong it tells so on standard
+//! error, and its status is 1.
 #![tactic(auto)]
 
 mod again;
@@ -72,7 +73,6 @@ const PARTS: [Part; 9] = [
 ];
 
 impl Part {
-    // What is told of it.
     fn text(self) -> &'static str {
         match self {
             Part::Nearly => "runs of logs with one other field: strangers, each of 17",
@@ -90,7 +90,6 @@ impl Part {
     }
 }
 
-// Plays the lists, and tells what was found: whether none differs.
 fn run_lists<R: AllocGlobal + Print + Eprint>(rt: &R) -> Result<bool> {
     match lists::play_all(rt.alloc()) {
         Ok(calls) => {
@@ -106,7 +105,6 @@ fn run_lists<R: AllocGlobal + Print + Eprint>(rt: &R) -> Result<bool> {
     }
 }
 
-// Plays a part: what is wrong.
 fn found<R: AllocGlobal + Threads + Wait + Sync>(rt: &R, part: Part) -> Result<(), Wrong> {
     let alloc = rt.alloc();
     match part {

@@ -16,7 +16,6 @@ const OTHER: &[u8] = b"33";
 /// Tickets that never stand here, and then the one that does.
 const TICKETS: [u64; 4] = [0, 2, u64::MAX, 1];
 
-// The log with another value in this field of the second job.
 fn other_log(table: &JobTable<Global>, field: u8) -> Option<JobTable<Global>> {
     let edit = Edit::Change {
         number: 2,
@@ -29,7 +28,6 @@ fn other_log(table: &JobTable<Global>, field: u8) -> Option<JobTable<Global>> {
 }
 
 impl Player<'_> {
-    // A run for the first task's ticket, where this field is another.
     fn other(&self, field: u8) -> Option<HandedIn> {
         let task = self.tasks.first()?;
         let log = Arc::new(self.alloc, other_log(task.table(), field)?).ok()?;
@@ -40,7 +38,6 @@ impl Player<'_> {
         })
     }
 
-    // The run of the first task, for a ticket.
     fn own(&self, ticket: u64) -> Option<HandedIn> {
         let task = self.tasks.first()?;
         Some(HandedIn {
@@ -50,7 +47,6 @@ impl Player<'_> {
         })
     }
 
-    // Hands in a run, if there was memory for it.
     fn hand_in_made(&mut self, worker: u64, handed: Option<HandedIn>) {
         match handed {
             Some(handed) => {
@@ -60,8 +56,8 @@ impl Player<'_> {
         }
     }
 
-    // Hands in runs with each field changed, by the worker who claimed and another one, then the right run
-    // for tickets that do not stand, which are given up besides, and for the one that does.
+    // Hands in runs with each field changed, by the worker who claimed and another one, then the right
+    // run for tickets that do not stand, which are given up besides, and for the one that does.
     fn play_nearly(&mut self, scenario: Scenario) {
         self.add_so(0, "base", scenario);
         self.claim_for(1);
@@ -86,7 +82,8 @@ impl Player<'_> {
     }
 }
 
-/// Runs of logs with another field are strangers, and tickets that never stood, or stand no more, unknown.
+/// Runs of logs with another field are strangers, and tickets that never stood, or stand no more,
+/// unknown.
 pub(crate) fn is_right(alloc: Global) -> Result<(), Wrong> {
     let scenario = ten()?;
     let opening = Arc::new(alloc, opening(alloc)?)?;

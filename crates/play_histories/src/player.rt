@@ -43,23 +43,20 @@ fn wrong_note(
         return Some(Wrong::Note);
     }
     match plain.step(&note.call) {
-        Ok(told) if told == reply => None,
+        Ok(outcome) if outcome == reply => None,
         Ok(_) => Some(Wrong::Answer),
         Err(_) => Some(Wrong::Memory),
     }
 }
 
-// The book of a log, at this spacing.
 fn book_of(alloc: Global, opening: &JobTable<Global>, spacing: u32) -> Option<Book<Global>> {
     Book::new(alloc, opening.copy().ok()?, spacing).ok()
 }
 
-// The plain program over a log.
 fn plain_of(alloc: Global, opening: &JobTable<Global>) -> Option<PlainBook<Global>> {
     Some(PlainBook::new(alloc, opening.copy().ok()?))
 }
 
-// A book that is played on, of this log; none where memory is short.
 pub(crate) fn player_of(
     alloc: Global,
     opening: Arc<JobTable<Global>, Global>,
@@ -80,7 +77,6 @@ pub(crate) fn player_of(
     })
 }
 
-// A log that is made up.
 fn made_up(alloc: Global, chance: &mut Chance) -> Option<Arc<JobTable<Global>, Global>> {
     Arc::new(alloc, inputs::opening(alloc, chance)?).ok()
 }
@@ -110,7 +106,6 @@ impl Player<'_> {
         }
     }
 
-    // Judges a call that was made, by what it answered.
     pub(crate) fn judge(&mut self, caller: Caller, call: &Call<Global>, answer: Answer) {
         let Ok(reply) = answer else {
             return self.fail(Wrong::Refused);

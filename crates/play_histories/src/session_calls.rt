@@ -12,7 +12,6 @@ use version_book::Published;
 /// The numbers of the jobs that are edited are below this.
 const JOBS: u64 = 11;
 
-// A session.
 fn session(chance: &mut Chance) -> u64 {
     chance.below(4)
 }
@@ -28,13 +27,11 @@ fn seen(chance: &mut Chance, version: u64) -> u64 {
     }
 }
 
-// The call of an edit; none where memory is short.
 fn edit_call(alloc: Global, edit: &Edit<Global>) -> Option<Call<Global>> {
     Some(Call::Edit(NotedEdit::new(alloc, edit).ok()?))
 }
 
 impl Player<'_> {
-    // Makes an edit.
     fn edit_so(&mut self, session: u64, edit: &Edit<Global>) {
         match edit_call(self.alloc, edit) {
             Some(call) => {
@@ -45,7 +42,6 @@ impl Player<'_> {
         }
     }
 
-    // An edit.
     pub(crate) fn edit(&mut self, chance: &mut Chance) {
         match inputs::edit(self.alloc, chance, JOBS) {
             Some(edit) => self.edit_so(session(chance), &edit),
@@ -53,7 +49,6 @@ impl Player<'_> {
         }
     }
 
-    // Adds a scenario of this name.
     pub(crate) fn add_so(&mut self, session: u64, name: &str, scenario: Scenario) {
         match NotedName::new(self.alloc, name) {
             Ok(noted) => {
@@ -68,7 +63,6 @@ impl Player<'_> {
         }
     }
 
-    // A scenario more.
     pub(crate) fn add(&mut self, chance: &mut Chance, is_crowded: bool) {
         let name = inputs::name(chance, is_crowded);
         match inputs::scenario(chance) {
@@ -77,7 +71,6 @@ impl Player<'_> {
         }
     }
 
-    // A scenario less.
     pub(crate) fn drop_one(&mut self, chance: &mut Chance, is_crowded: bool) {
         let (session, name) = (session(chance), inputs::name(chance, is_crowded));
         match NotedName::new(self.alloc, name) {
@@ -90,7 +83,6 @@ impl Player<'_> {
         }
     }
 
-    // Another try.
     pub(crate) fn retry(&mut self, chance: &mut Chance) {
         let Some(id) = self.id(chance) else {
             return self.fail(Wrong::Input);
@@ -100,20 +92,18 @@ impl Player<'_> {
         self.judge(Caller::Session(session), &Call::Retry { id }, answer);
     }
 
-    // What this session is shown of a scenario when it has seen this version.
     pub(crate) fn show(
         &mut self,
         session: u64,
         id: ScenarioId,
         seen: u64,
     ) -> Option<Published<Global>> {
-        let told = self.book.view(session, id, seen);
-        let answer = answers::of_view(&told);
+        let outcome = self.book.view(session, id, seen);
+        let answer = answers::of_view(&outcome);
         self.judge(Caller::Session(session), &Call::View { id, seen }, answer);
-        told.ok()
+        outcome.ok()
     }
 
-    // A look at a scenario.
     pub(crate) fn view(&mut self, chance: &mut Chance) {
         let Some(id) = self.id(chance) else {
             return self.fail(Wrong::Input);

@@ -17,7 +17,6 @@ use std::thread::Threads;
 use version_book::Book;
 use workers::{NoGate, Session, Settled, Worker, WorkerEnd};
 
-// Gives up the ticket of the scenario that is due.
 fn gives_up(book: &mut Book<Global>) -> bool {
     match answers::of_claim(&book.claim(0)) {
         Ok(Reply::Claimed { ticket, .. }) => book.give_up(0, ticket).is_ok(),
@@ -25,7 +24,6 @@ fn gives_up(book: &mut Book<Global>) -> bool {
     }
 }
 
-// The book after its one scenario was given up.
 fn given_up(alloc: Global) -> Result<Book<Global>, Wrong> {
     let mut book = with_base(alloc)?;
     if gives_up(&mut book) {
@@ -36,7 +34,6 @@ fn given_up(alloc: Global) -> Result<Book<Global>, Wrong> {
 }
 
 impl<R: Wait, J: Naming> DeskHandle<'_, R, Global, J> {
-    // Has the scenario tried again.
     fn retries(&self, session: &mut Session<Global, J>) -> bool {
         match self.find(session, "base") {
             Some(id) => session.retry(self.rt, self.desk, id).is_ok(),
@@ -73,13 +70,11 @@ impl Script<Global> for TriesAgain {
         )
     }
 
-    // Something was called.
     fn judge(&self, book: &mut Book<Global>) -> Result<(), Wrong> {
         right_if(!book.journal().is_empty(), Wrong::Journal)
     }
 }
 
-// Whether both callers of a desk end where it is stopped.
 fn stop_both<R: Wait, J: Naming>(rt: &R, open: &mut OpenDesk<Global, J>) -> Result<(), Wrong> {
     let handle = DeskHandle {
         rt,
@@ -93,7 +88,6 @@ fn stop_both<R: Wait, J: Naming>(rt: &R, open: &mut OpenDesk<Global, J>) -> Resu
     }
 }
 
-// The same of a desk over this book.
 fn is_left_on<J: Naming, R: Wait>(
     rt: &R,
     alloc: Global,
@@ -107,7 +101,6 @@ fn is_left_on<J: Naming, R: Wait>(
     stop_both(rt, &mut open)
 }
 
-// The same of a desk whose one scenario was given up.
 fn is_left<R: Wait>(rt: &R, alloc: Global) -> Result<(), Wrong> {
     let book = given_up(alloc)?;
     is_left_on::<Brand, R>(rt, alloc, book, Unnamed::new())

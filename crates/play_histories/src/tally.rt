@@ -6,7 +6,6 @@ use std::alloc::Global;
 /// How many kinds of replies are counted.
 pub(crate) const KINDS: usize = 24;
 
-// The kind of an edit's fault.
 fn kind_of_edit(fault: EditFault) -> usize {
     match fault {
         EditFault::NoSuchJob => 7,
@@ -17,7 +16,6 @@ fn kind_of_edit(fault: EditFault) -> usize {
     }
 }
 
-// The kind of a fault where a scenario is added.
 fn kind_of_add(fault: AddFault) -> usize {
     match fault {
         AddFault::NameTaken => 8,
@@ -62,7 +60,6 @@ impl Tally {
     /// No reply.
     pub(crate) const NONE: Tally = Tally { counts: [0; 24] };
 
-    // Counts the replies of a journal.
     pub(crate) fn add(&mut self, notes: &[Note<Global>]) {
         for note in notes {
             if let Some(count) = self.counts.get_mut(kind_of(&note.reply)) {

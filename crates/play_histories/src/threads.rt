@@ -157,7 +157,6 @@ pub(crate) fn closes<A: Allocator + Copy, S: Script<A>, J: Naming>(
     }
 }
 
-// Has all callers of a desk over a book play, closes it and has the book judged.
 fn is_right_on<
     J: Naming + Send + Sync,
     R: Threads + Wait + Sync,
@@ -181,7 +180,8 @@ fn is_right_on<
     found.and(closes(open, script))
 }
 
-/// Has these callers play at a desk over a book, closes it and has the book judged; the first thing that is wrong.
+/// Has these callers play at a desk over a book, closes it and has the book judged; the first thing that
+/// is wrong.
 pub(crate) fn is_right_with<R: Threads + Wait + Sync, G: Gate + Sync, S: Script<Global> + Sync>(
     rt: &R,
     alloc: Global,

@@ -19,7 +19,6 @@ use version_book::{Book, FinishFault, FinishRefusal};
 use workers::{NoGate, Session, WorkerEnd};
 
 impl<R: Wait, J: Naming> DeskHandle<'_, R, Global, J> {
-    // Whether the session is shown the second version.
     fn sees_second(&self, session: &mut Session<Global, J>) -> bool {
         match self.find(session, "base") {
             Some(id) => matches!(
@@ -30,7 +29,6 @@ impl<R: Wait, J: Naming> DeskHandle<'_, R, Global, J> {
         }
     }
 
-    // Whether the session's edit makes this version.
     fn is_edited(
         &self,
         session: Option<&mut Session<Global, J>>,
@@ -43,7 +41,6 @@ impl<R: Wait, J: Naming> DeskHandle<'_, R, Global, J> {
         }
     }
 
-    // Whether a session reads the second version.
     fn is_second(&self, session: Option<&Session<Global, J>>) -> bool {
         match session {
             Some(session) => session.version(self.rt, self.desk) == 2,
@@ -51,8 +48,8 @@ impl<R: Wait, J: Naming> DeskHandle<'_, R, Global, J> {
         }
     }
 
-    // Whether job 5 joins by one session, job 4 leaves by the other, and the first, which has seen its own
-    // edit alone, then reads the second version.
+    // Whether job 5 joins by one session, job 4 leaves by the other, and the first, which has seen its
+    // own edit alone, then reads the second version.
     fn are_edited(&self, sessions: &mut Vec<Session<Global, J>>, joins: &Edit<Global>) -> bool {
         self.is_edited(sessions.get_mut(0), joins, 1)
             && self.is_edited(sessions.get_mut(1), &Edit::Remove(4), 2)
@@ -76,7 +73,8 @@ impl Script<Global> for Looking {
         right_if(handle.is_read(session), Wrong::Reply)
     }
 
-    // The book has a note of `base`, two edits, a claim with its finish, and two views, and the ticket is closed.
+    // The book has a note of `base`, two edits, a claim with its finish, and two views, and the ticket
+    // is closed.
     fn judge(&self, book: &mut Book<Global>) -> Result<(), Wrong> {
         right_if(book.journal().len() == 7, Wrong::Journal)?;
         match book.finish_delivered(0, 1) {
@@ -86,7 +84,6 @@ impl Script<Global> for Looking {
     }
 }
 
-// Plays at a desk.
 fn plays<R: Threads + Wait + Sync, J: Naming + Send + Sync>(
     rt: &R,
     alloc: Global,
@@ -101,7 +98,6 @@ fn plays<R: Threads + Wait + Sync, J: Naming + Send + Sync>(
     play_all(rt, alloc, open, &NoGate, &Looking, WorkerEnd::Stopped)
 }
 
-// A desk with this session once more.
 fn rejoined<J: Naming>(
     mut open: OpenDesk<Global, J>,
     last: Session<Global, J>,
@@ -125,7 +121,6 @@ fn closes_whole<J: Naming>(open: OpenDesk<Global, J>) -> Result<(), Wrong> {
     closes(refused(open)?, &Looking)
 }
 
-// Plays at a desk over this book, and closes it.
 fn plays_on<J: Naming + Send + Sync, R: Threads + Wait + Sync>(
     rt: &R,
     alloc: Global,

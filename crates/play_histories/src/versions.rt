@@ -4,7 +4,6 @@ use job_table::{Edit, JobTable};
 use scenarios::ScenarioId;
 use std::alloc::Global;
 
-// The edit of a note, where it was accepted.
 fn accepted(note: &Note<Global>) -> Option<&NotedEdit<Global>> {
     match (&note.call, &note.reply) {
         (Call::Edit(edit), Reply::Edited { .. }) => Some(edit),
@@ -12,20 +11,17 @@ fn accepted(note: &Note<Global>) -> Option<&NotedEdit<Global>> {
     }
 }
 
-// Adds the log after an edit behind the others.
 fn add_edited(logs: &mut Vec<JobTable<Global>>, edit: &Edit<Global>) -> Option<()> {
     let mut log = logs.last()?.copy().ok()?;
     log.apply(edit).ok()?;
     logs.push(log).ok()
 }
 
-// Adds the log after a noted edit.
 fn add_noted(logs: &mut Vec<JobTable<Global>>, noted: &NotedEdit<Global>) -> Option<()> {
     let edit = noted.edit().ok()?;
     add_edited(logs, &edit)
 }
 
-// Adds the opening log, and one more after each accepted edit.
 fn add_all(
     logs: &mut Vec<JobTable<Global>>,
     opening: &JobTable<Global>,
@@ -58,7 +54,6 @@ type Claimed = (u64, ScenarioId);
 /// A scenario, and a version that was published for it.
 type Shown = (ScenarioId, u64);
 
-// The scenario of a ticket, with a version.
 fn of_ticket(claims: &[Claimed], ticket: u64, version: u64) -> Option<Shown> {
     for claim in claims {
         if claim.0 == ticket {
@@ -68,7 +63,6 @@ fn of_ticket(claims: &[Claimed], ticket: u64, version: u64) -> Option<Shown> {
     None
 }
 
-// What a note tells of a scenario's published version, after these claims.
 fn shown_in(note: &Note<Global>, claims: &[Claimed]) -> Option<Shown> {
     match (&note.call, &note.reply) {
         (Call::View { id, .. }, Reply::Shown { version }) => Some((*id, *version)),
@@ -101,7 +95,6 @@ struct Known {
 }
 
 impl Known {
-    // Notes the ticket of a claim: whether there is memory for it.
     fn add_claim(&mut self, reply: &Reply) -> bool {
         match reply {
             Reply::Claimed { ticket, id, .. } => self.claims.push((*ticket, *id)).is_ok(),
@@ -116,10 +109,10 @@ impl Known {
 
     // Adds what a note tells: whether no published version falls by it.
     fn add(&mut self, note: &Note<Global>) -> bool {
-        let has_room = self.add_claim(&note.reply);
+        let has_capacity = self.add_claim(&note.reply);
         match shown_in(note, self.claims.as_slice()) {
-            Some((id, version)) => has_room && self.add_shown(id, version),
-            None => has_room,
+            Some((id, version)) => has_capacity && self.add_shown(id, version),
+            None => has_capacity,
         }
     }
 
@@ -134,7 +127,8 @@ impl Known {
     }
 }
 
-// Whether no scenario's published version falls from note to note; it is also false where memory is short.
+// Whether no scenario's published version falls from note to note; it is also false where memory is
+// short.
 pub(crate) fn are_never_falling(alloc: Global, notes: &[Note<Global>]) -> bool {
     let mut known = Known {
         claims: Vec::new(alloc),

@@ -23,12 +23,10 @@ pub(crate) struct HandedIn {
     pub(crate) fits: bool,
 }
 
-// A worker.
 pub(crate) fn worker(chance: &mut Chance) -> u64 {
     chance.below(4)
 }
 
-// The scenario of a task, if there is one.
 fn id_of(task: Option<&Task<Global>>) -> Option<ScenarioId> {
     match task {
         Some(task) => Some(task.id()),
@@ -36,7 +34,6 @@ fn id_of(task: Option<&Task<Global>>) -> Option<ScenarioId> {
     }
 }
 
-// A run of this log; none where memory is short.
 pub(crate) fn run_of(
     alloc: Global,
     table: &Arc<JobTable<Global>, Global>,
@@ -47,28 +44,24 @@ pub(crate) fn run_of(
     Arc::new(alloc, simulate(alloc, table, scenario, spacing).ok()?).ok()
 }
 
-// The run that a task asks for; none where memory is short.
 pub(crate) fn worked(task: &Task<Global>) -> Option<Arc<Run<Global>, Global>> {
     let (run, _work) = task.work().ok()?;
     Some(run)
 }
 
-// Whether a run is of a task's log and scenario.
 fn fits(task: &Task<Global>, run: &Run<Global>) -> bool {
     run.scenario() == task.scenario() && run.table().same(task.table())
 }
 
 impl Player<'_> {
-    // A claim, which gives the scenario that is due.
     pub(crate) fn claim_for(&mut self, worker: u64) {
         let due = self.book.due();
-        let told = self.book.claim(worker);
-        let answer = answers::of_claim(&told);
+        let outcome = self.book.claim(worker);
+        let answer = answers::of_claim(&outcome);
         self.judge(Caller::Worker(worker), &Call::Claim, answer);
-        self.keep(due, told.ok().flatten());
+        self.keep(due, outcome.ok().flatten());
     }
 
-    // Keeps a task, which is to be of this scenario.
     fn keep(&mut self, due: Option<ScenarioId>, task: Option<Task<Global>>) {
         let is_due = id_of(task.as_ref()) == due;
         self.expect(is_due, Wrong::Due);
@@ -108,7 +101,6 @@ impl Player<'_> {
         })
     }
 
-    // A run for the ticket of a task.
     fn known(&self, chance: &mut Chance, task: &Task<Global>) -> Option<HandedIn> {
         let run = self.run_for(chance, task)?;
         let fits = fits(task, &run);
@@ -137,8 +129,8 @@ impl Player<'_> {
         }
     }
 
-    // Hands a run in; whether it was one for its ticket. Of a ticket that does not stand the note says that
-    // nothing fits it.
+    // Hands a run in; whether it was one for its ticket. Of a ticket that does not stand the note says
+    // that nothing fits it.
     pub(crate) fn hand_in(&mut self, worker: u64, handed: HandedIn) -> bool {
         let HandedIn { ticket, run, fits } = handed;
         let answer = answers::of_finish(self.book.finish(worker, ticket, run));

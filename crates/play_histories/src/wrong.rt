@@ -64,7 +64,6 @@ impl Wrong {
     }
 }
 
-// All is right where this holds.
 pub(crate) fn right_if(holds: bool, wrong: Wrong) -> Result<(), Wrong> {
     if holds { Ok(()) } else { Err(wrong) }
 }

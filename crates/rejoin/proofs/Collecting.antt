@@ -13,7 +13,7 @@ use Rattle.job_table.specs.Accepted.{AreAccepted}
 use Rattle.job_table.specs.Edit.{LogEdit, log_after}
 use Rattle.job_table.specs.Table.{IsTable}
 use Rattle.scenarios.specs.Job.{EffectiveJob}
-use Rattle.scenarios.specs.Scenario.{Setting}
+use Rattle.scenarios.specs.Scenario.{ScenarioView}
 use Rattle.scenarios.specs.Plan.{Plan, plan_of, job_numbered}
 use Rattle.rejoin.specs.Named.{named, submit_in, submits_of}
 use Rattle.rejoin.specs.Started.{count_before, submitted_of}
@@ -73,7 +73,7 @@ named-or-not (e ∷ es) n = by_cases (ℕ_discrete (named e) n) (λ same. inl (0
     go other (inl (k, l, at)) = inl (suc k, omega (arith, l), at)
     go other (inr all) = inr (All-cons (λ edit. named edit ≢ n) e es other all)
 
-pub collected-all : (log : List LogEntry) (edits : List LogEdit) (now : List LogEntry) (s : Setting) (ns : List ℕ) → IsTable log → AreAccepted log edits → now ≡ log_after log edits → Collected (plan_of log s) (plan_of now s) edits ns → AreThose (IsTouched (plan_of log s) (plan_of now s)) ns
+pub collected-all : (log : List LogEntry) (edits : List LogEdit) (now : List LogEntry) (s : ScenarioView) (ns : List ℕ) → IsTable log → AreAccepted log edits → now ≡ log_after log edits → Collected (plan_of log s) (plan_of now s) edits ns → AreThose (IsTouched (plan_of log s) (plan_of now s)) ns
 collected-all log edits now s ns table accepted is c = record {
   each = c.each;
   whole = λ n d. go n d (named-or-not edits n);
@@ -155,7 +155,7 @@ module _ {X : Type 0} (f : X → LogEdit) where
   untouched-more p q xs i d m ns ms l is same put c =
       subst (Collected p q (map f (take (i + 1) xs))) (sym put) (collected-same p q (map f (take i xs)) (map f (take (i + 1) xs)) (f (get_or xs i d)) m ns (front-more xs i d l) is same c)
 
-  pub touched-all : (log now : List LogEntry) (s : Setting) (xs : List X) (i : ℕ) (ns : List ℕ) → length xs ≤ i → IsTable log → AreAccepted log (map f xs) → now ≡ log_after log (map f xs) → Collected (plan_of log s) (plan_of now s) (map f (take i xs)) ns
+  pub touched-all : (log now : List LogEntry) (s : ScenarioView) (xs : List X) (i : ℕ) (ns : List ℕ) → length xs ≤ i → IsTable log → AreAccepted log (map f xs) → now ≡ log_after log (map f xs) → Collected (plan_of log s) (plan_of now s) (map f (take i xs)) ns
       → AreThose (IsTouched (plan_of log s) (plan_of now s)) ns
   touched-all log now s xs i ns l table accepted is c =
       collected-all log (map f xs) now s ns table accepted is (subst (λ ys. Collected (plan_of log s) (plan_of now s) (map f ys) ns) (take_all i xs l) c)

@@ -169,12 +169,12 @@ module _ (law : NotesKeepTheLedger) (touched : ℕ → Bool) (jobs : List Effect
       → (other : ℕ) → o ≡ Some other → All (λ (y : Start). y.at < 2 ^ 49) others → (apart : ℕ)
       → ((job : EffectiveJob) → job_numbered jobs x.number ≡ Some job → x.at < 2 ^ 49 → other < 2 ^ 49 → apart ≡ apart_until job (Some x.at) (Some other))
       → Keeps from (ledger_of touched jobs (starts ++ x ∷ []) others) here' there' (max until apart)
-  keeps-apart e from o here there here' there' until k found swap other is early apart told =
+  keeps-apart e from o here there here' there' until k found swap other is early apart outcome =
       let job = job-of-it e in
       let late : other < 2 ^ 49 = among-early (λ (y : Start). not (touched y.number) && is_none (start_of starts y.number)) others x.number other early (sym (k.tells_there x.number) ∙ sym found ∙ is) in
       let this : x.at < 2 ^ 49 = All-last (λ (y : Start). y.at < 2 ^ 49) starts x ok.early in
       keeps-other law touched jobs starts others x ok e job.0 job.1 from o here there here' there' until apart k found swap
-      (λ b there-is. let same : other ≡ b = somes other b (sym is ∙ there-is) in subst (λ c. apart ≡ apart_until job.0 (Some x.at) (Some c)) same (told job.0 job.1 this late))
+      (λ b there-is. let same : other ≡ b = somes other b (sym is ∙ there-is) in subst (λ c. apart ≡ apart_until job.0 (Some x.at) (Some c)) same (outcome job.0 job.1 this late))
       (λ none. absurd (let z : None ≡ Some other = sym none ∙ is in cc))
 
 -- the other plan's side

@@ -57,9 +57,9 @@ true-among (m ∷ ms) n e = go (nat_eq m n) refl (true-among ms n) e
     go true f h g = (0, omega arith, eqb-true m n f)
     go false f h g = let c = h g in (suc c.0, omega (arith, c.1), c.2)
 
-pub told-among : (ns : List ℕ) (n : ℕ) (r : Bool) → IsTrue r ↔ Contains ns n → r ≡ among ns n
-told-among ns n true h = sym (among-true ns n (h.0 refl))
-told-among ns n false h = go (among ns n) refl
+pub outcome-among : (ns : List ℕ) (n : ℕ) (r : Bool) → IsTrue r ↔ Contains ns n → r ≡ among ns n
+outcome-among ns n true h = sym (among-true ns n (h.0 refl))
+outcome-among ns n false h = go (among ns n) refl
   where
     go : (b : Bool) → among ns n ≡ b → false ≡ b
     go true e = h.1 (true-among ns n e)
@@ -90,7 +90,7 @@ kept-of-met c ok a next begins met none clear =
 pub met-of-same : (c : ChangeView) → IsChange c → (a : ℕ) → before c.was a ≡ before c.is a → HaveMet (among c.touched) c.was c.is a
 met-of-same c ok a e =
     let h = ok.alike in
-    let back = (untouched-equal-numbers-are-equal-states (before c.was a) (before c.is a) c.was c.is (before-of-plan c.was a h.left) (before-of-plan c.is a h.right) h.machine h.order).1 e in
+    let back = (untouched-equal-numbers-are-equal-states (before c.was a) (before c.is a) c.was c.is (before-of-plan c.was a h.left) (before-of-plan c.is a h.right) h.procs h.order).1 e in
     ((snapshots-meet (among c.touched) c.was c.is a (agree-but c ok)).0 (back.0, λ n t l. back.1 n (touched-is c ok n t) l)).0
 
 -- ---- what the maps tell
@@ -103,8 +103,8 @@ fresh-keeps c ok a old new until e none-old none-new zero' =
       tells_until = λ t l. ((λ _. let m = met.ended in omega (arith, m, l)), (λ _. omega (arith, zero')));
     }
 
-pub told-met : (c : ChangeView) (a : ℕ) (old new : BTreeMap ℕ ℕ) (until : ℕ) → Keeps a (ledger_at c a a) old new until → (HasNone old × HasNone new × (until ≤ a)) ↔ HaveMet (among c.touched) c.was c.is a
-told-met c a old new until k = (
+pub outcome-met : (c : ChangeView) (a : ℕ) (old new : BTreeMap ℕ ℕ) (until : ℕ) → Keeps a (ledger_at c a a) old new until → (HasNone old × HasNone new × (until ≤ a)) ↔ HaveMet (among c.touched) c.was c.is a
+outcome-met c a old new until k = (
   (λ h. record {
     none_here = no-start (ledger_at c a a).here (λ n. sym (k.tells_here n) ∙ h.0 n);
     none_there = no-start (ledger_at c a a).there (λ n. sym (k.tells_there n) ∙ h.1 n);
@@ -245,14 +245,14 @@ stands-spans c n at now ss handled reused (us, count, going, plan, on) s a b sp 
 none-of-same : (c : ChangeView) → IsChange c → (a : ℕ) → before c.was a ≡ before c.is a → NoneOf (among c.touched) (numbers_of (before c.was a)) × NoneOf (among c.touched) (numbers_of (before c.is a))
 none-of-same c ok a e =
     let h = ok.alike in
-    let back = (untouched-equal-numbers-are-equal-states (before c.was a) (before c.is a) c.was c.is (before-of-plan c.was a h.left) (before-of-plan c.is a h.right) h.machine h.order).1 e in
+    let back = (untouched-equal-numbers-are-equal-states (before c.was a) (before c.is a) c.was c.is (before-of-plan c.was a h.left) (before-of-plan c.is a h.right) h.procs h.order).1 e in
     let here : NoneOf (among c.touched) (numbers_of (before c.is a)) = λ n t l. back.1 n (touched-is c ok n t) l in
     (subst (λ s. NoneOf (among c.touched) (numbers_of s)) (sym e) here, here)
 
 -- what is noted of their starts tells it
-told-none : (c : ChangeView) → IsChange c → (a started ended submitted : ℕ) → a ≤ bound c.was + 1 → a ≤ bound c.is + 1 → Follows a c a a started ended → submitted ≡ count_before a c.submits → submitted < 2 ^ 64
+outcome-none : (c : ChangeView) → IsChange c → (a started ended submitted : ℕ) → a ≤ bound c.was + 1 → a ≤ bound c.is + 1 → Follows a c a a started ended → submitted ≡ count_before a c.submits → submitted < 2 ^ 64
     → ((submitted ≤ started) × (ended ≤ a)) ↔ (NoneOf (among c.touched) (numbers_of (before c.was a)) × NoneOf (among c.touched) (numbers_of (before c.is a)))
-told-none c ok a started ended submitted within-was within-is follows is small =
+outcome-none c ok a started ended submitted within-was within-is follows is small =
     let was = starts-tell-who-stands c.was c.touched a ok.alike.left within-was ok.single in
     let new = starts-tell-who-stands c.is c.touched a ok.alike.right within-is ok.single in
     let counts = ok.counts a in
@@ -335,7 +335,7 @@ module _ {A : Type 0} (c : ChangeView) (ok : IsChange c) (at position : ℕ) (s 
   notes-here = subst (λ p. AreNotes c s.first p notes) stands (subst (λ (left : List SegmentView). IfSome (next_first left) (λ a. AreNotes c a position notes)) here noted)
 
   noted-met : (HasNone notes.was × HasNone notes.is × (notes.until ≤ position)) ↔ HaveMet (among c.touched) c.was c.is s.first
-  noted-met = subst (λ p. (HasNone notes.was × HasNone notes.is × (notes.until ≤ p)) ↔ HaveMet (among c.touched) c.was c.is s.first) (sym stands) (told-met c s.first notes.was notes.is notes.until notes-here.others)
+  noted-met = subst (λ p. (HasNone notes.was × HasNone notes.is × (notes.until ≤ p)) ↔ HaveMet (among c.touched) c.was c.is s.first) (sym stands) (outcome-met c s.first notes.was notes.is notes.until notes-here.others)
 
   noted-none : MayBegin c.is position → (submitted : ℕ) → submitted ≡ count_before position c.submits → submitted < 2 ^ 64
       → ((submitted ≤ notes.started) × (notes.ended ≤ position)) ↔ (NoneOf (among c.touched) (numbers_of (before c.was s.first)) × NoneOf (among c.touched) (numbers_of (before c.is s.first)))
@@ -345,7 +345,7 @@ module _ {A : Type 0} (c : ChangeView) (ok : IsChange c) (at position : ℕ) (s 
       let up = e.4 in
       let l = bounded c.is position ok.alike.right begins in
       subst (λ p. ((submitted ≤ notes.started) × (notes.ended ≤ p)) ↔ (NoneOf (among c.touched) (numbers_of (before c.was s.first)) × NoneOf (among c.touched) (numbers_of (before c.is s.first)))) (sym stands)
-      (told-none c ok s.first notes.started notes.ended submitted (omega (arith, few, up)) (omega (arith, l, stands)) notes-here.touched (subst (λ p. submitted ≡ count_before p c.submits) stands is) small)
+      (outcome-none c ok s.first notes.started notes.ended submitted (omega (arith, few, up)) (omega (arith, l, stands)) notes-here.touched (subst (λ p. submitted ≡ count_before p c.submits) stands is) small)
 
   -- the tests decide
   pub decided : MayBegin c.is position → (submitted : ℕ) → submitted ≡ count_before position c.submits → submitted < 2 ^ 64 → (met ended clear : Bool) → IsTrue met ↔ (HasNone notes.was × HasNone notes.is × (notes.until ≤ position))

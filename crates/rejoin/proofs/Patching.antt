@@ -15,7 +15,7 @@ patched-worked q old n a m b k (x ∷ xs) us s h (c, sx, inl (vs, e, rest)) sp c
 patched-worked q old n a m b k (x ∷ xs) us s h (c, sx, inr (j, held, few, (g, e, rest))) sp count le =
     (c, sx, inr (j, held, few, (g + k, omega (arith, e), patched-worked q old n c m b k xs us s g rest sp count le)))
 
--- one that is taken over
+-- one that is reused
 pub patched-taken : (q : Plan) (old : List SegmentView) (n a m b : ℕ) (new us : List SegmentView) (s : SegmentView) (h : ℕ) → Patched q old n a new us h m → Spans q s m b → Patched q old n a (new ++ s ∷ []) (us ++ s ∷ []) h b
 patched-taken q old n a m b [] us s h (e, u, z) sp =
     (b, subst (λ x. Spans q s x b) (sym e) sp, inl ([], ap (λ l. l ++ s ∷ []) u, (refl, refl, z)))

@@ -20,7 +20,7 @@ got (x ∷ old) (suc k) s rest e = got old k s rest e
 pub from-worked : (old ss all : List SegmentView) (places each : List (Option ℕ)) (s : SegmentView) → AreFrom old ss places → all ≡ ss ++ s ∷ [] → each ≡ places ++ None ∷ [] → AreFrom old all each
 from-worked old ss all places each s z e f = subst₂ (AreFrom old) (sym e) (sym f) (from-push old ss places s None z tt)
 
--- one that is taken over
+-- one that is reused
 pub from-taken : (old ss all : List SegmentView) (places each : List (Option ℕ)) (s : SegmentView) (at : ℕ) (rest : List SegmentView) → AreFrom old ss places → drop at old ≡ s ∷ rest → all ≡ ss ++ s ∷ [] → each ≡ places ++ Some at ∷ [] → AreFrom old all each
 from-taken old ss all places each s at rest z here e f = subst₂ (AreFrom old) (sym e) (sym f) (from-push old ss places s (Some at) z (got old at s rest here))
 

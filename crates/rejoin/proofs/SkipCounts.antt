@@ -24,7 +24,7 @@ use Rattle.job_table.specs.Table.{IsTable}
 use Rattle.job_table.specs.Accepted.{AreAccepted}
 use Rattle.job_table.proofs.Lemmas.{Lacks, Lacks-from_none, Lacks-itself, found-placed, found-without, log-more, log-less, log-changed, number-stays, change-places, accepted-sound}
 use Rattle.scenarios.specs.declared.skip.Skip.{Skip}
-use Rattle.scenarios.specs.Scenario.{Setting}
+use Rattle.scenarios.specs.Scenario.{ScenarioView}
 use Rattle.scenarios.specs.Effective.{effective}
 use Rattle.scenarios.specs.Skips.{reasons_of, place_of, count_of, skips_of}
 use Rattle.scenarios.proofs.Lemmas.{once-numbered}
@@ -216,7 +216,7 @@ sum-within f (n ∷ ns) es o d =
     omega (arith, rest, same, without-sum f n es (d n), sum_by-cons (λ m. at f (entry_of m es)) n ns)
 
 -- ---- reasons
-abbrev skips : Skip → Setting → LogEntry → ℕ
+abbrev skips : Skip → ScenarioView → LogEntry → ℕ
 skips k s e = times k (result_err (effective e s))
 
 count-more : (k r : Skip) (rs : List Skip) → count_of k (r ∷ rs) ≡ count_of k (r ∷ []) + count_of k rs
@@ -224,7 +224,7 @@ count-more k r rs =
     let test : Skip → ℕ = λ x. cond {A = ℕ} (nat_eq (place_of x) (place_of k)) 1 0 in
     omega (arith, sum_by-cons test r rs, sum_by-cons test r [])
 
-count-sum : (k : Skip) (log : List LogEntry) (s : Setting) → count_of k (reasons_of log s) ≡ sum_by (skips k s) log
+count-sum : (k : Skip) (log : List LogEntry) (s : ScenarioView) → count_of k (reasons_of log s) ≡ sum_by (skips k s) log
 count-sum k [] s = refl
 count-sum k (e ∷ es) s = go (result_err (effective e s)) (count-sum k es s) ∙ sym (sum_by-cons (skips k s) e es)
   where
@@ -232,15 +232,15 @@ count-sum k (e ∷ es) s = go (result_err (effective e s)) (count-sum k es s) �
     go None i = omega (arith, i)
     go (Some r) i = omega (arith, i, count-more k r (reasons_of es s))
 
-at-skip : (k : Skip) (s : Setting) (o : Option LogEntry) → at (skips k s) o ≡ times k (option_and_then (λ e. result_err (effective e s)) o)
+at-skip : (k : Skip) (s : ScenarioView) (o : Option LogEntry) → at (skips k s) o ≡ times k (option_and_then (λ e. result_err (effective e s)) o)
 at-skip k s None = refl
 at-skip k s (Some e) = refl
 
-sum-skips : (k : Skip) (s : Setting) (log : List LogEntry) (ns : List ℕ) → sum_by (λ n. at (skips k s) (entry_of n log)) ns ≡ skipped_at k log s ns
+sum-skips : (k : Skip) (s : ScenarioView) (log : List LogEntry) (ns : List ℕ) → sum_by (λ n. at (skips k s) (entry_of n log)) ns ≡ skipped_at k log s ns
 sum-skips k s log ns = sum-alike (λ n. at (skips k s) (entry_of n log)) (λ n. times k (skip_at log s n)) ns (λ n. at-skip k s (entry_of n log))
 
 -- the counts after edits
-pub counts-after : (k : Skip) (s : Setting) (log : List LogEntry) (edits : List LogEdit) (now : List LogEntry) (ns : List ℕ) → IsTable log → AreAccepted log edits → now ≡ log_after log edits → AreNumbersOf edits ns
+pub counts-after : (k : Skip) (s : ScenarioView) (log : List LogEntry) (edits : List LogEdit) (now : List LogEntry) (ns : List ℕ) → IsTable log → AreAccepted log edits → now ≡ log_after log edits → AreNumbersOf edits ns
     → count_of k (reasons_of now s) + skipped_at k log s ns ≡ count_of k (reasons_of log s) + skipped_at k now s ns
 counts-after k s log edits now ns t a is o =
     let moved = all-moves (skips k s) log edits ns t a (once-sorted ns o.rising) o.each in
@@ -258,17 +258,17 @@ once-times : (k : Skip) (o : Option Skip) → times k o ≤ 1
 once-times k None = omega arith
 once-times k (Some r) = count_by-le-length (λ (x : Skip). nat_eq (place_of x) (place_of k)) (r ∷ [])
 
-sum-small : (k : Skip) (s : Setting) (log : List LogEntry) → sum_by (skips k s) log ≤ length log
+sum-small : (k : Skip) (s : ScenarioView) (log : List LogEntry) → sum_by (skips k s) log ≤ length log
 sum-small k s [] = omega arith
 sum-small k s (e ∷ es) = omega (arith, sum-small k s es, once-times k (result_err (effective e s)), sum_by-cons (skips k s) e es)
 
 -- no more of these numbers are skipped than entries are, and these are few
-pub skipped-within : (k : Skip) (s : Setting) (log : List LogEntry) (ns : List ℕ) → IsTable log → IsStrictlySortedBy nat_cmp ns → skipped_at k log s ns ≤ count_of k (reasons_of log s)
+pub skipped-within : (k : Skip) (s : ScenarioView) (log : List LogEntry) (ns : List ℕ) → IsTable log → IsStrictlySortedBy nat_cmp ns → skipped_at k log s ns ≤ count_of k (reasons_of log s)
 skipped-within k s log ns t o =
     omega (arith, sum-within (skips k s) ns log (once-sorted ns o) (distinct log t), count-sum k log s, sum-skips k s log ns)
 
-pub counted-few : (k : Skip) (s : Setting) (log : List LogEntry) → IsTable log → count_of k (reasons_of log s) ≤ 4194304
-counted-few k s log t = omega (arith, sum-small k s log, count-sum k log s, t.log.room)
+pub counted-few : (k : Skip) (s : ScenarioView) (log : List LogEntry) → IsTable log → count_of k (reasons_of log s) ≤ 4194304
+counted-few k s log t = omega (arith, sum-small k s log, count-sum k log s, t.log.capacity)
 
 -- ---- counts, reason by reason
 pub with-times : (old new : Skips) (o : Option Skip) → new.size ≡ old.size + times reasons.NoSize o → new.run ≡ old.run + times reasons.NoRun o → new.large ≡ old.large + times reasons.TooLarge o → new.long ≡ old.long + times reasons.TooLong o
@@ -286,7 +286,7 @@ without-times old new o a b c d reasons.TooLarge = c
 without-times old new o a b c d reasons.TooLong = d
 
 -- one number more of those to come
-pub first-times : (k : Skip) (log : List LogEntry) (s : Setting) (n : ℕ) (coming rest : List ℕ) → coming ≡ n ∷ rest → skipped_at k log s coming ≡ times k (skip_at log s n) + skipped_at k log s rest
+pub first-times : (k : Skip) (log : List LogEntry) (s : ScenarioView) (n : ℕ) (coming rest : List ℕ) → coming ≡ n ∷ rest → skipped_at k log s coming ≡ times k (skip_at log s n) + skipped_at k log s rest
 first-times k log s n coming rest is = ap (skipped_at k log s) is ∙ sum_by-cons (λ m. times k (skip_at log s m)) n rest
 
 -- ---- numbers put into a set
@@ -334,7 +334,7 @@ named-none ns is rise = record { rising = rise; each = All-nil (λ (edit : LogEd
 made : ℕ → ℕ → ℕ → ℕ → Skips
 made a b c d = record { size = a; run = b; large = c; long = d }
 
-pub counts-alike : (p : Skips) (log : List LogEntry) (s : Setting) → ((k : Skip) → count_in p k ≡ count_of k (reasons_of log s)) → p ≡ skips_of log s
+pub counts-alike : (p : Skips) (log : List LogEntry) (s : ScenarioView) → ((k : Skip) → count_in p k ≡ count_of k (reasons_of log s)) → p ≡ skips_of log s
 unfolding made
 counts-alike p log s h =
     let a : ℕ = count_of reasons.NoSize (reasons_of log s) in
@@ -342,7 +342,7 @@ counts-alike p log s h =
     let c : ℕ = count_of reasons.TooLarge (reasons_of log s) in
     ap (λ n. made n p.run p.large p.long) (h reasons.NoSize) ∙ ap (λ n. made a n p.large p.long) (h reasons.NoRun) ∙ ap (λ n. made a b n p.long) (h reasons.TooLarge) ∙ ap (made a b c) (h reasons.TooLong)
 
-pub counts-known : (p : Skips) (log : List LogEntry) (s : Setting) → p ≡ skips_of log s → (k : Skip) → count_in p k ≡ count_of k (reasons_of log s)
+pub counts-known : (p : Skips) (log : List LogEntry) (s : ScenarioView) → p ≡ skips_of log s → (k : Skip) → count_in p k ≡ count_of k (reasons_of log s)
 counts-known p log s is reasons.NoSize = ap (λ (q : Skips). q.size) is
 counts-known p log s is reasons.NoRun = ap (λ (q : Skips). q.run) is
 counts-known p log s is reasons.TooLarge = ap (λ (q : Skips). q.large) is

@@ -1,4 +1,4 @@
--- Where no number is touched, all old segments are taken over, and nothing is worked.
+-- Where no number is touched, all old segments are reused, and nothing is worked.
 use Rattle.std.proofs.Common.{◌≡◌, ℕ, zero, suc, ◌+◌, ◌≤◌, false, List, [], ◌∷◌, ◌++◌, length, refl, sym, ◌∙◌, ap, subst, arith, append-nil, inl, inr}
 use Rattle.std.proofs.lemmas.Bool.{cond-true}
 use Rattle.scenarios.specs.Plan.{Plan}
@@ -12,7 +12,7 @@ use Rattle.rejoin.specs.Kept.{next_first, IsKept}
 use Rattle.rejoin.specs.Laws.{AreAlike}
 use Rattle.rejoin.specs.Bound.{marked}
 use Rattle.rejoin.specs.Rejoining.{ChangeView, IsChange}
-use Rattle.rejoin.specs.Patch.{AreKept, Patched, IsRejoined, IsTakenOver}
+use Rattle.rejoin.specs.Patch.{AreKept, Patched, IsRejoined, AreReused}
 use Rattle.rejoin.proofs.Turns.{events-grow}
 use Rattle.rejoin.proofs.Walk.{work-is-older-work, older-kept-is-kept}
 
@@ -41,15 +41,15 @@ span-counts q s a b sp =
     let one = cond-true {A = ℕ} (has_event q t) 1 0 (has-event q t sp.ends.3) in
     omega (arith, grow, e, one)
 
--- where nothing is worked, the new segments are those that were taken over
+-- where nothing is worked, the new segments are those that were reused
 none-worked : (q : Plan) (old : List SegmentView) (n a b h : ℕ) (new us : List SegmentView) → h ≡ 0 → Patched q old n a new us h b → new ≡ us
 none-worked q old n a b h [] us z (e, u, w) = sym u
 none-worked q old n a b h (s ∷ ss) us z (m, sp, inl (vs, e, rest)) = ap (λ (l : List SegmentView). s ∷ l) (none-worked q old n m b h ss vs z rest) ∙ sym e
 none-worked q old n a b h (s ∷ ss) us z (m, sp, inr (k, held, few, (g, e, rest))) =
     absurd (let more = span-counts q s a m sp in omega (arith, more, held, e, z))
 
-taken-over : (c : ChangeView) → IsChange c → (new : List SegmentView) (n handled reused : ℕ) → IsRejoined c.was c.is c.old n new handled reused → NothingTouched c.was c.is → IsTakenOver c.old new handled reused
-taken-over c ok new n handled reused done none =
+segments-reused : (c : ChangeView) → IsChange c → (new : List SegmentView) (n handled reused : ℕ) → IsRejoined c.was c.is c.old n new handled reused → NothingTouched c.was c.is → AreReused c.old new handled reused
+segments-reused c ok new n handled reused done none =
     let spent = done.spent (λ t. false) (λ t work. absurd ((work-is-older-work c.was c.is c.old t ok.alike ok.cut work).touched none)) in
     let zero' : handled ≡ 0 = let m = marked-none (bound c.is + 1) in omega (arith, spent, m) in
     let all : done.taken ≡ c.old = all-taken c.was c.is c.old done.taken (each-kept c.was c.is c.old ok.alike ok.cut none) done.kept in
@@ -60,8 +60,8 @@ taken-over c ok new n handled reused done none =
     }
 
 -- the same, as callers see it
-pub taken-over-all : (c : ChangeView) (p q : Plan) (old seen new : List SegmentView) (n handled reused : ℕ) → IsChange c → c.was ≡ p → c.is ≡ q → c.old ≡ old → new ≡ seen → IsRejoined c.was c.is c.old n seen handled reused → NothingTouched p q → IsTakenOver old new handled reused
-taken-over-all c p q old seen new n handled reused ok was is same put done none =
+pub all-reused : (c : ChangeView) (p q : Plan) (old seen new : List SegmentView) (n handled reused : ℕ) → IsChange c → c.was ≡ p → c.is ≡ q → c.old ≡ old → new ≡ seen → IsRejoined c.was c.is c.old n seen handled reused → NothingTouched p q → AreReused old new handled reused
+all-reused c p q old seen new n handled reused ok was is same put done none =
     let untouched : NothingTouched c.was c.is = λ m t. none m (subst (λ (x : Plan). IsTouched x q m) was (subst (λ (x : Plan). IsTouched c.was x m) is t)) in
-    let all = taken-over c ok seen n handled reused done untouched in
+    let all = segments-reused c ok seen n handled reused done untouched in
     record { same = put ∙ all.same ∙ same; none = all.none; all = all.all ∙ ap length same }

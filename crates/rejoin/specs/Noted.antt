@@ -21,7 +21,7 @@ abbrev pub Tells : BTreeMap ℕ ℕ → List Start → Type 0
 Tells seconds starts = (n : ℕ) → get nat_cmp seconds n ≡ start_of starts n
 
 -- The seconds by number are those of the ledger's starts; and whoever asks from a second on whether its last second has
--- come is told by this one.
+-- come is answered by this one.
 pub record Keeps (from : ℕ) (l : Differences) (here there : BTreeMap ℕ ℕ) (until : ℕ) : Type 0 where
   pub tells_here : Tells here l.here
   pub tells_there : Tells there l.there
@@ -35,7 +35,7 @@ pub record AreStarts (touched : ℕ → Bool) (jobs : List EffectiveJob) (starts
   pub early : All (λ (x : Start). x.at < 2 ^ 49) starts
 
 -- So many touched numbers have started in the old plan before a second and in the new one before another, as far as a
--- count goes; and whoever asks from a second on whether they have ended is told by this one.
+-- count goes; and whoever asks from a second on whether they have ended is answered by this one.
 pub record Follows (from : ℕ) (c : ChangeView) (a b : ℕ) (started ended : ℕ) : Type 0 where
   pub count : started ≡ min (starts_of c.touched (starts_before c.was a) + starts_of c.touched (starts_before c.is b)) (2 ^ 64 - 1)
   pub tells : (t : ℕ) → from ≤ t → (ended ≤ t) ↔ (HaveEnded c.touched c.was.jobs (starts_before c.was a) t × HaveEnded c.touched c.is.jobs (starts_before c.is b) t)

@@ -1,4 +1,4 @@
--- New segments, of which some are old ones that are taken over, and the others were worked.
+-- New segments, of which some are old ones that are reused, and the others were worked.
 use Rattle.std.specs.Prelude.{◌≡◌, ℕ, ◌+◌, ◌≤◌, ◌⊎◌, Bool, List, [], ◌∷◌, ◌++◌, length}
 use Rattle.scenarios.specs.Plan.{Plan}
 use Rattle.easy_rule.specs.Simulation.{bound}
@@ -27,7 +27,7 @@ pub record IsPiece (plan : Plan) (old : List SegmentView) (n k m : ℕ) : Type 0
   pub short : k ≤ n
   pub ends : (k ≡ n) ⊎ EndsPiece plan old m
 
--- One segment after another, from a to before b, of which these were taken over: each is the next of those, or was worked
+-- One segment after another, from a to before b, of which these were reused: each is the next of those, or was worked
 -- in pieces of n event seconds. The worked ones together hold h event seconds.
 abbrev pub Patched : Plan → List SegmentView → ℕ → ℕ → List SegmentView → List SegmentView → ℕ → ℕ → Type 0
 Patched plan old n a [] us h b = (a ≡ b) × (us ≡ []) × (h ≡ 0)
@@ -36,7 +36,7 @@ Patched plan old n a (s ∷ ss) us h b =
     × (((vs : List SegmentView) × (us ≡ s ∷ vs) × Patched plan old n m ss vs h b)
     ⊎ ((k : ℕ) × (events_before plan m ≡ events_before plan a + k) × IsPiece plan old n k m × ((g : ℕ) × (h ≡ k + g) × Patched plan old n m ss us g b)))
 
--- The new segments are a cut of the new plan. Of the old ones exactly those that are kept were taken over, so many; the
+-- The new segments are a cut of the new plan. Of the old ones exactly those that are kept were reused, so many; the
 -- others were worked, and hold so many event seconds: no more than there are in the work set.
 pub record IsRejoined (p q : Plan) (old : List SegmentView) (n : ℕ) (new : List SegmentView) (handled reused : ℕ) : Type 0 where
   pub taken : List SegmentView
@@ -45,8 +45,8 @@ pub record IsRejoined (p q : Plan) (old : List SegmentView) (n : ℕ) (new : Lis
   pub patched : (e : ℕ) × Patched q old n 0 new taken handled e × Over q e
   pub spent : (marks : ℕ → Bool) → MarksWork p q old marks → handled ≤ marked marks (bound q + 1)
 
--- all old segments were taken over, no other one stands beside them, and no event second was worked
-pub record IsTakenOver (old new : List SegmentView) (handled reused : ℕ) : Type 0 where
+-- all old segments were reused, no other one stands beside them, and no event second was worked
+pub record AreReused (old new : List SegmentView) (handled reused : ℕ) : Type 0 where
   pub same : new ≡ old
   pub none : handled ≡ 0
   pub all : reused ≡ length old

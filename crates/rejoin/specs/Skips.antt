@@ -7,7 +7,7 @@ use Rattle.job_table.specs.Edit.{entry_of}
 use Rattle.scenarios.specs.declared.skip.Skip.{Skip}
 use Rattle.scenarios.specs.declared.skip.Skip.TheVariants as reasons
 use Rattle.scenarios.specs.declared.skips.Skips.{Skips}
-use Rattle.scenarios.specs.Scenario.{Setting}
+use Rattle.scenarios.specs.Scenario.{ScenarioView}
 use Rattle.scenarios.specs.Effective.{effective}
 use Rattle.scenarios.specs.Skips.{count_of}
 use Rattle.std.specs.Ordering.{nat_cmp}
@@ -16,8 +16,8 @@ use Rattle.job_table.specs.Edit.{LogEdit}
 use Rattle.rejoin.specs.Named.{named}
 
 -- why the entry of a number is skipped, where there is one and it is
-abbrev pub skip_at : List LogEntry → Setting → ℕ → Option Skip
-skip_at log setting n = option_and_then (λ e. result_err (effective e setting)) (entry_of n log)
+abbrev pub skip_at : List LogEntry → ScenarioView → ℕ → Option Skip
+skip_at log scenario n = option_and_then (λ e. result_err (effective e scenario)) (entry_of n log)
 
 -- how often a reason stands there
 abbrev pub times : Skip → Option Skip → ℕ
@@ -25,8 +25,8 @@ times k None = 0
 times k (Some r) = count_of k (r ∷ [])
 
 -- how many of these numbers have an entry that is skipped for a reason
-abbrev pub skipped_at : Skip → List LogEntry → Setting → List ℕ → ℕ
-skipped_at k log setting ns = sum_by (λ n. times k (skip_at log setting n)) ns
+abbrev pub skipped_at : Skip → List LogEntry → ScenarioView → List ℕ → ℕ
+skipped_at k log scenario ns = sum_by (λ n. times k (skip_at log scenario n)) ns
 
 -- the count of a reason
 abbrev pub count_in : Skips → Skip → ℕ

@@ -1,4 +1,4 @@
--- Whether some numbers wait or run, told by their own starts.
+-- Whether some numbers wait or run, found by their own starts.
 use Rattle.std.specs.Prelude.{◌≡◌, ℕ, ◌+◌, ◌≤◌, ◌<◌, ◌↔◌, ◌||◌, Bool, true, false, nat_eq, nat_lt, count_by, sum_by, List, [], ◌∷◌, All, IfSome}
 use Rattle.scenarios.specs.Job.{EffectiveJob}
 use Rattle.scenarios.specs.Plan.{Plan, job_numbered}

@@ -46,12 +46,11 @@ impl<'a, A: Allocator + Copy> Model for Change<'a, A> {
 
     ghost Value = { ChangeView };
 
-    ghost view = { λ c. record { was = plan_of c.run.now.log c.run.now.setting; is = plan_of (arc_value c.table.now) c.run.now.setting; old = map arc_value c.segments.now; touched = c.touched.items; submits = c.submits.items } };
+    ghost view = { λ c. record { was = plan_of c.run.now.log c.run.now.scenario; is = plan_of (arc_value c.table.now) c.run.now.scenario; old = map arc_value c.segments.now; touched = c.touched.items; submits = c.submits.items } };
 
-    ghost invariant = { λ c. IsChange (record { was = plan_of c.run.now.log c.run.now.setting; is = plan_of (arc_value c.table.now) c.run.now.setting; old = map arc_value c.segments.now; touched = c.touched.items; submits = c.submits.items }) };
+    ghost invariant = { λ c. IsChange (record { was = plan_of c.run.now.log c.run.now.scenario; is = plan_of (arc_value c.table.now) c.run.now.scenario; old = map arc_value c.segments.now; touched = c.touched.items; submits = c.submits.items }) };
 }
 
-// Whether all three hold.
 fn are_all(first: bool, second: bool, third: bool) -> bool
     ensures { IsTrue result ↔ (IsTrue first × IsTrue second × IsTrue third) }
 {
@@ -59,7 +58,6 @@ fn are_all(first: bool, second: bool, third: bool) -> bool
 }
 
 impl<'a, A: Allocator + Copy> Change<'a, A> {
-    // The change that these edits make.
     pub(crate) fn new(
         alloc: A,
         run: &'a Run<A>,
@@ -68,8 +66,8 @@ impl<'a, A: Allocator + Copy> Change<'a, A> {
     ) -> Result<Change<'a, A>, Memory>
         requires accepted { AreAccepted run.now.log (map edit_of edits.now) }
         requires table { arc_value table.now ≡ log_after run.now.log (map edit_of edits.now) }
-        ensures was { IfOk result (λ c. c.was ≡ plan_of run.now.log run.now.setting) }
-        ensures is { IfOk result (λ c. c.is ≡ plan_of (arc_value table.now) run.now.setting) }
+        ensures was { IfOk result (λ c. c.was ≡ plan_of run.now.log run.now.scenario) }
+        ensures is { IfOk result (λ c. c.is ≡ plan_of (arc_value table.now) run.now.scenario) }
         ensures old { IfOk result (λ c. c.old ≡ run.now.segments) }
         ensures sound { IfOk result IsChange }
     {
@@ -86,21 +84,18 @@ impl<'a, A: Allocator + Copy> Change<'a, A> {
         })
     }
 
-    // The old plan.
     pub(crate) fn old_plan(&self) -> PlanRef<'_, A>
         ensures plan { plan_in result ≡ self.now.was }
     {
         self.run.plan().view()
     }
 
-    // The new plan.
     pub(crate) fn plan(&self) -> PlanRef<'_, A>
         ensures plan { plan_in result ≡ self.now.is }
     {
         PlanRef::of(self.table, self.run.scenario())
     }
 
-    // How many old segments there are.
     pub(crate) fn len(&self) -> usize
         ensures count { result ≡ length self.now.old }
         ensures sound { IsChange self.now }
@@ -108,7 +103,6 @@ impl<'a, A: Allocator + Copy> Change<'a, A> {
         self.segments.len()
     }
 
-    // The first second of the old segment at this place; None behind the last.
     pub(crate) fn first(&self, at: usize) -> Option<u64>
         ensures first { result ≡ next_first (drop at self.now.old) }
         ensures sound { IsChange self.now }
@@ -119,7 +113,6 @@ impl<'a, A: Allocator + Copy> Change<'a, A> {
         Some(self.segment(at).first())
     }
 
-    // The old segment at this place.
     pub(crate) fn segment(&self, at: usize) -> &Arc<Segment<A>, A>
         requires { at < length self.now.old }
         ensures here { drop at self.now.old ≡ arc_value result.now ∷ drop (at + 1) self.now.old }
@@ -139,7 +132,6 @@ impl<'a, A: Allocator + Copy> Change<'a, A> {
         none_within(self.submits.as_slice(), first, self.first(at + 1))
     }
 
-    // Whether a number is touched.
     pub(crate) fn is_touched(&self, number: u64) -> bool
         ensures { result ≡ among self.now.touched number }
     {

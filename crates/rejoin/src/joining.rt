@@ -26,7 +26,6 @@ pub(crate) struct Patched<A: Allocator + Copy> {
     pub(crate) reused: u64,
 }
 
-// Works up to the old segment at this place, and reuses it where it is reached and kept.
 fn reach<A: Allocator + Copy>(
     alloc: A,
     change: &Change<'_, A>,
@@ -81,7 +80,6 @@ fn follow<A: Allocator + Copy>(
     Ok(())
 }
 
-// Works what is left behind the last old segment.
 fn finish<A: Allocator + Copy>(
     alloc: A,
     change: &Change<'_, A>,
@@ -125,7 +123,6 @@ fn turn<A: Allocator + Copy>(
     }
 }
 
-// Goes from each old segment to the next, and works what is left behind the last.
 fn go_over<A: Allocator + Copy>(
     alloc: A,
     change: &Change<'_, A>,
@@ -144,7 +141,6 @@ fn go_over<A: Allocator + Copy>(
     finish(alloc, change, spacing, patch)
 }
 
-// The new segments, each with its snapshot, and what they took.
 fn settled<A: Allocator + Copy>(
     change: &Change<'_, A>,
     segments: Segments<A>,

@@ -33,7 +33,6 @@ pub(crate) struct Ledger<A: Allocator + Copy> {
     ended: u64,
 }
 
-// Takes out the start that a number has there; where it has none, its start here is put in.
 fn exchange<A: Allocator + Copy>(
     here: &mut Seconds<A>,
     there: &mut Seconds<A>,
@@ -82,7 +81,6 @@ fn note<A: Allocator + Copy>(
     }
 }
 
-// Notes starts of one simulation, in order.
 fn note_all<A: Allocator + Copy>(
     change: &Change<'_, A>,
     new: &[Start],
@@ -120,7 +118,6 @@ impl<A: Allocator + Copy> Ledger<A> {
         }
     }
 
-    // Notes starts of the old simulation.
     pub(crate) fn note_old(
         &mut self,
         change: &Change<'_, A>,
@@ -138,7 +135,6 @@ impl<A: Allocator + Copy> Ledger<A> {
         Ok(())
     }
 
-    // Notes starts of the new simulation.
     pub(crate) fn note_new(
         &mut self,
         change: &Change<'_, A>,

@@ -10,7 +10,6 @@ use crate::ledger::Ledger;
 use checkpoints::{Piece, RunFault};
 use std::alloc::Allocator;
 
-// Notes the starts of a worked piece, where an old segment comes behind it, which is at this place.
 pub(crate) fn note_worked<A: Allocator + Copy>(
     change: &Change<'_, A>,
     at: usize,
@@ -27,7 +26,6 @@ pub(crate) fn note_worked<A: Allocator + Copy>(
     Ok(())
 }
 
-// Passes over the old segment at this place: notes its starts.
 pub(crate) fn pass<A: Allocator + Copy>(
     change: &Change<'_, A>,
     at: usize,

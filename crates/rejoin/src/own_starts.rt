@@ -19,7 +19,6 @@ fn end_of<A: Allocator + Copy>(plan: &PlanRef<'_, A>, start: Start) -> u64
     }
 }
 
-// Notes a start of one simulation, whose plan this is, where its number is touched.
 fn note_own<A: Allocator + Copy>(
     change: &Change<'_, A>,
     plan: &PlanRef<'_, A>,

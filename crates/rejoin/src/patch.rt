@@ -32,7 +32,6 @@ pub(crate) struct Patch<A: Allocator + Copy> {
     pub(crate) reused: u64,
 }
 
-// Works event seconds up to the first second of the old segment at this place, or to the end.
 pub(crate) fn work_to<A: Allocator + Copy>(
     alloc: A,
     change: &Change<'_, A>,

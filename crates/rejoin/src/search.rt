@@ -7,7 +7,6 @@ ghost use Rattle.rejoin.specs.Started.{count_before};
 
 use std::alloc::Allocator;
 
-// The same numbers, rising.
 pub(crate) fn rising<A: Allocator + Copy>(numbers: Vec<u64, A>) -> Vec<u64, A>
     ensures same { IsPermutation numbers.items result.items }
     ensures rising { IsNonDecreasing result.items }
@@ -17,7 +16,6 @@ pub(crate) fn rising<A: Allocator + Copy>(numbers: Vec<u64, A>) -> Vec<u64, A>
     sorted
 }
 
-// The same numbers, rising, each once.
 pub(crate) fn distinct<A: Allocator + Copy>(numbers: Vec<u64, A>) -> Vec<u64, A>
     ensures same { (n : ℕ) → Contains numbers.items n ↔ Contains result.items n }
     ensures rising { IsStrictlyIncreasing result.items }
@@ -40,7 +38,6 @@ pub(crate) fn least_from(numbers: &[u64], bound: u64) -> Option<u64>
     None
 }
 
-// How many of these rising numbers are below the bound.
 pub(crate) fn count_below(numbers: &[u64], bound: u64) -> usize
     requires { IsNonDecreasing numbers.now }
     ensures { result ≡ count_before bound numbers.now }
@@ -48,7 +45,6 @@ pub(crate) fn count_below(numbers: &[u64], bound: u64) -> usize
     numbers.partition_point(|number| *number < bound)
 }
 
-// Whether a number is one of these rising ones.
 pub(crate) fn is_among(numbers: &[u64], number: u64) -> bool
     requires { IsNonDecreasing numbers.now }
     ensures { IsTrue result ↔ Contains numbers.now number }

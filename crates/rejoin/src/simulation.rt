@@ -5,7 +5,7 @@ ghost use Rattle.job_table.specs.Edit.{edit_of, log_after};
 ghost use Rattle.scenarios.specs.Plan.{plan_of};
 ghost use Rattle.checkpoints.specs.RunView.{IsRun};
 ghost use Rattle.checkpoints.specs.Spacing.{IsSpacing, IsRefusal};
-ghost use Rattle.rejoin.specs.Patch.{IsRejoined, IsTakenOver};
+ghost use Rattle.rejoin.specs.Patch.{IsRejoined, AreReused};
 ghost use Rattle.rejoin.specs.Touched.{NothingTouched};
 
 use crate::change::Change;
@@ -21,15 +21,15 @@ use std::sync::Arc;
 pub struct Work {
     /// The event seconds that were worked.
     pub handled: u64,
-    /// The old segments that were taken over.
+    /// The old segments that were reused.
     pub reused: u64,
 }
 
 /// Simulates a table after edits, of which an old run is the simulation before them, under the old
 /// scenario: only the event seconds that lie in no kept old segment's stretch are worked, and each
-/// kept segment is taken over. The other segments hold `spacing` event seconds each, or fewer, and at
+/// kept segment is reused. The other segments hold `spacing` event seconds each, or fewer, and at
 /// least one, where no more of them come before an old segment's first second, or at all. Where the
-/// edits touch no job, all old segments are taken over and no event second is worked.
+/// edits touch no job, all old segments are reused and no event second is worked.
 ///
 /// Its condition: each edit is accepted, one after another, and the table is the old one after them;
 /// with no edit, an equal one. BadSpacing where `spacing` is not within 1 to 65,536; Memory where a
@@ -44,11 +44,10 @@ pub fn rerun<A: Allocator + Copy>(
     requires accepted { AreAccepted run.now.log (map edit_of edits.now) }
     requires table { arc_value table ≡ log_after run.now.log (map edit_of edits.now) }
     ensures spacing { OnOk result (IsSpacing spacing) }
-    ensures log { IfOk result (λ (again, work). again.log ≡ arc_value table) }
-    ensures setting { IfOk result (λ (again, work). again.setting ≡ run.now.setting) }
+    ensures of { IfOk result (λ (again, work). (again.log ≡ arc_value table) × (again.scenario ≡ run.now.scenario)) }
     ensures sound { IfOk result (λ (again, work). IsRun again) }
-    ensures rejoined { IfOk result (λ (again, work). IsRejoined (plan_of run.now.log run.now.setting) (plan_of (arc_value table) run.now.setting) run.now.segments spacing again.segments work.handled work.reused) }
-    ensures untouched { NothingTouched (plan_of run.now.log run.now.setting) (plan_of (arc_value table) run.now.setting) → IfOk result (λ (again, work). IsTakenOver run.now.segments again.segments work.handled work.reused) }
+    ensures rejoined { IfOk result (λ (again, work). IsRejoined (plan_of run.now.log run.now.scenario) (plan_of (arc_value table) run.now.scenario) run.now.segments spacing again.segments work.handled work.reused) }
+    ensures untouched { NothingTouched (plan_of run.now.log run.now.scenario) (plan_of (arc_value table) run.now.scenario) → IfOk result (λ (again, work). AreReused run.now.segments again.segments work.handled work.reused) }
     ensures fault { IfErr result (λ f. IsRefusal spacing f) }
 {
     if spacing < 1 || spacing > MAX_SPACING {
@@ -68,7 +67,7 @@ pub fn rerun<A: Allocator + Copy>(
         &table,
         &run.scenario(),
     )?;
-    let again = Run::of_taken_over(
+    let again = Run::of_reused(
         alloc,
         run,
         table.clone()?,

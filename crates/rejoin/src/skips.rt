@@ -14,7 +14,6 @@ use std::alloc::Allocator;
 use std::collections::BTreeSet;
 use swf_text::{ENTRY_LIMIT, Memory};
 
-// Why the entry of this number is skipped, where there is one and it is.
 fn skip_of<A: Allocator + Copy>(
     table: &JobTable<A>,
     scenario: &Scenario,
@@ -26,7 +25,6 @@ fn skip_of<A: Allocator + Copy>(
     effective(entry, scenario).err()
 }
 
-// One entry more that is skipped for this reason, if there is one.
 fn add(skips: &mut Skips, reason: Option<Skip>)
     requires size { skips.old.size < 2 ^ 63 }
     requires run { skips.old.run < 2 ^ 63 }
@@ -46,7 +44,6 @@ fn add(skips: &mut Skips, reason: Option<Skip>)
     }
 }
 
-// One entry less that is skipped for this reason, if there is one.
 fn take(skips: &mut Skips, reason: Option<Skip>)
     requires size { times reasons.NoSize reason ≤ skips.old.size }
     requires run { times reasons.NoRun reason ≤ skips.old.run }
@@ -66,7 +63,6 @@ fn take(skips: &mut Skips, reason: Option<Skip>)
     }
 }
 
-// The counts with the entries of these numbers more.
 fn with_all<A: Allocator + Copy>(
     skips: Skips,
     numbers: &BTreeSet<u64, A>,
@@ -83,7 +79,6 @@ fn with_all<A: Allocator + Copy>(
     counts
 }
 
-// The counts with the entries of these numbers less.
 fn without_all<A: Allocator + Copy>(
     skips: Skips,
     numbers: &BTreeSet<u64, A>,
@@ -100,7 +95,6 @@ fn without_all<A: Allocator + Copy>(
     counts
 }
 
-// The numbers of these edits.
 fn numbers_of<A: Allocator + Copy>(alloc: A, edits: &[Edit<A>]) -> Result<BTreeSet<u64, A>, Memory>
     ensures { IfOk result (λ numbers. AreNumbersOf (map edit_of edits.now) numbers.keys) }
 {

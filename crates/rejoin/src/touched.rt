@@ -15,7 +15,6 @@ use scenarios::{Job, PlanRef};
 use std::alloc::Allocator;
 use swf_text::Memory;
 
-// The job number of an edit.
 pub(crate) fn number_of<A: Allocator + Copy>(edit: &Edit<A>) -> u64
     ensures { result ≡ named (edit_of edit.now) }
 {
@@ -26,7 +25,6 @@ pub(crate) fn number_of<A: Allocator + Copy>(edit: &Edit<A>) -> u64
     }
 }
 
-// Whether the number has different jobs in the old plan and in the new one, or a job in one alone.
 fn is_touched<A: Allocator + Copy>(
     old_plan: &PlanRef<'_, A>,
     new_plan: &PlanRef<'_, A>,
@@ -37,7 +35,6 @@ fn is_touched<A: Allocator + Copy>(
     old_plan.job(number) != new_plan.job(number)
 }
 
-// The touched numbers among those of the edits, rising, each once, by one look-up in each plan for each edit.
 pub(crate) fn touched_numbers<A: Allocator + Copy>(
     alloc: A,
     old_plan: &PlanRef<'_, A>,
@@ -61,7 +58,6 @@ pub(crate) fn touched_numbers<A: Allocator + Copy>(
     Ok(distinct(numbers))
 }
 
-// Adds the submit second of a job, where there is one.
 fn add_submit<A: Allocator + Copy>(
     submits: &mut Vec<u64, A>,
     job: Option<Job>,
@@ -74,7 +70,6 @@ fn add_submit<A: Allocator + Copy>(
     Ok(())
 }
 
-// The submit seconds of the touched numbers, in the old plan and in the new one, rising.
 pub(crate) fn touched_submits<A: Allocator + Copy>(
     alloc: A,
     old_plan: &PlanRef<'_, A>,

@@ -68,8 +68,8 @@ pub page-failed : (a b c : Option (List ℕ)) (pages : List Page) (k : ℕ) (d :
 page-failed a b c pages k d bytes lt is before q =
     let front = all_lines (take k pages) in
     let here = lines_in (get_or pages k d) in
-    let told : (n : ℕ) × Appends b c (take n here) = subst (λ (l : List ℕ). (n : ℕ) × Appends b c (take n l)) is q in
-    let both : (n : ℕ) × Appends a c (take n (front ++ here)) = front_after a b c front here before told in
+    let outcome : (n : ℕ) × Appends b c (take n here) = subst (λ (l : List ℕ). (n : ℕ) × Appends b c (take n l)) is q in
+    let both : (n : ℕ) × Appends a c (take n (front ++ here)) = front_after a b c front here before outcome in
     let all : all_lines pages ≡ (front ++ here) ++ all_lines (drop (k + 1) pages) =
     ap all_lines (sym (take-append-drop (k + 1) pages)) ∙ flat_map-append lines_in (take (k + 1) pages) (drop (k + 1) pages) ∙ ap (λ l. l ++ all_lines (drop (k + 1) pages)) (flat-next lines_in pages k d lt) in
     subst (λ (l : List ℕ). (n : ℕ) × Appends a c (take n l)) (sym all) (front_more a c (front ++ here) (all_lines (drop (k + 1) pages)) both)
@@ -78,7 +78,7 @@ page-failed a b c pages k d bytes lt is before q =
 -- and the rest.
 pub record IsPrinting (old now : Option (List ℕ)) (ready next : List Page) (rows whole : List Row) : Type 0 where
   pub done : List Row
-  pub told : Appends old now (flat_map row_line done)
+  pub outcome : Appends old now (flat_map row_line done)
   pub all : done ++ (all_rows ready ++ (all_rows next ++ rows)) ≡ whole
   pub lines : all_lines ready ≡ flat_map row_line (all_rows ready)
 
@@ -86,7 +86,7 @@ pub record IsPrinting (old now : Option (List ℕ)) (ready next : List Page) (ro
 pub begun : (a : Option (List ℕ)) (first ready next : List Page) (behind rows whole : List Row) → Appends a a [] → AreLines first ready → all_rows first ++ behind ≡ whole → all_rows next ++ rows ≡ behind → IsPrinting a a ready next rows whole
 begun a first ready next behind rows whole none p is more = record {
   done = [];
-  told = none;
+  outcome = none;
   all = ap (λ l. l ++ (all_rows next ++ rows)) p.rows ∙ ap (λ l. all_rows first ++ l) more ∙ is;
   lines = p.lines ∙ ap (flat_map row_line) (sym p.rows);
 }
@@ -96,14 +96,14 @@ lines-of : (a b : Option (List ℕ)) (ready next : List Page) (rows whole : List
 lines-of a b ready next rows whole u = ap (λ l. flat_map row_line u.done ++ l) u.lines ∙ sym (flat_map-append row_line u.done (all_rows ready))
 
 -- they were written
-lines-told : (a b c : Option (List ℕ)) (ready next : List Page) (rows whole : List Row) → (u : IsPrinting a b ready next rows whole) → Appends b c (all_lines ready) → Appends a c (flat_map row_line (u.done ++ all_rows ready))
-lines-told a b c ready next rows whole u w = subst (Appends a c) (lines-of a b ready next rows whole u) (Appends-trans a b c (flat_map row_line u.done) (all_lines ready) u.told w)
+lines-outcome : (a b c : Option (List ℕ)) (ready next : List Page) (rows whole : List Row) → (u : IsPrinting a b ready next rows whole) → Appends b c (all_lines ready) → Appends a c (flat_map row_line (u.done ++ all_rows ready))
+lines-outcome a b c ready next rows whole u w = subst (Appends a c) (lines-of a b ready next rows whole u) (Appends-trans a b c (flat_map row_line u.done) (all_lines ready) u.outcome w)
 
 -- they were written, and took the next rows; the others were printed
 pub turned : (a b c : Option (List ℕ)) (ready next took prints : List Page) (rows rest whole : List Row) → IsPrinting a b ready next rows whole → Appends b c (all_lines ready) → all_rows took ++ rest ≡ rows → AreLines next prints → IsPrinting a c prints took rest whole
 turned a b c ready next took prints rows rest whole u w is p = record {
   done = u.done ++ all_rows ready;
-  told = lines-told a b c ready next rows whole u w;
+  outcome = lines-outcome a b c ready next rows whole u w;
   all = append_assoc u.done (all_rows ready) (all_rows prints ++ (all_rows took ++ rest))
       ∙ ap (λ l. u.done ++ (all_rows ready ++ l)) (ap (λ l. l ++ (all_rows took ++ rest)) p.rows ∙ ap (λ l. all_rows next ++ l) is) ∙ u.all;
   lines = p.lines ∙ ap (flat_map row_line) (sym p.rows);
@@ -115,7 +115,7 @@ failed a b c ready next rows whole u w =
     let front = flat_map row_line (u.done ++ all_rows ready) in
     let all : (u.done ++ all_rows ready) ++ (all_rows next ++ rows) ≡ whole = append_assoc u.done (all_rows ready) (all_rows next ++ rows) ∙ u.all in
     let lines : front ++ flat_map row_line (all_rows next ++ rows) ≡ flat_map row_line whole = sym (flat_map-append row_line (u.done ++ all_rows ready) (all_rows next ++ rows)) ∙ ap (flat_map row_line) all in
-    let here : (n : ℕ) × Appends a c (take n front) = subst (λ (l : List ℕ). (n : ℕ) × Appends a c (take n l)) (lines-of a b ready next rows whole u) (front_after a b c (flat_map row_line u.done) (all_lines ready) u.told w) in
+    let here : (n : ℕ) × Appends a c (take n front) = subst (λ (l : List ℕ). (n : ℕ) × Appends a c (take n l)) (lines-of a b ready next rows whole u) (front_after a b c (flat_map row_line u.done) (all_lines ready) u.outcome w) in
     subst (λ (l : List ℕ). (n : ℕ) × Appends a c (take n l)) lines (front_more a c front (flat_map row_line (all_rows next ++ rows)) here)
 
 -- no rows are left: those that were printed are written, and then the others
@@ -124,18 +124,18 @@ ended r a b c d ready next prints rows whole u none w p v =
     let front = u.done ++ all_rows ready in
     let all : front ++ all_rows next ≡ whole = append_assoc u.done (all_rows ready) (all_rows next) ∙ ap (λ l. u.done ++ (all_rows ready ++ l)) (sym (append-nil (all_rows next)) ∙ ap (λ l. all_rows next ++ l) (sym none)) ∙ u.all in
     let lines : flat_map row_line front ++ all_lines prints ≡ flat_map row_line whole = ap (λ l. flat_map row_line front ++ l) p.lines ∙ sym (flat_map-append row_line front (all_rows next)) ∙ ap (flat_map row_line) all in
-    subst (Writes r a d) lines (writes_then r a c d (flat_map row_line front) (all_lines prints) (lines-told a b c ready next rows whole u w) v)
+    subst (Writes r a d) lines (writes_then r a c d (flat_map row_line front) (all_lines prints) (lines-outcome a b c ready next rows whole u w) v)
 
 -- ---- pages that are printed and written one after another
 
 -- Of these rows the first are written, and behind them come these.
 pub record IsWriting (old now : Option (List ℕ)) (rows whole : List Row) : Type 0 where
   pub done : List Row
-  pub told : Appends old now (flat_map row_line done)
+  pub outcome : Appends old now (flat_map row_line done)
   pub all : done ++ rows ≡ whole
 
 pub none-done : (a : Option (List ℕ)) (rows : List Row) → Appends a a [] → IsWriting a a rows rows
-none-done a rows none = record { done = []; told = none; all = refl }
+none-done a rows none = record { done = []; outcome = none; all = refl }
 
 -- the bytes are the lines of a page's rows
 bytes-of : (done : List Row) (page : List Row) (bytes : List ℕ) → bytes ≡ flat_map row_line page → flat_map row_line done ++ bytes ≡ flat_map row_line (done ++ page)
@@ -144,7 +144,7 @@ bytes-of done page bytes is = ap (λ l. flat_map row_line done ++ l) is ∙ sym 
 pub more-done : (a b c : Option (List ℕ)) (page rows rest whole : List Row) (bytes : List ℕ) → IsWriting a b rows whole → page ++ rest ≡ rows → bytes ≡ flat_map row_line page → Appends b c bytes → IsWriting a c rest whole
 more-done a b c page rows rest whole bytes u is lines w = record {
   done = u.done ++ page;
-  told = subst (Appends a c) (bytes-of u.done page bytes lines) (Appends-trans a b c (flat_map row_line u.done) bytes u.told w);
+  outcome = subst (Appends a c) (bytes-of u.done page bytes lines) (Appends-trans a b c (flat_map row_line u.done) bytes u.outcome w);
   all = append_assoc u.done page rest ∙ ap (λ l. u.done ++ l) is ∙ u.all;
 }
 
@@ -153,8 +153,8 @@ not-done a b c page rows rest whole bytes u is lines w =
     let front = flat_map row_line (u.done ++ page) in
     let all : (u.done ++ page) ++ rest ≡ whole = append_assoc u.done page rest ∙ ap (λ l. u.done ++ l) is ∙ u.all in
     let text : front ++ flat_map row_line rest ≡ flat_map row_line whole = sym (flat_map-append row_line (u.done ++ page) rest) ∙ ap (flat_map row_line) all in
-    let here : (n : ℕ) × Appends a c (take n front) = subst (λ (l : List ℕ). (n : ℕ) × Appends a c (take n l)) (bytes-of u.done page bytes lines) (front_after a b c (flat_map row_line u.done) bytes u.told w) in
+    let here : (n : ℕ) × Appends a c (take n front) = subst (λ (l : List ℕ). (n : ℕ) × Appends a c (take n l)) (bytes-of u.done page bytes lines) (front_after a b c (flat_map row_line u.done) bytes u.outcome w) in
     subst (λ (l : List ℕ). (n : ℕ) × Appends a c (take n l)) text (front_more a c front (flat_map row_line rest) here)
 
 pub all-done : (a b : Option (List ℕ)) (rows whole : List Row) → IsWriting a b rows whole → rows ≡ [] → Appends a b (flat_map row_line whole)
-all-done a b rows whole u none = subst (Appends a b) (ap (flat_map row_line) (sym (append-nil u.done) ∙ ap (λ l. u.done ++ l) (sym none) ∙ u.all)) u.told
+all-done a b rows whole u none = subst (Appends a b) (ap (flat_map row_line) (sym (append-nil u.done) ∙ ap (λ l. u.done ++ l) (sym none) ∙ u.all)) u.outcome

@@ -6,7 +6,7 @@ use Rattle.swf_text.specs.Entry.{LogEntry, number_of_entry}
 use Rattle.scenarios.specs.declared.skip.Skip.{Skip}
 use Rattle.scenarios.specs.declared.skip.Skip.TheVariants.{NoSize, NoRun, TooLarge, TooLong}
 use Rattle.scenarios.specs.Job.{EffectiveJob}
-use Rattle.scenarios.specs.Scenario.{Setting}
+use Rattle.scenarios.specs.Scenario.{ScenarioView}
 use Rattle.scenarios.specs.Effective.{effective}
 use Rattle.report.specs.Pieces.{right, cell, verdict}
 use Rattle.report.specs.Heading.{heading}
@@ -24,15 +24,15 @@ job_cells job =
     cell 10 job.submit ++ cell 8 job.size ++ cell 10 job.estimate ++ cell 10 job.length ++ codes " " ++ right 8 (signed_decimal job.user)
     ++ verdict job.killed
 
--- what is told of an entry: its job, or why it is skipped
-abbrev pub told_of : Result EffectiveJob Skip → List ℕ
-told_of (Ok job) = job_cells job
-told_of (Err skip) = codes " skipped " ++ reason skip ++ codes "\n"
+-- what is written of an entry: its job, or why it is skipped
+abbrev pub job_or_reason : Result EffectiveJob Skip → List ℕ
+job_or_reason (Ok job) = job_cells job
+job_or_reason (Err skip) = codes " skipped " ++ reason skip ++ codes "\n"
 
 -- an entry's number, and what it is under the scenario
-abbrev pub entry_line : Setting → LogEntry → List ℕ
-entry_line scenario entry = right 8 (decimal (number_of_entry entry)) ++ told_of (effective entry scenario)
+abbrev pub entry_line : ScenarioView → LogEntry → List ℕ
+entry_line scenario entry = right 8 (decimal (number_of_entry entry)) ++ job_or_reason (effective entry scenario)
 
 -- a line for each entry, in the order of the log
-abbrev pub log_text : List ℕ → ℕ → List LogEntry → Setting → List ℕ
+abbrev pub log_text : List ℕ → ℕ → List LogEntry → ScenarioView → List ℕ
 log_text name version log scenario = heading (codes "log") name version (codes "entries") (length log) ++ flat_map (entry_line scenario) log

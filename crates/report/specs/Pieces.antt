@@ -22,7 +22,7 @@ cell width n = codes " " ++ right width (decimal n)
 abbrev pub thousandths : ℕ → ℕ → List ℕ
 thousandths width n = right width (decimal (n / 1000)) ++ codes "." ++ three_digits (n % 1000)
 
--- a part of the whole, told in 100,000ths, as percent
+-- a part of the whole, given in 100,000ths, as percent
 abbrev pub percent : ℕ → ℕ → List ℕ
 percent width n = thousandths width n ++ codes "%"
 

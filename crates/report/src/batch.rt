@@ -20,7 +20,6 @@ pub(crate) struct Batch<A: Allocator + Copy> {
     pub(crate) pages: Vec<Page, A>,
 }
 
-// Each page takes the next rows in the place of those that it had.
 fn take_all<S: Source>(pages: &mut [Page], rows: &mut S)
     ensures same { length pages.new ≡ length pages.old }
     ensures rows { all_rows pages.new ++ S.rows rows.new ≡ S.rows rows.old }
@@ -31,7 +30,6 @@ fn take_all<S: Source>(pages: &mut [Page], rows: &mut S)
     }
 }
 
-// Prints the pages, side by side.
 fn print_all<R: Threads + Sync>(rt: &R, pages: &mut [Page])
     ensures { ArePrints pages.old pages.new }
 {
@@ -44,7 +42,6 @@ fn print_all<R: Threads + Sync>(rt: &R, pages: &mut [Page])
     );
 }
 
-// Writes what was printed of the pages, one after another.
 fn write_all<W: Write>(writer: &mut W, pages: &[Page]) -> Result<(), WriteFault>
     ensures { Writes result (W.contents writer.old) (W.contents writer.new) (all_lines pages.now) }
 {
@@ -54,7 +51,6 @@ fn write_all<W: Write>(writer: &mut W, pages: &[Page]) -> Result<(), WriteFault>
     Ok(())
 }
 
-// Prints pages while others are written, which then take the next rows.
 fn print_beside<R: Threads + Sync, W: Write, S: Source>(
     rt: &R,
     writer: &mut W,
@@ -99,7 +95,6 @@ impl<A: Allocator + Copy> Batch<A> {
         Ok(Batch { pages })
     }
 
-    // Takes the next rows in the place of those that it had.
     pub(crate) fn take<S: Source>(&mut self, rows: &mut S)
         ensures same { length self.new.pages.items ≡ length self.old.pages.items }
         ensures rows { all_rows self.new.pages.items ++ S.rows rows.new ≡ S.rows rows.old }
@@ -107,21 +102,18 @@ impl<A: Allocator + Copy> Batch<A> {
         take_all(self.pages.as_mut_slice(), rows);
     }
 
-    // Prints its pages, side by side.
     pub(crate) fn print<R: Threads + Sync>(&mut self, rt: &R)
         ensures { ArePrints self.old.pages.items self.new.pages.items }
     {
         print_all(rt, self.pages.as_mut_slice());
     }
 
-    // Writes what was printed of it.
     pub(crate) fn write<W: Write>(&self, writer: &mut W) -> Result<(), WriteFault>
         ensures { Writes result (W.contents writer.old) (W.contents writer.new) (all_lines self.now.pages.items) }
     {
         write_all(writer, self.pages.as_slice())
     }
 
-    // Prints its pages while those of another batch are written, which then takes the next rows.
     pub(crate) fn print_beside<R: Threads + Sync, W: Write, S: Source>(
         &mut self,
         rt: &R,

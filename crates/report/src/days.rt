@@ -8,10 +8,9 @@ use crate::pieces::{push_aligned, push_cell, push_percent};
 use metrics::DayRow;
 use std::alloc::{AllocError, Allocator};
 
-/// Room for the line of a day whose numbers fit their columns.
+/// Capacity for the line of a day whose numbers fit their columns.
 const LINE: usize = 35;
 
-// The line of a day.
 fn push_day<A: Allocator + Copy>(text: &mut Vec<u8, A>, row: &DayRow) -> Result<(), AllocError>
     ensures { OnOk result (text.new.items ≡ text.old.items ++ day_line row.now) }
 {
@@ -23,7 +22,6 @@ fn push_day<A: Allocator + Copy>(text: &mut Vec<u8, A>, row: &DayRow) -> Result<
     Ok(())
 }
 
-// The report on these days.
 pub(crate) fn days_report<A: Allocator + Copy>(
     alloc: A,
     name: &str,

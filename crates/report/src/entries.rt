@@ -2,7 +2,7 @@
 
 ghost use Rattle.std.specs.Prelude.{◌≡◌, ◌++◌, OnOk, IfOk, Err};
 ghost use Rattle.scenarios.specs.Effective.{effective};
-ghost use Rattle.report.specs.Entries.{reason, job_cells, told_of, entry_line, log_text};
+ghost use Rattle.report.specs.Entries.{reason, job_cells, job_or_reason, entry_line, log_text};
 
 use crate::heading::push_heading;
 use crate::pieces::{push_aligned, push_cell, verdict};
@@ -11,10 +11,9 @@ use scenarios::{Job, Scenario, Skip, effective};
 use std::alloc::{AllocError, Allocator};
 use swf_text::{Entry, Memory};
 
-/// Room for the line of an entry whose numbers fit their columns.
+/// Capacity for the line of an entry whose numbers fit their columns.
 const LINE: usize = 65;
 
-// The name of a reason to skip an entry.
 fn reason(skip: Skip) -> &'static [u8]
     ensures { result.now ≡ reason skip }
 {
@@ -26,7 +25,6 @@ fn reason(skip: Skip) -> &'static [u8]
     }
 }
 
-// What is told of a job.
 fn push_job<A: Allocator + Copy>(text: &mut Vec<u8, A>, job: &Job) -> Result<(), AllocError>
     ensures { OnOk result (text.new.items ≡ text.old.items ++ job_cells job.now) }
 {
@@ -40,9 +38,8 @@ fn push_job<A: Allocator + Copy>(text: &mut Vec<u8, A>, job: &Job) -> Result<(),
     Ok(())
 }
 
-// Why an entry is skipped.
 fn push_skip<A: Allocator + Copy>(text: &mut Vec<u8, A>, skip: Skip) -> Result<(), AllocError>
-    ensures { OnOk result (text.new.items ≡ text.old.items ++ told_of (Err skip)) }
+    ensures { OnOk result (text.new.items ≡ text.old.items ++ job_or_reason (Err skip)) }
 {
     text.extend_from_slice(b" skipped ")?;
     text.extend_from_slice(reason(skip))?;
@@ -50,20 +47,18 @@ fn push_skip<A: Allocator + Copy>(text: &mut Vec<u8, A>, skip: Skip) -> Result<(
     Ok(())
 }
 
-// What is told of an entry: its job, or why it is skipped.
-fn push_told<A: Allocator + Copy>(
+fn push_job_or_reason<A: Allocator + Copy>(
     text: &mut Vec<u8, A>,
-    told: Result<Job, Skip>,
+    outcome: Result<Job, Skip>,
 ) -> Result<(), AllocError>
-    ensures { OnOk result (text.new.items ≡ text.old.items ++ told_of told) }
+    ensures { OnOk result (text.new.items ≡ text.old.items ++ job_or_reason outcome) }
 {
-    match told {
+    match outcome {
         Ok(job) => push_job(text, &job),
         Err(skip) => push_skip(text, skip),
     }
 }
 
-// The line of an entry.
 fn push_entry<A: Allocator + Copy>(
     text: &mut Vec<u8, A>,
     entry: &Entry<A>,
@@ -72,7 +67,7 @@ fn push_entry<A: Allocator + Copy>(
     ensures { OnOk result (text.new.items ≡ text.old.items ++ entry_line scenario.now entry.now) }
 {
     push_aligned(text, entry.number(), 8)?;
-    push_told(text, effective(entry, scenario))?;
+    push_job_or_reason(text, effective(entry, scenario))?;
     Ok(())
 }
 

@@ -6,7 +6,6 @@ ghost use Rattle.report.specs.Heading.{title, heading};
 use crate::pieces::push_number;
 use std::alloc::{AllocError, Allocator};
 
-// What the report tells, of which scenario, at which version of the log.
 pub(crate) fn push_title<A: Allocator + Copy>(
     text: &mut Vec<u8, A>,
     kind: &str,
@@ -22,7 +21,6 @@ pub(crate) fn push_title<A: Allocator + Copy>(
     push_number(text, version)
 }
 
-// A title, and how many lines of this kind follow.
 pub(crate) fn push_heading<A: Allocator + Copy>(
     text: &mut Vec<u8, A>,
     kind: &str,

@@ -6,12 +6,12 @@ ghost use Rattle.report.specs.Pieces.{right, cell};
 
 use itoa::write_digits;
 
-/// Room for five numbers, each of up to 20 digits and behind a blank.
+/// Capacity for five numbers, each of up to 20 digits and behind a blank.
 pub(crate) const ROOM: usize = 105;
 
 // Puts a number, at least so wide, so that it ends here. Answers where it begins.
 pub(crate) fn put_right(line: &mut [u8; ROOM], end: usize, number: u64, width: usize) -> usize
-    requires room { 20 ≤ end }
+    requires capacity { 20 ≤ end }
     requires within { end ≤ 105 }
     requires narrow { width ≤ 16 }
     requires blank { take end line.old ≡ replicate end 32 }
@@ -26,7 +26,7 @@ pub(crate) fn put_right(line: &mut [u8; ROOM], end: usize, number: u64, width: u
 
 // Puts a blank, and a number at least so wide, so that it ends here. Answers where the blank is.
 pub(crate) fn put_cell(line: &mut [u8; ROOM], end: usize, number: u64, width: usize) -> usize
-    requires room { 21 ≤ end }
+    requires capacity { 21 ≤ end }
     requires within { end ≤ 105 }
     requires narrow { width ≤ 16 }
     requires blank { take end line.old ≡ replicate end 32 }

@@ -37,7 +37,6 @@ pub(crate) struct Page {
     pub(crate) lines: ArrayVec<u8, MOST_BYTES>,
 }
 
-// Adds all of the bytes.
 fn put_all(lines: &mut ArrayVec<u8, MOST_BYTES>, bytes: &[u8])
     requires { length lines.old.items + length bytes.now ≤ 28416 }
     ensures { lines.new.items ≡ lines.old.items ++ bytes.now }
@@ -47,7 +46,6 @@ fn put_all(lines: &mut ArrayVec<u8, MOST_BYTES>, bytes: &[u8])
     };
 }
 
-// The line of a job.
 fn put_row(lines: &mut ArrayVec<u8, MOST_BYTES>, row: &Row)
     requires { length lines.old.items + 111 ≤ 28416 }
     ensures line { lines.new.items ≡ lines.old.items ++ row_line row.now }
@@ -58,7 +56,6 @@ fn put_row(lines: &mut ArrayVec<u8, MOST_BYTES>, row: &Row)
     put_all(lines, verdict(row.killed));
 }
 
-// The lines of these rows, in the place of others.
 fn put_rows(lines: &mut ArrayVec<u8, MOST_BYTES>, rows: &[Row])
     requires { length rows.now ≤ 256 }
     ensures { lines.new.items ≡ flat_map row_line rows.now }
@@ -69,9 +66,9 @@ fn put_rows(lines: &mut ArrayVec<u8, MOST_BYTES>, rows: &[Row])
     }
 }
 
-// Takes the next rows, as many as there is room for: how many they are.
+// Takes the next rows, as many as there is capacity for: how many they are.
 fn take_rows<S: Source>(taken: &mut [Row], rows: &mut S) -> usize
-    ensures room { result ≤ length taken.new }
+    ensures capacity { result ≤ length taken.new }
     ensures same { length taken.new ≡ length taken.old }
     ensures rows { take result taken.new ++ S.rows rows.new ≡ S.rows rows.old }
     ensures some { 0 < length taken.old → 0 < length (S.rows rows.old) → 0 < result }
@@ -97,7 +94,6 @@ impl Page {
         }
     }
 
-    // Takes the next rows in the place of those that it had.
     pub(crate) fn take<S: Source>(&mut self, rows: &mut S)
         ensures rows { rows_in self.new ++ S.rows rows.new ≡ S.rows rows.old }
         ensures some { 0 < length (S.rows rows.old) → 0 < length (rows_in self.new) }
@@ -105,7 +101,6 @@ impl Page {
         self.count = take_rows(self.rows.as_mut_slice(), rows);
     }
 
-    // Prints the lines of its rows.
     pub(crate) fn print(&mut self)
         ensures rows { rows_in self.new ≡ rows_in self.old }
         ensures lines { lines_in self.new ≡ flat_map row_line (rows_in self.old) }

@@ -13,7 +13,6 @@ const BLANKS: [u8; 16] = [b' '; 16];
 /// As many zeros as three digits may lack.
 const ZEROS: [u8; 3] = [b'0'; 3];
 
-// So many blanks.
 fn blanks(count: usize) -> &'static [u8]
     requires { count ≤ 16 }
     ensures { result.now ≡ replicate count 32 }
@@ -21,7 +20,6 @@ fn blanks(count: usize) -> &'static [u8]
     &BLANKS[..count]
 }
 
-// So many zeros.
 fn zeros(count: usize) -> &'static [u8]
     requires { count ≤ 3 }
     ensures { result.now ≡ replicate count 48 }
@@ -58,7 +56,6 @@ pub(crate) fn push_left<A: Allocator + Copy>(
     Ok(())
 }
 
-// A number.
 pub(crate) fn push_number<N: Integer, A: Allocator + Copy>(
     text: &mut Vec<u8, A>,
     number: N,
@@ -93,7 +90,6 @@ pub(crate) fn push_cell<N: Integer, A: Allocator + Copy>(
     push_aligned(text, number, width)
 }
 
-// The three digits of a number below a thousand.
 fn push_three_digits<A: Allocator + Copy>(
     text: &mut Vec<u8, A>,
     number: u128,
@@ -135,7 +131,6 @@ pub(crate) fn push_percent<A: Allocator + Copy>(
     Ok(())
 }
 
-// Whether a job was killed, and the end of its line.
 pub(crate) fn verdict(killed: bool) -> &'static [u8]
     ensures text { result.now ≡ verdict killed }
     ensures short { length result.now ≤ 6 }

@@ -43,7 +43,6 @@ impl<'a, A: Allocator + Copy> Model for ScheduleReport<'a, A> {
     ghost invariant = { λ s. (0 < length s.printed.pages.items) × (0 < length s.next.pages.items) };
 }
 
-// Writes the lines of these rows, a page after another, on this thread alone.
 fn write_alone<W: Write, A: Allocator + Copy>(
     writer: &mut W,
     mut rows: Rows<'_, A>,
@@ -59,7 +58,6 @@ fn write_alone<W: Write, A: Allocator + Copy>(
     Ok(())
 }
 
-// Writes the lines of these rows.
 fn write_rows<R: Threads + Sync, W: Write, A: Allocator + Copy>(
     rt: &R,
     writer: &mut W,
@@ -84,7 +82,6 @@ fn write_rows<R: Threads + Sync, W: Write, A: Allocator + Copy>(
 }
 
 impl<'a, A: Allocator + Copy> ScheduleReport<'a, A> {
-    // The report on these rows.
     pub(crate) fn new(
         alloc: A,
         name: &str,

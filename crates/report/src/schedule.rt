@@ -9,7 +9,7 @@ use crate::pieces::verdict;
 use checkpoints::{Row, Rows};
 use std::alloc::{AllocError, Allocator};
 
-/// Room for the line of a job whose numbers fit their columns.
+/// Capacity for the line of a job whose numbers fit their columns.
 const LINE: usize = 56;
 
 /// The numbers of a job's line, and where among its blanks they begin.
@@ -19,7 +19,6 @@ pub(crate) struct Numbers {
     pub(crate) begin: usize,
 }
 
-// The numbers of the line of a job.
 pub(crate) fn row_numbers(row: &Row) -> Numbers
     ensures begin { result.begin ≤ 105 }
     ensures long { length result.line ≡ 105 }
@@ -34,7 +33,6 @@ pub(crate) fn row_numbers(row: &Row) -> Numbers
     Numbers { line, begin }
 }
 
-// The line of a job.
 fn push_row<A: Allocator + Copy>(text: &mut Vec<u8, A>, row: &Row) -> Result<(), AllocError>
     ensures { OnOk result (text.new.items ≡ text.old.items ++ row_line row.now) }
 {
@@ -44,7 +42,6 @@ fn push_row<A: Allocator + Copy>(text: &mut Vec<u8, A>, row: &Row) -> Result<(),
     Ok(())
 }
 
-// The report on these rows.
 pub(crate) fn rows_report<A: Allocator + Copy>(
     alloc: A,
     name: &str,

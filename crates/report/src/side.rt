@@ -12,13 +12,13 @@ use std::alloc::{AllocError, Allocator};
 use std::sync::Arc;
 use swf_text::Memory;
 
-/// Room for the line of a scenario whose numbers fit their columns.
+/// Capacity for the line of a scenario whose numbers fit their columns.
 const LINE: usize = 68;
 
 /// The width of a name.
 const NAME: usize = 16;
 
-/// What is told of a scenario beside others.
+/// What is written of a scenario beside others.
 #[derive(Drop)]
 pub enum SideLine<'a, A: Allocator + Copy> {
     /// Its run at a version of the log.
@@ -37,7 +37,6 @@ pub enum SideLine<'a, A: Allocator + Copy> {
     },
 }
 
-// The line of a scenario with these numbers.
 fn push_shown<A: Allocator + Copy>(
     text: &mut Vec<u8, A>,
     name: &str,
@@ -71,7 +70,6 @@ fn push_without<A: Allocator + Copy>(
     Ok(())
 }
 
-// The line of a scenario.
 fn push_side<A: Allocator + Copy>(
     text: &mut Vec<u8, A>,
     line: &SideLine<'_, A>,

@@ -6,7 +6,7 @@ ghost use Rattle.checkpoints.specs.declared.row.Row.{Row as Given};
 use checkpoints::{Row, Rows};
 use std::alloc::Allocator;
 
-/// Gives rows, one after another. What prints them beside what is written is told no lifetime of theirs.
+/// Gives rows, one after another. What prints them beside what is written knows no lifetime of theirs.
 pub(crate) trait Source {
     /// The rows that are left.
     ghost rows: { Self → List Given };

@@ -9,8 +9,7 @@ use itoa::Integer;
 use metrics::{Overall, Skips};
 use std::alloc::{AllocError, Allocator};
 
-// A word, and the number that it names.
-fn push_told<N: Integer, A: Allocator + Copy>(
+fn push_labelled<N: Integer, A: Allocator + Copy>(
     text: &mut Vec<u8, A>,
     word: &str,
     number: N,
@@ -25,8 +24,8 @@ fn push_told<N: Integer, A: Allocator + Copy>(
 fn push_jobs<A: Allocator + Copy>(text: &mut Vec<u8, A>, all: &Overall) -> Result<(), AllocError>
     ensures { OnOk result (text.new.items ≡ text.old.items ++ jobs_line all.now) }
 {
-    push_told(text, "jobs", all.jobs)?;
-    push_told(text, " killed", all.killed)?;
+    push_labelled(text, "jobs", all.jobs)?;
+    push_labelled(text, " killed", all.killed)?;
     text.push(b'\n')?;
     Ok(())
 }
@@ -34,10 +33,10 @@ fn push_jobs<A: Allocator + Copy>(text: &mut Vec<u8, A>, all: &Overall) -> Resul
 fn push_skips<A: Allocator + Copy>(text: &mut Vec<u8, A>, skips: &Skips) -> Result<(), AllocError>
     ensures { OnOk result (text.new.items ≡ text.old.items ++ skips_line skips.now) }
 {
-    push_told(text, "skipped size", skips.size)?;
-    push_told(text, " run", skips.run)?;
-    push_told(text, " large", skips.large)?;
-    push_told(text, " long", skips.long)?;
+    push_labelled(text, "skipped size", skips.size)?;
+    push_labelled(text, " run", skips.run)?;
+    push_labelled(text, " large", skips.large)?;
+    push_labelled(text, " long", skips.long)?;
     text.push(b'\n')?;
     Ok(())
 }
@@ -45,8 +44,8 @@ fn push_skips<A: Allocator + Copy>(text: &mut Vec<u8, A>, skips: &Skips) -> Resu
 fn push_wait<A: Allocator + Copy>(text: &mut Vec<u8, A>, all: &Overall) -> Result<(), AllocError>
     ensures { OnOk result (text.new.items ≡ text.old.items ++ wait_line all.now) }
 {
-    push_told(text, "wait mean", all.wait)?;
-    push_told(text, " greatest", all.greatest_wait)?;
+    push_labelled(text, "wait mean", all.wait)?;
+    push_labelled(text, " greatest", all.greatest_wait)?;
     text.push(b'\n')?;
     Ok(())
 }
@@ -54,7 +53,7 @@ fn push_wait<A: Allocator + Copy>(text: &mut Vec<u8, A>, all: &Overall) -> Resul
 fn push_length<A: Allocator + Copy>(text: &mut Vec<u8, A>, all: &Overall) -> Result<(), AllocError>
     ensures { OnOk result (text.new.items ≡ text.old.items ++ length_line all.now) }
 {
-    push_told(text, "length mean", all.length)?;
+    push_labelled(text, "length mean", all.length)?;
     text.push(b'\n')?;
     Ok(())
 }
@@ -74,8 +73,8 @@ fn push_slowdown<A: Allocator + Copy>(
 fn push_busy<A: Allocator + Copy>(text: &mut Vec<u8, A>, all: &Overall) -> Result<(), AllocError>
     ensures { OnOk result (text.new.items ≡ text.old.items ++ busy_line all.now) }
 {
-    push_told(text, "busy", all.busy)?;
-    push_told(text, " span", all.span)?;
+    push_labelled(text, "busy", all.busy)?;
+    push_labelled(text, " span", all.span)?;
     text.push(b'\n')?;
     Ok(())
 }
@@ -92,7 +91,6 @@ fn push_utilization<A: Allocator + Copy>(
     Ok(())
 }
 
-// The report on all jobs.
 pub(crate) fn table_report<A: Allocator + Copy>(
     alloc: A,
     name: &str,

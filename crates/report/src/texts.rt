@@ -27,8 +27,8 @@ pub fn schedule_text<A: Allocator + Copy>(
     version: u64,
     run: &Run<A>,
 ) -> Result<Vec<u8, A>, Memory>
-    ensures text { IfOk result (λ text. text.items ≡ schedule_text name.now version (plan_of run.now.log run.now.setting)) }
-    ensures lines { IfOk result (λ text. HasALineForEachJob name.now version (plan_of run.now.log run.now.setting) text.items) }
+    ensures text { IfOk result (λ text. text.items ≡ schedule_text name.now version (plan_of run.now.log run.now.scenario)) }
+    ensures lines { IfOk result (λ text. HasALineForEachJob name.now version (plan_of run.now.log run.now.scenario) text.items) }
 {
     let rows = run.rows()?;
     Ok(rows_report(alloc, name, version, rows)?)
@@ -42,8 +42,8 @@ pub fn schedule_report<'a, A: Allocator + Copy>(
     version: u64,
     run: &'a Run<A>,
 ) -> Result<ScheduleReport<'a, A>, Memory>
-    ensures text { IfOk result (λ text. text ≡ schedule_text name.now version (plan_of run.now.log run.now.setting)) }
-    ensures lines { IfOk result (λ text. HasALineForEachJob name.now version (plan_of run.now.log run.now.setting) text) }
+    ensures text { IfOk result (λ text. text ≡ schedule_text name.now version (plan_of run.now.log run.now.scenario)) }
+    ensures lines { IfOk result (λ text. HasALineForEachJob name.now version (plan_of run.now.log run.now.scenario) text) }
 {
     let rows = run.rows()?;
     Ok(ScheduleReport::new(alloc, name, version, rows)?)

@@ -8,10 +8,9 @@ use crate::pieces::{push_aligned, push_cell, push_thousandths};
 use metrics::UserRow;
 use std::alloc::{AllocError, Allocator};
 
-/// Room for the line of a user whose numbers fit their columns.
+/// Capacity for the line of a user whose numbers fit their columns.
 const LINE: usize = 59;
 
-// The line of a user.
 fn push_user<A: Allocator + Copy>(text: &mut Vec<u8, A>, row: &UserRow) -> Result<(), AllocError>
     ensures { OnOk result (text.new.items ≡ text.old.items ++ user_line row.now) }
 {
@@ -25,7 +24,6 @@ fn push_user<A: Allocator + Copy>(text: &mut Vec<u8, A>, row: &UserRow) -> Resul
     Ok(())
 }
 
-// The report on these users.
 pub(crate) fn users_report<A: Allocator + Copy>(
     alloc: A,
     name: &str,

@@ -11,14 +11,14 @@ use Rattle.swf_text.specs.Entry.{LogEntry, IsEntry, field, number_of_entry, subm
 use Rattle.job_table.specs.Edit.{entry_of}
 use Rattle.job_table.specs.Table.{IsTable}
 use Rattle.scenarios.specs.Job.{EffectiveJob, IsWithinLimits}
-use Rattle.scenarios.specs.Scenario.{Setting, IsSetting}
+use Rattle.scenarios.specs.Scenario.{ScenarioView, IsScenario}
 use Rattle.scenarios.specs.declared.skip.Skip.{Skip}
 use Rattle.scenarios.specs.declared.skip.Skip.TheVariants.{TooLarge, TooLong}
 use Rattle.scenarios.specs.Effective.{effective, of_size, of_size_and_run, unless_too_long, job_of, size_of, run_of, estimate_of, base_of, positive, whole_field}
 use Rattle.scenarios.specs.Plan.{jobs_of, job_numbered}
 
 -- what a job takes from its entry
-pub record Takes (e : LogEntry) (s : Setting) (job : EffectiveJob) : Type 0 where
+pub record Takes (e : LogEntry) (s : ScenarioView) (job : EffectiveJob) : Type 0 where
   pub submit : job.submit ≡ submit_of e
   pub number : job.number ≡ number_of_entry e
   pub some : 1 ≤ job.size
@@ -48,7 +48,7 @@ size-some line n h = go (positive (whole_field line 8)) refl h
     go None e h = positive-some (whole_field line 5) n h
     go (Some m) e h = positive-some (whole_field line 8) n (e ∙ h)
 
-pub takes : (e : LogEntry) (s : Setting) (job : EffectiveJob) → result_ok (effective e s) ≡ Some job → Takes e s job
+pub takes : (e : LogEntry) (s : ScenarioView) (job : EffectiveJob) → result_ok (effective e s) ≡ Some job → Takes e s job
 takes e s job h = by_size (size_of e.main) refl h
   where
     by_long : (b : Bool) (made : EffectiveJob) → (b ≡ false → Takes e s made) → result_ok {T = EffectiveJob} {E = Skip} (cond b (Err TooLong) (Ok made)) ≡ Some job → Takes e s job
@@ -105,12 +105,12 @@ submit-small e h = go (field e.main 2) h.submit h.submit_limit
     go (negsuc m) l k = absurd (omega (arith, ints))
 
 -- a job of a sound entry is within its limits
-pub within-limits : (e : LogEntry) (s : Setting) (job : EffectiveJob) → IsEntry e → IsSetting s → result_ok (effective e s) ≡ Some job → IsWithinLimits job
-within-limits e s job sound setting h =
+pub within-limits : (e : LogEntry) (s : ScenarioView) (job : EffectiveJob) → IsEntry e → IsScenario s → result_ok (effective e s) ≡ Some job → IsWithinLimits job
+within-limits e s job sound scenario h =
     let t = takes e s job h in
     record {
       takes_some = t.some;
-      fits_some = let a = t.fits in let b = setting.procs_fit in omega (arith, a, b);
+      fits_some = let a = t.fits in let b = scenario.procs_fit in omega (arith, a, b);
       lasts = t.lasts;
       within_estimate = t.within_estimate;
       within_limit = t.within_limit;
@@ -119,14 +119,14 @@ within-limits e s job sound setting h =
     }
 
 -- ---- look-ups
-abbrev pub kept : Setting → LogEntry → Option EffectiveJob
+abbrev pub kept : ScenarioView → LogEntry → Option EffectiveJob
 kept s e = result_ok (effective e s)
 
 abbrev numbered : ℕ → LogEntry → Bool
 numbered n e = number_of_entry e == n
 
 -- no job has a number that no entry has
-none-numbered : (s : Setting) (n : ℕ) (es : List LogEntry) → count_by (numbered n) es ≡ 0 → job_numbered (jobs_of es s) n ≡ None
+none-numbered : (s : ScenarioView) (n : ℕ) (es : List LogEntry) → count_by (numbered n) es ≡ 0 → job_numbered (jobs_of es s) n ≡ None
 none-numbered s n [] c = refl
 none-numbered s n (e ∷ es) c =
     let k = sum_by-cons (λ (e : LogEntry). cond {A = ℕ} (numbered n e) 1 0) e es in
@@ -142,7 +142,7 @@ none-numbered s n (e ∷ es) c =
         cond-false (nat_eq job.number n) (Some job) (job_numbered (jobs_of es s) n) m ∙ i
 
 -- the plan's job of a number is the job of the entry with that number
-pub look-up : (s : Setting) (n : ℕ) (es : List LogEntry) → count_by (numbered n) es ≤ 1 → job_numbered (jobs_of es s) n ≡ option_and_then (kept s) (find (numbered n) es)
+pub look-up : (s : ScenarioView) (n : ℕ) (es : List LogEntry) → count_by (numbered n) es ≤ 1 → job_numbered (jobs_of es s) n ≡ option_and_then (kept s) (find (numbered n) es)
 look-up s n [] c = refl
 look-up s n (e ∷ es) c =
     let k = sum_by-cons (λ (e : LogEntry). cond {A = ℕ} (numbered n e) 1 0) e es in
@@ -190,10 +190,10 @@ once-numbered n (e ∷ es) a =
         (cases_Bool (a == b))
 
 -- the job of a number in a table
-pub found-none : (log : List LogEntry) (s : Setting) (n : ℕ) → IsTable log → None ≡ entry_of n log → job_numbered (jobs_of log s) n ≡ None
+pub found-none : (log : List LogEntry) (s : ScenarioView) (n : ℕ) → IsTable log → None ≡ entry_of n log → job_numbered (jobs_of log s) n ≡ None
 found-none log s n t e =
     look-up s n log (omega (arith, once-numbered n log t.log.sound, t.log.distinct n)) ∙ ap (option_and_then (kept s)) (sym e)
 
-pub found-some : (log : List LogEntry) (s : Setting) (n : ℕ) (x : LogEntry) → IsTable log → Some x ≡ entry_of n log → job_numbered (jobs_of log s) n ≡ result_ok (effective x s)
+pub found-some : (log : List LogEntry) (s : ScenarioView) (n : ℕ) (x : LogEntry) → IsTable log → Some x ≡ entry_of n log → job_numbered (jobs_of log s) n ≡ result_ok (effective x s)
 found-some log s n x t e =
     look-up s n log (omega (arith, once-numbered n log t.log.sound, t.log.distinct n)) ∙ ap (option_and_then (kept s)) (sym e)

@@ -7,15 +7,15 @@ use Rattle.std.proofs.lemmas.Slice.Eq.{bytes_eq-Decides}
 use Rattle.std.proofs.lemmas.Bool.Decides.{nat_tests}
 use Rattle.indexmap.specs.IndexMap.{insert_entry}
 use Rattle.scenarios.specs.Name.{is_name}
-use Rattle.scenarios.specs.Scenario.{Setting, IsSetting}
+use Rattle.scenarios.specs.Scenario.{ScenarioView, IsScenario}
 use Rattle.scenarios.specs.ScenarioList.{Listed, Listing, named, id_of, AreApart, IdsRise, IsListed, IsListing, add_fault, with_scenario, without, without_scenario}
 
 abbrev V : Type 0
-V = ℕ × Setting
+V = ℕ × ScenarioView
 
 module _ {K : Type 0} (bytes : K → List ℕ) where
   abbrev pub row : K × V → Listed
-  row e = record { name = bytes e.0; id = e.1.0; setting = e.1.1 }
+  row e = record { name = bytes e.0; id = e.1.0; scenario = e.1.1 }
 
   abbrev pub rows : List (K × V) → List Listed
   rows es = map row es
@@ -39,11 +39,11 @@ module _ {K : Type 0} (bytes : K → List ℕ) where
       go false t h = rw t (ap (λ l. row e ∷ l) h)
 
   -- an entry under a new key goes last
-  pub rows-insert_entry : (name : List ℕ) (key : K) (v : V) → bytes key ≡ name → (es : List (K × V)) → is_some (option_map (λ s. s.id) (named name (rows es))) ≡ false → rows (insert_entry (λ a b. bytes_eq (bytes a) (bytes b)) es key v) ≡ rows es ++ record { name = name; id = v.0; setting = v.1 } ∷ []
+  pub rows-insert_entry : (name : List ℕ) (key : K) (v : V) → bytes key ≡ name → (es : List (K × V)) → is_some (option_map (λ s. s.id) (named name (rows es))) ≡ false → rows (insert_entry (λ a b. bytes_eq (bytes a) (bytes b)) es key v) ≡ rows es ++ record { name = name; id = v.0; scenario = v.1 } ∷ []
   rows-insert_entry name key v same [] h = rw same refl
   rows-insert_entry name key v same (e ∷ es) h = go (bytes_eq name (bytes e.0)) refl h (rows-insert_entry name key v same es)
     where
-      go : (b : Bool) → bytes_eq name (bytes e.0) ≡ b → is_some (option_map (λ s. s.id) (named name (rows (e ∷ es)))) ≡ false → (is_some (option_map (λ s. s.id) (named name (rows es))) ≡ false → rows (insert_entry (λ a b. bytes_eq (bytes a) (bytes b)) es key v) ≡ rows es ++ record { name = name; id = v.0; setting = v.1 } ∷ []) → rows (insert_entry (λ a b. bytes_eq (bytes a) (bytes b)) (e ∷ es) key v) ≡ rows (e ∷ es) ++ record { name = name; id = v.0; setting = v.1 } ∷ []
+      go : (b : Bool) → bytes_eq name (bytes e.0) ≡ b → is_some (option_map (λ s. s.id) (named name (rows (e ∷ es)))) ≡ false → (is_some (option_map (λ s. s.id) (named name (rows es))) ≡ false → rows (insert_entry (λ a b. bytes_eq (bytes a) (bytes b)) es key v) ≡ rows es ++ record { name = name; id = v.0; scenario = v.1 } ∷ []) → rows (insert_entry (λ a b. bytes_eq (bytes a) (bytes b)) (e ∷ es) key v) ≡ rows (e ∷ es) ++ record { name = name; id = v.0; scenario = v.1 } ∷ []
       go true t h more = let found : true ≡ false = rw t at h in absurd (cc)
       go false t h more = let other : bytes_eq (bytes key) (bytes e.0) ≡ false = rw same t in rw other (ap (λ l. row e ∷ l) (more (rw t at h)))
 
@@ -52,7 +52,7 @@ module _ {K : Type 0} (bytes : K → List ℕ) where
   rows-same [] [] h = refl
   rows-same [] (f ∷ fs) h = absurd h
   rows-same (e ∷ es) [] h = absurd h
-  rows-same (e ∷ es) (f ∷ fs) h = let rest = rows-same es fs h.1 in let text = h.0.0 in let id = h.0.1.0 in let setting = h.0.1.1 in cc
+  rows-same (e ∷ es) (f ∷ fs) h = let rest = rows-same es fs h.1 in let text = h.0.0 in let id = h.0.1.0 in let scenario = h.0.1.1 in cc
 
 -- ---- names
 
@@ -161,7 +161,7 @@ length-without name (t ∷ ss) = go (bytes_eq name t.name) refl (length-without 
 pub record CanAdd (name : List ℕ) (list : Listing) : Type 0 where
   pub called : is_name name ≡ true
   pub new : is_some (id_of name list) ≡ false
-  pub room : length list.scenarios < 64
+  pub capacity : length list.scenarios < 64
   pub last : list.next ≤ 4294967295
 
 pub can_add : (name : List ℕ) (list : Listing) → add_fault name list ≡ None → CanAdd name list
@@ -172,14 +172,14 @@ can_add name list h = go (is_name name) refl (is_some (id_of name list)) refl (l
     go true ea true eb c ec d ed h = absurd (grind (arith, nat_tests))
     go true ea false eb true ec d ed h = absurd (grind (arith, nat_tests))
     go true ea false eb false ec true ed h = absurd (grind (arith, nat_tests))
-    go true ea false eb false ec false ed h = record { called = ea; new = eb; room = grind (arith, nat_tests); last = grind (arith, nat_tests) }
+    go true ea false eb false ec false ed h = record { called = ea; new = eb; capacity = grind (arith, nat_tests); last = grind (arith, nat_tests) }
 
-pub IsListing-with : (name : List ℕ) (setting : Setting) (list : Listing) → IsListing list → CanAdd name list → IsSetting setting → IsListing (with_scenario name setting list)
-IsListing-with name setting list is can set = record {
-  listed = all-append IsListed list.scenarios _ is.listed (record { called = can.called; setting = set });
+pub IsListing-with : (name : List ℕ) (scenario : ScenarioView) (list : Listing) → IsListing list → CanAdd name list → IsScenario scenario → IsListing (with_scenario name scenario list)
+IsListing-with name scenario list is can set = record {
+  listed = all-append IsListed list.scenarios _ is.listed (record { called = can.called; scenario = set });
   apart = AreApart-append list.scenarios _ is.apart (is_none-option_map (λ (s : Listed). s.id) (named name list.scenarios) can.new);
   ids = IdsRise-append 1 list.scenarios list.next _ refl is.ids;
-  room = simp length-append (let room = can.room in omega arith);
+  capacity = simp length-append (let capacity = can.capacity in omega arith);
   last = let last = can.last in omega arith;
 }
 
@@ -188,6 +188,6 @@ IsListing-without name list is = record {
   listed = all-without IsListed name list.scenarios is.listed;
   apart = AreApart-without name list.scenarios is.apart;
   ids = IdsRise-without name 1 list.scenarios list.next is.ids;
-  room = let fewer = length-without name list.scenarios in let room = is.room in omega arith;
+  capacity = let fewer = length-without name list.scenarios in let capacity = is.capacity in omega arith;
   last = is.last;
 }

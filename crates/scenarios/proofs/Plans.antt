@@ -8,14 +8,14 @@ use Rattle.swf_text.specs.Entry.{LogEntry, IsEntry, submit_of, number_of_entry}
 use Rattle.swf_text.specs.Log.{IsRising, submits_before}
 use Rattle.job_table.specs.Table.{IsTable}
 use Rattle.scenarios.specs.Job.{EffectiveJob, IsWithinLimits}
-use Rattle.scenarios.specs.Scenario.{Setting, IsSetting}
+use Rattle.scenarios.specs.Scenario.{ScenarioView, IsScenario}
 use Rattle.scenarios.specs.Plan.{jobs_of, plan_of}
 use Rattle.scenarios.proofs.EffectiveLemmas.{kept, takes, within-limits, once-numbered}
 use Rattle.scenarios.specs.SoundPlan.{IsPlan}
 use Rattle.scenarios.specs.SoundPlan as sound
 
 -- what an entry gives to its job holds of the jobs
-pub all-jobs : (P : LogEntry → Type 0) (Q : EffectiveJob → Type 0) (s : Setting) → ((e : LogEntry) (job : EffectiveJob) → kept s e ≡ Some job → P e → Q job) → (es : List LogEntry) → All P es → All Q (jobs_of es s)
+pub all-jobs : (P : LogEntry → Type 0) (Q : EffectiveJob → Type 0) (s : ScenarioView) → ((e : LogEntry) (job : EffectiveJob) → kept s e ≡ Some job → P e → Q job) → (es : List LogEntry) → All P es → All Q (jobs_of es s)
 all-jobs P Q s f [] a = All-nil Q
 all-jobs P Q s f (e ∷ es) a = go (kept s e) refl (all-jobs P Q s f es (All-tail P e es a))
   where
@@ -27,7 +27,7 @@ recursed : {X : Type 0} (P : X → Type 0) (xs : List X) → AllByRecursion P xs
 recursed P [] a = All-nil P
 recursed P (x ∷ xs) a = All-cons P x xs a.0 (recursed P xs a.1)
 
-few-jobs : (s : Setting) (es : List LogEntry) → length (jobs_of es s) ≤ length es
+few-jobs : (s : ScenarioView) (es : List LogEntry) → length (jobs_of es s) ≤ length es
 few-jobs s [] = omega arith
 few-jobs s (e ∷ es) = go (kept s e) (few-jobs s es)
   where
@@ -35,7 +35,7 @@ few-jobs s (e ∷ es) = go (kept s e) (few-jobs s es)
     go None i = omega (arith, i)
     go (Some job) i = omega (arith, i)
 
-once-jobs : (s : Setting) (n : ℕ) (es : List LogEntry) → count_by (λ (j : EffectiveJob). nat_eq j.number n) (jobs_of es s) ≤ count_by (λ e. number_of_entry e == n) es
+once-jobs : (s : ScenarioView) (n : ℕ) (es : List LogEntry) → count_by (λ (j : EffectiveJob). nat_eq j.number n) (jobs_of es s) ≤ count_by (λ e. number_of_entry e == n) es
 once-jobs s n [] = omega arith
 once-jobs s n (e ∷ es) = go (kept s e) refl (once-jobs s n es)
   where
@@ -96,7 +96,7 @@ abbrev JobsInOrder : List EffectiveJob → Type 0
 JobsInOrder [] = Unit {0}
 JobsInOrder (j ∷ js) = All (Ahead j) js × JobsInOrder js
 
-jobs-in-order : (s : Setting) (es : List LogEntry) → InOrder es → JobsInOrder (jobs_of es s)
+jobs-in-order : (s : ScenarioView) (es : List LogEntry) → InOrder es → JobsInOrder (jobs_of es s)
 jobs-in-order s [] o = tt
 jobs-in-order s (e ∷ es) o = go (kept s e) refl (jobs-in-order s es o.1)
   where
@@ -111,14 +111,14 @@ rising-jobs [] o = tt
 rising-jobs (j ∷ []) o = tt
 rising-jobs (j ∷ k ∷ js) o = (true-Lex j.submit j.number k.submit k.number (All-head (Ahead j) k js o.0), rising-jobs (k ∷ js) o.1)
 
-pub plan-is : (log : List LogEntry) (s : Setting) → IsTable log → IsSetting s → IsPlan (plan_of log s)
+pub plan-is : (log : List LogEntry) (s : ScenarioView) → IsTable log → IsScenario s → IsPlan (plan_of log s)
 plan-is log s t h =
     let entries = recursed IsEntry log t.log.sound in
     record {
       limited = h.procs_fit;
       sizes = all-jobs IsEntry (λ (j : EffectiveJob). j.size ≤ s.procs) s (λ e job k _. (takes e s job k).fits) log entries;
       limits = all-jobs IsEntry IsWithinLimits s (λ e job k entry. within-limits e s job entry h k) log entries;
-      few = (let a = few-jobs s log in let b = t.log.room in omega (arith, a, b));
+      few = (let a = few-jobs s log in let b = t.log.capacity in omega (arith, a, b));
       once = λ n. omega (arith, once-jobs s n log, once-numbered n log t.log.sound, t.log.distinct n);
       rising = rising-jobs (jobs_of log s) (jobs-in-order s log (in-order log t.rising));
     }

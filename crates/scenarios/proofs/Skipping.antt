@@ -6,13 +6,13 @@ use Rattle.std.proofs.lemmas.List.Sums.{sum_by-cons, count_by-le-length}
 use Rattle.swf_text.specs.Entry.{LogEntry}
 use Rattle.scenarios.specs.declared.skip.Skip.{Skip}
 use Rattle.scenarios.specs.declared.skip.Skip.TheVariants as skips
-use Rattle.scenarios.specs.Scenario.{Setting}
+use Rattle.scenarios.specs.Scenario.{ScenarioView}
 use Rattle.scenarios.specs.Effective.{effective}
 use Rattle.scenarios.specs.declared.skips.Skips.{Skips}
 use Rattle.scenarios.specs.Skips.{reasons_of, place_of, count_of, skips_of}
 
 -- no more entries are skipped than there are
-reasons-fewer : (log : List LogEntry) (s : Setting) → length (reasons_of log s) ≤ length log
+reasons-fewer : (log : List LogEntry) (s : ScenarioView) → length (reasons_of log s) ≤ length log
 reasons-fewer [] s = omega arith
 reasons-fewer (e ∷ es) s = go (result_err (effective e s)) (reasons-fewer es s)
   where
@@ -20,24 +20,24 @@ reasons-fewer (e ∷ es) s = go (result_err (effective e s)) (reasons-fewer es s
     go None i = omega (arith, i)
     go (Some k) i = omega (arith, i)
 
-count-fewer : (k : Skip) (log : List LogEntry) (s : Setting) → count_of k (reasons_of log s) ≤ length log
+count-fewer : (k : Skip) (log : List LogEntry) (s : ScenarioView) → count_of k (reasons_of log s) ≤ length log
 count-fewer k log s =
     let a = count_by-le-length (λ (r : Skip). nat_eq (place_of r) (place_of k)) (reasons_of log s) in
     let b = reasons-fewer log s in
     omega (arith, a, b)
 
 -- the counts so far, and those to come
-pub record Counted (so_far : Skips) (coming log : List LogEntry) (s : Setting) : Type 0 where
+pub record Counted (so_far : Skips) (coming log : List LogEntry) (s : ScenarioView) : Type 0 where
   pub size : so_far.size + count_of skips.NoSize (reasons_of coming s) ≡ count_of skips.NoSize (reasons_of log s)
   pub run : so_far.run + count_of skips.NoRun (reasons_of coming s) ≡ count_of skips.NoRun (reasons_of log s)
   pub large : so_far.large + count_of skips.TooLarge (reasons_of coming s) ≡ count_of skips.TooLarge (reasons_of log s)
   pub long : so_far.long + count_of skips.TooLong (reasons_of coming s) ≡ count_of skips.TooLong (reasons_of log s)
 
 -- one more that is skipped
-reasons-more : (coming rest : List LogEntry) (e : LogEntry) (k : Skip) (s : Setting) → coming ≡ e ∷ rest → Err k ≡ effective e s → reasons_of coming s ≡ k ∷ reasons_of rest s
+reasons-more : (coming rest : List LogEntry) (e : LogEntry) (k : Skip) (s : ScenarioView) → coming ≡ e ∷ rest → Err k ≡ effective e s → reasons_of coming s ≡ k ∷ reasons_of rest s
 reasons-more coming rest e k s is err = ap (λ es. reasons_of es s) is ∙ rw (sym err) refl
 
-count-more : (k : Skip) (coming rest : List LogEntry) (e : LogEntry) (r : Skip) (s : Setting) → coming ≡ e ∷ rest → Err r ≡ effective e s
+count-more : (k : Skip) (coming rest : List LogEntry) (e : LogEntry) (r : Skip) (s : ScenarioView) → coming ≡ e ∷ rest → Err r ≡ effective e s
     → count_of k (reasons_of coming s) ≡ count_of k (r ∷ []) + count_of k (reasons_of rest s)
 count-more k coming rest e r s is err =
     let test : Skip → ℕ = λ x. cond {A = ℕ} (nat_eq (place_of x) (place_of k)) 1 0 in
@@ -46,7 +46,7 @@ count-more k coming rest e r s is err =
     let c = sum_by-cons test r [] in
     omega (arith, a, b, c)
 
-pub counted-more : (old new : Skips) (coming rest log : List LogEntry) (e : LogEntry) (r : Skip) (s : Setting) → Counted old coming log s → coming ≡ e ∷ rest → Err r ≡ effective e s
+pub counted-more : (old new : Skips) (coming rest log : List LogEntry) (e : LogEntry) (r : Skip) (s : ScenarioView) → Counted old coming log s → coming ≡ e ∷ rest → Err r ≡ effective e s
     → new.size ≡ old.size + count_of skips.NoSize (r ∷ []) → new.run ≡ old.run + count_of skips.NoRun (r ∷ []) → new.large ≡ old.large + count_of skips.TooLarge (r ∷ []) → new.long ≡ old.long + count_of skips.TooLong (r ∷ [])
     → Counted new rest log s
 counted-more old new coming rest log e r s h is err a b c d = record {
@@ -65,7 +65,7 @@ unfolding skips-made
 skips-alike p a b c d e f g h = ap (λ n. skips-made n p.run p.large p.long) e ∙ ap (λ n. skips-made a n p.large p.long) f ∙ ap (λ n. skips-made a b n p.long) g ∙ ap (skips-made a b c) h
 
 -- at the end
-pub counted-all : (so_far : Skips) (coming log : List LogEntry) (s : Setting) → Counted so_far coming log s → coming ≡ [] → so_far ≡ skips_of log s
+pub counted-all : (so_far : Skips) (coming log : List LogEntry) (s : ScenarioView) → Counted so_far coming log s → coming ≡ [] → so_far ≡ skips_of log s
 unfolding skips-made
 counted-all so_far coming log s h none =
     let left : (k : Skip) → count_of k (reasons_of coming s) ≡ 0 = λ k. ap (λ es. count_of k (reasons_of es s)) none in
@@ -75,11 +75,11 @@ counted-all so_far coming log s h none =
     let d : so_far.long ≡ count_of skips.TooLong (reasons_of log s) = let z = left skips.TooLong in let k = h.long in omega (arith, z, k) in
     skips-alike so_far (count_of skips.NoSize (reasons_of log s)) (count_of skips.NoRun (reasons_of log s)) (count_of skips.TooLarge (reasons_of log s)) (count_of skips.TooLong (reasons_of log s)) a b c d
 
-pub counted-first : (log : List LogEntry) (s : Setting) → Counted (record { size = 0; run = 0; large = 0; long = 0 }) log log s
+pub counted-first : (log : List LogEntry) (s : ScenarioView) → Counted (record { size = 0; run = 0; large = 0; long = 0 }) log log s
 counted-first log s = record { size = omega arith; run = omega arith; large = omega arith; long = omega arith }
 
 -- the counts stay small
-pub counted-small : (so_far : Skips) (coming log : List LogEntry) (s : Setting) → Counted so_far coming log s → length log ≤ 4194304 → (so_far.size < 2 ^ 32) × (so_far.run < 2 ^ 32) × (so_far.large < 2 ^ 32) × (so_far.long < 2 ^ 32)
+pub counted-small : (so_far : Skips) (coming log : List LogEntry) (s : ScenarioView) → Counted so_far coming log s → length log ≤ 4194304 → (so_far.size < 2 ^ 32) × (so_far.run < 2 ^ 32) × (so_far.large < 2 ^ 32) × (so_far.long < 2 ^ 32)
 counted-small so_far coming log s h few = (
   (let k = h.size in let l = count-fewer skips.NoSize log s in omega (arith, k, l, few)),
   (let k = h.run in let l = count-fewer skips.NoRun log s in omega (arith, k, l, few)),

@@ -6,7 +6,7 @@ use Rattle.std.proofs.lemmas.Bool.{cases_Bool, cond-true, cond-false, le-leb, lt
 use Rattle.swf_text.specs.Entry.{LogEntry, submit_of}
 use Rattle.job_table.specs.Table.{entries_from}
 use Rattle.scenarios.specs.Job.{EffectiveJob}
-use Rattle.scenarios.specs.Scenario.{Setting}
+use Rattle.scenarios.specs.Scenario.{ScenarioView}
 use Rattle.scenarios.specs.Effective.{effective}
 use Rattle.scenarios.specs.Plan.{jobs_of, from_on}
 use Rattle.scenarios.proofs.EffectiveLemmas.{kept, takes}
@@ -18,7 +18,7 @@ pub from-out : (t : ℕ) (j : EffectiveJob) (js : List EffectiveJob) → j.submi
 from-out t j js l = cond-false (nat_le t j.submit) (j ∷ from_on t js) (from_on t js) (lt-leb t j.submit l)
 
 -- the jobs of the entries from a second on
-pub jobs-from : (s : Setting) (t : ℕ) (es : List LogEntry) → jobs_of (entries_from t es) s ≡ from_on t (jobs_of es s)
+pub jobs-from : (s : ScenarioView) (t : ℕ) (es : List LogEntry) → jobs_of (entries_from t es) s ≡ from_on t (jobs_of es s)
 jobs-from s t [] = refl
 jobs-from s t (e ∷ es) =
     let i = jobs-from s t es in
@@ -40,7 +40,7 @@ jobs-from s t (e ∷ es) =
     goes (Some job) h n i = i ∙ sym (from-out t job (jobs_of es s) (leb-false t job.submit (ap (nat_le t) (takes e s job h).submit ∙ n)))
 
 -- the entries that are left
-pub left-some : (s : Setting) (es rest : List LogEntry) (e : LogEntry) (job : EffectiveJob) → es ≡ e ∷ rest → Ok job ≡ effective e s → jobs_of es s ≡ job ∷ jobs_of rest s
+pub left-some : (s : ScenarioView) (es rest : List LogEntry) (e : LogEntry) (job : EffectiveJob) → es ≡ e ∷ rest → Ok job ≡ effective e s → jobs_of es s ≡ job ∷ jobs_of rest s
 left-some s es rest e job at is = ap (λ xs. jobs_of xs s) at ∙ ap (λ r. cons_option (result_ok r) (jobs_of rest s)) (sym is)
 
 -- all jobs

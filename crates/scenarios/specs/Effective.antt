@@ -8,7 +8,7 @@ use Rattle.scenarios.specs.Limits.{estimate_limit}
 use Rattle.scenarios.specs.declared.skip.Skip.{Skip}
 use Rattle.scenarios.specs.declared.skip.Skip.TheVariants.{NoSize, NoRun, TooLarge, TooLong}
 use Rattle.scenarios.specs.Job.{EffectiveJob}
-use Rattle.scenarios.specs.Scenario.{Setting}
+use Rattle.scenarios.specs.Scenario.{ScenarioView}
 
 -- a field of a line, to the nearest whole number
 abbrev pub whole_field : List ℤ → ℕ → ℤ
@@ -60,16 +60,16 @@ job_of entry size run estimate = record {
 abbrev pub unless_too_long : EffectiveJob → Result EffectiveJob Skip
 unless_too_long job = if nat_lt estimate_limit job.estimate || nat_lt estimate_limit job.length then Err TooLong else Ok job
 
-abbrev pub of_size_and_run : LogEntry → Setting → ℕ → Option ℕ → Result EffectiveJob Skip
+abbrev pub of_size_and_run : LogEntry → ScenarioView → ℕ → Option ℕ → Result EffectiveJob Skip
 of_size_and_run entry scenario size None = Err NoRun
 of_size_and_run entry scenario size (Some run) =
     if nat_lt scenario.procs size then Err TooLarge
     else unless_too_long (job_of entry size run (estimate_of (base_of entry.main run) scenario.factor))
 
-abbrev pub of_size : LogEntry → Setting → Option ℕ → Result EffectiveJob Skip
+abbrev pub of_size : LogEntry → ScenarioView → Option ℕ → Result EffectiveJob Skip
 of_size entry scenario None = Err NoSize
 of_size entry scenario (Some size) = of_size_and_run entry scenario size (run_of entry.main)
 
 -- the job that an entry is under a scenario, or the first reason to skip it
-abbrev pub effective : LogEntry → Setting → Result EffectiveJob Skip
+abbrev pub effective : LogEntry → ScenarioView → Result EffectiveJob Skip
 effective entry scenario = of_size entry scenario (size_of entry.main)

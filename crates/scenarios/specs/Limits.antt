@@ -1,9 +1,13 @@
--- The limits of a machine, of estimates and of seconds.
+-- The limits of a machine, of scenarios, of estimates and of seconds.
 use Rattle.std.specs.Prelude.{ℕ, ◌^◌}
 
 -- the most processors of a machine
 abbrev pub procs_limit : ℕ
 procs_limit = 16777216
+
+-- the most scenarios of a list
+abbrev pub scenarios_limit : ℕ
+scenarios_limit = 64
 
 -- the greatest factor on estimates, in thousandths
 abbrev pub factor_limit : ℕ

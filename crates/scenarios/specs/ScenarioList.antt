@@ -5,14 +5,15 @@ use Rattle.std.specs.List.{AllByRecursion}
 use Rattle.std.specs.Str.{bytes_eq}
 use Rattle.scenarios.specs.declared.list_fault.AddFault.{AddFault}
 use Rattle.scenarios.specs.declared.list_fault.AddFault.TheVariants.{BadName, NameTaken, TooMany}
+use Rattle.scenarios.specs.Limits.{scenarios_limit}
 use Rattle.scenarios.specs.Name.{is_name}
-use Rattle.scenarios.specs.Scenario.{Setting, IsSetting}
+use Rattle.scenarios.specs.Scenario.{ScenarioView, IsScenario}
 
 -- a scenario that was added: its name, its id, and what a log is simulated under
 pub record Listed : Type 0 where
   pub name : List ℕ
   pub id : ℕ
-  pub setting : Setting
+  pub scenario : ScenarioView
 
 -- the scenarios that stand, and the id that the next one gets
 pub record Listing : Type 0 where
@@ -48,17 +49,17 @@ abbrev pub IdsRise : ℕ → List Listed → ℕ → Type 0
 IdsRise first [] next = first ≤ next
 IdsRise first (s ∷ scenarios) next = (first ≤ s.id) × IdsRise (s.id + 1) scenarios next
 
--- a scenario has a name, and a setting within the limits
-pub record IsListed (scenario : Listed) : Type 0 where
-  pub called : is_name scenario.name ≡ true
-  pub setting : IsSetting scenario.setting
+-- a scenario has a name, and a scenario within the limits
+pub record IsListed (listed : Listed) : Type 0 where
+  pub called : is_name listed.name ≡ true
+  pub scenario : IsScenario listed.scenario
 
--- at most 64 such scenarios, of which no two have one name, by rising ids; the last id is 4,294,967,295
+-- such scenarios, not too many, of which no two have one name, by rising ids; the last id is 4,294,967,295
 pub record IsListing (list : Listing) : Type 0 where
   pub listed : AllByRecursion IsListed list.scenarios
   pub apart : AreApart list.scenarios
   pub ids : IdsRise 1 list.scenarios list.next
-  pub room : length list.scenarios ≤ 64
+  pub capacity : length list.scenarios ≤ scenarios_limit
   pub last : list.next ≤ 4294967296
 
 -- ---- the changes
@@ -68,13 +69,13 @@ abbrev pub add_fault : List ℕ → Listing → Option AddFault
 add_fault name list =
     if not (is_name name) then Some BadName
     else (if is_some (id_of name list) then Some NameTaken
-    else (if nat_le 64 (length list.scenarios) || nat_lt 4294967295 list.next then Some TooMany
+    else (if nat_le scenarios_limit (length list.scenarios) || nat_lt 4294967295 list.next then Some TooMany
     else None))
 
 -- the list with one more scenario, which gets the next id
-abbrev pub with_scenario : List ℕ → Setting → Listing → Listing
-with_scenario name setting list = record {
-  scenarios = list.scenarios ++ record { name = name; id = list.next; setting = setting } ∷ [];
+abbrev pub with_scenario : List ℕ → ScenarioView → Listing → Listing
+with_scenario name scenario list = record {
+  scenarios = list.scenarios ++ record { name = name; id = list.next; scenario = scenario } ∷ [];
   next = list.next + 1;
 }
 

@@ -6,12 +6,12 @@ use Rattle.swf_text.specs.Entry.{LogEntry}
 use Rattle.scenarios.specs.declared.skip.Skip.{Skip}
 use Rattle.scenarios.specs.declared.skip.Skip.TheVariants.{NoSize, NoRun, TooLarge, TooLong}
 use Rattle.scenarios.specs.declared.skips.Skips.{Skips}
-use Rattle.scenarios.specs.Scenario.{Setting}
+use Rattle.scenarios.specs.Scenario.{ScenarioView}
 use Rattle.scenarios.specs.Effective.{effective}
 
 -- the reasons for which entries of a log are skipped, entry by entry
-abbrev pub reasons_of : List LogEntry → Setting → List Skip
-reasons_of log setting = filter_map (λ entry. result_err (effective entry setting)) log
+abbrev pub reasons_of : List LogEntry → ScenarioView → List Skip
+reasons_of log scenario = filter_map (λ entry. result_err (effective entry scenario)) log
 
 -- the place of a reason in the order in which they are looked at
 abbrev pub place_of : Skip → ℕ
@@ -28,5 +28,5 @@ count_of reason reasons = count_by (λ r. nat_eq (place_of r) (place_of reason))
 abbrev pub skips_among : List Skip → Skips
 skips_among reasons = record { size = count_of NoSize reasons; run = count_of NoRun reasons; large = count_of TooLarge reasons; long = count_of TooLong reasons }
 
-abbrev pub skips_of : List LogEntry → Setting → Skips
-skips_of log setting = skips_among (reasons_of log setting)
+abbrev pub skips_of : List LogEntry → ScenarioView → Skips
+skips_of log scenario = skips_among (reasons_of log scenario)

@@ -18,8 +18,8 @@ IsRising (job ∷ next ∷ jobs) = IsTrue (is_before job next) × IsRising (next
 
 -- a machine within its limit, and jobs that fit it, at most as many as a log has, rising by submit second and number, no two of one number
 pub record IsPlan (plan : Plan) : Type 0 where
-  pub limited : plan.machine ≤ procs_limit
-  pub sizes : All (λ j. j.size ≤ plan.machine) plan.jobs
+  pub limited : plan.procs ≤ procs_limit
+  pub sizes : All (λ j. j.size ≤ plan.procs) plan.jobs
   pub limits : All IsWithinLimits plan.jobs
   pub few : length plan.jobs ≤ entry_limit
   pub once : (n : ℕ) → count_by (λ j. nat_eq j.number n) plan.jobs ≤ 1

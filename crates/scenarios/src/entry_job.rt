@@ -13,7 +13,6 @@ use swf_text::Entry;
 /// The longest estimate and length, in seconds.
 pub const MAX_ESTIMATE: u64 = 100_000_000;
 
-// A field of a summary line, to the nearest whole number.
 fn whole_field<A: Allocator + Copy>(entry: &Entry<A>, place: usize) -> i64
     requires low { 1 ≤ place }
     requires high { place ≤ 18 }
@@ -39,14 +38,12 @@ fn positive(number: i64) -> Option<u64>
     natural(number).filter(|n| *n > 0)
 }
 
-// The processors that a job asks for, or else was given.
 fn size_of<A: Allocator + Copy>(entry: &Entry<A>) -> Option<u64>
     ensures { result ≡ size_of entry.now.main }
 {
     positive(whole_field(entry, 8)).or(positive(whole_field(entry, 5)))
 }
 
-// The seconds that a job ran.
 fn run_of<A: Allocator + Copy>(entry: &Entry<A>) -> Option<u64>
     ensures value { result ≡ run_of entry.now.main }
     ensures within { IfSome result (λ n. n ≤ 1000000000000) }
@@ -54,7 +51,6 @@ fn run_of<A: Allocator + Copy>(entry: &Entry<A>) -> Option<u64>
     natural(whole_field(entry, 4))
 }
 
-// The seconds that a job asks for, or else ran.
 fn base_of<A: Allocator + Copy>(entry: &Entry<A>, run: u64) -> u64
     requires { run ≤ 1000000000000 }
     ensures value { result ≡ base_of entry.now.main run }
@@ -66,7 +62,6 @@ fn base_of<A: Allocator + Copy>(entry: &Entry<A>, run: u64) -> u64
     }
 }
 
-// The estimate, in seconds.
 fn estimate_of(base: u64, factor: u64) -> u64
     requires base { base ≤ 1000000000000 }
     requires factor { factor ≤ factor_limit }

@@ -27,7 +27,6 @@ impl<'a, A: Allocator + Copy> Model for Jobs<'a, A> {
 }
 
 impl<'a, A: Allocator + Copy> Jobs<'a, A> {
-    // The jobs of these entries.
     pub(crate) fn of(entries: Cursor<'a, A>, scenario: Scenario) -> Jobs<'a, A>
         ensures { result ≡ jobs_of entries.entry scenario }
     {

@@ -5,7 +5,6 @@ ghost use Rattle.scenarios.specs.Name.{is_name, is_name_byte};
 /// The most bytes of a name.
 const NAME_LIMIT: usize = 16;
 
-// Whether a byte may stand in a name.
 fn is_name_byte(byte: u8) -> bool
     ensures { result ≡ is_name_byte byte }
 {

@@ -27,15 +27,15 @@ impl<A: Allocator + Copy> Model for Plan<A> {
 
     ghost Value = { PlanView };
 
-    ghost view = { λ p. record { log = arc_value p.table; setting = p.scenario } };
+    ghost view = { λ p. record { log = arc_value p.table; scenario = p.scenario } };
 
-    ghost invariant = { λ p. IsPlanned (record { log = arc_value p.table; setting = p.scenario }) };
+    ghost invariant = { λ p. IsPlanned (record { log = arc_value p.table; scenario = p.scenario }) };
 }
 
 impl<A: Allocator + Copy> Plan<A> {
     /// The plan of a shared table under a scenario. It looks at no entry, and takes no memory.
     pub fn new(table: Arc<JobTable<A>, A>, scenario: Scenario) -> Plan<A>
-        ensures view { result ≡ record { log = arc_value table; setting = scenario } }
+        ensures view { result ≡ record { log = arc_value table; scenario = scenario } }
         ensures sound { IsPlan (plan_in result) }
     {
         prove!(table.len() <= ENTRY_LIMIT);
@@ -53,7 +53,7 @@ impl<A: Allocator + Copy> Plan<A> {
 
     /// The scenario.
     pub fn scenario(&self) -> Scenario
-        ensures scenario { result ≡ self.now.setting }
+        ensures scenario { result ≡ self.now.scenario }
         ensures sound { IsPlan (plan_in self.now) }
     {
         self.scenario

@@ -27,15 +27,15 @@ impl<'a, A: Allocator + Copy> Model for PlanRef<'a, A> {
 
     ghost Value = { PlanView };
 
-    ghost view = { λ p. record { log = p.table.now; setting = p.scenario } };
+    ghost view = { λ p. record { log = p.table.now; scenario = p.scenario } };
 
-    ghost invariant = { λ p. IsPlanned (record { log = p.table.now; setting = p.scenario }) };
+    ghost invariant = { λ p. IsPlanned (record { log = p.table.now; scenario = p.scenario }) };
 }
 
 impl<'a, A: Allocator + Copy> PlanRef<'a, A> {
     /// The plan of a table under a scenario. It looks at no entry, and takes no memory.
     pub fn of(table: &'a JobTable<A>, scenario: Scenario) -> PlanRef<'a, A>
-        ensures view { result ≡ record { log = table.now; setting = scenario } }
+        ensures view { result ≡ record { log = table.now; scenario = scenario } }
         ensures sound { IsPlan (plan_in result) }
     {
         prove!(table.len() <= ENTRY_LIMIT);
@@ -45,7 +45,7 @@ impl<'a, A: Allocator + Copy> PlanRef<'a, A> {
 
     /// The scenario.
     pub fn scenario(&self) -> Scenario
-        ensures scenario { result ≡ self.now.setting }
+        ensures scenario { result ≡ self.now.scenario }
         ensures sound { IsPlan (plan_in self.now) }
     {
         self.scenario
@@ -56,7 +56,7 @@ impl<'a, A: Allocator + Copy> PlanRef<'a, A> {
     pub fn job(&self, number: u64) -> Option<Job>
         ensures job { result ≡ job_numbered (plan_in self.now).jobs number }
         ensures limits { IfSome result IsWithinLimits }
-        ensures fits { IfSome result (λ job. job.size ≤ self.now.setting.procs) }
+        ensures fits { IfSome result (λ job. job.size ≤ self.now.scenario.procs) }
         ensures sound { IsPlan (plan_in self.now) }
     {
         let entry = self.table.get(number)?;
@@ -81,7 +81,7 @@ impl<'a, A: Allocator + Copy> PlanRef<'a, A> {
 
     /// How many entries of the table are skipped, by reason. It goes over all of them.
     pub fn skips(&self) -> Skips
-        ensures { result ≡ skips_of self.now.log self.now.setting }
+        ensures { result ≡ skips_of self.now.log self.now.scenario }
     {
         skips_among(self.table.from_second(0), &self.scenario)
     }

@@ -21,26 +21,26 @@ pub struct Scenario {
 }
 
 impl Model for Scenario {
-    ghost use Rattle.scenarios.specs.Scenario.{Setting, IsSetting};
+    ghost use Rattle.scenarios.specs.Scenario.{ScenarioView, IsScenario};
 
-    ghost Value = { Setting };
+    ghost Value = { ScenarioView };
 
     ghost view = { λ s. record { procs = s.procs; factor = s.factor; order = s.order } };
 
-    ghost invariant = { λ s. IsSetting (record { procs = s.procs; factor = s.factor; order = s.order }) };
+    ghost invariant = { λ s. IsScenario (record { procs = s.procs; factor = s.factor; order = s.order }) };
 
     ghost inverse = { λ s. record { procs = s.procs; factor = s.factor; order = s.order } };
 }
 
 impl Scenario {
-    ghost use Rattle.scenarios.specs.Scenario.{setting_of, IsSetting};
+    ghost use Rattle.scenarios.specs.Scenario.{scenario_with, IsScenario};
 
     /// A machine of `procs` processors, estimates times `factor` thousandths, and backfills in
     /// order of arrival.
     ///
     /// None unless there are 1 to 16,777,216 processors and 1 to 100,000 thousandths.
     pub fn new(procs: u64, factor: u64) -> Option<Scenario>
-        ensures { result ≡ setting_of procs factor }
+        ensures { result ≡ scenario_with procs factor }
     {
         if procs < 1 || procs > MAX_PROCS || factor < 1 || factor > MAX_FACTOR {
             return None;
@@ -66,7 +66,7 @@ impl Scenario {
     /// The machine's processors, 1 to 16,777,216.
     pub fn procs(&self) -> u64
         ensures value { result ≡ self.now.procs }
-        ensures setting { IsSetting self.now }
+        ensures scenario { IsScenario self.now }
     {
         u64::from(self.procs)
     }
@@ -74,7 +74,7 @@ impl Scenario {
     /// What a base estimate is multiplied by, in thousandths, 1 to 100,000.
     pub fn factor(&self) -> u64
         ensures value { result ≡ self.now.factor }
-        ensures setting { IsSetting self.now }
+        ensures scenario { IsScenario self.now }
     {
         u64::from(self.factor)
     }

@@ -21,7 +21,6 @@ impl Model for ScenarioId {
 }
 
 impl ScenarioId {
-    // The id of this number.
     pub(crate) fn of(number: u32) -> ScenarioId
         requires { 1 ≤ number }
         ensures { result ≡ number }

@@ -35,9 +35,9 @@ impl<A: Allocator + Copy> Model for ScenarioList<A> {
 
     ghost Value = { Listing };
 
-    ghost view = { λ l. record { scenarios = map (λ e. record { name = string_bytes e.0; id = e.1.0; setting = e.1.1 }) l.named.entries; next = l.next } };
+    ghost view = { λ l. record { scenarios = map (λ e. record { name = string_bytes e.0; id = e.1.0; scenario = e.1.1 }) l.named.entries; next = l.next } };
 
-    ghost invariant = { λ l. IsListing (record { scenarios = map (λ e. record { name = string_bytes e.0; id = e.1.0; setting = e.1.1 }) l.named.entries; next = l.next }) };
+    ghost invariant = { λ l. IsListing (record { scenarios = map (λ e. record { name = string_bytes e.0; id = e.1.0; scenario = e.1.1 }) l.named.entries; next = l.next }) };
 }
 
 impl<A: Allocator + Copy> ScenarioList<A> {
@@ -72,10 +72,10 @@ impl<A: Allocator + Copy> ScenarioList<A> {
         }
     }
 
-    /// The name, the id and the setting of the scenario at a place, counted from 0; None from the
-    /// length on. Takes no memory.
+    /// The name and the id of the scenario at a place, and the scenario itself, counted from 0; None
+    /// from the length on. Takes no memory.
     pub fn at(&self, place: usize) -> Option<(&str, ScenarioId, Scenario)>
-        ensures value { option_map (λ r. record { name = r.0.now; id = r.1; setting = r.2 }) result ≡ slice_get self.now.scenarios place }
+        ensures value { option_map (λ r. record { name = r.0.now; id = r.1; scenario = r.2 }) result ≡ slice_get self.now.scenarios place }
         ensures listing { IsListing self.now }
     {
         match self.named.get_index(place) {
@@ -100,7 +100,6 @@ impl<A: Allocator + Copy> ScenarioList<A> {
         None
     }
 
-    // Adds a scenario under a name that can be added.
     fn put(&mut self, name: &str, scenario: Scenario) -> Result<ScenarioId, Memory>
         requires { add_fault name.now self.old ≡ None }
         ensures id { IfOk result (λ id. id ≡ self.old.next) }
@@ -116,7 +115,7 @@ impl<A: Allocator + Copy> ScenarioList<A> {
     }
 
     /// Adds a scenario behind the others, and answers its id. A refusal leaves the list as it was,
-    /// and is told by the first of these: BadName for what `is_name` doesn't take, NameTaken for
+    /// and is refused with the first of these: BadName for what `is_name` doesn't take, NameTaken for
     /// the name of a scenario that stands, TooMany where 64 stand or the last id is used, Memory.
     pub fn add(&mut self, name: &str, scenario: Scenario) -> Result<ScenarioId, AddFault>
         ensures answer { MatchOption (add_fault name.now self.old) (IsOkUnless result no_memory) (λ fault. result ≡ Err fault) }

@@ -22,7 +22,6 @@ pub struct Skips {
     pub long: u64,
 }
 
-// One more entry that is skipped for this reason.
 fn add_skip(skips: &mut Skips, reason: Skip)
     requires size { skips.old.size < 2 ^ 32 }
     requires run { skips.old.run < 2 ^ 32 }
@@ -41,7 +40,6 @@ fn add_skip(skips: &mut Skips, reason: Skip)
     }
 }
 
-// How many of these entries are skipped, by reason.
 pub(crate) fn skips_among<A: Allocator + Copy>(
     mut entries: Cursor<'_, A>,
     scenario: &Scenario,

@@ -16,7 +16,7 @@ use Rattle.book_machine.specs.Call.{BookCall, Retry, View}
 use Rattle.book_machine.specs.Machine.{Machine, current, version}
 use Rattle.version_book.specs.Answers.{view_answer}
 use Rattle.version_book.specs.Names.{refusal_name, view_fault_name}
-use Rattle.version_book.specs.Steps.{full, memory, told}
+use Rattle.version_book.specs.Steps.{full, memory, outcome}
 use Rattle.version_book.specs.declared.faults.ViewFault.{ViewFault}
 use Rattle.version_book.specs.declared.faults.ViewFault.TheVariants as view
 use Rattle.version_book.specs.declared.refusal.Refusal.{Refusal}
@@ -46,7 +46,7 @@ use Rattle.scripts.proofs.Writings.{front_more}
 call-of : (old : Session) (call : BookCall) (says : Reply → List ℕ) (text : List ℕ) (new : Session) → CallBy book_rules old call says text new → IsCall old call says text new
 call-of old call says text new (full, h, is) = inl (h.0, (is, h.1))
 call-of old call says text new (memory, h, is) = inr (inl (is, h))
-call-of old call says text new (told r, h, is) = inr (inr (r, h, is))
+call-of old call says text new (outcome r, h, is) = inr (inr (r, h, is))
 
 -- a scenario is looked up in the present list
 named-of : (old : Session) (name : List ℕ) (follows : ℕ → Session → Type 0) (wide : Listed → Type 0) (text : List ℕ) (new : Session) → ((s : Listed) → named name old.machine.listing.scenarios ≡ Some s → follows s.id old → wide s) → NamedBy book_rules old name follows text new → IsNamed old name wide text new
@@ -158,11 +158,11 @@ side-by A old text new (Some m, mid, read, h) =
 
 -- ---- the log
 
-log-text-of : (old : Session) (name : List ℕ) (s : Listed) (text : List ℕ) (new : Session) → s.name ≡ name → new ≡ old → IsLogText name (present old.machine) (Some s) text → IsMade old (log_text s.name (version old.machine) (current old.machine) s.setting) text new
-log-text-of old name s text new called same (inl is) = inl (is ∙ ap (λ (n : List ℕ). log_text n (version old.machine) (current old.machine) s.setting) (sym called), same)
+log-text-of : (old : Session) (name : List ℕ) (s : Listed) (text : List ℕ) (new : Session) → s.name ≡ name → new ≡ old → IsLogText name (present old.machine) (Some s) text → IsMade old (log_text s.name (version old.machine) (current old.machine) s.scenario) text new
+log-text-of old name s text new called same (inl is) = inl (is ∙ ap (λ (n : List ℕ). log_text n (version old.machine) (current old.machine) s.scenario) (sym called), same)
 log-text-of old name s text new called same (inr is) = inr (is, same)
 
-log-of : (old : Session) (name : List ℕ) (text : List ℕ) (new : Session) (s : Listed) → named name old.machine.listing.scenarios ≡ Some s → LogBy book_rules old name text new → IsMade old (log_text s.name (version old.machine) (current old.machine) s.setting) text new
+log-of : (old : Session) (name : List ℕ) (text : List ℕ) (new : Session) (s : Listed) → named name old.machine.listing.scenarios ≡ Some s → LogBy book_rules old name text new → IsMade old (log_text s.name (version old.machine) (current old.machine) s.scenario) text new
 log-of old name text new s is (None, read, says) = inr (says, read.1)
 log-of old name text new s is (Some m, read, says) =
     let now : IsLogText name (present old.machine) (named name old.machine.listing.scenarios) text = subst (λ (k : Moment). IsLogText name k (named name k.listing.scenarios) text) read.0 says in
@@ -182,7 +182,7 @@ pub answer-of-book : {A : Type 0} (comments : List (List ℕ)) (old : Session) (
 answer-of-book comments old (asks.Insert entry) text new h = call-of old _ _ text new h
 answer-of-book comments old (asks.Remove number) text new h = call-of old _ _ text new h
 answer-of-book comments old (asks.Change number place value) text new h = call-of old _ _ text new h
-answer-of-book comments old (asks.Scenario name setting) text new h = call-of old _ _ text new h
+answer-of-book comments old (asks.Scenario name scenario) text new h = call-of old _ _ text new h
 answer-of-book comments old (asks.Drop name) text new h = call-of old _ _ text new h
 answer-of-book comments old (asks.Retry name) text new h = named-of old name _ _ text new (λ s is one. call-of old (Retry s.id) _ text new one) h
 answer-of-book comments old asks.Settle text new h = settled-of old text new h

@@ -9,13 +9,13 @@ use Rattle.version_book.specs.Book.{BookView, machine_of}
 use Rattle.version_book.specs.Names.{refusal_name}
 use Rattle.version_book.specs.declared.refusal.Refusal.{Refusal}
 use Rattle.version_book.specs.declared.refusal.Refusal.TheVariants as why
-use Rattle.version_book.specs.Steps.{Answer, full, memory, told, Answers as Answered}
+use Rattle.version_book.specs.Steps.{Answer, full, memory, outcome, Answers as Answered}
 use Rattle.scripts.specs.Analysts.{CallBy}
 use Rattle.scripts.specs.Answers.{scenario_says, says_of}
 use Rattle.scripts.specs.BookRules.{IsAnswered}
 use Rattle.scripts.specs.Lines.{refused, scenario_line}
 use Rattle.scripts.specs.Rules.{Rules}
-use Rattle.scripts.specs.Told.{became_word, scenario_told}
+use Rattle.scripts.specs.Answered.{became_word, scenario_outcome}
 use Rattle.scripts.specs.declared.answer.Became.{Became}
 use Rattle.scripts.specs.Session.{Session, seen_of}
 
@@ -34,8 +34,8 @@ call-refused rules old new call says replied because fault_name named refusal te
 -- a call on a scenario
 pub call-scenario : {S T F : Type 0} (rules : Rules S) (old new : S) (call : BookCall) (name : List ℕ) (what : Became) (replied : T → Reply) (because : F → Reply) (fault_name : F → List ℕ)
     → ((value : T) → scenario_says name (replied value) ≡ scenario_line name (became_word what)) → ((fault : F) → scenario_says name (because fault) ≡ refused (fault_name fault))
-    → (result : Result T (Refusal F)) (text : List ℕ) → rules.does old call (answer_of replied because result) new → text ≡ scenario_told name what fault_name result → CallBy rules old call (scenario_says name) text new
-call-scenario rules old new call name what replied because fault_name done named (Ok value) text h is = (told (replied value), h, is ∙ sym (done value))
+    → (result : Result T (Refusal F)) (text : List ℕ) → rules.does old call (answer_of replied because result) new → text ≡ scenario_outcome name what fault_name result → CallBy rules old call (scenario_says name) text new
+call-scenario rules old new call name what replied because fault_name done named (Ok value) text h is = (outcome (replied value), h, is ∙ sym (done value))
 call-scenario rules old new call name what replied because fault_name done named (Err refusal) text h is =
     call-refused rules old new call (scenario_says name) replied because fault_name named refusal text h is
 
@@ -48,7 +48,7 @@ with b seen = record { machine = machine_of b; seen = seen }
 answered : (old new : BookView) (who : Caller) (call : BookCall) (seen : ℕ) (a : Answer) → Answered old new who call a → IsAnswered (with old seen) call a (with new (seen_of seen a))
 answered old new who call seen full h = (h.0, ap (λ (b : BookView). with b seen) h.1)
 answered old new who call seen memory h = ap (λ (b : BookView). with b seen) h.1
-answered old new who call seen (told r) h = record { room = h.0; replied = h.1; machine = h.2; seen = refl }
+answered old new who call seen (outcome r) h = record { capacity = h.0; replied = h.1; machine = h.2; seen = refl }
 
 pub answered-as : {v : Session} (old new : BookView) (who : Caller) (call : BookCall) (seen s : ℕ) (a : Answer) → with old seen ≡ v → Answered old new who call a → s ≡ seen_of seen a → IsAnswered v call a (with new s)
 answered-as {v} old new who call seen s a is h s_is =
@@ -56,12 +56,12 @@ answered-as {v} old new who call seen s a is h s_is =
     subst (λ (w : Session). IsAnswered w call a (with new s)) is one
 
 -- nothing is seen by a refusal
-pub sees-nothing : {T F : Type 0} (seen : ℕ) (replied : T → Reply) (because : F → Reply) → ((fault : F) → seen_of seen (told (because fault)) ≡ seen) → (refusal : Refusal F) → seen ≡ seen_of seen (answer_of replied because (Err refusal))
+pub sees-nothing : {T F : Type 0} (seen : ℕ) (replied : T → Reply) (because : F → Reply) → ((fault : F) → seen_of seen (outcome (because fault)) ≡ seen) → (refusal : Refusal F) → seen ≡ seen_of seen (answer_of replied because (Err refusal))
 sees-nothing seen replied because unseen why.JournalFull = refl
 sees-nothing seen replied because unseen (why.Fault fault) = sym (unseen fault)
 sees-nothing seen replied because unseen why.Memory = refl
 
 -- nor by a call on a scenario
-pub sees-none : {T F : Type 0} (seen : ℕ) (replied : T → Reply) (because : F → Reply) → ((value : T) → seen_of seen (told (replied value)) ≡ seen) → ((fault : F) → seen_of seen (told (because fault)) ≡ seen) → (result : Result T (Refusal F)) → seen ≡ seen_of seen (answer_of replied because result)
+pub sees-none : {T F : Type 0} (seen : ℕ) (replied : T → Reply) (because : F → Reply) → ((value : T) → seen_of seen (outcome (replied value)) ≡ seen) → ((fault : F) → seen_of seen (outcome (because fault)) ≡ seen) → (result : Result T (Refusal F)) → seen ≡ seen_of seen (answer_of replied because result)
 sees-none seen replied because still unseen (Ok value) = sym (still value)
 sees-none seen replied because still unseen (Err refusal) = sees-nothing seen replied because unseen refusal

@@ -96,9 +96,9 @@ module _ (A : Type 0) (comments : List (List ℕ)) (first now next : Session) (n
       → IsTranscript A comments next (if is_quit (command_of_line {A = A} line) then [] else looked_at A ls) (number + 1) later
       → IsTranscriptOf A comments first ((read ++ bytes) ++ rest) ((written ++ text) ++ later)
   one_more line bytes rest later ls is answers h =
-      let told = goes (bytes ++ rest) (text ++ later) (subst (λ (l : List (List ℕ)). IsTranscript A comments now (looked_at A l) number (text ++ later)) (sym is) (text, next, later, answers, h, refl)) in
+      let outcome = goes (bytes ++ rest) (text ++ later) (subst (λ (l : List (List ℕ)). IsTranscript A comments now (looked_at A l) number (text ++ later)) (sym is) (text, next, later, answers, h, refl)) in
       subst (λ (out : List ℕ). IsTranscriptOf A comments first ((read ++ bytes) ++ rest) out) (sym (append_assoc written text later))
-      (subst (λ (bs : List ℕ). IsTranscriptOf A comments first bs (written ++ (text ++ later))) (sym (append_assoc read bytes rest)) told)
+      (subst (λ (bs : List ℕ). IsTranscriptOf A comments first bs (written ++ (text ++ later))) (sym (append_assoc read bytes rest)) outcome)
 
   -- nothing behind it is looked at
   at_last : (line bytes rest : List ℕ) (ls : List (List ℕ)) → lines (bytes ++ rest) ≡ line ∷ ls → IsSo line
@@ -141,9 +141,9 @@ module _ (A : Type 0) (comments : List (List ℕ)) (first : Session) (from mid o
 
   -- the reader failed before a line was read
   pub unheard : (result : Result Bool LiveFault) (next : Session) (to : Option (List ℕ)) (part : List ℕ) → result ≡ Err faults.Read → IsBegun mid to part → Turns A comments first from to old out next number result
-  unheard result next to part told begun =
+  unheard result next to part outcome begun =
       let none : said.read ++ answered_of part ≡ said.read = ap (λ l. said.read ++ l) (answered_none part begun.short) ∙ append-nil said.read in
-      rw told (
+      rw outcome (
         said.read,
         part,
         said.written,
@@ -155,8 +155,8 @@ module _ (A : Type 0) (comments : List (List ℕ)) (first : Session) (from mid o
   module _ (next : Session) (to new : Option (List ℕ)) (text line : List ℕ) (end : LineEnd) (heard : IsHeard mid to line end) (answers : IsLine comments now number (command_of_line {A = A} line) text next) where
     -- the writer failed in the response
     pub cut_off : (result : Result Bool LiveFault) → result ≡ Err faults.Write → (n : ℕ) × Appends out new (take n text) → Turns A comments first from to old new next number result
-    cut_off result told (n, part) =
-        rw told (
+    cut_off result outcome (n, part) =
+        rw outcome (
           said.read,
           line,
           said.written,
@@ -179,7 +179,7 @@ module _ (A : Type 0) (comments : List (List ℕ)) (first : Session) (from mid o
 
     -- the reader failed behind the response
     pub unread : (result : Result Bool LiveFault) (later : Option (List ℕ)) (fault : ReadFault) → result ≡ Err faults.Read → Appends out new text → MayFollow {E = ReadFault} to later end (Err fault) → Turns A comments first from later old new next number result
-    unread result later fault told all follows = rw told (go end heard follows) where
+    unread result later fault outcome all follows = rw outcome (go end heard follows) where
       go : (e : LineEnd) → IsHeard mid to line e → MayFollow {E = ReadFault} to later e (Err fault) → Turns A comments first from later old new next number (Err faults.Read)
       go Feed h m = absurd m
       go Input h m = absurd m
@@ -198,32 +198,32 @@ module _ (A : Type 0) (comments : List (List ℕ)) (first : Session) (from mid o
     -- the line ends the input
     at_end : (whole : List ℕ) (later : Option (List ℕ)) → HasNoFeed whole → IsLine comments now number (command_of_line {A = A} whole) text next → Reads mid later whole Input → Appends out new text
         → Turns A comments first from later old new next number (Ok false)
-    at_end whole later none so read told = (
+    at_end whole later none so read outcome = (
       said.read ++ whole,
       said.written ++ text,
       whole_last from mid later said.read whole said.are_read read,
       (said.read, whole, Input, stands later whole Input none read, tt),
       unfed A comments first now next number said.read said.written text said.goes_on whole none so,
-      Appends-trans old out new said.written text said.are_written told,
+      Appends-trans old out new said.written text said.are_written outcome,
     )
 
     -- the line has its line feed, and is not `quit`
     at_feed : (whole : List ℕ) (later : Option (List ℕ)) → HasNoFeed whole → IsLine comments now number (command_of_line {A = A} whole) text next → is_quit (command_of_line {A = A} whole) ≡ false
         → Consumes mid later (whole ++ 10 ∷ []) → Appends out new text → Turns A comments first from later old new next number (Ok true)
-    at_feed whole later none so goes read told = record {
+    at_feed whole later none so goes read outcome = record {
       read = said.read ++ (whole ++ 10 ∷ []);
       written = said.written ++ text;
       are_read = Consumes-trans from mid later said.read (whole ++ 10 ∷ []) said.are_read read;
       are_whole = whole_more said.read whole said.are_whole none;
       none_quits = none_more A said.read whole said.are_whole none said.none_quits goes;
-      are_written = Appends-trans old out new said.written text said.are_written told;
+      are_written = Appends-trans old out new said.written text said.are_written outcome;
       goes_on = λ rest more h. one_more A comments first now next number said.read said.written text said.goes_on whole (whole ++ 10 ∷ []) rest more (lines rest) (lines_fed whole rest none) so (rw goes h);
       transcript = with_feed A comments first now next number said.read said.written text said.goes_on whole none so;
     }
 
     -- the conversation ends with `quit`
-    pub at_quit_told : is_quit (command_of_line {A = A} line) ≡ true → Appends out new text → Turns A comments first from to old new next number (Ok false)
-    at_quit_told quits told = go end heard where
+    pub at_quit_outcome : is_quit (command_of_line {A = A} line) ≡ true → Appends out new text → Turns A comments first from to old new next number (Ok false)
+    at_quit_outcome quits outcome = go end heard where
       go : (e : LineEnd) → IsHeard mid to line e → Turns A comments first from to old new next number (Ok false)
       go Feed h =
           let all = whole_fed from mid to said.read line said.are_read h.is_read in (
@@ -232,23 +232,23 @@ module _ (A : Type 0) (comments : List (List ℕ)) (first : Session) (from mid o
             all.1,
             (said.read, line, Feed, stands to line Feed h.one_line h.is_read, quits),
             at_quit A comments first now next number said.read said.written text said.goes_on line all.0 h.one_line answers quits,
-            Appends-trans old out new said.written text said.are_written told,
+            Appends-trans old out new said.written text said.are_written outcome,
           )
-      go Input h = at_end line to h.one_line answers h.is_read told
+      go Input h = at_end line to h.one_line answers h.is_read outcome
       go Open h = let goes : is_quit (command_of_line {A = A} line) ≡ false = ap is_quit (too_long {A = A} line h.long) in absurd (true≢false (sym quits ∙ goes))
 
     -- the turn is over
     pub followed : (later : Option (List ℕ)) (fed : Bool) → is_quit (command_of_line {A = A} line) ≡ false → Appends out new text → MayFollow {E = ReadFault} to later end (Ok fed) → Turns A comments first from later old new next number (Ok fed)
-    followed later fed goes told = go end fed heard where
+    followed later fed goes outcome = go end fed heard where
       go : (e : LineEnd) (f : Bool) → IsHeard mid to line e → MayFollow {E = ReadFault} to later e (Ok f) → Turns A comments first from later old new next number (Ok f)
-      go Feed true h m = subst (λ (t : Option (List ℕ)). Turns A comments first from t old new next number (Ok true)) (sym m.1) (at_feed line to h.one_line answers goes h.is_read told)
+      go Feed true h m = subst (λ (t : Option (List ℕ)). Turns A comments first from t old new next number (Ok true)) (sym m.1) (at_feed line to h.one_line answers goes h.is_read outcome)
       go Feed false h m = absurd (true≢false (sym m.0))
       go Input true h m = absurd (true≢false m.0)
-      go Input false h m = subst (λ (t : Option (List ℕ)). Turns A comments first from t old new next number (Ok false)) (sym m.1) (at_end line to h.one_line answers h.is_read told)
+      go Input false h m = subst (λ (t : Option (List ℕ)). Turns A comments first from t old new next number (Ok false)) (sym m.1) (at_end line to h.one_line answers h.is_read outcome)
       go Open true h (rest, none, read) =
-          at_feed (line ++ rest) later (joined line rest h.one_line none) (so_too rest h.long) (ap is_quit (too_long {A = A} (line ++ rest) (over_too rest h.long))) (reads_behind mid to later line rest Feed h.is_read read) told
+          at_feed (line ++ rest) later (joined line rest h.one_line none) (so_too rest h.long) (ap is_quit (too_long {A = A} (line ++ rest) (over_too rest h.long))) (reads_behind mid to later line rest Feed h.is_read read) outcome
       go Open false h (rest, none, read) =
-          at_end (line ++ rest) later (joined line rest h.one_line none) (so_too rest h.long) (reads_behind mid to later line rest Input h.is_read read) told
+          at_end (line ++ rest) later (joined line rest h.one_line none) (so_too rest h.long) (reads_behind mid to later line rest Input h.is_read read) outcome
 
 -- nothing was said
 pub unsaid : (A : Type 0) (comments : List (List ℕ)) (first : Session) (from old : Option (List ℕ)) → IsSaid A comments first from from old old first 1

@@ -68,23 +68,23 @@ is-settled log list new work =
 
 -- and shows the schedule
 is-scheduled : (log : List LogEntry) (list : Listing) (ticket notes : ℕ) (first : Listed) → notes < 1000000 → slice_get list.scenarios 0 ≡ Some first
-    → (new : Session) × IsNamed (record { machine = state log list (shown_of list.scenarios) ticket notes; seen = 0 }) first.name (IsViewIf false (record { machine = state log list (shown_of list.scenarios) ticket notes; seen = 0 }) IsSchedule (schedule_text first.name 0 (plan_of log first.setting)) new) (schedule_text first.name 0 (plan_of log first.setting)) new
-is-scheduled log list ticket notes first room is =
+    → (new : Session) × IsNamed (record { machine = state log list (shown_of list.scenarios) ticket notes; seen = 0 }) first.name (IsViewIf false (record { machine = state log list (shown_of list.scenarios) ticket notes; seen = 0 }) IsSchedule (schedule_text first.name 0 (plan_of log first.scenario)) new) (schedule_text first.name 0 (plan_of log first.scenario)) new
+is-scheduled log list ticket notes first capacity is =
     let m : Machine = state log list (shown_of list.scenarios) ticket notes in
     let new : Session = record { machine = after (View first.id 0) m; seen = 0 } in
     let replied = ap (λ (o : Option Progress). elim o [ None ↦ reply.NoSuchScenario | Some p ↦ view_reply_at 0 p.published ]) (first-shown list.scenarios first is) in
-    (new, inr (first, first-named list.scenarios first is, inr (inr (reply.Shown 0, record { room = room; replied = sym replied; machine = refl; seen = refl }, inl refl))))
+    (new, inr (first, first-named list.scenarios first is, inr (inr (reply.Shown 0, record { capacity = capacity; replied = sym replied; machine = refl; seen = refl }, inl refl))))
 
 pub schedules_first : (A : Type 0) → SchedulesTheFirst A
-schedules_first A log procs told comments scenarios first script is at says =
-    let made = built log procs told scenarios is in
+schedules_first A log procs outcome comments scenarios first script is at says =
+    let made = built log procs outcome scenarios is in
     let work = first-work log scenarios scenarios.next made.ids made.few in
     let then : Session = record { machine = state log scenarios (shown_of scenarios.scenarios) work.1.ticket work.1.noted_then; seen = 0 } in
     let view = is-scheduled log scenarios work.1.ticket work.1.noted_then first work.1.few at in
     let begin : Session = record { machine = start log scenarios; seen = 0 } in
     let settle : IsSettled false begin (settled_line 0) then = subst (λ (m : Machine). IsSettled false begin (settled_line 0) (record { machine = m; seen = 0 })) work.1.is (is-settled log scenarios work.0 work.1) in
     let schedule = schedule_is first.name (first-called scenarios.scenarios first at made.called) {A = A} in
-    let text = schedule_text first.name 0 (plan_of log first.setting) in
+    let text = schedule_text first.name 0 (plan_of log first.scenario) in
     let one : IsLineIf false comments begin 1 (command_of_line {A = A} (codes "settle")) (settled_line 0) then =
     subst (λ (r : Result (Option (Command A)) CommandFault). IsLineIf false comments begin 1 r (settled_line 0) then) (sym (settle_is {A = A})) settle in
     let two : IsLineIf false comments then 2 (command_of_line {A = A} (codes "schedule " ++ first.name)) text view.0 =

@@ -92,9 +92,9 @@ module _ (log : List LogEntry) (list : Listing) where
       ∙ ap₂ (λ (ps : List Progress) (ts : List Ticket). record (state log list ps (next + 1) (notes + 1 + 1)) { tickets = ts }) (changed-one front s back last rise) (closed-ticket next s)
 
   work-one : (front : List Listed) (s : Listed) (back : List Listed) (last next notes : ℕ) → IdsRise (s.id + 1) back last → notes + 1 < note_limit → IsWorked false (state log list (before_one front s back) next notes) Published (state log list (after_one front s back) (next + 1) (notes + 1 + 1))
-  work-one front s back last next notes rise room = record {
+  work-one front s back last next notes rise capacity = record {
     claims = record { some_due = ap is_some (due-behind (before_one front s back) next notes front (fresh s.id ∷ fresh_of back)); free = refl };
-    room = room;
+    capacity = capacity;
     cause = tt;
     made = sym (ap (after (Finish next true)) (claims-one front s back next notes) ∙ finishes-one front s back last next notes rise);
   }
@@ -114,15 +114,15 @@ module _ (log : List LogEntry) (list : Listing) where
       ap (λ (ps : List Progress). ps ++ fresh_of back) (map-append (λ (x : Listed). shown x.id) front (s ∷ [])) ∙ append_assoc (shown_of front) (shown s.id ∷ []) (fresh_of back)
 
   all-worked : (front back : List Listed) (first last next notes : ℕ) → IdsRise first back last → notes + 2 * length back < note_limit → AreAllWorked front back next notes
-  all-worked front [] first last next notes rise room = record {
+  all-worked front [] first last next notes rise capacity = record {
     ends = [];
     ticket = next;
     noted_then = notes;
     counted = omega arith;
     worked = ap (λ (ps : List Progress). state log list ps next notes) (ap shown_of (append-nil front) ∙ sym (append-nil (shown_of front)));
   }
-  all-worked front (s ∷ back) first last next notes rise room =
-      let later = all-worked (front ++ s ∷ []) back (s.id + 1) last (next + 1) (notes + 1 + 1) rise.1 (omega (arith, room)) in
+  all-worked front (s ∷ back) first last next notes rise capacity =
+      let later = all-worked (front ++ s ∷ []) back (s.id + 1) last (next + 1) (notes + 1 + 1) rise.1 (omega (arith, capacity)) in
       let from : AreWorked false (state log list (after_one front s back) (next + 1) (notes + 1 + 1)) later.ends (state log list (shown_of ((front ++ s ∷ []) ++ back)) later.ticket later.noted_then) = subst (λ (ps : List Progress). AreWorked false (state log list ps (next + 1) (notes + 1 + 1)) later.ends (state log list (shown_of ((front ++ s ∷ []) ++ back)) later.ticket later.noted_then)) (one-behind front s back) later.worked in
       record {
         ends = Published ∷ later.ends;
@@ -131,7 +131,7 @@ module _ (log : List LogEntry) (list : Listing) where
         counted = omega (arith, later.counted);
         worked = (
           state log list (after_one front s back) (next + 1) (notes + 1 + 1),
-          work-one front s back last next notes rise.1 (omega (arith, room)),
+          work-one front s back last next notes rise.1 (omega (arith, capacity)),
           subst (λ (xs : List Listed). AreWorked false (state log list (after_one front s back) (next + 1) (notes + 1 + 1)) later.ends (state log list (shown_of xs) later.ticket later.noted_then)) (append_assoc front (s ∷ []) back) from,
         );
       }

@@ -55,7 +55,7 @@ module _ {S T : Type 0} (from : Rules S) (to : Rules T) (at : S → T) (Inv Good
       leads-on Inv Good old mid new _ _ _ (λ f k. (found, at mid, f, k)) (lifts.finds old mid name found finds) (found-lifts follows follows' found mid text new one h)
 
   view-lifts : (old : S) (id : ℕ) (name : List ℕ) (kind : Report) (text : List ℕ) (new : S) → ViewBy from old id name kind text new → Leads Inv Good old new (ViewBy to (at old) id name kind text (at new))
-  view-lifts old id name kind text new (told, h, is) = leads-to Inv Good old new _ _ (λ k. (told, k, is)) (lifts.views old new id told h)
+  view-lifts old id name kind text new (outcome, h, is) = leads-to Inv Good old new _ _ (λ k. (outcome, k, is)) (lifts.views old new id outcome h)
 
   log-lifts : (old : S) (name text : List ℕ) (new : S) → LogBy from old name text new → Leads Inv Good old new (LogBy to (at old) name text (at new))
   log-lifts old name text new (moment, h, is) = leads-to Inv Good old new _ _ (λ k. (moment, k, is)) (lifts.reads old new moment h)
@@ -74,7 +74,7 @@ module _ {S T : Type 0} (from : Rules S) (to : Rules T) (at : S → T) (Inv Good
 
   module _ (A : Type 0) where
     stands-lifts : (old : S) (id : ℕ) (found : Result (Option (Beside A)) (Refusal ViewFault)) (new : S) → StandsSo from A old id found new → Leads Inv Good old new (StandsSo to A (at old) id found (at new))
-    stands-lifts old id found new (told, h, is) = leads-to Inv Good old new _ _ (λ k. (told, k, is)) (lifts.views old new id told h)
+    stands-lifts old id found new (outcome, h, is) = leads-to Inv Good old new _ _ (λ k. (outcome, k, is)) (lifts.views old new id outcome h)
 
     beside-lifts : (old : S) (scenarios : List Listed) (lines : List (List ℕ)) (new : S) → AreBeside from A old scenarios lines new → Leads Inv Good old new (AreBeside to A (at old) scenarios lines (at new))
     beside-lifts old [] lines new h = stays Inv Good old new _ h.1 (h.0, ap at h.1)
@@ -101,7 +101,7 @@ module _ {S T : Type 0} (from : Rules S) (to : Rules T) (at : S → T) (Inv Good
   answers-lift comments old (asks.Insert entry) text new h = call-lifts old (Edit (Insert entry)) edit_says text new h
   answers-lift comments old (asks.Remove number) text new h = call-lifts old (Edit (Remove number)) edit_says text new h
   answers-lift comments old (asks.Change number place value) text new h = call-lifts old (Edit (Change number place value)) edit_says text new h
-  answers-lift comments old (asks.Scenario name setting) text new h = call-lifts old (AddScenario name setting) (scenario_says name) text new h
+  answers-lift comments old (asks.Scenario name scenario) text new h = call-lifts old (AddScenario name scenario) (scenario_says name) text new h
   answers-lift comments old (asks.Drop name) text new h = call-lifts old (DropScenario name) (scenario_says name) text new h
   answers-lift comments old (asks.Retry name) text new h =
       named-lifts old name _ (λ id mid. CallBy to mid (Retry id) (scenario_says name) text (at new)) text new (λ id mid. call-lifts mid (Retry id) (scenario_says name) text new) h

@@ -3,7 +3,7 @@ use Rattle.std.proofs.Common.{◌≡◌, ℕ, List, ◌++◌, map, refl, sym, �
 use Rattle.std.specs.Prelude.{codes, find, nat_lt, Option, None, Some, Result, Ok, Err, IfOk}
 use Rattle.std.specs.Option.{option_map}
 use Rattle.swf_text.specs.Entry.{LogEntry}
-use Rattle.scenarios.specs.Scenario.{Setting}
+use Rattle.scenarios.specs.Scenario.{ScenarioView}
 use Rattle.scenarios.specs.Plan.{plan_of}
 use Rattle.scenarios.specs.ScenarioList.{Listed, named}
 use Rattle.checkpoints.specs.Sums.{IsTablesOf}
@@ -48,7 +48,7 @@ looked b id seen p book h s listed =
     let same : h.scenario ≡ shown.0 = cc (found, shown.1) in
     record {
       log = h.version.log;
-      setting = h.version.setting ∙ (ap (λ (x : ShownView). x.setting) same ∙ shown.2);
+      scenario = h.version.scenario ∙ (ap (λ (x : ShownView). x.scenario) same ∙ shown.2);
       run = h.version.run;
     }
 
@@ -90,15 +90,15 @@ view-true-as {u} b new who id seen result is book shown h = subst (λ (w : Sessi
 
 -- ---- a report
 
-schedule-as : (name : List ℕ) (v : ℕ) {log log' : List LogEntry} {under under' : Setting} → log ≡ log' → under ≡ under' → schedule_text name v (plan_of log under) ≡ schedule_text name v (plan_of log' under')
+schedule-as : (name : List ℕ) (v : ℕ) {log log' : List LogEntry} {under under' : ScenarioView} → log ≡ log' → under ≡ under' → schedule_text name v (plan_of log under) ≡ schedule_text name v (plan_of log' under')
 schedule-as name v is is' = cc
 
-tables-of : {m : Machine} {s : Listed} {p : PublishedView} → IsOf m s p → IsTablesOf (log_of_version m p.version) s.setting p.run.tables
+tables-of : {m : Machine} {s : Listed} {p : PublishedView} → IsOf m s p → IsTablesOf (log_of_version m p.version) s.scenario p.run.tables
 tables-of {m} {s} {p} h =
-    subst (λ (log : List LogEntry). IsTablesOf log s.setting p.run.tables) h.log (subst (λ (under : Setting). IsTablesOf p.run.log under p.run.tables) h.setting h.run.tables)
+    subst (λ (log : List LogEntry). IsTablesOf log s.scenario p.run.tables) h.log (subst (λ (under : ScenarioView). IsTablesOf p.run.log under p.run.tables) h.scenario h.run.tables)
 
 is-report : (kind : Report) (m : Machine) (s : Listed) (p : PublishedView) → IsOf m s p → IsReport kind m s p.version (report_text kind s.name p.version p.run)
-is-report report.Schedule m s p h = schedule-as s.name p.version h.log h.setting
+is-report report.Schedule m s p h = schedule-as s.name p.version h.log h.scenario
 is-report report.Table m s p h = (p.run.tables, tables-of h, refl)
 is-report report.Users m s p h = (p.run.tables, tables-of h, refl)
 is-report report.Days m s p h = (p.run.tables, tables-of h, refl)

@@ -33,9 +33,9 @@ name-found name t (s ∷ ss) is = name-here name s t ss (has_name name s) refl (
 
 -- ---- what a book shows
 
--- a scenario is shown under its id, with its setting
+-- a scenario is shown under its id, with its scenario
 abbrev pub IsShown : List ShownView → Listed → Type 0
-IsShown xs s = (x : ShownView) × (find (has_id s.id) xs ≡ Some x) × (x.setting ≡ s.setting)
+IsShown xs s = (x : ShownView) × (find (has_id s.id) xs ≡ Some x) × (x.scenario ≡ s.scenario)
 
 show-first : (x : ShownView) (xs : List ShownView) (s : Listed) → under_of_shown x ≡ under_of_listed s → IsShown (x ∷ xs) s
 show-first x xs s u =

@@ -2,7 +2,7 @@
 use Rattle.std.proofs.Common.{◌≡◌, ℕ, ◌<◌, List, [], ◌∷◌, ◌++◌, length, sym, ◌∙◌, ap, ap₂, subst, true, false, inl, inr, ◌⊎◌, arith}
 use Rattle.std.specs.Prelude.{None, Some, IsTrue, is_some, codes}
 use Rattle.swf_text.specs.Entry.{LogEntry}
-use Rattle.scenarios.specs.Scenario.{Setting}
+use Rattle.scenarios.specs.Scenario.{ScenarioView}
 use Rattle.scenarios.specs.Plan.{plan_of}
 use Rattle.scenarios.specs.ScenarioList.{Listed}
 use Rattle.scenarios.specs.Skips.{skips_of}
@@ -27,7 +27,7 @@ use Rattle.scripts.specs.Lines.{refused}
 use Rattle.scripts.specs.Answers.{edit_says, scenario_says}
 use Rattle.scripts.specs.Session.{Session, IsStep, IsCallIf, seen_by}
 use Rattle.scripts.specs.Settling.{Ended, Published, GivenUp, AreWorked, CanClaim, Halts, IsAtRest, IsUnnoted, IsWorked}
-use Rattle.scripts.specs.Steps.{AnswersIf, AreSeen, IsDays, IsMadeIf, IsNamed, IsSchedule, IsSeen, IsSettled, IsSideIf, IsSideLine, IsTable, IsTold, IsUsers, IsViewIf, log_of_version, saved_text, settle_line, side_of}
+use Rattle.scripts.specs.Steps.{AnswersIf, AreSeen, IsDays, IsMadeIf, IsNamed, IsSchedule, IsSeen, IsSettled, IsSideIf, IsSideLine, IsTable, IsAnswered, IsUsers, IsViewIf, log_of_version, saved_text, settle_line, side_of}
 use Rattle.scripts.proofs.Settlings.{claim-notes}
 
 -- one text, and one state
@@ -51,20 +51,20 @@ false-true is = cc
 
 -- ---- a call
 
-one-step : (old : Session) (call : BookCall) (told other : Reply) (new next : Session) → IsStep old call told new → IsStep old call other next → (told ≡ other) × (new ≡ next)
-one-step old call told other new next f g =
-    let same : told ≡ other = f.replied ∙ sym g.replied in
+one-step : (old : Session) (call : BookCall) (outcome other : Reply) (new next : Session) → IsStep old call outcome new → IsStep old call other next → (outcome ≡ other) × (new ≡ next)
+one-step old call outcome other new next f g =
+    let same : outcome ≡ other = f.replied ∙ sym g.replied in
     (same, one-session new next (f.machine ∙ sym g.machine) (f.seen ∙ ap (seen_by old.seen) same ∙ sym g.seen))
 
 full-step : (n : ℕ) → n ≡ note_limit → n < note_limit → ⊥
-full-step n full room = omega (arith, full, room)
+full-step n full capacity = omega (arith, full, capacity)
 
 one-call : (old : Session) (call : BookCall) (says : Reply → List ℕ) (text other : List ℕ) (new next : Session) → IsCallIf false old call says text new → IsCallIf false old call says other next → IsSame text other new next
 one-call old call says text other new next (inl f) (inl g) = (f.1.0 ∙ sym g.1.0, f.1.1 ∙ sym g.1.1)
 one-call old call says text other new next (inl f) (inr (inl g)) = absurd g
-one-call old call says text other new next (inl f) (inr (inr g)) = absurd (full-step old.machine.notes f.0 g.1.room)
+one-call old call says text other new next (inl f) (inr (inr g)) = absurd (full-step old.machine.notes f.0 g.1.capacity)
 one-call old call says text other new next (inr (inl f)) g = absurd f
-one-call old call says text other new next (inr (inr f)) (inl g) = absurd (full-step old.machine.notes g.0 f.1.room)
+one-call old call says text other new next (inr (inr f)) (inl g) = absurd (full-step old.machine.notes g.0 f.1.capacity)
 one-call old call says text other new next (inr (inr f)) (inr (inl g)) = absurd g
 one-call old call says text other new next (inr (inr f)) (inr (inr g)) =
     let same = one-step old call f.0 g.0 new next f.1 g.1 in (f.2 ∙ ap says same.0 ∙ sym g.2, same.1)
@@ -85,7 +85,7 @@ one-named old name follows one text other new next (inr f) (inr g) =
 -- ---- reports
 
 -- a log has one such table
-one-tables : (log : List LogEntry) (s : Setting) (t u : TableRows) → IsTablesOf log s t → IsTablesOf log s u → t ≡ u
+one-tables : (log : List LogEntry) (s : ScenarioView) (t u : TableRows) → IsTablesOf log s t → IsTablesOf log s u → t ≡ u
 one-tables log s t u (v, pv, ev) (w, pw, ew) =
     ev ∙ ap (λ (x : PartSums). tables_of s.procs (skips_of log s) x) (one_part (all_placed (plan_of log s)) v w pv pw) ∙ sym ew
 
@@ -97,56 +97,56 @@ one-schedule m s v a b f g = f ∙ sym g
 
 one-table : IsOne IsTable
 one-table m s v a b (t, tables, is) (u, others, same) =
-    is ∙ ap (λ (x : TableRows). table_text s.name v x.overall) (one-tables (log_of_version m v) s.setting t u tables others) ∙ sym same
+    is ∙ ap (λ (x : TableRows). table_text s.name v x.overall) (one-tables (log_of_version m v) s.scenario t u tables others) ∙ sym same
 
 one-users : IsOne IsUsers
 one-users m s v a b (t, tables, is) (u, others, same) =
-    is ∙ ap (λ (x : TableRows). users_text s.name v x.users) (one-tables (log_of_version m v) s.setting t u tables others) ∙ sym same
+    is ∙ ap (λ (x : TableRows). users_text s.name v x.users) (one-tables (log_of_version m v) s.scenario t u tables others) ∙ sym same
 
 one-days : IsOne IsDays
 one-days m s v a b (t, tables, is) (u, others, same) =
-    is ∙ ap (λ (x : TableRows). days_text s.name v x.days) (one-tables (log_of_version m v) s.setting t u tables others) ∙ sym same
+    is ∙ ap (λ (x : TableRows). days_text s.name v x.days) (one-tables (log_of_version m v) s.scenario t u tables others) ∙ sym same
 
 -- ---- views
 
-one-told : (report : ℕ → List ℕ → Type 0) → ((v : ℕ) (a b : List ℕ) → report v a → report v b → a ≡ b) → (told : Reply) (a b : List ℕ) → IsTold false report told a → IsTold false report told b → a ≡ b
-one-told report one (reply.Shown v) a b (inl f) (inl g) = one v a b f g
-one-told report one (reply.Shown v) a b (inl f) (inr g) = absurd g
-one-told report one (reply.Shown v) a b (inr f) g = absurd f
-one-told report one (reply.Edited v) a b f g = f ∙ sym g
-one-told report one (reply.EditRefused fault) a b f g = f ∙ sym g
-one-told report one (reply.Added id) a b f g = f ∙ sym g
-one-told report one (reply.AddRefused fault) a b f g = f ∙ sym g
-one-told report one (reply.Dropped id) a b f g = f ∙ sym g
-one-told report one reply.NoSuchScenario a b f g = f ∙ sym g
-one-told report one reply.Retried a b f g = f ∙ sym g
-one-told report one reply.NoneDue a b f g = f ∙ sym g
-one-told report one (reply.Claimed ticket id v base) a b f g = f ∙ sym g
-one-told report one reply.TooManyTickets a b f g = f ∙ sym g
-one-told report one (reply.Finished v) a b f g = f ∙ sym g
-one-told report one reply.UnknownTicket a b f g = f ∙ sym g
-one-told report one reply.Stranger a b f g = f ∙ sym g
-one-told report one (reply.Stale v) a b f g = f ∙ sym g
-one-told report one reply.GivenUp a b f g = f ∙ sym g
-one-told report one reply.NotYet a b f g = f ∙ sym g
-one-told report one (reply.Behind seen found) a b f g = f ∙ sym g
+one-outcome : (report : ℕ → List ℕ → Type 0) → ((v : ℕ) (a b : List ℕ) → report v a → report v b → a ≡ b) → (outcome : Reply) (a b : List ℕ) → IsAnswered false report outcome a → IsAnswered false report outcome b → a ≡ b
+one-outcome report one (reply.Shown v) a b (inl f) (inl g) = one v a b f g
+one-outcome report one (reply.Shown v) a b (inl f) (inr g) = absurd g
+one-outcome report one (reply.Shown v) a b (inr f) g = absurd f
+one-outcome report one (reply.Edited v) a b f g = f ∙ sym g
+one-outcome report one (reply.EditRefused fault) a b f g = f ∙ sym g
+one-outcome report one (reply.Added id) a b f g = f ∙ sym g
+one-outcome report one (reply.AddRefused fault) a b f g = f ∙ sym g
+one-outcome report one (reply.Dropped id) a b f g = f ∙ sym g
+one-outcome report one reply.NoSuchScenario a b f g = f ∙ sym g
+one-outcome report one reply.Retried a b f g = f ∙ sym g
+one-outcome report one reply.NoneDue a b f g = f ∙ sym g
+one-outcome report one (reply.Claimed ticket id v base) a b f g = f ∙ sym g
+one-outcome report one reply.TooManyTickets a b f g = f ∙ sym g
+one-outcome report one (reply.Finished v) a b f g = f ∙ sym g
+one-outcome report one reply.UnknownTicket a b f g = f ∙ sym g
+one-outcome report one reply.Stranger a b f g = f ∙ sym g
+one-outcome report one (reply.Stale v) a b f g = f ∙ sym g
+one-outcome report one reply.GivenUp a b f g = f ∙ sym g
+one-outcome report one reply.NotYet a b f g = f ∙ sym g
+one-outcome report one (reply.Behind seen found) a b f g = f ∙ sym g
 
 one-view : (old : Session) (report : Machine → Listed → ℕ → List ℕ → Type 0) → IsOne report → (s : Listed) (text other : List ℕ) (new next : Session) → IsViewIf false old report text new s → IsViewIf false old report other next s → IsSame text other new next
 one-view old report one s text other new next (inl f) (inl g) = (f.1.0 ∙ sym g.1.0, f.1.1 ∙ sym g.1.1)
 one-view old report one s text other new next (inl f) (inr (inl g)) = absurd g
-one-view old report one s text other new next (inl f) (inr (inr g)) = absurd (full-step old.machine.notes f.0 g.1.room)
+one-view old report one s text other new next (inl f) (inr (inr g)) = absurd (full-step old.machine.notes f.0 g.1.capacity)
 one-view old report one s text other new next (inr (inl f)) g = absurd f
-one-view old report one s text other new next (inr (inr f)) (inl g) = absurd (full-step old.machine.notes g.0 f.1.room)
+one-view old report one s text other new next (inr (inr f)) (inl g) = absurd (full-step old.machine.notes g.0 f.1.capacity)
 one-view old report one s text other new next (inr (inr f)) (inr (inl g)) = absurd g
 one-view old report one s text other new next (inr (inr f)) (inr (inr g)) =
     let same = one-step old (View s.id old.seen) f.0 g.0 new next f.1 g.1 in
-    (one-told (report old.machine s) (one old.machine s) g.0 text other (subst (λ (told : Reply). IsTold false (report old.machine s) told text) same.0 f.2) g.2, same.1)
+    (one-outcome (report old.machine s) (one old.machine s) g.0 text other (subst (λ (outcome : Reply). IsAnswered false (report old.machine s) outcome text) same.0 f.2) g.2, same.1)
 
 -- ---- side by side
 
-one-side_line : (m : Machine) (s : Listed) (told : Reply) (a b : List ℕ) → IsSideLine m s told a → IsSideLine m s told b → a ≡ b
+one-side_line : (m : Machine) (s : Listed) (outcome : Reply) (a b : List ℕ) → IsSideLine m s outcome a → IsSideLine m s outcome b → a ≡ b
 one-side_line m s (reply.Shown v) a b (t, tables, is) (u, others, same) =
-    is ∙ ap (λ (x : TableRows). shown_line s.name v x.overall) (one-tables (log_of_version m v) s.setting t u tables others) ∙ sym same
+    is ∙ ap (λ (x : TableRows). shown_line s.name v x.overall) (one-tables (log_of_version m v) s.scenario t u tables others) ∙ sym same
 one-side_line m s reply.NotYet a b f g = f ∙ sym g
 one-side_line m s (reply.Behind seen found) a b f g = f ∙ sym g
 one-side_line m s (reply.Edited v) a b f g = absurd f
@@ -168,7 +168,7 @@ one-side_line m s reply.GivenUp a b f g = absurd f
 one-seen : (old : Session) (s : Listed) (line other : List ℕ) (new next : Session) → IsSeen old s line new → IsSeen old s other next → IsSame line other new next
 one-seen old s line other new next f g =
     let same = one-step old (View s.id old.seen) f.0 g.0 new next f.1 g.1 in
-    (one-side_line old.machine s g.0 line other (subst (λ (told : Reply). IsSideLine old.machine s told line) same.0 f.2) g.2, same.1)
+    (one-side_line old.machine s g.0 line other (subst (λ (outcome : Reply). IsSideLine old.machine s outcome line) same.0 f.2) g.2, same.1)
 
 -- no view is left, or none is noted any more
 abbrev Stops : List Listed → Session → Type 0
@@ -180,7 +180,7 @@ no-view back now next s others line (inl none) is seen = nothing (sym none ∙ i
   where
     nothing : [] ≡ s ∷ others → ⊥
     nothing e = cc
-no-view back now next s others line (inr full) is seen = full-step now.machine.notes full.0 seen.1.room
+no-view back now next s others line (inr full) is seen = full-step now.machine.notes full.0 seen.1.capacity
 
 -- the views, where they stop, and the state then
 pub record AreSame (lines others : List (List ℕ)) (new next : Session) (back rest : List Listed) : Type 0 where
@@ -258,8 +258,8 @@ one-halt old new next (inr (inr f)) (inr (inr g)) = f.3 ∙ sym g.3
 -- the work goes on where it doesn't halt
 goes-on : (old next new : Machine) (ended : Ended) → IsWorked false old ended next → Halts false old new → ⊥
 goes-on old next new ended worked (inl f) = not-both old f.0 worked.claims
-goes-on old next new ended worked (inr (inl f)) = omega (arith, full-there old f.1, worked.room)
-goes-on old next new ended worked (inr (inr f)) = omega (arith, full-there (after Claim old) f.2, claim-notes old (due old), worked.room)
+goes-on old next new ended worked (inr (inl f)) = omega (arith, full-there old f.1, worked.capacity)
+goes-on old next new ended worked (inr (inr f)) = omega (arith, full-there (after Claim old) f.2, claim-notes old (due old), worked.capacity)
 
 one-work : (old new next : Machine) (ends others : List Ended) (last end : Machine) → AreWorked false old ends last → Halts false last new → AreWorked false old others end → Halts false end next → new ≡ next
 one-work old new next [] [] last end f halts g stops =
@@ -290,7 +290,7 @@ pub one-answer : {A : Type 0} (comments : List (List ℕ)) (old : Session) (comm
 one-answer comments old (asks.Insert entry) text other new next f g = one-call old (Edit (Insert entry)) edit_says text other new next f g
 one-answer comments old (asks.Remove number) text other new next f g = one-call old (Edit (Remove number)) edit_says text other new next f g
 one-answer comments old (asks.Change number place value) text other new next f g = one-call old (Edit (Change number place value)) edit_says text other new next f g
-one-answer comments old (asks.Scenario name setting) text other new next f g = one-call old (AddScenario name setting) (scenario_says name) text other new next f g
+one-answer comments old (asks.Scenario name scenario) text other new next f g = one-call old (AddScenario name scenario) (scenario_says name) text other new next f g
 one-answer comments old (asks.Drop name) text other new next f g = one-call old (DropScenario name) (scenario_says name) text other new next f g
 one-answer comments old (asks.Retry name) text other new next f g =
     one-named old name (λ (t : List ℕ) (n : Session) (s : Listed). IsCallIf false old (Retry s.id) (scenario_says name) t n) (λ s. one-call old (Retry s.id) (scenario_says name)) text other new next f g
@@ -301,8 +301,8 @@ one-answer comments old (asks.Users name) text other new next f g = viewed-once 
 one-answer comments old (asks.Days name) text other new next f g = viewed-once old IsDays one-days name text other new next f g
 one-answer comments old asks.Side text other new next f g = one-side old text other new next f g
 one-answer comments old (asks.Log name) text other new next f g =
-    one-named old name (λ (t : List ℕ) (n : Session) (s : Listed). IsMadeIf false old (log_text s.name (version old.machine) (current old.machine) s.setting) t n)
-    (λ s. one-made old (log_text s.name (version old.machine) (current old.machine) s.setting)) text other new next f g
+    one-named old name (λ (t : List ℕ) (n : Session) (s : Listed). IsMadeIf false old (log_text s.name (version old.machine) (current old.machine) s.scenario) t n)
+    (λ s. one-made old (log_text s.name (version old.machine) (current old.machine) s.scenario)) text other new next f g
 one-answer comments old asks.Save text other new next f g = one-made old (saved_text (saved comments (current old.machine) old.machine.listing)) text other new next f g
 one-answer comments old asks.Version text other new next f g = (f.0 ∙ sym g.0, f.1 ∙ sym g.1)
 one-answer comments old asks.Quit text other new next f g = (f.0 ∙ sym g.0, f.1 ∙ sym g.1)

@@ -11,7 +11,7 @@ use Rattle.book_machine.specs.declared.reply.Reply.TheVariants as reply
 use Rattle.book_machine.specs.Call.{BookCall}
 use Rattle.book_machine.specs.Machine.{Machine}
 use Rattle.scripts.specs.Session.{Session, IsCallIf}
-use Rattle.scripts.specs.Steps.{AnswersIf, IsDays, IsMadeIf, IsNamed, IsSchedule, IsSideIf, IsTable, IsTold, IsUsers, IsViewIf}
+use Rattle.scripts.specs.Steps.{AnswersIf, IsDays, IsMadeIf, IsNamed, IsSchedule, IsSideIf, IsTable, IsAnswered, IsUsers, IsViewIf}
 use Rattle.scripts.specs.Transcript.{IsLineIf, IsTranscriptIf, IsTranscriptOf, IsUnrefused, looked_at}
 use Rattle.scripts.proofs.OneAnswer.{IsSame, one-answer}
 
@@ -22,8 +22,8 @@ one-line comments old number (Err fault) text other new next f g = (f.0 ∙ sym 
 
 one-transcript : (A : Type 0) (comments : List (List ℕ)) (old : Session) (ls : List (List ℕ)) (number : ℕ) (out other : List ℕ) → IsTranscriptIf A false comments old ls number out → IsTranscriptIf A false comments old ls number other → out ≡ other
 one-transcript A comments old [] number out other f g = f ∙ sym g
-one-transcript A comments old (line ∷ ls) number out other (text, new, later, answers, rest, is) (said, next, after, told, others, same) =
-    let one = one-line comments old number (command_of_line {A = A} line) text said new next answers told in
+one-transcript A comments old (line ∷ ls) number out other (text, new, later, answers, rest, is) (said, next, after, outcome, others, same) =
+    let one = one-line comments old number (command_of_line {A = A} line) text said new next answers outcome in
     let tail = one-transcript A comments new ls (number + 1) later after rest (subst (λ (s : Session). IsTranscriptIf A false comments s ls (number + 1) after) (sym one.1) others) in
     is ∙ ap₂ (λ (a b : List ℕ). a ++ b) one.0 tail ∙ sym same
 
@@ -41,31 +41,31 @@ named-too : (old : Session) (name : List ℕ) (narrow wide : Listed → Type 0) 
 named-too old name narrow wide text new widens (inl f) = inl f
 named-too old name narrow wide text new widens (inr f) = inr (f.0, f.1, widens f.0 f.2)
 
-told-too : (report : ℕ → List ℕ → Type 0) (told : Reply) (text : List ℕ) → IsTold false report told text → IsTold true report told text
-told-too report (reply.Shown v) text (inl f) = inl f
-told-too report (reply.Shown v) text (inr f) = absurd f
-told-too report (reply.Edited v) text f = f
-told-too report (reply.EditRefused fault) text f = f
-told-too report (reply.Added id) text f = f
-told-too report (reply.AddRefused fault) text f = f
-told-too report (reply.Dropped id) text f = f
-told-too report reply.NoSuchScenario text f = f
-told-too report reply.Retried text f = f
-told-too report reply.NoneDue text f = f
-told-too report (reply.Claimed ticket id v base) text f = f
-told-too report reply.TooManyTickets text f = f
-told-too report (reply.Finished v) text f = f
-told-too report reply.UnknownTicket text f = f
-told-too report reply.Stranger text f = f
-told-too report (reply.Stale v) text f = f
-told-too report reply.GivenUp text f = f
-told-too report reply.NotYet text f = f
-told-too report (reply.Behind seen found) text f = f
+outcome-too : (report : ℕ → List ℕ → Type 0) (outcome : Reply) (text : List ℕ) → IsAnswered false report outcome text → IsAnswered true report outcome text
+outcome-too report (reply.Shown v) text (inl f) = inl f
+outcome-too report (reply.Shown v) text (inr f) = absurd f
+outcome-too report (reply.Edited v) text f = f
+outcome-too report (reply.EditRefused fault) text f = f
+outcome-too report (reply.Added id) text f = f
+outcome-too report (reply.AddRefused fault) text f = f
+outcome-too report (reply.Dropped id) text f = f
+outcome-too report reply.NoSuchScenario text f = f
+outcome-too report reply.Retried text f = f
+outcome-too report reply.NoneDue text f = f
+outcome-too report (reply.Claimed ticket id v base) text f = f
+outcome-too report reply.TooManyTickets text f = f
+outcome-too report (reply.Finished v) text f = f
+outcome-too report reply.UnknownTicket text f = f
+outcome-too report reply.Stranger text f = f
+outcome-too report (reply.Stale v) text f = f
+outcome-too report reply.GivenUp text f = f
+outcome-too report reply.NotYet text f = f
+outcome-too report (reply.Behind seen found) text f = f
 
 view-too : (old : Session) (report : Machine → Listed → ℕ → List ℕ → Type 0) (text : List ℕ) (new : Session) (s : Listed) → IsViewIf false old report text new s → IsViewIf true old report text new s
 view-too old report text new s (inl f) = inl f
 view-too old report text new s (inr (inl f)) = absurd f
-view-too old report text new s (inr (inr f)) = inr (inr (f.0, f.1, told-too (report old.machine s) f.0 text f.2))
+view-too old report text new s (inr (inr f)) = inr (inr (f.0, f.1, outcome-too (report old.machine s) f.0 text f.2))
 
 viewed-too : (old : Session) (name : List ℕ) (report : Machine → Listed → ℕ → List ℕ → Type 0) (text : List ℕ) (new : Session) → IsNamed old name (IsViewIf false old report text new) text new → IsNamed old name (IsViewIf true old report text new) text new
 viewed-too old name report text new f = named-too old name (IsViewIf false old report text new) (IsViewIf true old report text new) text new (view-too old report text new) f
@@ -83,7 +83,7 @@ answer-too : {A : Type 0} (comments : List (List ℕ)) (old : Session) (command 
 answer-too comments old (asks.Insert entry) text new f = call-too old _ _ text new f
 answer-too comments old (asks.Remove number) text new f = call-too old _ _ text new f
 answer-too comments old (asks.Change number place value) text new f = call-too old _ _ text new f
-answer-too comments old (asks.Scenario name setting) text new f = call-too old _ _ text new f
+answer-too comments old (asks.Scenario name scenario) text new f = call-too old _ _ text new f
 answer-too comments old (asks.Drop name) text new f = call-too old _ _ text new f
 answer-too comments old (asks.Retry name) text new f = named-too old name _ _ text new (λ s h. call-too old _ _ text new h) f
 answer-too comments old asks.Settle text new f = (false, f)

@@ -60,11 +60,11 @@ can-claim b is = let h = is-free b is in record { some_due = ap is_some h.due; f
 
 -- ---- a task
 
--- a run of the task's log and setting fits its ticket
-pub fits-out : (s : StateView) (t : TaskView) (n : ℕ) (run : RunView) → IsOut s t → n ≡ t.ticket → run.log ≡ t.log → run.setting ≡ t.setting → Fits s n run
-fits-out s t n run out is log setting =
+-- a run of the task's log and scenario fits its ticket
+pub fits-out : (s : StateView) (t : TaskView) (n : ℕ) (run : RunView) → IsOut s t → n ≡ t.ticket → run.log ≡ t.log → run.scenario ≡ t.scenario → Fits s n run
+fits-out s t n run out is log scenario =
     let found : find (λ (it : TicketView). it.number == n) s.tickets ≡ Some (ticket_for t) = ap (λ (k : ℕ). find (λ (it : TicketView). it.number == k) s.tickets) is ∙ out in
-    subst (λ (o : Option TicketView). HasThoseOf o run) (sym found) (log, setting)
+    subst (λ (o : Option TicketView). HasThoseOf o run) (sym found) (log, scenario)
 
 -- ---- notes
 
@@ -95,14 +95,14 @@ ticket-of s t (Some x) is = let same : t ≡ task_for s x = cc in ap (λ (k : Ta
 claimed-ends : (short : Bool) (old mid new : Machine) (ended : Ended) (ticket : ℕ) → CanClaim old → MayEnd short ended → ticket ≡ old.next_ticket → mid ≡ after Claim old → (mid.notes < note_limit) × (new ≡ after_task ticket ended mid) → IsWorked short old ended new
 claimed-ends short old mid new ended ticket claims cause is mid_is ends = record {
   claims = claims;
-  room = omega (arith, claim-notes old (due old), ap (λ (m : Machine). m.notes) mid_is, ends.0);
+  capacity = omega (arith, claim-notes old (due old), ap (λ (m : Machine). m.notes) mid_is, ends.0);
   cause = cause;
   made = ends.1 ∙ ap (after_task ticket ended) mid_is ∙ ap (λ (t : ℕ). after_task t ended (after Claim old)) is;
 }
 
 -- a claim was noted, and the end of its ticket wasn't
 claimed-stands : (short : Bool) (old mid new : Machine) → CanClaim old → old.notes < note_limit → mid ≡ after Claim old → IsUnnoted short mid → new ≡ mid → Halts short old new
-claimed-stands short old mid new claims room mid_is unnoted is = inr (inr (claims, room, subst (IsUnnoted short) mid_is unnoted, is ∙ mid_is))
+claimed-stands short old mid new claims capacity mid_is unnoted is = inr (inr (claims, capacity, subst (IsUnnoted short) mid_is unnoted, is ∙ mid_is))
 
 -- a turn, by how the claimed ticket ended
 pub turn-of : (old mid : BookView) (who : Caller) (task : TaskView) (r : Turn) (new : Machine) → is_some (free_due old.state) ≡ true → Answered old mid who Claim (claim_answer (Ok (Some task))) → Some task ≡ option_map (task_for old.state) (due_shown old.state) → TicketEnds r task.ticket (machine_of mid) new → IsTurn r (machine_of old) new
@@ -127,8 +127,8 @@ HaveWorked short old now = (ends : List Ended) × AreWorked short old ends now
 
 -- where memory was refused, it may have been anywhere
 worked-short : (short : Bool) (old new : Machine) (ended : Ended) → IsWorked short old ended new → IsWorked true old ended new
-worked-short short old new Published one = record { claims = one.claims; room = one.room; cause = tt; made = one.made }
-worked-short short old new GivenUp one = record { claims = one.claims; room = one.room; cause = refl; made = one.made }
+worked-short short old new Published one = record { claims = one.claims; capacity = one.capacity; cause = tt; made = one.made }
+worked-short short old new GivenUp one = record { claims = one.claims; capacity = one.capacity; cause = refl; made = one.made }
 
 pub are-short : (short : Bool) (old new : Machine) (ends : List Ended) → AreWorked short old ends new → AreWorked true old ends new
 are-short short old new [] h = h
@@ -141,7 +141,7 @@ one-more short old mid new (e ∷ ends) ended h one = (h.0, h.1, one-more short 
 -- one more was published
 pub published-more : (short : Bool) (old mid new : Machine) → HaveWorked short old mid → IsWorked false mid Published new → HaveWorked short old new
 published-more short old mid new h one =
-    (h.0 ++ Published ∷ [], one-more short old mid new h.0 Published h.1 (record { claims = one.claims; room = one.room; cause = tt; made = one.made }))
+    (h.0 ++ Published ∷ [], one-more short old mid new h.0 Published h.1 (record { claims = one.claims; capacity = one.capacity; cause = tt; made = one.made }))
 
 -- one more was given up
 pub given_up-more : (short : Bool) (old mid new : Machine) → HaveWorked short old mid → IsWorked true mid GivenUp new → HaveWorked true old new

@@ -26,7 +26,7 @@ some_answer : {A : Type 0} (comments : List (List ℕ)) (old : Session) (command
 some_answer comments old (asks.Insert entry) = (_, (_, inr (inl (refl, refl))))
 some_answer comments old (asks.Remove number) = (_, (_, inr (inl (refl, refl))))
 some_answer comments old (asks.Change number place value) = (_, (_, inr (inl (refl, refl))))
-some_answer comments old (asks.Scenario name setting) = (_, (_, inr (inl (refl, refl))))
+some_answer comments old (asks.Scenario name scenario) = (_, (_, inr (inl (refl, refl))))
 some_answer comments old (asks.Drop name) = (_, (_, inr (inl (refl, refl))))
 some_answer comments old (asks.Retry name) = some_named old name _ (λ s. (_, (_, inr (inl (refl, refl)))))
 some_answer comments old asks.Settle = (_, (old, (true, (stops old.machine, refl, refl))))

@@ -41,7 +41,7 @@ IsViewText kind name (Err refusal) text = text ≡ unseen_line refusal
 -- the report on a log under the scenario with this name, if there is one, or no memory for it
 abbrev pub IsLogText : List ℕ → Moment → Option Listed → List ℕ → Type 0
 IsLogText name m None text = text ≡ refused no_such_scenario_name
-IsLogText name m (Some s) text = (text ≡ log_text name m.version m.log s.setting) ⊎ (text ≡ refused (codes "Memory"))
+IsLogText name m (Some s) text = (text ≡ log_text name m.version m.log s.scenario) ⊎ (text ≡ refused (codes "Memory"))
 
 abbrev pub IsLogOf : List ℕ → Option Moment → List ℕ → Type 0
 IsLogOf name None text = text ≡ refused (codes "Memory")
@@ -83,19 +83,19 @@ module _ {S : Type 0} (rules : Rules S) where
   NamedBy old name follows text new = (found : Option ℕ) × (mid : S) × rules.finds old name found mid × FoundBy follows found mid text new
 
   -- a view of the scenario with this id, with what was seen by then
-  pub record IsViewed (old : S) (id : ℕ) (told : Result PublishedView (Refusal ViewFault)) (new : S) : Type 0 where
-    pub call : rules.does old (View id (rules.seen old)) (view_answer told) new
-    pub shown : rules.sees old id told new
+  pub record IsViewed (old : S) (id : ℕ) (outcome : Result PublishedView (Refusal ViewFault)) (new : S) : Type 0 where
+    pub call : rules.does old (View id (rules.seen old)) (view_answer outcome) new
+    pub shown : rules.sees old id outcome new
 
   abbrev pub ViewBy : S → ℕ → List ℕ → Report → List ℕ → S → Type 0
-  ViewBy old id name kind text new = (told : Result PublishedView (Refusal ViewFault)) × IsViewed old id told new × IsViewText kind name told text
+  ViewBy old id name kind text new = (outcome : Result PublishedView (Refusal ViewFault)) × IsViewed old id outcome new × IsViewText kind name outcome text
 
   -- ---- scenarios side by side
 
   module _ (A : Type 0) where
     -- the scenario with this id stands beside others by the result of its view
     abbrev pub StandsSo : S → ℕ → Result (Option (Beside A)) (Refusal ViewFault) → S → Type 0
-    StandsSo old id found new = (told : Result PublishedView (Refusal ViewFault)) × IsViewed old id told new × (found ≡ beside_of told)
+    StandsSo old id found new = (outcome : Result PublishedView (Refusal ViewFault)) × IsViewed old id outcome new × (found ≡ beside_of outcome)
 
     -- One view after another: each of these scenarios has the line that its view gives, and none where it was dropped before.
     abbrev pub AreBeside : S → List Listed → List (List ℕ) → S → Type 0
@@ -142,7 +142,7 @@ module _ {S : Type 0} (rules : Rules S) where
   AnswersBy comments old (asks.Insert entry) text new = CallBy old (Edit (Insert entry)) edit_says text new
   AnswersBy comments old (asks.Remove number) text new = CallBy old (Edit (Remove number)) edit_says text new
   AnswersBy comments old (asks.Change number place value) text new = CallBy old (Edit (Change number place value)) edit_says text new
-  AnswersBy comments old (asks.Scenario name setting) text new = CallBy old (AddScenario name setting) (scenario_says name) text new
+  AnswersBy comments old (asks.Scenario name scenario) text new = CallBy old (AddScenario name scenario) (scenario_says name) text new
   AnswersBy comments old (asks.Drop name) text new = CallBy old (DropScenario name) (scenario_says name) text new
   AnswersBy comments old (asks.Retry name) text new = NamedBy old name (λ id mid. CallBy mid (Retry id) (scenario_says name) text new) text new
   AnswersBy comments old asks.Settle text new = SettledBy old text new

@@ -4,7 +4,7 @@ use Rattle.job_table.specs.Names.{edit_fault_name}
 use Rattle.scenarios.specs.Names.{add_fault_name, no_such_scenario_name}
 use Rattle.book_machine.specs.declared.reply.Reply.{Reply}
 use Rattle.book_machine.specs.declared.reply.Reply.TheVariants as reply
-use Rattle.version_book.specs.Steps.{Answer, full, memory, told}
+use Rattle.version_book.specs.Steps.{Answer, full, memory, outcome}
 use Rattle.scripts.specs.Lines.{version_line, scenario_line, refused, behind_line}
 
 -- an edit: the version that it made, or its fault
@@ -33,4 +33,4 @@ view_says other = []
 abbrev pub says_of : (Reply → List ℕ) → Answer → List ℕ
 says_of says full = refused (codes "JournalFull")
 says_of says memory = refused (codes "Memory")
-says_of says (told r) = says r
+says_of says (outcome r) = says r

@@ -4,7 +4,7 @@ use Rattle.scenarios.specs.ScenarioList.{Listed, id_of}
 use Rattle.book_machine.specs.Call.{BookCall}
 use Rattle.book_machine.specs.Machine.{Machine, current, settled, version, note_limit}
 use Rattle.tasks.specs.Published.{PublishedView}
-use Rattle.version_book.specs.Steps.{Answer, full, memory, told}
+use Rattle.version_book.specs.Steps.{Answer, full, memory, outcome}
 use Rattle.version_book.specs.declared.faults.ViewFault.{ViewFault}
 use Rattle.version_book.specs.declared.faults.ViewFault.TheVariants as view
 use Rattle.version_book.specs.declared.refusal.Refusal.{Refusal}
@@ -18,7 +18,7 @@ use Rattle.scripts.specs.Settling.{Settles}
 abbrev pub IsAnswered : Session → BookCall → Answer → Session → Type 0
 IsAnswered old call full new = (old.machine.notes ≡ note_limit) × (new ≡ old)
 IsAnswered old call memory new = new ≡ old
-IsAnswered old call (told reply) new = IsStep old call reply new
+IsAnswered old call (outcome reply) new = IsStep old call reply new
 
 -- a run that is shown is that of the listed scenario with this id, and one that is listed is no missing one
 abbrev pub IsTrueOf : Machine → ℕ → Result PublishedView (Refusal ViewFault) → Type 0
@@ -37,7 +37,7 @@ IsPresent m (Some moment) = moment ≡ present m
 abbrev pub book_rules : Rules Session
 book_rules = record {
   does = IsAnswered;
-  sees = λ old id told new. IsTrueOf old.machine id told;
+  sees = λ old id outcome new. IsTrueOf old.machine id outcome;
   finds = λ old name found new. (found ≡ id_of name old.machine.listing) × (new ≡ old);
   counts = λ old number new. (number ≡ version old.machine) × (new ≡ old);
   reads = λ old moment new. IsPresent old.machine moment × (new ≡ old);

@@ -17,6 +17,6 @@ settle_and_schedule name = codes "settle" ∷ (codes "schedule " ++ name) ∷ []
 -- `settled 0` and the schedule of the first scenario.
 abbrev pub SchedulesTheFirst : Type 0 → Type 0
 SchedulesTheFirst A =
-    (log : List LogEntry) (procs : Option ℕ) (told comments : List (List ℕ)) (scenarios : Listing) (first : Listed) (script : List ℕ)
-    → opened procs told ≡ Ok scenarios → slice_get scenarios.scenarios 0 ≡ Some first → lines script ≡ settle_and_schedule first.name
-    → IsUnrefused A comments (begun log scenarios.scenarios) script (settled_line 0 ++ schedule_text first.name 0 (plan_of log first.setting))
+    (log : List LogEntry) (procs : Option ℕ) (outcome comments : List (List ℕ)) (scenarios : Listing) (first : Listed) (script : List ℕ)
+    → opened procs outcome ≡ Ok scenarios → slice_get scenarios.scenarios 0 ≡ Some first → lines script ≡ settle_and_schedule first.name
+    → IsUnrefused A comments (begun log scenarios.scenarios) script (settled_line 0 ++ schedule_text first.name 0 (plan_of log first.scenario))

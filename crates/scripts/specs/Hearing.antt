@@ -76,8 +76,8 @@ IsUsed shown bytes used Input = (shown ≡ []) × (bytes ≡ [])
 IsUsed shown bytes used Open = take used shown ≡ bytes
 
 -- which of the bytes that a reader shows belong to the line, of which at most this many are stored
-pub record IsFront (shown : List ℕ) (room : ℕ) (bytes : List ℕ) (used : ℕ) (end : LineEnd) : Type 0 where
+pub record IsFront (shown : List ℕ) (capacity : ℕ) (bytes : List ℕ) (used : ℕ) (end : LineEnd) : Type 0 where
   pub one_line : HasNoFeed bytes
-  pub fits : length bytes ≤ room
+  pub fits : length bytes ≤ capacity
   pub within : used ≤ length shown
   pub is_used : IsUsed shown bytes used end

@@ -38,5 +38,5 @@ TranscriptsAreSome A =
 -- scenario, and where the machine replies that there is no such scenario, none is listed
 abbrev pub ShownIsTrue : Type 0
 ShownIsTrue =
-    (b : BookView) (id seen : ℕ) (told : Result PublishedView (Refusal ViewFault)) → IsBook b → IfOk told (IsShownFor b.state id seen)
-    → (told ≡ Err (why.Fault view.NoSuchScenario) → reply_to (View id seen) (machine_of b) ≡ reply.NoSuchScenario) → IsTrueOf (machine_of b) id told
+    (b : BookView) (id seen : ℕ) (outcome : Result PublishedView (Refusal ViewFault)) → IsBook b → IfOk outcome (IsShownFor b.state id seen)
+    → (outcome ≡ Err (why.Fault view.NoSuchScenario) → reply_to (View id seen) (machine_of b) ≡ reply.NoSuchScenario) → IsTrueOf (machine_of b) id outcome

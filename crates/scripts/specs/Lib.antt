@@ -1,5 +1,5 @@
 pub mod Lines
-pub mod Told
+pub mod Answered
 pub mod Answers
 pub mod Session
 pub mod Settling

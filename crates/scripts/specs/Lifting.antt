@@ -18,7 +18,7 @@ module _ {S T : Type 0} (from : Rules S) (to : Rules T) (at : S → T) (Inv Good
   -- each rule of the one leads to that of the other, where its states stand; a call that views goes with what it shows
   pub record Lifts : Type 0 where
     pub does : (old new : S) (call : BookCall) (answer : Answer) → from.does old call answer new → Leads Inv Good old new (to.does (at old) call answer (at new))
-    pub views : (old new : S) (id : ℕ) (told : Result PublishedView (Refusal ViewFault)) → IsViewed from old id told new → Leads Inv Good old new (IsViewed to (at old) id told (at new))
+    pub views : (old new : S) (id : ℕ) (outcome : Result PublishedView (Refusal ViewFault)) → IsViewed from old id outcome new → Leads Inv Good old new (IsViewed to (at old) id outcome (at new))
     pub finds : (old new : S) (name : List ℕ) (found : Option ℕ) → from.finds old name found new → Leads Inv Good old new (to.finds (at old) name found (at new))
     pub counts : (old new : S) (version : ℕ) → from.counts old version new → Leads Inv Good old new (to.counts (at old) version (at new))
     pub reads : (old new : S) (moment : Option Moment) → from.reads old moment new → Leads Inv Good old new (to.reads (at old) moment (at new))

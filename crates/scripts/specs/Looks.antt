@@ -22,7 +22,7 @@ use Rattle.scripts.specs.Steps.{log_of_version}
 -- the run that is published is of its version's log, under the scenario
 pub record IsOf (m : Machine) (s : Listed) (p : PublishedView) : Type 0 where
   pub log : p.run.log ≡ log_of_version m p.version
-  pub setting : p.run.setting ≡ s.setting
+  pub scenario : p.run.scenario ≡ s.scenario
   pub run : IsRun p.run
 
 -- a scenario of the list, at some place, with this id

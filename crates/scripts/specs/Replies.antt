@@ -3,7 +3,7 @@ use Rattle.std.specs.Prelude.{ℕ, List, []}
 use Rattle.scripts.specs.declared.reply.Reply.{Reply}
 use Rattle.scripts.specs.declared.reply.Reply.TheVariants as reply
 use Rattle.scripts.specs.Steps.{with_count}
-use Rattle.scripts.specs.Told.{answer_line}
+use Rattle.scripts.specs.Answered.{answer_line}
 
 abbrev pub reply_text : {A : Type 0} → Reply A → List ℕ
 reply_text reply.Nothing = []

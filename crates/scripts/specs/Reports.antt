@@ -22,7 +22,7 @@ IsReport report.Days m s v text = IsDays m s v text
 -- ---- of a run
 
 abbrev pub report_text : Report → List ℕ → ℕ → RunView → List ℕ
-report_text report.Schedule name version run = schedule_text name version (plan_of run.log run.setting)
+report_text report.Schedule name version run = schedule_text name version (plan_of run.log run.scenario)
 report_text report.Table name version run = table_text name version run.tables.overall
 report_text report.Users name version run = users_text name version run.tables.users
 report_text report.Days name version run = days_text name version run.tables.days

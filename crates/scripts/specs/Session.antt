@@ -4,7 +4,7 @@ use Rattle.book_machine.specs.declared.reply.Reply.{Reply}
 use Rattle.book_machine.specs.declared.reply.Reply.TheVariants as reply
 use Rattle.book_machine.specs.Call.{BookCall}
 use Rattle.book_machine.specs.Machine.{Machine, reply_to, after, note_limit}
-use Rattle.version_book.specs.Steps.{Answer, full, memory, told}
+use Rattle.version_book.specs.Steps.{Answer, full, memory, outcome}
 use Rattle.scripts.specs.Lines.{refused}
 
 -- the book's state, and the greatest version that an edit or a view returned to the session
@@ -22,14 +22,14 @@ seen_by seen other = seen
 abbrev pub seen_of : ℕ → Answer → ℕ
 seen_of seen full = seen
 seen_of seen memory = seen
-seen_of seen (told r) = seen_by seen r
+seen_of seen (outcome r) = seen_by seen r
 
 -- the book noted the call, and replied
-pub record IsStep (old : Session) (call : BookCall) (told : Reply) (new : Session) : Type 0 where
-  pub room : old.machine.notes < note_limit
-  pub replied : told ≡ reply_to call old.machine
+pub record IsStep (old : Session) (call : BookCall) (outcome : Reply) (new : Session) : Type 0 where
+  pub capacity : old.machine.notes < note_limit
+  pub replied : outcome ≡ reply_to call old.machine
   pub machine : new.machine ≡ after call old.machine
-  pub seen : new.seen ≡ seen_by old.seen told
+  pub seen : new.seen ≡ seen_by old.seen outcome
 
 -- a command is refused for this, and nothing changes
 abbrev pub IsRefused : Session → List ℕ → List ℕ → Session → Type 0
@@ -51,7 +51,7 @@ WantsMemory short old text new = IfShort short (IsRefused old (codes "Memory") t
 -- A command that is one call: the text says what was replied. Where `short` is false, no memory is refused.
 abbrev pub IsCallIf : Bool → Session → BookCall → (Reply → List ℕ) → List ℕ → Session → Type 0
 IsCallIf short old call says text new =
-    IsFull old text new ⊎ (WantsMemory short old text new ⊎ ((told : Reply) × IsStep old call told new × (text ≡ says told)))
+    IsFull old text new ⊎ (WantsMemory short old text new ⊎ ((outcome : Reply) × IsStep old call outcome new × (text ≡ says outcome)))
 
 -- the same, where memory may run out
 abbrev pub IsCall : Session → BookCall → (Reply → List ℕ) → List ℕ → Session → Type 0

@@ -41,7 +41,7 @@ IsUnnoted short m = (m.notes ≡ note_limit) ⊎ IsTrue short
 -- a ticket is claimed for the first scenario that is due, and ends so; both calls are noted
 pub record IsWorked (short : Bool) (old : Machine) (ended : Ended) (new : Machine) : Type 0 where
   pub claims : CanClaim old
-  pub room : old.notes + 1 < note_limit
+  pub capacity : old.notes + 1 < note_limit
   pub cause : MayEnd short ended
   pub made : new ≡ after_task old.next_ticket ended (after Claim old)
 

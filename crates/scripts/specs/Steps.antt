@@ -49,11 +49,11 @@ log_of_version m v = log_at m.opening m.edits v
 
 -- the tables of a version's log under a scenario
 abbrev pub AreTables : Machine → Listed → ℕ → TableRows → Type 0
-AreTables m s v tables = IsTablesOf (log_of_version m v) s.setting tables
+AreTables m s v tables = IsTablesOf (log_of_version m v) s.scenario tables
 
 -- the reports on a version: each is that of the second-by-second simulation of the version's log under the scenario
 abbrev pub IsSchedule : Machine → Listed → ℕ → List ℕ → Type 0
-IsSchedule m s v text = text ≡ schedule_text s.name v (plan_of (log_of_version m v) s.setting)
+IsSchedule m s v text = text ≡ schedule_text s.name v (plan_of (log_of_version m v) s.scenario)
 
 abbrev pub IsTable : Machine → Listed → ℕ → List ℕ → Type 0
 IsTable m s v text = (tables : TableRows) × AreTables m s v tables × (text ≡ table_text s.name v tables.overall)
@@ -65,16 +65,16 @@ abbrev pub IsDays : Machine → Listed → ℕ → List ℕ → Type 0
 IsDays m s v text = (tables : TableRows) × AreTables m s v tables × (text ≡ days_text s.name v tables.days)
 
 -- what is shown is a report, unless memory runs out for it; otherwise why nothing is shown
-abbrev pub IsTold : Bool → (ℕ → List ℕ → Type 0) → Reply → List ℕ → Type 0
-IsTold short report (reply.Shown v) text = report v text ⊎ IfShort short (text ≡ refused (codes "Memory"))
-IsTold short report other text = text ≡ view_says other
+abbrev pub IsAnswered : Bool → (ℕ → List ℕ → Type 0) → Reply → List ℕ → Type 0
+IsAnswered short report (reply.Shown v) text = report v text ⊎ IfShort short (text ≡ refused (codes "Memory"))
+IsAnswered short report other text = text ≡ view_says other
 
 -- a view of a scenario, with what the session has seen
 abbrev pub IsViewIf : Bool → Session → (Machine → Listed → ℕ → List ℕ → Type 0) → List ℕ → Session → Listed → Type 0
 IsViewIf short old report text new s =
     IsFull old text new
     ⊎ (WantsMemory short old text new
-    ⊎ ((told : Reply) × IsStep old (View s.id old.seen) told new × IsTold short (report old.machine s) told text))
+    ⊎ ((outcome : Reply) × IsStep old (View s.id old.seen) outcome new × IsAnswered short (report old.machine s) outcome text))
 
 abbrev pub IsView : Session → (Machine → Listed → ℕ → List ℕ → Type 0) → List ℕ → Session → Listed → Type 0
 IsView old report text new s = IsViewIf true old report text new s
@@ -90,7 +90,7 @@ IsSideLine m s other line = ⊥
 
 -- a view of a scenario, with what the session has seen by then
 abbrev pub IsSeen : Session → Listed → List ℕ → Session → Type 0
-IsSeen old s line new = (told : Reply) × IsStep old (View s.id old.seen) told new × IsSideLine old.machine s told line
+IsSeen old s line new = (outcome : Reply) × IsStep old (View s.id old.seen) outcome new × IsSideLine old.machine s outcome line
 
 -- one view after another
 abbrev pub AreSeen : Session → List Listed → List (List ℕ) → Session → Type 0
@@ -154,7 +154,7 @@ abbrev pub AnswersIf : {A : Type 0} → Bool → List (List ℕ) → Session →
 AnswersIf short comments old (asks.Insert entry) text new = IsCallIf short old (Edit (Insert entry)) edit_says text new
 AnswersIf short comments old (asks.Remove number) text new = IsCallIf short old (Edit (Remove number)) edit_says text new
 AnswersIf short comments old (asks.Change number place value) text new = IsCallIf short old (Edit (Change number place value)) edit_says text new
-AnswersIf short comments old (asks.Scenario name setting) text new = IsCallIf short old (AddScenario name setting) (scenario_says name) text new
+AnswersIf short comments old (asks.Scenario name scenario) text new = IsCallIf short old (AddScenario name scenario) (scenario_says name) text new
 AnswersIf short comments old (asks.Drop name) text new = IsCallIf short old (DropScenario name) (scenario_says name) text new
 AnswersIf short comments old (asks.Retry name) text new = IsNamed old name (λ s. IsCallIf short old (Retry s.id) (scenario_says name) text new) text new
 AnswersIf short comments old asks.Settle text new = IsSettledIf short old text new
@@ -164,7 +164,7 @@ AnswersIf short comments old (asks.Users name) text new = IsNamed old name (IsVi
 AnswersIf short comments old (asks.Days name) text new = IsNamed old name (IsViewIf short old IsDays text new) text new
 AnswersIf short comments old asks.Side text new = IsSideIf short old text new
 AnswersIf short comments old (asks.Log name) text new =
-    IsNamed old name (λ s. IsMadeIf short old (log_text s.name (version old.machine) (current old.machine) s.setting) text new) text new
+    IsNamed old name (λ s. IsMadeIf short old (log_text s.name (version old.machine) (current old.machine) s.scenario) text new) text new
 AnswersIf short comments old asks.Save text new = IsMadeIf short old (saved_text (saved comments (current old.machine) old.machine.listing)) text new
 AnswersIf short comments old asks.Version text new = (text ≡ version_line (version old.machine)) × (new ≡ old)
 AnswersIf short comments old asks.Quit text new = (text ≡ bye_line) × (new ≡ old)

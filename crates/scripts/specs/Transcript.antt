@@ -17,7 +17,7 @@ use Rattle.scripts.specs.Steps.{AnswersIf}
 -- a log with its scenarios, each added by a call of its own; the session has seen nothing
 abbrev pub with_scenarios : Machine → List Listed → Machine
 with_scenarios m [] = m
-with_scenarios m (s ∷ scenarios) = with_scenarios (after (AddScenario s.name s.setting) m) scenarios
+with_scenarios m (s ∷ scenarios) = with_scenarios (after (AddScenario s.name s.scenario) m) scenarios
 
 abbrev pub begun : List LogEntry → List Listed → Session
 begun log scenarios = record { machine = with_scenarios (opened log) scenarios; seen = 0 }

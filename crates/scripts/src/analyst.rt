@@ -50,7 +50,7 @@ pub trait Analyst<A: Allocator + Copy> {
     /// has returned. The refusals are those of `Book::view`.
     fn view(&mut self, id: ScenarioId) -> Result<Published<A>, ViewRefusal>
         ensures answer { rules.does self.old (View id (rules.seen self.old)) (view_answer result) self.new }
-        ensures told { rules.sees self.old id result self.new };
+        ensures outcome { rules.sees self.old id result self.new };
 
     /// The id of the scenario with this name.
     fn find(&mut self, name: &str) -> Option<ScenarioId>

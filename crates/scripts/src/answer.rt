@@ -1,7 +1,7 @@
 ghost use Rattle.std.specs.Prelude.{◌≡◌, ◌+◌, ◌++◌, ◌≤◌, length};
 ghost use Rattle.std.specs.Fmt.{decimal};
 ghost use Rattle.scripts.specs.Lines.{scenario_line, behind_line, fault_line, refused};
-ghost use Rattle.scripts.specs.Told.{became_word, answer_line, scenario_told};
+ghost use Rattle.scripts.specs.Answered.{became_word, answer_line, scenario_outcome};
 
 use crate::refusal_name::RefusalName;
 use arrayvec::ArrayVec;
@@ -46,7 +46,6 @@ pub(crate) enum Answer {
 }
 
 impl Became {
-    // The word for it.
     fn word(&self) -> &'static str
         ensures word { result.now ≡ became_word self.now }
         ensures short { length result.now ≤ 16 }
@@ -59,7 +58,6 @@ impl Became {
     }
 }
 
-// Appends the bytes.
 fn push_all(text: &mut ArrayVec<u8, CAPACITY>, bytes: &[u8])
     requires { length text.old.items + length bytes.now ≤ 96 }
     ensures { text.new.items ≡ text.old.items ++ bytes.now }
@@ -69,7 +67,6 @@ fn push_all(text: &mut ArrayVec<u8, CAPACITY>, bytes: &[u8])
     }
 }
 
-// Appends a number.
 fn push_number(text: &mut ArrayVec<u8, CAPACITY>, number: u64)
     requires { length text.old.items + 20 ≤ 96 }
     ensures added { text.new.items ≡ text.old.items ++ decimal number }
@@ -79,7 +76,6 @@ fn push_number(text: &mut ArrayVec<u8, CAPACITY>, number: u64)
     push_all(text, buffer.format(number).as_bytes());
 }
 
-// The line with these words around a number.
 fn numbered(front: &[u8], number: u64, back: &[u8]) -> ArrayVec<u8, CAPACITY>
     requires front { length front.now ≤ 24 }
     requires back { length back.now ≤ 8 }
@@ -93,7 +89,6 @@ fn numbered(front: &[u8], number: u64, back: &[u8]) -> ArrayVec<u8, CAPACITY>
     text
 }
 
-// The line with this word between others.
 fn worded(front: &[u8], word: &str, back: &[u8]) -> ArrayVec<u8, CAPACITY>
     requires front { length front.now ≤ 16 }
     requires word { length word.now ≤ 16 }
@@ -107,7 +102,6 @@ fn worded(front: &[u8], word: &str, back: &[u8]) -> ArrayVec<u8, CAPACITY>
     text
 }
 
-// The line of what became of a scenario.
 fn scenario_text(name: &ScenarioName, became: Became) -> ArrayVec<u8, CAPACITY>
     ensures { result.items ≡ scenario_line name.now (became_word became) }
 {
@@ -117,7 +111,6 @@ fn scenario_text(name: &ScenarioName, became: Became) -> ArrayVec<u8, CAPACITY>
     text
 }
 
-// The line of a version that is older than the one seen.
 fn behind_text(seen: u64, found: u64) -> ArrayVec<u8, CAPACITY>
     ensures { result.items ≡ behind_line seen found }
 {
@@ -127,7 +120,6 @@ fn behind_text(seen: u64, found: u64) -> ArrayVec<u8, CAPACITY>
     text
 }
 
-// The line of a fault.
 fn fault_text(line: u64, fault: CommandFault) -> ArrayVec<u8, CAPACITY>
     ensures { result.items ≡ fault_line line fault }
 {
@@ -149,15 +141,14 @@ impl Answer {
         Answer::Refused(RefusalName::of(why))
     }
 
-    // The line for a call on the scenario with this name, by the book's result.
     pub(crate) fn of_scenario<T: Copy, F: Named + Copy>(
         name: ScenarioName,
         became: Became,
-        told: Result<T, Refusal<F>>,
+        outcome: Result<T, Refusal<F>>,
     ) -> Answer
-        ensures { answer_line result ≡ scenario_told name became F.name told }
+        ensures { answer_line result ≡ scenario_outcome name became F.name outcome }
     {
-        match told {
+        match outcome {
             Ok(_) => Answer::Scenario { name, became },
             Err(refusal) => Answer::refused(&refusal),
         }

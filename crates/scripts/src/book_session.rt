@@ -51,7 +51,6 @@ impl<A: Allocator + Copy> BookSession<A> {
         }
     }
 
-    // Works a line of a script.
     pub(crate) fn answer_line(
         &mut self,
         comments: &[Vec<u8, A>],
@@ -71,11 +70,11 @@ impl<A: Allocator + Copy> Analyst<A> for BookSession<A> {
     ghost rules = { book_rules };
 
     fn edit(&mut self, edit: &Edit<A>) -> Result<u64, EditRefusal> {
-        let told = self.book.edit(SESSION, edit);
-        if let Ok(version) = told {
+        let outcome = self.book.edit(SESSION, edit);
+        if let Ok(version) = outcome {
             self.seen = self.seen.max(version);
         }
-        told
+        outcome
     }
 
     fn add_scenario(&mut self, name: &str, scenario: Scenario) -> Result<ScenarioId, AddRefusal> {
@@ -91,11 +90,11 @@ impl<A: Allocator + Copy> Analyst<A> for BookSession<A> {
     }
 
     fn view(&mut self, id: ScenarioId) -> Result<Published<A>, ViewRefusal> {
-        let told = self.book.view(SESSION, id, self.seen);
-        if let Ok(published) = &told {
+        let outcome = self.book.view(SESSION, id, self.seen);
+        if let Ok(published) = &outcome {
             self.seen = self.seen.max(published.version());
         }
-        told
+        outcome
     }
 
     fn find(&mut self, name: &str) -> Option<ScenarioId> {

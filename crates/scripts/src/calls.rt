@@ -3,7 +3,7 @@ ghost use Rattle.job_table.specs.Edit.{edit_of};
 ghost use Rattle.book_machine.specs.Call.{AddScenario, DropScenario, Edit as Edits, Retry};
 ghost use Rattle.scripts.specs.Analysts.{CallBy, NamedBy, SettledBy, VersionBy};
 ghost use Rattle.scripts.specs.Answers.{edit_says, scenario_says};
-ghost use Rattle.scripts.specs.Told.{answer_line};
+ghost use Rattle.scripts.specs.Answered.{answer_line};
 
 use crate::analyst::Analyst;
 use crate::answer::{Answer, Became};
@@ -13,7 +13,6 @@ use job_table::Edit;
 use scenarios::{NoSuchScenario, Scenario};
 use std::alloc::Allocator;
 
-// Edits the log.
 pub(crate) fn edit<S: Analyst<A>, A: Allocator + Copy>(analyst: &mut S, edit: &Edit<A>) -> Answer
     ensures { CallBy S.rules analyst.old (Edits (edit_of edit.now)) edit_says (answer_line result) analyst.new }
 {
@@ -23,7 +22,6 @@ pub(crate) fn edit<S: Analyst<A>, A: Allocator + Copy>(analyst: &mut S, edit: &E
     }
 }
 
-// Adds a scenario.
 pub(crate) fn add<S: Analyst<A>, A: Allocator + Copy>(
     analyst: &mut S,
     name: ScenarioName,
@@ -31,22 +29,20 @@ pub(crate) fn add<S: Analyst<A>, A: Allocator + Copy>(
 ) -> Answer
     ensures { CallBy S.rules analyst.old (AddScenario name scenario) (scenario_says name) (answer_line result) analyst.new }
 {
-    let told = analyst.add_scenario(name.as_str(), scenario);
-    Answer::of_scenario(name, Became::Added, told)
+    let outcome = analyst.add_scenario(name.as_str(), scenario);
+    Answer::of_scenario(name, Became::Added, outcome)
 }
 
-// Drops the scenario with this name.
 pub(crate) fn drop_named<S: Analyst<A>, A: Allocator + Copy>(
     analyst: &mut S,
     name: ScenarioName,
 ) -> Answer
     ensures { CallBy S.rules analyst.old (DropScenario name) (scenario_says name) (answer_line result) analyst.new }
 {
-    let told = analyst.drop_scenario(name.as_str());
-    Answer::of_scenario(name, Became::Dropped, told)
+    let outcome = analyst.drop_scenario(name.as_str());
+    Answer::of_scenario(name, Became::Dropped, outcome)
 }
 
-// Has the scenario with this name worked again.
 pub(crate) fn retry<S: Analyst<A>, A: Allocator + Copy>(
     analyst: &mut S,
     name: ScenarioName,
@@ -56,11 +52,10 @@ pub(crate) fn retry<S: Analyst<A>, A: Allocator + Copy>(
     let Some(id) = analyst.find(name.as_str()) else {
         return Answer::refused(&NoSuchScenario);
     };
-    let told = analyst.retry(id);
-    Answer::of_scenario(name, Became::Retried, told)
+    let outcome = analyst.retry(id);
+    Answer::of_scenario(name, Became::Retried, outcome)
 }
 
-// Settles, and returns the line on how far the scenarios are.
 pub(crate) fn settle<S: Analyst<A>, A: Allocator + Copy>(analyst: &mut S) -> Answer
     ensures { SettledBy S.rules analyst.old (answer_line result) analyst.new }
 {
@@ -73,7 +68,6 @@ pub(crate) fn settle<S: Analyst<A>, A: Allocator + Copy>(analyst: &mut S) -> Ans
     }
 }
 
-// The log's version.
 pub(crate) fn version<S: Analyst<A>, A: Allocator + Copy>(analyst: &mut S) -> Answer
     ensures { VersionBy S.rules analyst.old (answer_line result) analyst.new }
 {

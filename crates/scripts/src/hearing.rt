@@ -54,7 +54,6 @@ impl<A: Allocator> Line<A> {
         self.bytes.clear();
     }
 
-    // How many further bytes are stored.
     fn spare(&self) -> usize
         ensures { result + length self.now.bytes.items ≡ 65537 }
     {
@@ -87,7 +86,6 @@ fn front_of(shown: &[u8], spare: usize) -> (&[u8], usize, LineEnd)
     }
 }
 
-// A read that a signal interrupts is tried again.
 fn unless_interrupted(error: io::Error) -> Result<LineEnd, ReadFault>
     ensures { IfOk result (λ end. end ≡ Open) }
 {

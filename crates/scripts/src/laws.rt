@@ -30,5 +30,5 @@ pub fn what_is_shown_is_true()
 /// Where the rules of one analyst lead to those of another, a transcript of a script by the first is one
 /// by the second.
 pub fn transcripts_lift<L: Lifting, A: Allocator>()
-    ensures { LinesLift L.told L.known L.at L.Inv L.Good A }
+    ensures { LinesLift L.outcome L.known L.at L.Inv L.Good A }
 {}

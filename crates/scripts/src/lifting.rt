@@ -10,7 +10,7 @@ pub trait Lifting {
     ghost Place: { Type 0 };
 
     /// The rules of the first.
-    ghost told: { Rules State };
+    ghost outcome: { Rules State };
 
     /// The rules of the second.
     ghost known: { Rules Place };

@@ -74,7 +74,6 @@ impl From<AllocError> for LiveFault {
     }
 }
 
-// Writes a response, and flushes the writer.
 fn say<W: Write, A: Allocator + Copy>(reply: &Reply<A>, writer: &mut W) -> Result<(), WriteFault>
     ensures { Writes result (W.contents writer.old) (W.contents writer.new) (reply_text reply.now) }
 {
@@ -85,7 +84,6 @@ fn say<W: Write, A: Allocator + Copy>(reply: &Reply<A>, writer: &mut W) -> Resul
     }
 }
 
-// Works a line, writes its response, and returns whether it is `quit`.
 fn answer<W: Write, A: Allocator + Copy>(
     analyst: &mut BookSession<A>,
     comments: &[Vec<u8, A>],
@@ -93,7 +91,7 @@ fn answer<W: Write, A: Allocator + Copy>(
     line: &[u8],
     writer: &mut W,
 ) -> Result<bool, WriteFault>
-    ensures told { (text : List ℕ) × IsLine (map (λ c. c.items) comments.now) analyst.old number (command_of_line {A = A} line.now) text analyst.new × Writes result (W.contents writer.old) (W.contents writer.new) text }
+    ensures outcome { (text : List ℕ) × IsLine (map (λ c. c.items) comments.now) analyst.old number (command_of_line {A = A} line.now) text analyst.new × Writes result (W.contents writer.old) (W.contents writer.new) text }
     ensures quits { IfOk result (λ quits. quits ≡ is_quit (command_of_line {A = A} line.now)) }
 {
     let asked = parse_command(analyst.alloc, line);
@@ -102,7 +100,6 @@ fn answer<W: Write, A: Allocator + Copy>(
     Ok(quits)
 }
 
-// Whether a line may follow. The rest of a line that is too long is skipped first.
 fn may_follow<R: BufRead, A: Allocator>(
     reader: &mut R,
     line: &mut Line<A>,

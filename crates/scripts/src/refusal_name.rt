@@ -19,14 +19,12 @@ impl Model for RefusalName {
 }
 
 impl RefusalName {
-    // The name of a refusal, or of a fault.
     pub(crate) fn of<N: Named>(why: &N) -> RefusalName
         ensures { result ≡ N.name why.now }
     {
         RefusalName { name: why.name() }
     }
 
-    // The name.
     pub(crate) fn as_str(&self) -> &'static str
         ensures name { result.now ≡ self.now }
         ensures short { length result.now ≤ 16 }

@@ -24,14 +24,12 @@ pub(crate) enum Reply<A: Allocator + Copy> {
     Saved(Vec<u8, A>),
 }
 
-// How many line feeds there are.
 fn feeds(bytes: &[u8]) -> u64
     ensures { result ≡ count_by is_feed bytes.now }
 {
     bytes.iter().filter(|byte| **byte == b'\n').count() as u64
 }
 
-// A log, behind the number of its lines.
 fn write_saved<W: Write>(writer: &mut W, text: &[u8]) -> Result<(), WriteFault>
     ensures { Writes result (W.contents writer.old) (W.contents writer.new) (with_count text.now) }
 {

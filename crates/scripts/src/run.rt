@@ -21,7 +21,6 @@ use std::io::Write;
 use swf_text::{WriteFault, split_line};
 use version_book::Book;
 
-// Works a command.
 fn answer<S: Analyst<A>, A: Allocator + Copy>(
     analyst: &mut S,
     alloc: A,
@@ -61,7 +60,6 @@ fn answer<S: Analyst<A>, A: Allocator + Copy>(
     }
 }
 
-// Works a line of a script.
 pub(crate) fn answer_line<S: Analyst<A>, A: Allocator + Copy>(
     analyst: &mut S,
     alloc: A,
@@ -78,7 +76,6 @@ pub(crate) fn answer_line<S: Analyst<A>, A: Allocator + Copy>(
     }
 }
 
-// Whether the script ends behind this line.
 pub(crate) fn is_quit<A: Allocator + Copy>(asked: &Result<Option<Command<A>>, CommandFault>) -> bool
     ensures { result ≡ is_quit asked.now }
 {

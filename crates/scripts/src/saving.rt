@@ -17,9 +17,8 @@ use scenarios::{NoSuchScenario, Scenario, ScenarioList};
 use std::alloc::Allocator;
 use swf_text::{Memory, SwfText, write_swf};
 
-// The scenario with this name, under which a log is simulated; None where none has it.
 fn scenario_of<A: Allocator + Copy>(list: &ScenarioList<A>, name: &str) -> Option<Scenario>
-    ensures { result ≡ option_map (λ s. s.setting) (named name.now list.now.scenarios) }
+    ensures { result ≡ option_map (λ s. s.scenario) (named name.now list.now.scenarios) }
 {
     for place in 0..list.len() {
         let Some(listed) = list.at(place) else {
@@ -43,7 +42,6 @@ pub fn bytes_of<A: Allocator + Copy>(alloc: A, text: &SwfText<A>) -> Result<Vec<
     }
 }
 
-// The report on a log under the scenario with this name.
 fn log_of<A: Allocator + Copy>(alloc: A, reading: &Reading<A>, name: &ScenarioName) -> Reply<A>
     ensures { IsLogOf name.now (Some (moment_of reading.now)) (reply_text result) }
 {
@@ -62,7 +60,6 @@ fn log_of<A: Allocator + Copy>(alloc: A, reading: &Reading<A>, name: &ScenarioNa
     }
 }
 
-// The report on the current log under the scenario with this name.
 pub(crate) fn log<S: Analyst<A>, A: Allocator + Copy>(
     analyst: &mut S,
     alloc: A,
@@ -91,7 +88,6 @@ fn saved<A: Allocator + Copy>(
     bytes_of(alloc, &text)
 }
 
-// The current log with its scenarios and these comments.
 pub(crate) fn save<S: Analyst<A>, A: Allocator + Copy>(
     analyst: &mut S,
     alloc: A,

@@ -59,7 +59,6 @@ fn end_task<A: Allocator + Copy>(
     }
 }
 
-// Works a claimed task, and ends it.
 fn work<A: Allocator + Copy>(book: &mut Book<A>, task: &mut Task<A>) -> Turn
     requires { IsOut book.old.state task.old }
     ensures { TicketEnds result task.old.ticket (machine_of book.old) (machine_of book.new) }
@@ -71,7 +70,6 @@ fn work<A: Allocator + Copy>(book: &mut Book<A>, task: &mut Task<A>) -> Turn
     }
 }
 
-// Claims the next task, and works it.
 fn work_next<A: Allocator + Copy>(book: &mut Book<A>) -> Turn
     ensures { IsTurn result (machine_of book.old) (machine_of book.new) }
 {
@@ -104,7 +102,6 @@ fn work_all<A: Allocator + Copy>(book: &mut Book<A>) -> bool
 }
 
 impl<A: Allocator + Copy> BookSession<A> {
-    // Works all that is due, and returns how far the scenarios are, and whether memory was refused.
     pub(crate) fn settle_all(&mut self) -> (SettleState, bool)
         ensures settles { Settles result.1 self.old.machine self.new.machine }
         ensures seen { self.new.seen ≡ self.old.seen }

@@ -15,11 +15,11 @@ use version_book::{Published, Refusal, ViewFault, ViewRefusal};
 
 // What stands beside others, by the result of its view; None where the scenario was dropped since.
 fn beside_of<A: Allocator + Copy>(
-    told: Result<Published<A>, ViewRefusal>,
+    outcome: Result<Published<A>, ViewRefusal>,
 ) -> Result<Option<Beside<A>>, ViewRefusal>
-    ensures { result ≡ beside_of told }
+    ensures { result ≡ beside_of outcome }
 {
-    match told {
+    match outcome {
         Ok(published) => Ok(Some(Beside::Shown(published))),
         Err(Refusal::Fault(ViewFault::NotYet)) => Ok(Some(Beside::NotYet)),
         Err(Refusal::Fault(ViewFault::Behind { .. })) => Ok(Some(Beside::Behind)),
@@ -29,13 +29,12 @@ fn beside_of<A: Allocator + Copy>(
     }
 }
 
-// Adds the line of a scenario that stands beside others.
 fn add_line<'l, A: Allocator + Copy>(
     lines: &mut Vec<SideLine<'l, A>, A>,
     name: &'l str,
     found: Option<Beside<A>>,
 )
-    requires room { vec_len lines.old < vec_capacity lines.old }
+    requires capacity { vec_len lines.old < vec_capacity lines.old }
     ensures lines { map side_line lines.new.items ≡ map side_line lines.old.items ++ lines_of name.now found }
     ensures count { vec_len lines.new ≤ vec_len lines.old + 1 }
     ensures capacity { vec_capacity lines.new ≡ vec_capacity lines.old }
@@ -55,7 +54,6 @@ fn beside<S: Analyst<A>, A: Allocator + Copy>(
     beside_of(analyst.view(id))
 }
 
-// The lines of the scenarios of a list, one view after another.
 fn side_lines<'l, S: Analyst<A>, A: Allocator + Copy>(
     analyst: &mut S,
     alloc: A,
@@ -77,7 +75,6 @@ fn side_lines<'l, S: Analyst<A>, A: Allocator + Copy>(
     Ok(lines)
 }
 
-// The scenarios side by side, one view after another.
 pub(crate) fn side<S: Analyst<A>, A: Allocator + Copy>(analyst: &mut S, alloc: A) -> Reply<A>
     ensures { SideBy S.rules A analyst.old (reply_text result) analyst.new }
 {

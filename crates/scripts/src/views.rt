@@ -4,7 +4,7 @@ ghost use Rattle.report.specs.Side.{side_line};
 ghost use Rattle.scripts.specs.Analysts.{NamedBy, ViewBy};
 ghost use Rattle.scripts.specs.Looks.{beside_line, unseen_line};
 ghost use Rattle.scripts.specs.Replies.{reply_text};
-ghost use Rattle.scripts.specs.Told.{answer_line};
+ghost use Rattle.scripts.specs.Answered.{answer_line};
 
 use crate::analyst::Analyst;
 use crate::answer::Answer;
@@ -55,7 +55,6 @@ fn unseen(refusal: ViewRefusal) -> Answer
     }
 }
 
-// The report on what is published for the scenario with this name.
 pub(crate) fn view<S: Analyst<A>, A: Allocator + Copy>(
     analyst: &mut S,
     alloc: A,

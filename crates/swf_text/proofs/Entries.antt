@@ -98,15 +98,15 @@ pub log_kept : (old new : List LogEntry) → IsLog old → (AllByRecursion IsEnt
 log_kept old new log sound count numbers = record {
   sound = sound log.sound;
   distinct = λ n. omega (arith, log.distinct n, numbers n);
-  room = omega (arith, log.room);
+  capacity = omega (arith, log.capacity);
 }
 
 -- a log with a job more, whose number is new
 pub log_more : (old new : List LogEntry) (job : LogEntry) (number : ℕ) → IsLog old → IsEntry job → new ≡ old ++ job ∷ [] → whole_number (field job.main 1) ≡ Some number → list_any (has_number number) old ≡ false → length old < 4194304 → IsLog new
-log_more old new job number log entry is numbered none room = record {
+log_more old new job number log entry is numbered none capacity = record {
   sound = subst (AllByRecursion IsEntry) (sym is) (all_end IsEntry old job log.sound entry);
   distinct = λ n. omega (arith, ap (count_by (has_number n)) is, count-append (has_number n) old (job ∷ []), one n);
-  room = omega (arith, ap length is, length-append old (job ∷ []));
+  capacity = omega (arith, ap length is, length-append old (job ∷ []));
 }
   where
     one : (n : ℕ) → count_by (has_number n) old + count_by (has_number n) (job ∷ []) ≤ 1
@@ -128,7 +128,7 @@ module _ (t : LogText) (job : List ℤ) (number : ℕ) (numbered : whole_number 
   job_late new full = let late : leb 4194304 (length t.entries) ≡ true = le-leb 4194304 (length t.entries) full in ap (with_numbered t job) numbered ∙ rw (summary, submit, new, late) refl
 
   pub job_more : list_any (has_number number) t.entries ≡ false → length t.entries < 4194304 → with_job t job ≡ Ok (record t { entries = t.entries ++ record { main = job; parts = [] } ∷ [] })
-  job_more new room = let early : leb 4194304 (length t.entries) ≡ false = lt-leb 4194304 (length t.entries) room in ap (with_numbered t job) numbered ∙ rw (summary, submit, new, early) refl
+  job_more new capacity = let early : leb 4194304 (length t.entries) ≡ false = lt-leb 4194304 (length t.entries) capacity in ap (with_numbered t job) numbered ∙ rw (summary, submit, new, early) refl
 
 -- ---- the same, as the builder meets it
 

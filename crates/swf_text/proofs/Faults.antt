@@ -100,16 +100,16 @@ module _ (ls : List (List ℕ)) (fault : SwfFault) (before : ℕ) (next : fault.
       let place : fault.line - 1 ≡ before = omega (arith, next) in
       ap (λ (k : ℕ). with_line h.before (get_or ls k [])) (sym place) ∙ line_fault h.before (get_or ls (fault.line - 1) []) fault.kind h.refused
 
-  told : (rest : List (List ℕ)) → with_lines 1 empty (take before ls ++ get_or ls before [] ∷ rest) ≡ Err fault
-  told rest =
+  outcome : (rest : List (List ℕ)) → with_lines 1 empty (take before ls ++ get_or ls before [] ∷ rest) ≡ Err fault
+  outcome rest =
       let place : 1 + length (take before ls) ≡ fault.line = omega (arith, length-take-le before ls (omega (arith, within)), next) in
       behind 1 empty h.before (take before ls) (get_or ls before []) rest fault.kind text refused ∙ ap (λ (k : ℕ). Err (record { line = k; kind = fault.kind })) place
 
-  told_of_all : with_lines 1 empty ls ≡ Err fault
-  told_of_all = ap (with_lines 1 empty) (sym (apart_at ls before within)) ∙ told (drop (suc before) ls)
+  outcome_of_all : with_lines 1 empty ls ≡ Err fault
+  outcome_of_all = ap (with_lines 1 empty) (sym (apart_at ls before within)) ∙ outcome (drop (suc before) ls)
 
-  told_at_once : with_lines 1 empty (take fault.line ls) ≡ Err fault
-  told_at_once = ap (λ (k : ℕ). with_lines 1 empty (take k ls)) next ∙ ap (with_lines 1 empty) (take_more ls before [] within) ∙ told []
+  outcome_at_once : with_lines 1 empty (take fault.line ls) ≡ Err fault
+  outcome_at_once = ap (λ (k : ℕ). with_lines 1 empty (take k ls)) next ∙ ap (with_lines 1 empty) (take_more ls before [] within) ∙ outcome []
 
   fewer_text : (count : ℕ) → count ≤ before → (t : LogText) × IsText (take count ls) t
   fewer_text count le =
@@ -117,7 +117,7 @@ module _ (ls : List (List ℕ)) (fault : SwfFault) (before : ℕ) (next : fault.
       (front.0, subst (λ (some : List (List ℕ)). IsText some front.0) (take-take count before ls le) front.1)
 
 fault_read : (ls : List (List ℕ)) (fault : SwfFault) → FirstFault ls fault → with_lines 1 empty ls ≡ Err fault
-fault_read ls fault h = told_of_all ls fault (fault.line - 1) (omega (arith, h.counted)) h
+fault_read ls fault h = outcome_of_all ls fault (fault.line - 1) (omega (arith, h.counted)) h
 
 -- ---- the law
 
@@ -125,7 +125,7 @@ pub least : (ls : List (List ℕ)) (fault : SwfFault) → FirstFault ls fault �
 least ls fault h =
     let next : fault.line ≡ fault.line - 1 + 1 = omega (arith, h.counted) in
     record {
-      none = λ t is. let read = sym (text_read 1 empty (take fault.line ls) t is) ∙ told_at_once ls fault (fault.line - 1) next h in absurd cc;
+      none = λ t is. let read = sym (text_read 1 empty (take fault.line ls) t is) ∙ outcome_at_once ls fault (fault.line - 1) next h in absurd cc;
       fewer = λ count lt. fewer_text ls fault (fault.line - 1) next h count (omega (arith, lt));
     }
 

@@ -148,13 +148,13 @@ job_adds t job (Some number) u o_is h =
                   | inr new ↦
                       elim (chosen (leb 4194304 (length t.entries)) _ _ _ new.1) [
                         | inl full ↦ absurd (let e = full.1 in cc)
-                        | inr room ↦ inl (record {
+                        | inr capacity ↦ inl (record {
                           number = number;
                           line = record { numbered = numbered; summary = summary.0 };
                           submit = negative_not (field job 2) submit.0;
                           new = none_has number t.entries new.0;
-                          room = leb-false 4194304 (length t.entries) room.0;
-                          value = ok_is _ u room.1;
+                          capacity = leb-false 4194304 (length t.entries) capacity.0;
+                          value = ok_is _ u capacity.1;
                         })
                       ]
                 ]
@@ -166,8 +166,8 @@ adds_job t job u h =
     let known = exact_number (field job 1) h.number h.line.numbered in
     let submit = not_negative (field job 2) h.submit in
     let new = has_none h.number t.entries h.new in
-    let room : leb 4194304 (length t.entries) ≡ false = lt-leb 4194304 (length t.entries) h.room in
-    ap (with_numbered t job) known ∙ rw (h.line.summary, submit, new, room) (ap Ok (sym h.value))
+    let capacity : leb 4194304 (length t.entries) ≡ false = lt-leb 4194304 (length t.entries) h.capacity in
+    ap (with_numbered t job) known ∙ rw (h.line.summary, submit, new, capacity) (ap Ok (sym h.value))
 
 -- ---- from the reading to the grammar, and back
 

@@ -95,7 +95,7 @@ job_kept t line job u is h sound =
     record {
       comments = subst (AllByRecursion IsComment) (ap (λ (x : LogText). x.comments) (sym h.value)) sound.comments;
       fields = subst (AllByRecursion HasFields) (sym entries) (all_end HasFields t.entries new sound.fields (record { main = values; parts = tt }));
-      log = log_more t.entries u.entries new h.number sound.log entry entries (exact_number (field job 1) h.number h.line.numbered) (has_none h.number t.entries h.new) h.room;
+      log = log_more t.entries u.entries new h.number sound.log entry entries (exact_number (field job 1) h.number h.line.numbered) (has_none h.number t.entries h.new) h.capacity;
     }
 
 part_kept : (t : LogText) (line : List ℕ) (part : List ℤ) (u : LogText) → IsJobLine line part → AddsPart t part u → IsSound t → IsSound u
@@ -147,7 +147,7 @@ text_kept t (line ∷ ls) u no_feed h sound = text_kept h.0 ls u no_feed.1 h.2 (
 
 -- the text that lines are is sound
 pub text_sound : (bytes : List ℕ) (t : LogText) → IsText (lines bytes) t → IsSound t
-text_sound bytes t h = text_kept empty (lines bytes) t (lines_no_feed bytes) h (record { comments = tt; fields = tt; log = record { sound = tt; distinct = λ n. omega arith; room = omega arith } })
+text_sound bytes t h = text_kept empty (lines bytes) t (lines_no_feed bytes) h (record { comments = tt; fields = tt; log = record { sound = tt; distinct = λ n. omega arith; capacity = omega arith } })
 
 -- the comments of a text that is read are sound
 pub read_comments : (bytes : List ℕ) (t : LogText) → IsText (lines bytes) t → AllByRecursion IsComment t.comments

@@ -82,7 +82,7 @@ job_refused t job (Some number) kind o_is whole h =
                         | inl full ↦
                             subst (IsJobFault t job) (sym (kind_is {A = LogText} kinds.TooManyJobs kind full.1))
                             (number, line, negative_not (field job 2) submit.0, none_has number t.entries new.0, leb-true 4194304 (length t.entries) full.0)
-                        | inr room ↦ absurd (let e = room.1 in cc)
+                        | inr capacity ↦ absurd (let e = capacity.1 in cc)
                       ]
                 ]
           ]

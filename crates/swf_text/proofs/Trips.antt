@@ -141,7 +141,7 @@ jobs_read comments done (job ∷ jobs) h f log =
       line = record { numbered = entry.numbered; summary = entry.summary };
       submit = entry.submit;
       new = none_has entry.number done new;
-      room = omega (arith, log.room, length-append done (job ∷ jobs));
+      capacity = omega (arith, log.capacity, length-append done (job ∷ jobs));
       value = refl;
     } in
     let others : IsTextFrom (text_with comments (done ++ job ∷ [])) (flat_map entry_lines jobs) (text_with comments (done ++ job ∷ jobs)) =

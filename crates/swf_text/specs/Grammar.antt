@@ -21,13 +21,13 @@ pub record IsSummary (job : List ℤ) (number : ℕ) : Type 0 where
 abbrev pub IsNew : ℕ → List LogEntry → Type 0
 IsNew number entries = AllByRecursion (λ (other : LogEntry). HasNumber other.main number → ⊥) entries
 
--- a summary line adds an entry: its number is new, and there is room
+-- a summary line adds an entry: its number is new, and there is capacity
 pub record AddsJob (t : LogText) (job : List ℤ) (u : LogText) : Type 0 where
   pub number : ℕ
   pub line : IsSummary job number
   pub submit : pos 0 ≤ℤ field job 2
   pub new : IsNew number t.entries
-  pub room : length t.entries < entry_limit
+  pub capacity : length t.entries < entry_limit
   pub value : u ≡ record t { entries = t.entries ++ record { main = job; parts = [] } ∷ [] }
 
 -- a partial line joins the last entry, which has its number
@@ -65,7 +65,7 @@ IsText lines t = IsTextFrom empty lines t
 
 -- the first fault of a job line behind a text, in the order of checks: no job number; then of a partial
 -- line that the last entry has another number; then of a summary line that its submit time is negative,
--- that an entry has its number, that there is no room
+-- that an entry has its number, that there is no capacity
 abbrev pub IsJobFault : LogText → List ℤ → FaultKind → Type 0
 IsJobFault t job kinds.BadJobNumber = (number : ℕ) → HasNumber job number → ⊥
 IsJobFault t job kinds.OrphanPartial =

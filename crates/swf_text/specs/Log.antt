@@ -8,7 +8,7 @@ use Rattle.swf_text.specs.Entry.{LogEntry, IsEntry, has_number, number_of_entry,
 pub record IsLog (entries : List LogEntry) : Type 0 where
   pub sound : AllByRecursion IsEntry entries
   pub distinct : (n : ℕ) → count_by (has_number n) entries ≤ 1
-  pub room : length entries ≤ entry_limit
+  pub capacity : length entries ≤ entry_limit
 
 -- Submit order, of a second and a job number and another two: the earlier submit second comes first, and of one second the
 -- smaller job number.

@@ -1,4 +1,4 @@
--- The names of faults, and the texts by which they are told: the name of a variant is its own spelling.
+-- The names of faults, and the texts in which they are written: the name of a variant is its own spelling.
 use Rattle.std.specs.Prelude.{ℕ, List, ◌++◌, codes}
 use Rattle.std.specs.Fmt.{decimal as decimal_text}
 use Rattle.swf_text.specs.Fault.{kind_of}
@@ -33,7 +33,7 @@ kind_text kind = kind_name kind
 abbrev pub fault_text : SwfFault → List ℕ
 fault_text fault = codes "line " ++ (decimal_text fault.line ++ (codes ": " ++ kind_text fault.kind))
 
--- a fault of one line is told as that of its log
+-- a fault of one line is written as that of its log
 abbrev pub line_fault_text : LineFault → List ℕ
 line_fault_text fault = kind_text (kind_of fault)
 

@@ -45,7 +45,6 @@ pub fn line_at(bytes: &[u8], bound: (usize, usize)) -> &[u8]
     &rest[..bound.1.saturating_sub(bound.0).min(rest.len())]
 }
 
-// Adds one reading after another.
 fn add_all<A: Allocator + Copy>(
     alloc: A,
     bytes: &[u8],

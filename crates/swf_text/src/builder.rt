@@ -58,7 +58,7 @@ fn add_part<A: Allocator + Copy>(
     ensures numbers { (n : ℕ) → count_by (has_number n) entries.new.items ≡ count_by (has_number n) entries.old.items }
     ensures kept { OnErr result (entries.new.items ≡ entries.old.items) }
 {
-    // Named here since the check has to be told of the type.
+    // Named here since the check has to know the type.
     let _number: &Value = &part.0[0];
     let count = entries.len();
     if count == 0 {
@@ -84,17 +84,16 @@ impl<A: Allocator + Copy> Builder<A> {
         }
     }
 
-    /// Makes room for this many more entries, or for as many as a log may have, so that those that
-    /// are there are not moved when others come. Memory where the growth was refused; the room and
+    /// Reserves capacity for this many more entries, or for as many as a log may have, so that those that
+    /// are there are not moved when others come. Memory where the growth was refused; the capacity and
     /// what was read are then as they were.
-    pub fn make_room(&mut self, entries: usize) -> Result<(), Memory>
+    pub fn reserve(&mut self, entries: usize) -> Result<(), Memory>
         ensures { self.new ≡ self.old }
     {
         self.entries.reserve(entries.min(ENTRY_LIMIT))?;
         Ok(())
     }
 
-    // Whether a job of this number is new, and has room.
     fn check_new(&self, number: u64) -> Result<(), FaultKind>
         ensures { result ≡ (if list_any (has_number number) self.now.entries then Err DuplicateJob else (if nat_le entry_limit (length self.now.entries) then Err TooManyJobs else Ok tt)) }
     {
@@ -107,12 +106,11 @@ impl<A: Allocator + Copy> Builder<A> {
         Ok(())
     }
 
-    // Adds the entry of a job whose number is new.
     fn push_entry(&mut self, number: u64, entry: Entry<A>) -> Result<(), Memory>
         requires sound { IsEntry entry }
         requires number { whole_number (field entry.main 1) ≡ Some number }
         requires new { list_any (has_number number) self.old.entries ≡ false }
-        requires room { length self.old.entries < 4194304 }
+        requires capacity { length self.old.entries < 4194304 }
         ensures added { OnOk result (self.new ≡ record self.old { entries = self.old.entries ++ entry ∷ [] }) }
         ensures kept { OnErr result (self.new ≡ self.old) }
     {
@@ -122,7 +120,6 @@ impl<A: Allocator + Copy> Builder<A> {
         Ok(())
     }
 
-    // Adds a job line: an entry, or a part of the last one.
     fn add_job(&mut self, alloc: A, job: Fields) -> Result<(), FaultKind>
         ensures adds { Adds self.new result (with_job self.old job.0) }
         ensures kept { OnErr result (self.new ≡ self.old) }
@@ -142,7 +139,6 @@ impl<A: Allocator + Copy> Builder<A> {
         Ok(())
     }
 
-    // Adds a job line in codes.
     pub(crate) fn add_packed(&mut self, alloc: A, job: &PackedLine) -> Result<(), FaultKind>
         ensures { Adds self.new result (with_job self.old (unpacked job.now)) }
     {
@@ -182,7 +178,6 @@ impl<A: Allocator + Copy> Builder<A> {
         }
     }
 
-    // Adds what a line holds.
     #[tactic(auto, unfolding(crate::specs::Reading::with_line))]
     pub(crate) fn add_line(&mut self, alloc: A, line: &[u8]) -> Result<(), FaultKind>
         ensures { Adds self.new result (with_line self.old line.now) }

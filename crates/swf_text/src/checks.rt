@@ -31,7 +31,6 @@ pub(crate) fn is_below_zero(value: &Value) -> bool
     value.millionths() < 0
 }
 
-// The job number of a line.
 pub(crate) fn job_number(fields: &Fields) -> Option<u64>
     ensures value { result ≡ whole_number (field fields.now.0 1) }
     ensures limit { IfSome result (λ n. n ≤ 1000000000000) }
@@ -39,7 +38,6 @@ pub(crate) fn job_number(fields: &Fields) -> Option<u64>
     whole_number(&fields.0[0])
 }
 
-// Whether the submit time of a line is negative.
 pub(crate) fn is_before_start(fields: &Fields) -> bool
     ensures value { result ≡ is_below_zero (field fields.now.0 2) }
     ensures limit { nat_abs (field fields.now.0 2) ≤ greatest }
@@ -47,21 +45,18 @@ pub(crate) fn is_before_start(fields: &Fields) -> bool
     is_below_zero(&fields.0[1])
 }
 
-// Whether a line has the status of a partial execution.
 pub(crate) fn is_partial_line(fields: &Fields) -> bool
     ensures { result ≡ is_partial (field fields.now.0 11) }
 {
     fields.0[10].is_partial()
 }
 
-// Whether a line is a partial line of the job with this number.
 fn is_part(number: u64, part: &Fields) -> bool
     ensures { result ≡ is_part number (values part.now) }
 {
     job_number(part) == Some(number) && is_partial_line(part)
 }
 
-// Whether all of the lines are partial lines of the job with this number.
 pub(crate) fn are_parts(number: u64, parts: &[Fields]) -> bool
     ensures { result ≡ list_all (λ part. is_part number (values part)) parts.now }
 {

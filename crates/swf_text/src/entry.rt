@@ -40,7 +40,6 @@ impl<A: Allocator + Copy> Model for Entry<A> {
     ghost invariant = { λ e. IsEntry (entry_in e.kept) };
 }
 
-// A line and those behind it.
 fn with_first<A: Allocator + Copy>(
     alloc: A,
     line: &Fields,
@@ -55,7 +54,6 @@ fn with_first<A: Allocator + Copy>(
 }
 
 impl<A: Allocator + Copy> Entry<A> {
-    // The entry of a summary line and these partial lines.
     fn of_parts(alloc: A, main: &Fields, parts: &[Fields]) -> Result<Entry<A>, Memory>
         requires { IsEntry (record { main = main.now.0; parts = map values parts.now }) }
         ensures { IfOk result (λ entry. entry ≡ record { main = main.now.0; parts = map values parts.now }) }
@@ -87,7 +85,6 @@ impl<A: Allocator + Copy> Entry<A> {
         Entry { kept }
     }
 
-    // An entry of a summary line alone.
     pub(crate) fn of_main(alloc: A, main: &Fields) -> Result<Entry<A>, Memory>
         requires { IsEntry (record { main = main.now.0; parts = [] }) }
         ensures { IfOk result (λ entry. entry ≡ record { main = main.now.0; parts = [] }) }
@@ -206,7 +203,6 @@ impl<A: Allocator + Copy> Entry<A> {
         Ok(Entry { kept })
     }
 
-    // Adds a partial line.
     pub(crate) fn add_part(&mut self, part: Fields) -> Result<(), Memory>
         requires same { field part.0 1 ≡ field self.old.main 1 }
         requires partial { is_partial (field part.0 11) ≡ true }

@@ -49,7 +49,6 @@ impl<A: Allocator + Copy> EntryLines<A> {
         Ok(EntryLines { main, parts })
     }
 
-    // The lines of an entry that is there.
     pub(crate) fn of_parts(main: Fields, parts: Vec<Fields, A>) -> EntryLines<A>
         requires { IsEntry (record { main = main.0; parts = map values parts.items }) }
         ensures { result ≡ record { main = main.0; parts = map values parts.items } }
@@ -100,7 +99,7 @@ impl<A: Allocator + Copy> EntryLines<A> {
     }
 
     /// Changes a field of the summary line, 2 to 18. A refused change leaves the lines as they were,
-    /// and is told by the first of these: BadJobNumber for every other place, whatever the value:
+    /// and is refused with the first of these: BadJobNumber for every other place, whatever the value:
     /// 0, 19 and above, which no field has, and 1, the job number, which is never changed;
     /// BadSubmit for a negative submit time; BadStatus for the status of a partial line, 2, 3 or
     /// 4. Takes no memory.

@@ -26,7 +26,6 @@ pub fn digits_value(digits: &[u8]) -> u64
     value
 }
 
-// The number that the bytes begin with.
 fn header_value(bytes: &[u8]) -> Option<u64>
     ensures { result ≡ header_value bytes.now }
 {
@@ -39,7 +38,6 @@ fn header_value(bytes: &[u8]) -> Option<u64>
     }
 }
 
-// The number behind a colon and blanks.
 fn colon_then(bytes: &[u8]) -> Option<u64>
     ensures { result ≡ colon_then bytes.now }
 {
@@ -49,7 +47,6 @@ fn colon_then(bytes: &[u8]) -> Option<u64>
     }
 }
 
-// The number behind the label and a colon.
 fn label_then(label: &[u8], bytes: &[u8]) -> Option<u64>
     ensures { result ≡ label_then label.now bytes.now }
 {
@@ -67,7 +64,6 @@ fn to_label<'a>(label: &[u8], bytes: &'a [u8]) -> &'a [u8]
     &bytes[blank_count(bytes).saturating_sub(blank_count(label))..]
 }
 
-// The number that a comment gives under the label.
 fn header_of(label: &[u8], comment: &[u8]) -> Option<u64>
     ensures { result ≡ header_of label.now comment.now }
 {
@@ -77,7 +73,6 @@ fn header_of(label: &[u8], comment: &[u8]) -> Option<u64>
     }
 }
 
-// The number of the first comment that gives one under the label.
 fn first_number<A: Allocator + Copy>(text: &SwfText<A>, label: &[u8]) -> Option<u64>
     ensures { result ≡ header_number label.now text.now.comments }
 {

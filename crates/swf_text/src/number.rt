@@ -70,7 +70,6 @@ pub(crate) fn millionths(digits: &[u8]) -> u64
         + decimal_at(digits, 5)
 }
 
-// Whether the bytes begin with `-`, and what follows it.
 pub(crate) fn split_sign(bytes: &[u8]) -> (bool, &[u8])
     ensures negative { result.0 ≡ begins_negative bytes.now }
     ensures rest { result.1.now ≡ unsigned_text bytes.now }
@@ -104,7 +103,6 @@ fn fraction_value(digits: Option<&[u8]>) -> Option<u64>
     }
 }
 
-// The value that the bytes spell, if any.
 pub(crate) fn number(bytes: &[u8]) -> Option<Value>
     ensures { result ≡ number_of bytes.now }
 {

@@ -29,7 +29,6 @@ fn code_of_size(millionths: u64) -> Option<u32>
     None
 }
 
-// The code of a value, if there is one.
 pub(crate) fn code_of(value: &Value) -> Option<u32>
     ensures { IfSome result (λ code. value_of code ≡ value.now) }
 {
@@ -44,7 +43,6 @@ pub(crate) fn code_of(value: &Value) -> Option<u32>
     }
 }
 
-// The value of a code.
 fn value_of(code: u32) -> Value
     ensures { result ≡ value_of code }
 {
@@ -59,7 +57,6 @@ fn value_of(code: u32) -> Value
     }
 }
 
-// The nearest whole number to the value of a code, halves up.
 fn whole_of(code: u32) -> i64
     ensures value { result ≡ whole_of (value_of code) }
     ensures within { nat_abs result ≤ 1000000000000 }
@@ -73,7 +70,6 @@ fn whole_of(code: u32) -> i64
     }
 }
 
-// The job number that the value of a code is, if it is one.
 fn number_of(code: u32) -> Option<u64>
     ensures value { result ≡ whole_number (value_of code) }
     ensures limit { IfSome result (λ n. n ≤ 1000000000000) }
@@ -96,7 +92,6 @@ impl PackedLine {
     /// The line of eighteen times -1.
     pub const UNKNOWN: PackedLine = PackedLine([UNKNOWN; 18]);
 
-    // The line in codes, if each of its values has one.
     pub(crate) fn of(line: &Fields) -> Option<PackedLine>
         ensures { IfSome result (λ packed. unpacked packed ≡ line.now.0) }
     {
@@ -151,7 +146,6 @@ impl PackedLine {
         whole_of(self.0[index])
     }
 
-    // The line.
     pub(crate) fn fields(&self) -> Fields
         ensures { result.0 ≡ unpacked self.now }
     {

@@ -25,8 +25,8 @@ pub fn split_line(bytes: &[u8]) -> (&[u8], &[u8])
     }
 }
 
-// Adds what the first line of some bytes holds: what follows the line. The codes are those of a job line, or
-// say nothing.
+// Adds what the first line of some bytes holds: what follows the line. The codes are those of a job
+// line, or say nothing.
 #[tactic(auto, unfolding(crate::specs::Reading::with_line))]
 fn add_first<'a, A: Allocator + Copy>(
     alloc: A,
@@ -46,7 +46,6 @@ fn add_first<'a, A: Allocator + Copy>(
     Ok(rest)
 }
 
-// Reads line after line.
 fn read_all<A: Allocator + Copy>(alloc: A, bytes: &[u8]) -> Result<SwfText<A>, SwfFault>
     ensures exact { Gives result (text_of bytes.now) }
     ensures reached { IfErr result (λ fault. HasReached (lines bytes.now) fault.line) }

@@ -12,14 +12,12 @@ use crate::packed::PackedLine;
 use crate::value::Value;
 use crate::walk::{codes_at, values_at};
 
-// Whether a byte is a space or a tab.
 fn is_blank(byte: u8) -> bool
     ensures { result ≡ is_blank byte }
 {
     byte == b' ' || byte == b'\t'
 }
 
-// How many blanks the bytes begin with.
 pub(crate) fn blank_count(bytes: &[u8]) -> usize
     ensures value { result ≡ prefix_len is_blank bytes.now }
     ensures within { result ≤ length bytes.now }
@@ -80,7 +78,6 @@ pub fn next_word(bytes: &[u8]) -> (&[u8], &[u8])
     bytes.split_at(word_len(bytes))
 }
 
-// How many words stand between the blanks.
 fn field_count(line: &[u8]) -> usize
     ensures { result ≡ length (fields line.now) }
 {
@@ -114,7 +111,6 @@ fn values_of(line: &[u8]) -> Result<[Value; 18], u8>
     Ok(values)
 }
 
-// What a line is that is neither blank nor a comment.
 fn job_line(line: &[u8]) -> LineRead
     ensures { result ≡ job_line line.now }
 {
@@ -127,7 +123,6 @@ fn job_line(line: &[u8]) -> LineRead
     }
 }
 
-// A job line by all of its checks.
 fn checked_line(line: &[u8]) -> LineRead
     ensures { result ≡ job_line line.now }
 {
@@ -159,7 +154,6 @@ pub fn read_line(line: &[u8]) -> LineRead
     line_within(line)
 }
 
-// What a line within the limit is.
 fn line_within(line: &[u8]) -> LineRead
     ensures { result ≡ line_by_front (without_returns line.now) (from_first (without_returns line.now)) }
 {

@@ -13,7 +13,6 @@ pub(crate) struct SeenNumbers<A: Allocator + Copy> {
     others: HashSet<u64, BuildHasherDefault<FoldHasher>, A>,
 }
 
-// Whether a number is greater than all of those that rise.
 fn is_greater(rising: &[u64], number: u64) -> bool
     requires { AreRising rising.now }
     ensures { IsTrue result → (k : ℕ) → k < length rising.now → slice_index_or rising.now k 0 < number }
@@ -24,7 +23,6 @@ fn is_greater(rising: &[u64], number: u64) -> bool
     }
 }
 
-// Whether a number is one of those that rise.
 fn is_among(rising: &[u64], number: u64) -> bool
     requires { AreRising rising.now }
     ensures { result ≡ list_any (λ m. nat_eq m number) rising.now }
@@ -36,7 +34,6 @@ fn is_among(rising: &[u64], number: u64) -> bool
 }
 
 impl<A: Allocator + Copy> SeenNumbers<A> {
-    // None yet.
     pub(crate) fn new(alloc: A) -> SeenNumbers<A>
         ensures none { (n : ℕ) → has_seen result.rising.items result.others n ≡ false }
         ensures rising { AreRising result.rising.items }
@@ -47,7 +44,6 @@ impl<A: Allocator + Copy> SeenNumbers<A> {
         }
     }
 
-    // Whether a number is one of them.
     pub(crate) fn contains(&self, number: u64) -> bool
         requires { AreRising self.now.rising.items }
         ensures { result ≡ has_seen self.now.rising.items self.now.others number }
@@ -55,7 +51,6 @@ impl<A: Allocator + Copy> SeenNumbers<A> {
         is_among(self.rising.as_slice(), number) || self.others.contains(&number)
     }
 
-    // Adds a number.
     pub(crate) fn insert(&mut self, number: u64) -> Result<(), AllocFailed<u64>>
         requires { AreRising self.old.rising.items }
         ensures rising { AreRising self.new.rising.items }

@@ -5,10 +5,9 @@ use crate::value::Value;
 use arrayvec::ArrayVec;
 use itoa::Buffer;
 
-/// Room for a spelling: a sign, the digits of any whole number, a point and six decimals.
+/// Capacity for a spelling: a sign, the digits of any whole number, a point and six decimals.
 pub(crate) const SPELLING_ROOM: usize = 28;
 
-// The six decimals of fewer than a million millionths.
 fn six_digits(millionths: u64) -> [u8; 6]
     requires { millionths < 1000000 }
     ensures { result ≡ six_digits millionths }
@@ -40,7 +39,6 @@ fn without_zeros(digits: &[u8]) -> &[u8]
     &digits[..end]
 }
 
-// Adds all of the bytes.
 pub(crate) fn push_all<const N: usize>(text: &mut ArrayVec<u8, N>, bytes: &[u8])
     requires { length text.old.items + length bytes.now ≤ N }
     ensures { text.new.items ≡ text.old.items ++ bytes.now }

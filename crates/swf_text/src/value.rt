@@ -74,7 +74,6 @@ impl Value {
     }
 }
 
-// The value of this size, in millionths.
 pub(crate) fn signed_value(is_negative: bool, magnitude: u64) -> Value
     requires { magnitude ≤ greatest }
     ensures { result ≡ signed is_negative magnitude }

@@ -17,7 +17,6 @@ use crate::value::{Value, signed_value};
 /// The most digits that the walk takes for a whole part.
 const DIGITS: usize = 12;
 
-// The number of the digits that the bytes begin with, of at most twelve, and how many they are.
 fn leading_digits(bytes: &[u8]) -> (u64, usize)
     ensures within { result.1 ≤ length bytes.now }
     ensures digits { list_all is_ascii_digit (take result.1 bytes.now) ≡ true }
@@ -35,7 +34,6 @@ fn leading_digits(bytes: &[u8]) -> (u64, usize)
     (value, front.len())
 }
 
-// How many digits the bytes begin with.
 pub(crate) fn digit_count(bytes: &[u8]) -> usize
     ensures value { result ≡ digit_len bytes.now }
     ensures within { result ≤ length bytes.now }
@@ -59,7 +57,6 @@ pub(crate) fn is_ended(bytes: &[u8]) -> bool
     }
 }
 
-// What follows a byte, where the bytes begin with it.
 fn after_byte(byte: u8, bytes: &[u8]) -> Option<&[u8]>
     ensures { IfSome result (λ rest. bytes.now ≡ byte ∷ rest.now) }
 {
@@ -83,7 +80,6 @@ fn after_unknown(bytes: &[u8]) -> Option<&[u8]>
     if is_ended(rest) { Some(rest) } else { None }
 }
 
-// The value of the word that the bytes begin with, and what follows it.
 fn word_at(bytes: &[u8]) -> Option<(Value, &[u8])>
     ensures { IfSome result (λ r. Word bytes.now r.0 r.1.now) }
 {

@@ -15,10 +15,9 @@ use arrayvec::ArrayVec;
 use std::alloc::Allocator;
 use std::io::Write;
 
-/// Room for a line: eighteen spellings, the spaces between and the line feed.
+/// Capacity for a line: eighteen spellings, the spaces between and the line feed.
 const LINE_ROOM: usize = 528;
 
-// The line of eighteen values, with its line feed.
 fn line_text(fields: &Fields) -> ArrayVec<u8, LINE_ROOM>
     ensures text { result.items ≡ line_text fields.now.0 }
     ensures fields { AreFields fields.now.0 }
@@ -50,7 +49,6 @@ pub fn write_bytes<W: Write>(writer: &mut W, bytes: &[u8]) -> Result<(), WriteFa
     Ok(())
 }
 
-// Writes a comment and its line feed.
 fn write_comment<W: Write>(writer: &mut W, comment: &[u8]) -> Result<(), WriteFault>
     ensures { Writes result (W.contents writer.old) (W.contents writer.new) (comment_text comment.now) }
 {
@@ -58,7 +56,6 @@ fn write_comment<W: Write>(writer: &mut W, comment: &[u8]) -> Result<(), WriteFa
     write_bytes(writer, b"\n")
 }
 
-// Writes an entry: its summary line, and then its partial lines.
 fn write_entry<W: Write, A: Allocator + Copy>(
     writer: &mut W,
     entry: &Entry<A>,

@@ -5,7 +5,7 @@ use Rattle.swf_text.specs.Entry.{LogEntry}
 use Rattle.job_table.specs.Edit.{LogEdit}
 use Rattle.scenarios.specs.Plan.{plan_of}
 use Rattle.scenarios.specs.PlanView.{PlanView, plan_in}
-use Rattle.scenarios.specs.Scenario.{Setting}
+use Rattle.scenarios.specs.Scenario.{ScenarioView}
 use Rattle.checkpoints.specs.Cut.{IsShortCut}
 use Rattle.checkpoints.specs.RunView.{RunView}
 use Rattle.rejoin.specs.Patch.{IsRejoined}
@@ -15,19 +15,19 @@ use Rattle.tasks.specs.Tasks.{BaseView, TaskView, IsMade, base_since}
 pub base-is : (p : PublishedView) (es : List LogEdit) (v : ℕ) (run : RunView) (fs : List LogEdit) → v ≡ p.version → run ≡ p.run → fs ≡ drop p.version es → record { version = v; run = run; edits = fs } ≡ base_since es p
 base-is p es v run fs v_is run_is fs_is = cc
 
--- a run that is cut as the plan of this log under this setting is one of that plan
-pub cut-of : (plan : PlanView) (log : List LogEntry) (setting : Setting) (spacing : ℕ) (run seen : RunView) → log ≡ plan.log → setting ≡ plan.setting → run ≡ seen → IsShortCut (plan_of log setting) spacing seen.segments → IsShortCut (plan_in plan) spacing run.segments
-cut-of plan log setting spacing run seen log_is setting_is is cut =
-    let here : IsShortCut (plan_of log setting) spacing run.segments = subst (λ (r : RunView). IsShortCut (plan_of log setting) spacing r.segments) (sym is) cut in
-    let under : IsShortCut (plan_of log plan.setting) spacing run.segments = subst (λ (s : Setting). IsShortCut (plan_of log s) spacing run.segments) setting_is here in
-    subst (λ (l : List LogEntry). IsShortCut (plan_of l plan.setting) spacing run.segments) log_is under
+-- a run that is cut as the plan of this log under this scenario is one of that plan
+pub cut-of : (plan : PlanView) (log : List LogEntry) (scenario : ScenarioView) (spacing : ℕ) (run seen : RunView) → log ≡ plan.log → scenario ≡ plan.scenario → run ≡ seen → IsShortCut (plan_of log scenario) spacing seen.segments → IsShortCut (plan_in plan) spacing run.segments
+cut-of plan log scenario spacing run seen log_is scenario_is is cut =
+    let here : IsShortCut (plan_of log scenario) spacing run.segments = subst (λ (r : RunView). IsShortCut (plan_of log scenario) spacing r.segments) (sym is) cut in
+    let under : IsShortCut (plan_of log plan.scenario) spacing run.segments = subst (λ (s : ScenarioView). IsShortCut (plan_of log s) spacing run.segments) scenario_is here in
+    subst (λ (l : List LogEntry). IsShortCut (plan_of l plan.scenario) spacing run.segments) log_is under
 
 -- a run that was made out of a base's run for this log is one for that log
-pub rejoined-of : (base old : RunView) (wanted log : List LogEntry) (spacing : ℕ) (run seen : RunView) (handled reused : ℕ) → old ≡ base → log ≡ wanted → run ≡ seen → IsRejoined (plan_of old.log old.setting) (plan_of log old.setting) old.segments spacing seen.segments handled reused → IsRejoined (plan_of base.log base.setting) (plan_of wanted base.setting) base.segments spacing run.segments handled reused
+pub rejoined-of : (base old : RunView) (wanted log : List LogEntry) (spacing : ℕ) (run seen : RunView) (handled reused : ℕ) → old ≡ base → log ≡ wanted → run ≡ seen → IsRejoined (plan_of old.log old.scenario) (plan_of log old.scenario) old.segments spacing seen.segments handled reused → IsRejoined (plan_of base.log base.scenario) (plan_of wanted base.scenario) base.segments spacing run.segments handled reused
 rejoined-of base old wanted log spacing run seen handled reused base_is log_is is made =
-    let here : IsRejoined (plan_of old.log old.setting) (plan_of log old.setting) old.segments spacing run.segments handled reused = subst (λ (r : RunView). IsRejoined (plan_of old.log old.setting) (plan_of log old.setting) old.segments spacing r.segments handled reused) (sym is) made in
-    let of : IsRejoined (plan_of base.log base.setting) (plan_of log base.setting) base.segments spacing run.segments handled reused = subst (λ (r : RunView). IsRejoined (plan_of r.log r.setting) (plan_of log r.setting) r.segments spacing run.segments handled reused) base_is here in
-    subst (λ (l : List LogEntry). IsRejoined (plan_of base.log base.setting) (plan_of l base.setting) base.segments spacing run.segments handled reused) log_is of
+    let here : IsRejoined (plan_of old.log old.scenario) (plan_of log old.scenario) old.segments spacing run.segments handled reused = subst (λ (r : RunView). IsRejoined (plan_of old.log old.scenario) (plan_of log old.scenario) old.segments spacing r.segments handled reused) (sym is) made in
+    let of : IsRejoined (plan_of base.log base.scenario) (plan_of log base.scenario) base.segments spacing run.segments handled reused = subst (λ (r : RunView). IsRejoined (plan_of r.log r.scenario) (plan_of log r.scenario) r.segments spacing run.segments handled reused) base_is here in
+    subst (λ (l : List LogEntry). IsRejoined (plan_of base.log base.scenario) (plan_of l base.scenario) base.segments spacing run.segments handled reused) log_is of
 
-pub made-anew : {s w : TaskView} (run : RunView) → s ≡ w → s.base ≡ None → IsShortCut (plan_of s.log s.setting) s.spacing run.segments → IsMade w w.base run None
+pub made-anew : {s w : TaskView} (run : RunView) → s ≡ w → s.base ≡ None → IsShortCut (plan_of s.log s.scenario) s.spacing run.segments → IsMade w w.base run None
 made-anew {s} {w} run seen none cut = subst (λ (t : TaskView). IsMade t t.base run None) seen (subst (λ (o : Option BaseView). IsMade s o run None) (sym none) cut)

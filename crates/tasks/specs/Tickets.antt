@@ -3,16 +3,16 @@ use Rattle.std.specs.Prelude.{◌≡◌, ℕ, ◌==◌, ◌&&◌, Bool, List, Op
 use Rattle.std.specs.List.{list_any}
 use Rattle.swf_text.specs.Entry.{LogEntry}
 use Rattle.scenarios.specs.PlanView.{PlanView}
-use Rattle.scenarios.specs.Scenario.{Setting}
+use Rattle.scenarios.specs.Scenario.{ScenarioView}
 use Rattle.checkpoints.specs.RunView.{RunView}
 
--- a standing ticket, with the log and the setting that its run is to have
+-- a standing ticket, with the log and the scenario that its run is to have
 pub record TicketView : Type 0 where
   pub number : ℕ
   pub id : ℕ
   pub version : ℕ
   pub log : List LogEntry
-  pub setting : Setting
+  pub scenario : ScenarioView
 
 abbrev pub has_number : ℕ → TicketView → Bool
 has_number number t = t.number == number
@@ -21,11 +21,11 @@ has_number number t = t.number == number
 abbrev pub is_out : ℕ → ℕ → List TicketView → Bool
 is_out id v tickets = list_any (λ (t : TicketView). t.id == id && t.version == v) tickets
 
--- the run is of the plan's log and setting
+-- the run is of the plan's log and scenario
 abbrev pub IsRunOf : PlanView → RunView → Type 0
-IsRunOf plan run = (run.log ≡ plan.log) × (run.setting ≡ plan.setting)
+IsRunOf plan run = (run.log ≡ plan.log) × (run.scenario ≡ plan.scenario)
 
--- the run has the log and the setting of this ticket, if there is one
+-- the run has the log and the scenario of this ticket, if there is one
 abbrev pub HasThoseOf : Option TicketView → RunView → Type 0
 HasThoseOf None run = ⊥
-HasThoseOf (Some t) run = (run.log ≡ t.log) × (run.setting ≡ t.setting)
+HasThoseOf (Some t) run = (run.log ≡ t.log) × (run.scenario ≡ t.scenario)

@@ -30,7 +30,6 @@ impl<A: Allocator + Copy> Model for Base<A> {
     ghost view = { λ b. record { version = b.version; run = arc_value b.run; edits = map edit_of b.edits.items } };
 }
 
-// A copy of these edits.
 fn copies<A: Allocator + Copy>(alloc: A, edits: &[Edit<A>]) -> Result<Vec<Edit<A>, A>, Memory>
     ensures { IfOk result (λ copies. map edit_of copies.items ≡ map edit_of edits.now) }
 {

@@ -26,14 +26,12 @@ impl<A: Allocator + Copy> MadeRun<A> {
     ghost use Rattle.std.specs.Prelude.{◌≡◌};
     ghost use Rattle.std.specs.Arc.{arc_value};
 
-    // This run.
     pub(crate) fn new(run: Arc<Run<A>, A>) -> MadeRun<A>
         ensures { result ≡ arc_value run }
     {
         MadeRun { run }
     }
 
-    // The run.
     pub(crate) fn into_run(self) -> Arc<Run<A>, A>
         ensures { arc_value result ≡ self }
     {

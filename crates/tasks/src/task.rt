@@ -22,7 +22,6 @@ use std::marker::Model;
 use std::sync::Arc;
 use swf_text::Memory;
 
-// The run of a plan, made from the base's run.
 fn made_again<A: Allocator + Copy>(
     alloc: A,
     base: &Base<A>,
@@ -32,9 +31,9 @@ fn made_again<A: Allocator + Copy>(
     requires accepted { AreAccepted base.now.run.log base.now.edits }
     requires log { plan.now.log ≡ log_after base.now.run.log base.now.edits }
     ensures log { IfOk result (λ (run, work). (arc_value run).log ≡ plan.now.log) }
-    ensures setting { IfOk result (λ (run, work). (arc_value run).setting ≡ base.now.run.setting) }
+    ensures scenario { IfOk result (λ (run, work). (arc_value run).scenario ≡ base.now.run.scenario) }
     ensures sound { IfOk result (λ (run, work). IsRun (arc_value run)) }
-    ensures rejoined { IfOk result (λ (run, work). IsRejoined (plan_of base.now.run.log base.now.run.setting) (plan_of plan.now.log base.now.run.setting) base.now.run.segments spacing (arc_value run).segments work.handled work.reused) }
+    ensures rejoined { IfOk result (λ (run, work). IsRejoined (plan_of base.now.run.log base.now.run.scenario) (plan_of plan.now.log base.now.run.scenario) base.now.run.segments spacing (arc_value run).segments work.handled work.reused) }
 {
     let table = plan.table().clone()?;
     let Ok((run, work)) = rerun(alloc, base.run(), base.edits(), table, spacing) else {
@@ -50,7 +49,7 @@ fn made_anew<A: Allocator + Copy>(
     spacing: u32,
 ) -> Result<Arc<Run<A>, A>, Memory>
     ensures log { IfOk result (λ run. (arc_value run).log ≡ plan.now.log) }
-    ensures setting { IfOk result (λ run. (arc_value run).setting ≡ plan.now.setting) }
+    ensures scenario { IfOk result (λ run. (arc_value run).scenario ≡ plan.now.scenario) }
     ensures sound { IfOk result (λ run. IsRun (arc_value run)) }
     ensures cut { IfOk result (λ run. IsShortCut (plan_in plan.now) spacing (arc_value run).segments) }
 {
@@ -81,9 +80,9 @@ impl<A: Allocator + Copy> Model for Task<A> {
 
     ghost Value = { TaskView };
 
-    ghost view = { λ t. record { ticket = t.ticket; id = t.id; version = t.version; log = t.plan.log; setting = t.plan.setting; spacing = t.spacing; base = t.base } };
+    ghost view = { λ t. record { ticket = t.ticket; id = t.id; version = t.version; log = t.plan.log; scenario = t.plan.scenario; spacing = t.spacing; base = t.base } };
 
-    ghost invariant = { λ t. IsTask (record { ticket = t.ticket; id = t.id; version = t.version; log = t.plan.log; setting = t.plan.setting; spacing = t.spacing; base = t.base }) × IfSome t.sender (λ s. s ≡ Some t.plan) };
+    ghost invariant = { λ t. IsTask (record { ticket = t.ticket; id = t.id; version = t.version; log = t.plan.log; scenario = t.plan.scenario; spacing = t.spacing; base = t.base }) × IfSome t.sender (λ s. s ≡ Some t.plan) };
 }
 
 impl<A: Allocator + Copy> Task<A> {
@@ -99,8 +98,8 @@ impl<A: Allocator + Copy> Task<A> {
         spacing: u32,
         base: Option<Base<A>>,
     ) -> Task<A>
-        requires { IsTask (record { ticket = ticket; id = id; version = version; log = plan.log; setting = plan.setting; spacing = spacing; base = base }) }
-        ensures { result ≡ record { ticket = ticket; id = id; version = version; log = plan.log; setting = plan.setting; spacing = spacing; base = base } }
+        requires { IsTask (record { ticket = ticket; id = id; version = version; log = plan.log; scenario = plan.scenario; spacing = spacing; base = base }) }
+        ensures { result ≡ record { ticket = ticket; id = id; version = version; log = plan.log; scenario = plan.scenario; spacing = spacing; base = base } }
     {
         Task {
             alloc,
@@ -156,7 +155,7 @@ impl<A: Allocator + Copy> Task<A> {
 
     /// What the log is to be simulated under.
     pub fn scenario(&self) -> Scenario
-        ensures { result ≡ self.now.setting }
+        ensures { result ≡ self.now.scenario }
     {
         self.plan.scenario()
     }
@@ -190,7 +189,7 @@ impl<A: Allocator + Copy> Task<A> {
     /// Memory where a growth was refused.
     pub fn work(&self) -> Result<(Arc<Run<A>, A>, Option<Work>), Memory>
         ensures log { IfOk result (λ (run, work). (arc_value run).log ≡ self.now.log) }
-        ensures setting { IfOk result (λ (run, work). (arc_value run).setting ≡ self.now.setting) }
+        ensures scenario { IfOk result (λ (run, work). (arc_value run).scenario ≡ self.now.scenario) }
         ensures sound { IfOk result (λ (run, work). IsRun (arc_value run)) }
         ensures made { IfOk result (λ (run, work). IsMade self.now self.now.base (arc_value run) work) }
     {
@@ -210,7 +209,7 @@ impl<A: Allocator + Copy> Task<A> {
     pub fn deliver(&mut self) -> Result<(Arc<Run<A>, A>, Option<Work>), Memory>
         ensures task { self.new ≡ self.old }
         ensures log { IfOk result (λ (run, work). (arc_value run).log ≡ self.old.log) }
-        ensures setting { IfOk result (λ (run, work). (arc_value run).setting ≡ self.old.setting) }
+        ensures scenario { IfOk result (λ (run, work). (arc_value run).scenario ≡ self.old.scenario) }
         ensures sound { IfOk result (λ (run, work). IsRun (arc_value run)) }
         ensures made { IfOk result (λ (run, work). IsMade self.old self.old.base (arc_value run) work) }
     {

@@ -24,18 +24,17 @@ impl<A: Allocator + Copy> Model for Ticket<A> {
 
     ghost Value = { TicketView };
 
-    ghost view = { λ t. record { number = t.number; id = t.id; version = t.version; log = t.receiver.log; setting = t.receiver.setting } };
+    ghost view = { λ t. record { number = t.number; id = t.id; version = t.version; log = t.receiver.log; scenario = t.receiver.scenario } };
 }
 
 impl<A: Allocator + Copy> Ticket<A> {
-    // A ticket of these.
     pub(crate) fn new(
         number: u64,
         id: ScenarioId,
         version: u64,
         receiver: RunReceiver<A>,
     ) -> Ticket<A>
-        ensures { result ≡ record { number = number; id = id; version = version; log = receiver.log; setting = receiver.setting } }
+        ensures { result ≡ record { number = number; id = id; version = version; log = receiver.log; scenario = receiver.scenario } }
     {
         Ticket {
             number,
@@ -45,21 +44,18 @@ impl<A: Allocator + Copy> Ticket<A> {
         }
     }
 
-    // Whether it has this number.
     pub(crate) fn has_number(&self, number: u64) -> bool
         ensures { result ≡ has_number number self.now }
     {
         self.number == number
     }
 
-    // Whether it is of the scenario with this id.
     pub(crate) fn is_for(&self, id: ScenarioId) -> bool
         ensures { result ≡ (self.now.id == id) }
     {
         self.id.number() == id.number()
     }
 
-    // Whether it is of this scenario, at this version.
     pub(crate) fn is_of(&self, id: ScenarioId, version: u64) -> bool
         ensures { result ≡ (self.now.id == id && self.now.version == version) }
     {
@@ -92,7 +88,7 @@ impl<A: Allocator + Copy> Ticket<A> {
 
     /// Whether a run has the ticket's log and scenario. The logs are compared by value.
     pub fn fits(&self, run: &Run<A>) -> bool
-        ensures { IsTrue result ↔ ((run.now.log ≡ self.now.log) × (run.now.setting ≡ self.now.setting)) }
+        ensures { IsTrue result ↔ ((run.now.log ≡ self.now.log) × (run.now.scenario ≡ self.now.scenario)) }
     {
         let plan = self.receiver.request();
         run.scenario() == plan.scenario() && run.table().same(plan.table())

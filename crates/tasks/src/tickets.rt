@@ -24,7 +24,6 @@ pub fn is_out<A: Allocator + Copy>(tickets: &[Ticket<A>], id: ScenarioId, versio
     tickets.iter().any(move |t| t.is_of(id, version))
 }
 
-// The place of the ticket with this number.
 fn place_of<A: Allocator + Copy>(tickets: &[Ticket<A>], number: u64) -> Option<usize>
     ensures { result ≡ position (has_number number) tickets.now }
 {

@@ -70,7 +70,7 @@ once-started plan u n p =
     omega (arith, all, one, same, parts))
     (λ (l : b ≤ u).
     let rest : b + (u - b) ≡ u = omega (arith, l) in
-    let late = rests plan b (u - b) plan.machine plan.order (omega arith) (all-have-ended plan b p (omega arith)) in
+    let late = rests plan b (u - b) plan.procs plan.order (omega arith) (all-have-ended plan b p (omega arith)) in
     let same : starts_before plan u ≡ sim plan = ap (starts_before plan) (sym rest) ∙ late.1 in
     let k = ap (starts_of n) same in
     omega (arith, all, one, k))
@@ -216,8 +216,8 @@ placed-found jobs n (Some x) h = ap (λ m. option_map (λ job. (let y : Placed =
 
 -- ---- all numbers
 module _ (plan : Plan) (starts : List Start) (t a u : ℕ) (p : IsPlan plan) (l : a ≤ t) (m : t ≤ u) (split : starts_before plan u ≡ starts_before plan a ++ starts) where
-  told : (n : ℕ) → known_start plan t n ≡ start_by t (option_or (known_start plan a n) (start_of starts n))
-  told n = later-starts-tell plan t u m n ∙ ap (start_by t) (ap (λ xs. start_of xs n) split ∙ start-append n (starts_before plan a) starts)
+  outcome : (n : ℕ) → known_start plan t n ≡ start_by t (option_or (known_start plan a n) (start_of starts n))
+  outcome n = later-starts-tell plan t u m n ∙ ap (start_by t) (ap (λ xs. start_of xs n) split ∙ start-append n (starts_before plan a) starts)
 
   once-in-all : (n : ℕ) → starts_of n (starts_before plan a) + starts_of n starts ≤ 1
   once-in-all n =
@@ -266,7 +266,7 @@ module _ (plan : Plan) (starts : List Start) (t a u : ℕ) (p : IsPlan plan) (l 
       (λ n. (let k = few n in let d = sum_by-filter-le (λ (j : EffectiveJob). cond {A = ℕ} (nat_eq j.number n) 1 0) test xs in omega (arith, k, d)))
       (λ n.
       waits-one t a u (job_numbered plan.jobs n) (known_start plan a n) (start_of starts n) (known_start plan t n) (look job_of n z.waiting) (look job_of n s.waiting) (look job_in n z.running) (look job_in n s.running)
-      test l m (told n) (stands-in plan n a p) (stands-in plan n t p) (λ j e. ap (λ k. waits_by t (start_of starts k) j) (look-has job_of n plan.jobs j e))
+      test l m (outcome n) (stands-in plan n a p) (stands-in plan n t p) (λ j e. ap (λ k. waits_by t (start_of starts k) j) (look-has job_of n plan.jobs j e))
       ∙ sym (
       look-filter job_of n test xs (few n)
       ∙ ap (kept test) (find-append (λ (j : EffectiveJob). nat_eq j.number n) z.waiting new ∙ ap (option_or (look job_of n z.waiting)) (look-filter job_of n come plan.jobs (p.once n)))
@@ -313,7 +313,7 @@ module _ (plan : Plan) (starts : List Start) (t a u : ℕ) (p : IsPlan plan) (l 
       (λ n. (let k = few-last n in let b = many-by_number n rs in omega (arith, k, b)))
       (λ n.
       runs-one t a (job_numbered plan.jobs n) (known_start plan a n) (start_of starts n) (known_start plan t n) (look job_of n z.waiting) (look job_of n s.waiting) (look job_in n z.running) (look job_in n s.running)
-      l (told n) (stands-in plan n a p) (stands-in plan n t p) (no-start n)
+      l (outcome n) (stands-in plan n a p) (stands-in plan n t p) (no-start n)
       ∙ sym (
       look-by_number n rs (few-last n)
       ∙ look-filter job_in n (lasts_at t) xs (few-run n)

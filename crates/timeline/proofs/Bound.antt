@@ -145,22 +145,22 @@ no-sum f [] a l = refl
 no-sum f (x ∷ xs) a l = absurd (omega (arith, sum_by-cons f x xs, All-head (λ x. 1 ≤ f x) x xs a, l))
 
 -- the state of a second after the bound, within the limit of seconds
-ended-at : (plan : Plan) (t : ℕ) → t ≤ 2 ^ 49 → IsPlan plan → bound plan < t → before plan t ≡ empty plan.machine plan.order
+ended-at : (plan : Plan) (t : ℕ) → t ≤ 2 ^ 49 → IsPlan plan → bound plan < t → before plan t ≡ empty plan.procs plan.order
 ended-at plan t small p past =
     let s = before plan t in
     let run = run-before plan t small p in
     let l = load-before plan t small p in
     let none-waits : s.waiting ≡ [] = no-sum (λ (j : EffectiveJob). j.length) s.waiting (All-weaker IsWithinLimits (λ (j : EffectiveJob). 1 ≤ j.length) (λ j h. h.lasts) s.waiting run.sound.waiting_limits) (omega (arith, l, past)) in
     let none-runs : s.running ≡ [] = no-sum (left_from t) s.running (All-weaker (λ r. t ≤ real_end r) (λ r. 1 ≤ left_from t r) (λ r h. omega arith) s.running run.lasting) (omega (arith, l, past)) in
-    empty-is s none-waits none-runs ∙ ap (λ m. empty m s.order) run.machine ∙ ap (λ o. empty plan.machine o) run.order
+    empty-is s none-waits none-runs ∙ ap (λ m. empty m s.order) run.procs ∙ ap (λ o. empty plan.procs o) run.order
 
 pub all-have-ended : AllHaveEnded
 all-have-ended plan t p past =
     let b = suc (bound plan) in
     let n = t - b in
     let whole : b + n ≡ t = omega arith in
-    let at-b : before plan b ≡ empty plan.machine plan.order = ended-at plan b (let k = short-plan plan p in omega (arith, k)) p (omega arith) in
-    ap (before plan) (sym whole) ∙ (rests plan b n plan.machine plan.order (omega arith) at-b).0
+    let at-b : before plan b ≡ empty plan.procs plan.order = ended-at plan b (let k = short-plan plan p in omega (arith, k)) p (omega arith) in
+    ap (before plan) (sym whole) ∙ (rests plan b n plan.procs plan.order (omega arith) at-b).0
 
 pub all-end-by-the-bound : AllEndByTheBound
 all-end-by-the-bound plan t p =

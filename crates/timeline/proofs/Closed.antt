@@ -30,7 +30,7 @@ use Rattle.timeline.proofs.Standing.{Stands, stands-in}
 -- ---- what a state keeps from second to second
 -- its machine and order are the plan's, its jobs came before it and stand in order of arrival, and the running ones rise by number
 pub record InRows (plan : Plan) (t : ℕ) (s : State) : Type 0 where
-  pub machine : s.machine ≡ plan.machine
+  pub procs : s.procs ≡ plan.procs
   pub order : s.order ≡ plan.order
   pub came : All (λ j. j.submit < t) s.waiting
   pub waiting : Rises Ahead s.waiting
@@ -45,7 +45,7 @@ all-pass (j ∷ js) t =
 
 pub in-rows : (plan : Plan) (t : ℕ) → IsPlan plan → InRows plan t (before plan t)
 unfolding before
-in-rows plan zero p = record { machine = refl; order = refl; came = All-nil (λ (j : EffectiveJob). j.submit < 0); waiting = tt; running = tt }
+in-rows plan zero p = record { procs = refl; order = refl; came = All-nil (λ (j : EffectiveJob). j.submit < 0); waiting = tt; running = tt }
 in-rows plan (suc t) p =
     let s = before plan t in
     let z = ready plan s t in
@@ -60,7 +60,7 @@ in-rows plan (suc t) p =
     s.waiting i.came in
     decided-keeps (InRows plan (suc t)) t
     (λ s' job e h. record {
-      machine = h.machine;
+      procs = h.procs;
       order = h.order;
       came = All-without (λ (j : EffectiveJob). j.submit < suc t) job.number s'.waiting h.came;
       waiting = rises-without job.number s'.waiting h.waiting;
@@ -68,7 +68,7 @@ in-rows plan (suc t) p =
     })
     (length z.waiting) z
     (record {
-      machine = i.machine;
+      procs = i.procs;
       order = i.order;
       came = All-append (λ (j : EffectiveJob). j.submit < suc t) s.waiting (submitted plan t)
           (All-weaker (λ (j : EffectiveJob). j.submit < t) (λ (j : EffectiveJob). j.submit < suc t) (λ j l. omega (arith, l)) s.waiting i.came)
@@ -150,14 +150,14 @@ running-is plan t p =
     ∙ sym (look-by_number n rs (few n) ∙ look-filter_map job_of job_in g n plan.jobs same (p.once n) ∙ runs-is plan n t (job_numbered plan.jobs n) refl))
 
 -- ---- both
-made-of : (s : State) (m : ℕ) (o : Order) (js : List EffectiveJob) (rs : List Placed) → s.machine ≡ m → s.order ≡ o → s.waiting ≡ js → s.running ≡ rs
-    → s ≡ (let z : State = record { machine = m; order = o; waiting = js; running = rs } in z)
-made-of s m o js rs a b c d = λ i. record { machine = a i; order = b i; waiting = c i; running = d i }
+made-of : (s : State) (m : ℕ) (o : Order) (js : List EffectiveJob) (rs : List Placed) → s.procs ≡ m → s.order ≡ o → s.waiting ≡ js → s.running ≡ rs
+    → s ≡ (let z : State = record { procs = m; order = o; waiting = js; running = rs } in z)
+made-of s m o js rs a b c d = λ i. record { procs = a i; order = b i; waiting = c i; running = d i }
 
 pub states-follow-from-starts : StatesFollowFromStarts
 states-follow-from-starts plan t p =
     let rows = in-rows plan t p in
-    made-of (before plan t) plan.machine plan.order (filter (waits_before plan t) plan.jobs) (by_number (filter_map (runs_before plan t) plan.jobs)) rows.machine rows.order (waiting-is plan t p) (running-is plan t p)
+    made-of (before plan t) plan.procs plan.order (filter (waits_before plan t) plan.jobs) (by_number (filter_map (runs_before plan t) plan.jobs)) rows.procs rows.order (waiting-is plan t p) (running-is plan t p)
 
 -- ---- who waits or runs
 -- a number's job is submitted before t, and has not ended before it
@@ -240,7 +240,7 @@ starts-are-final plan t n start p =
     (λ u e. start-all (λ m. t ≤ m) n more.0 u more.2 e))
     (λ (l : b ≤ t).
     let rest : b + (t - b) ≡ t = omega (arith, l) in
-    let late = rests plan b (t - b) plan.machine plan.order (omega arith) (all-have-ended plan b p (omega arith)) in
+    let late = rests plan b (t - b) plan.procs plan.order (omega arith) (all-have-ended plan b p (omega arith)) in
     let same : starts_before plan t ≡ sim plan = ap (starts_before plan) (sym rest) ∙ late.1 in (
       (λ h. (ap (λ xs. start_of xs n) (sym same) ∙ h, start-all (λ m. m < t) n (starts_before plan t) start (starts-below plan t) h)),
       (λ (h, m). ap (λ xs. start_of xs n) same ∙ h),

@@ -22,7 +22,7 @@ known plan t n = count_by (λ j. nat_eq j.number n && nat_lt j.submit t) plan.jo
 -- what is true of a state before second t
 pub record IsRun (plan : Plan) (s : State) (t : ℕ) : Type 0 where
   pub sound : IsSound s
-  pub machine : s.machine ≡ plan.machine
+  pub procs : s.procs ≡ plan.procs
   pub order : s.order ≡ plan.order
   pub lasting : All (λ r. t ≤ real_end r) s.running
   pub held : (n : ℕ) → holders s n ≤ known plan t n
@@ -35,7 +35,7 @@ filters-agree p q P (x ∷ xs) h a =
 
 pub ended-is : (s : State) (t : ℕ) → All (λ r. t ≤ real_end r) s.running → ended_until s t ≡ ended s t
 ended-is s t a =
-    ap (λ (rs : List Placed). let z : State = record { machine = s.machine; order = s.order; waiting = s.waiting; running = rs } in z)
+    ap (λ (rs : List Placed). let z : State = record { procs = s.procs; order = s.order; waiting = s.waiting; running = rs } in z)
     (filters-agree (λ r. nat_lt t (real_end r)) (λ r. not (nat_eq (real_end r) t)) (λ r. t ≤ real_end r) s.running
     (λ r l. ⊎_elim
     (λ (e : real_end r ≡ t). le-ltb t (real_end r) (omega arith) ∙ ap not (sym (eq-eqb (real_end r) t e)))
@@ -117,7 +117,7 @@ sound-joined plan s t k p r =
       limited = r.sound.limited;
       fits = omega (arith, r.sound.fits, sum_by-filter-le (λ (x : Placed). x.job.size) keeps s.running);
       once = λ n. omega (arith, few n, known-le plan (suc t) n, p.once n);
-      waiting_fit = All-append (λ (j : EffectiveJob). j.size ≤ s.machine) s.waiting js r.sound.waiting_fit (All-filter (λ (j : EffectiveJob). nat_eq j.submit t) (λ (j : EffectiveJob). j.size ≤ s.machine) (take k plan.jobs) (All-take (λ (j : EffectiveJob). j.size ≤ s.machine) k plan.jobs (subst (λ m. All (λ (j : EffectiveJob). j.size ≤ m) plan.jobs) (sym r.machine) p.sizes)));
+      waiting_fit = All-append (λ (j : EffectiveJob). j.size ≤ s.procs) s.waiting js r.sound.waiting_fit (All-filter (λ (j : EffectiveJob). nat_eq j.submit t) (λ (j : EffectiveJob). j.size ≤ s.procs) (take k plan.jobs) (All-take (λ (j : EffectiveJob). j.size ≤ s.procs) k plan.jobs (subst (λ m. All (λ (j : EffectiveJob). j.size ≤ m) plan.jobs) (sym r.procs) p.sizes)));
       waiting_limits = All-append IsWithinLimits s.waiting js r.sound.waiting_limits (All-filter (λ (j : EffectiveJob). nat_eq j.submit t) IsWithinLimits (take k plan.jobs) (All-take IsWithinLimits k plan.jobs p.limits));
       running_limits = All-filter keeps (λ x. IsWithinLimits x.job) s.running r.sound.running_limits;
       started = All-filter keeps (λ x. x.start < 2 ^ 49) s.running r.sound.started;
@@ -142,7 +142,7 @@ run-ready plan s t p r =
     let keeps : Placed → Bool = λ x. not (nat_eq (real_end x) t) in
     record {
       sound = subst (λ l. IsSound (joined (ended s t) (filter (λ (j : EffectiveJob). nat_eq j.submit t) l))) whole (sound-joined plan s t k p r);
-      machine = r.machine;
+      procs = r.procs;
       order = r.order;
       lasting = lasting-more t s.running r.lasting;
       held = λ n.
@@ -157,7 +157,7 @@ run-started plan t small s job e r =
     let limits : IsWithinLimits job = All-find IsWithinLimits (λ (j : EffectiveJob). nat_eq j.number job.number) s.waiting job found r.sound.waiting_limits in
     record {
       sound = sound-started s job t r.sound found (next-fits s t job e) small;
-      machine = r.machine;
+      procs = r.procs;
       order = r.order;
       lasting = All-placed (λ r. suc t ≤ real_end r) x s.running (omega (arith, limits.lasts)) r.lasting;
       held = λ n. omega (arith, r.held n, sum_by-placed (λ (y : Placed). cond (nat_eq y.job.number n) 1 0) x s.running, sum_by-without (λ (j : EffectiveJob). cond (nat_eq j.number n) 1 0) job.number s.waiting job found);
@@ -173,12 +173,12 @@ run-before plan zero small p = record {
     limited = p.limited;
     fits = omega arith;
     once = λ n. omega arith;
-    waiting_fit = All-nil (λ (j : EffectiveJob). j.size ≤ plan.machine);
+    waiting_fit = All-nil (λ (j : EffectiveJob). j.size ≤ plan.procs);
     waiting_limits = All-nil IsWithinLimits;
     running_limits = All-nil (λ x. IsWithinLimits x.job);
     started = All-nil (λ x. x.start < 2 ^ 49);
   };
-  machine = refl;
+  procs = refl;
   order = refl;
   lasting = All-nil (λ r. 0 ≤ real_end r);
   held = λ n. omega arith;
@@ -218,8 +218,8 @@ sound-arrivals plan s s' t k small p e f =
 pub second-is : (plan : Plan) (s s' s'' : State) (t : ℕ) → t ≤ 2 ^ 49 → IsPlan plan → s ≡ before plan t → s' ≡ ended_until s t → s'' ≡ joined s' (submitted plan t) → s'' ≡ ready plan (before plan t) t
 second-is plan s s' s'' t small p e f g = g ∙ ap (λ (z : State). joined z (submitted plan t)) (left plan s s' t small p e f)
 
-pub machine-is : (plan : Plan) (s s' : State) (t : ℕ) → t ≤ 2 ^ 49 → IsPlan plan → s ≡ before plan t → s' ≡ ended_until s t → s'.machine ≡ plan.machine
-machine-is plan s s' t small p e f = ap (λ (z : State). z.machine) (left plan s s' t small p e f) ∙ (run-before plan t small p).machine
+pub procs-is : (plan : Plan) (s s' : State) (t : ℕ) → t ≤ 2 ^ 49 → IsPlan plan → s ≡ before plan t → s' ≡ ended_until s t → s'.procs ≡ plan.procs
+procs-is plan s s' t small p e f = ap (λ (z : State). z.procs) (left plan s s' t small p e f) ∙ (run-before plan t small p).procs
 
 -- the same of the element that a loop is at
 pub absent-item : (s : State) (t i : ℕ) (job : EffectiveJob) (js : List EffectiveJob) → i < length js → job ≡ get_or js i job → job.submit ≡ t → IsSound (joined s (filter (λ (j : EffectiveJob). nat_eq j.submit t) (take (i + 1) js)))

@@ -1,6 +1,6 @@
 -- What crates above cite of these proofs, passed on from one place. Declares nothing.
 -- the state before each second: who waits, who runs, and one second more
-pub use Rattle.timeline.proofs.Facts.{ended-is, run-before, before-more, starts_before-more, sound-arrivals, second-is, machine-is, absent-item}
+pub use Rattle.timeline.proofs.Facts.{ended-is, run-before, before-more, starts_before-more, sound-arrivals, second-is, procs-is, absent-item}
 -- the bound is small
 pub use Rattle.timeline.proofs.Short.{short-plan}
 -- once nobody waits, runs or is to come, nothing happens

@@ -13,7 +13,7 @@ use Rattle.scenarios.specs.SoundPlan.{IsPlan}
 use Rattle.timeline.specs.Laws.{EachJobStartsOnce, NoneStartsEarly}
 use Rattle.timeline.proofs.Short.{short-plan}
 use Rattle.timeline.proofs.Facts.{count-filter, run-ready, run-before, starts_before-more}
-use Rattle.easy_rule.proofs.Lemmas.{told, starts-now}
+use Rattle.easy_rule.proofs.Lemmas.{outcome, starts-now}
 use Rattle.timeline.proofs.Rest.{submits-by}
 use Rattle.timeline.proofs.Bound.{all-have-ended}
 
@@ -81,7 +81,7 @@ counted plan n (suc t) small p =
     let s = ready plan (before plan t) t in
     let i = counted plan n t (omega arith) p in
     let sound = (run-ready plan (before plan t) t p (run-before plan t (omega arith) p)).sound in
-    let a = told n (length s.waiting) s t (omega arith) sound in
+    let a = outcome n (length s.waiting) s t (omega arith) sound in
     let b = sum_by-append (λ (x : Start). cond {A = ℕ} (nat_eq x.number n) 1 0) (starts_before plan t) (starts_at s t) in
     let c = sum_by-append (λ (j : EffectiveJob). cond {A = ℕ} (nat_eq j.number n) 1 0) (before plan t).waiting (submitted plan t) in
     let d = come-next n t plan.jobs in

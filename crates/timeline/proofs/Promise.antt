@@ -7,7 +7,7 @@ use Rattle.scenarios.specs.Plan.{Plan}
 use Rattle.scenarios.specs.declared.placed.Placed.{Placed}
 use Rattle.scenarios.specs.Placed.{real_end}
 use Rattle.cluster_state.specs.State.{State, free, busy, back_by, available, started, without}
-use Rattle.cluster_state.specs.Row.{in_order}
+use Rattle.cluster_state.specs.Candidates.{in_order}
 use Rattle.cluster_state.proofs.Lemmas.{sum_by-without}
 use Rattle.easy_rule.specs.Rule.{next, next_of, may_backfill, shadow_at, shadow_time}
 use Rattle.easy_rule.specs.Simulation.{before, submitted, ready}
@@ -64,7 +64,7 @@ kept-started plan t time head s job r e (inl (rest, queue, low)) =
     absurd (true≢false (sym (eq-eqb job.number head.number (ap (λ (j : EffectiveJob). j.number) (sym same))) ∙ other)))
     (λ (waits : nat_le head.size (free s) ≡ false).
     let h : find may (in_order s.order rest) ≡ Some job = sym (cond-false (nat_le head.size (free s)) (Some head) (find may (in_order s.order rest)) waits) ∙ e' in
-    let within : head.size ≤ s.machine = subst (λ (js : List EffectiveJob). All (λ j. j.size ≤ s.machine) js) queue r.sound.waiting_fit 0 head (omega arith) in
+    let within : head.size ≤ s.procs = subst (λ (js : List EffectiveJob). All (λ j. j.size ≤ s.procs) js) queue r.sound.waiting_fit 0 head (omega arith) in
     let kept = time-kept s head.size t job r.sound.fits within (found-passes may (in_order s.order rest) job h) in
     inl (without job.number rest, ap (without job.number) queue ∙ cond-false (nat_eq head.number job.number) rest (head ∷ without job.number rest) (swap head.number job.number other), omega (arith, kept, low)))
     (cases_Bool (nat_le head.size (free s))))
@@ -79,7 +79,7 @@ head-kept plan t head rest small p queue =
     let r = ready plan s t in
     let run = run-before plan t (omega arith) p in
     let next-run = run-ready plan s t p run in
-    let within : head.size ≤ s.machine = subst (λ (js : List EffectiveJob). All (λ j. j.size ≤ s.machine) js) queue run.sound.waiting_fit 0 head (omega arith) in
+    let within : head.size ≤ s.procs = subst (λ (js : List EffectiveJob). All (λ j. j.size ≤ s.procs) js) queue run.sound.waiting_fit 0 head (omega arith) in
     let old = shadow_time-IsLeast s head.size run.sound.fits within in
     let new = shadow_time-IsLeast r head.size next-run.sound.fits within in
     let time = shadow_time s head.size in

@@ -8,7 +8,7 @@ use Rattle.scenarios.specs.Plan.{Plan}
 use Rattle.scenarios.specs.declared.placed.Placed.{Placed}
 use Rattle.scenarios.specs.Placed.{expected_end}
 use Rattle.cluster_state.specs.State.{State, free, back_by}
-use Rattle.cluster_state.specs.Row.{in_order}
+use Rattle.cluster_state.specs.Candidates.{in_order}
 use Rattle.easy_rule.specs.declared.start.Start.{Start}
 use Rattle.easy_rule.specs.Rule.{next, next_of, may_backfill, shadow_at, shadow_time}
 use Rattle.easy_rule.specs.Simulation.{before, starts_in, starts_before, bound, sim, start_of}
@@ -114,7 +114,7 @@ not-past : (plan : Plan) (v : ℕ) (head : EffectiveJob) (rest : List EffectiveJ
 not-past plan v head rest small p queue =
     let s = before plan v in
     let run = run-before plan v small p in
-    let within : head.size ≤ s.machine = subst (λ (js : List EffectiveJob). All (λ j. j.size ≤ s.machine) js) queue run.sound.waiting_fit 0 head (omega arith) in
+    let within : head.size ≤ s.procs = subst (λ (js : List EffectiveJob). All (λ j. j.size ≤ s.procs) js) queue run.sound.waiting_fit 0 head (omega arith) in
     let least = shadow_time-IsLeast s head.size run.sound.fits within in
     let time = head_time plan v head in
     let short = settled-waits s v head rest queue (each-state-is-settled plan v) in
@@ -131,7 +131,7 @@ not-late plan v head rest small p queue =
     let s = before plan v in
     let last = bound plan + 100000000 in
     let run = run-before plan v small p in
-    let within : head.size ≤ s.machine = subst (λ (js : List EffectiveJob). All (λ j. j.size ≤ s.machine) js) queue run.sound.waiting_fit 0 head (omega arith) in
+    let within : head.size ≤ s.procs = subst (λ (js : List EffectiveJob). All (λ j. j.size ≤ s.procs) js) queue run.sound.waiting_fit 0 head (omega arith) in
     let least = shadow_time-IsLeast s head.size run.sound.fits within in
     let over : All (λ r. expected_end r ≤ last) s.running =
     (λ k d h. let a = all-end-by-the-bound plan v p k d h in let b = run.sound.running_limits k d h in omega (arith, a, b.within_limit, b.lasts)) in
@@ -170,7 +170,7 @@ in-front plan t p =
     let e = b + t in
     let n = e - t in
     let whole : t + n ≡ e = omega arith in
-    let done = (rests plan b t plan.machine plan.order (omega arith) (all-have-ended plan b p (omega arith))).1 in
+    let done = (rests plan b t plan.procs plan.order (omega arith) (all-have-ended plan b p (omega arith))).1 in
     let more = later plan t n in
     (more.0, sym done ∙ ap (starts_before plan) (sym whole) ∙ more.1)
 
@@ -197,14 +197,14 @@ heads-start-by-their-shadow-times plan t job p (rest, queue) =
     let new = counted plan n (time + 1) (omega (arith, soon, short)) p in
     let none : starts_of n (starts_before plan t) ≡ 0 = omega (arith, old, head-waits job rest (before plan t) queue, fewer n t plan.jobs, p.once n) in
     let i = later plan t d in
-    let told : starts_before plan (time + 1) ≡ starts_before plan t ++ i.0 = ap (starts_before plan) (sym whole) ∙ i.1 in
-    let parts = ap (starts_of n) told ∙ sum_by-append (λ (x : Start). cond {A = ℕ} (nat_eq x.number n) 1 0) (starts_before plan t) i.0 in
+    let outcome : starts_before plan (time + 1) ≡ starts_before plan t ++ i.0 = ap (starts_before plan) (sym whole) ∙ i.1 in
+    let parts = ap (starts_of n) outcome ∙ sum_by-append (λ (x : Start). cond {A = ℕ} (nat_eq x.number n) 1 0) (starts_before plan t) i.0 in
     let some : 1 ≤ starts_of n i.0 = omega (arith, new, gone, came, parts, none) in
     let below : All (λ (x : Start). x.at < time + 1) i.0 =
-    All-behind (λ (x : Start). x.at < time + 1) (starts_before plan t) i.0 (subst (λ (xs : List Start). All (λ (x : Start). x.at < time + 1) xs) told (starts-below plan (time + 1))) in
+    All-behind (λ (x : Start). x.at < time + 1) (starts_before plan t) i.0 (subst (λ (xs : List Start). All (λ (x : Start). x.at < time + 1) xs) outcome (starts-below plan (time + 1))) in
     let within : All (λ (x : Start). (t ≤ x.at) × (x.at ≤ time)) i.0 = (λ k d l. (i.2 k d l, (let z = below k d l in omega arith))) in
     let f = in-front plan (time + 1) p in
-    let all : sim plan ≡ starts_before plan t ++ (i.0 ++ f.0) = f.1 ∙ ap (λ l. l ++ f.0) told ∙ append_assoc (starts_before plan t) i.0 f.0 in
+    let all : sim plan ≡ starts_before plan t ++ (i.0 ++ f.0) = f.1 ∙ ap (λ l. l ++ f.0) outcome ∙ append_assoc (starts_before plan t) i.0 f.0 in
     subst (λ xs. IsSomeAnd (start_of xs n) (λ at. (t ≤ at) × (at ≤ time))) (sym all)
     (found-behind n (λ at. (t ≤ at) × (at ≤ time)) (starts_before plan t) (i.0 ++ f.0) none
     (found-within n (λ at. (t ≤ at) × (at ≤ time)) i.0 f.0 some within))

@@ -59,7 +59,7 @@ pub only-ends-unsettle : OnlyEndsUnsettle
 only-ends-unsettle plan t none =
     let s = before plan t in
     let js = submitted plan t in
-    let same : ended s t ≡ s = ap (λ (rs : List Placed). let z : State = record { machine = s.machine; order = s.order; waiting = s.waiting; running = rs } in z) (ended-none t s.running none) in
+    let same : ended s t ≡ s = ap (λ (rs : List Placed). let z : State = record { procs = s.procs; order = s.order; waiting = s.waiting; running = rs } in z) (ended-none t s.running none) in
     let is : ready plan s t ≡ joined s js = ap (λ (z : State). joined z js) same in
     let law = arrivals-unsettle-nobody s js t (each-state-is-settled plan t) in
     (ap (λ (z : State). next (front z (length s.waiting)) t) is ∙ law.0, λ w known. ap shadow_of is ∙ law.1 w known)

@@ -52,14 +52,14 @@ rests plan t (suc n) m o l e =
     )
 
 -- a state in which nobody waits or runs
-pub empty-is : (s : State) → s.waiting ≡ [] → s.running ≡ [] → s ≡ empty s.machine s.order
-empty-is s a b = go s.machine s.order s.waiting s.running a b
+pub empty-is : (s : State) → s.waiting ≡ [] → s.running ≡ [] → s ≡ empty s.procs s.order
+empty-is s a b = go s.procs s.order s.waiting s.running a b
   where
-    go : (m : ℕ) (o : Order) (js : List EffectiveJob) (rs : List Placed) → js ≡ [] → rs ≡ [] → (let z : State = record { machine = m; order = o; waiting = js; running = rs } in z) ≡ empty m o
+    go : (m : ℕ) (o : Order) (js : List EffectiveJob) (rs : List Placed) → js ≡ [] → rs ≡ [] → (let z : State = record { procs = m; order = o; waiting = js; running = rs } in z) ≡ empty m o
     go m o js rs a b = rw (a, b) refl
 
 -- so all starts have been made
 pub all-started : (plan : Plan) (t end : ℕ) (s : State) → s ≡ before plan t → last_submit plan.jobs < t → t ≤ end → s.waiting ≡ [] → s.running ≡ [] → starts_before plan t ≡ starts_before plan end
 all-started plan t end s is l m a b =
     let whole : t + (end - t) ≡ end = omega arith in
-    sym (ap (starts_before plan) (sym whole) ∙ (rests plan t (end - t) s.machine s.order l (sym is ∙ empty-is s a b)).1)
+    sym (ap (starts_before plan) (sym whole) ∙ (rests plan t (end - t) s.procs s.order l (sym is ∙ empty-is s a b)).1)

@@ -233,7 +233,7 @@ stands-in plan n t p =
     (λ (l : b < t).
     let rest : b + (t - b) ≡ t = omega (arith, l) in
     let done = all-have-ended plan b p (omega arith) in
-    let late = rests plan b (t - b) plan.machine plan.order (omega arith) done in
+    let late = rests plan b (t - b) plan.procs plan.order (omega arith) done in
     let same : before plan t ≡ before plan b = ap (before plan) (sym rest) ∙ late.0 ∙ sym done in
     let starts : starts_before plan t ≡ starts_before plan b = ap (starts_before plan) (sym rest) ∙ late.1 in
     let o = job_numbered plan.jobs n in

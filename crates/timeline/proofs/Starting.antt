@@ -36,10 +36,10 @@ abbrev run : ℕ → ℕ → State → ℕ
 run n t s = count_by (has_started n t) s.running
 
 -- whom a decision starts, it lets run
-told-runs : (n k t : ℕ) (s : State) → run n t (decided k s t) ≡ made n t (decisions k s t) + run n t s
+outcome-runs : (n k t : ℕ) (s : State) → run n t (decided k s t) ≡ made n t (decisions k s t) + run n t s
 unfolding decisions decided
-told-runs n zero t s = omega arith
-told-runs n (suc k) t s =
+outcome-runs n zero t s = omega arith
+outcome-runs n (suc k) t s =
     ⊎_elim
     (λ (e : next s t ≡ None).
     let a = ap (made n t) (decisions-stop (suc k) s t e) in
@@ -53,7 +53,7 @@ told-runs n (suc k) t s =
     let r : Placed = record { job = job; start = t } in
     let a = ap (made n t) (decisions-start (suc k) s job t (omega arith) f.1 ∙ ap (λ m. x ∷ decisions m s' t) one) in
     let b = ap (run n t) (decided-start (suc k) s job t (omega arith) f.1 ∙ ap (λ m. decided m s' t) one) in
-    let i = told-runs n k t s' in
+    let i = outcome-runs n k t s' in
     omega (arith, a, b, i, sum_by-cons (λ (x : Start). cond {A = ℕ} (is_start n t x) 1 0) x (decisions k s' t), sum_by-placed (λ (r : Placed). cond {A = ℕ} (has_started n t r) 1 0) r s.running))
     (cases_option (next s t))
 
@@ -81,7 +81,7 @@ made-then : (plan : Plan) (n t : ℕ) → IsPlan plan → made n t (sim plan) �
 made-then plan n t p =
     let b = bound plan + 1 in
     let f : Start → ℕ = λ x. cond {A = ℕ} (is_start n t x) 1 0 in
-    let done = (rests plan b t plan.machine plan.order (omega arith) (all-have-ended plan b p (omega arith))).1 in
+    let done = (rests plan b t plan.procs plan.order (omega arith) (all-have-ended plan b p (omega arith))).1 in
     let more = later plan (t + 1) (bound plan) in
     let whole : b + t ≡ (t + 1) + bound plan = omega arith in
     let all = ap (made n t) (sym done ∙ ap (starts_before plan) whole ∙ more.1) in
@@ -98,7 +98,7 @@ as-many-run plan n t p =
     let s = ready plan (before plan t) t in
     let a = made-then plan n t p in
     let b = ap (run n t) (before-more plan t) in
-    let c = told-runs n (length s.waiting) t s in
+    let c = outcome-runs n (length s.waiting) t s in
     let d = none-run n t s.running (All-filter (λ (r : Placed). not (nat_eq (real_end r) t)) (λ (r : Placed). r.start < t) (before plan t).running (began plan t)) in
     omega (arith, a, b, c, d)
 

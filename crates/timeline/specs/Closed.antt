@@ -30,7 +30,7 @@ runs_before plan t job = lasting t job (known_start plan t job.number)
 -- before it, with their starts, rising by number
 abbrev pub state_by_starts : Plan → ℕ → State
 state_by_starts plan t = record {
-  machine = plan.machine;
+  procs = plan.procs;
   order = plan.order;
   waiting = filter (waits_before plan t) plan.jobs;
   running = by_number (filter_map (runs_before plan t) plan.jobs);

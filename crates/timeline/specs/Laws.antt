@@ -26,7 +26,7 @@ StartsAreRunningJobs =
 
 -- after the last submit second and as long again as all jobs run, nobody waits or runs
 abbrev pub AllHaveEnded : Type 0
-AllHaveEnded = (plan : Plan) (t : ℕ) → IsPlan plan → bound plan < t → before plan t ≡ empty plan.machine plan.order
+AllHaveEnded = (plan : Plan) (t : ℕ) → IsPlan plan → bound plan < t → before plan t ≡ empty plan.procs plan.order
 
 -- no job ends later than that
 abbrev pub AllEndByTheBound : Type 0

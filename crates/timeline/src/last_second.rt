@@ -19,7 +19,6 @@ pub fn last_submit(jobs: &[Job]) -> u64
     last
 }
 
-// The seconds that these jobs run, one after another.
 fn total_length(jobs: &[Job]) -> u64
     requires { length jobs.now ≤ entry_limit }
     ensures value { result ≡ sum_by (λ j. j.length) jobs.now }
@@ -39,7 +38,7 @@ fn total_length(jobs: &[Job]) -> u64
 pub fn bound(jobs: &[Job]) -> u64
     requires { length jobs.now ≤ entry_limit }
     ensures value { (plan : Plan) → plan.jobs ≡ jobs.now → result ≡ bound plan }
-    ensures ended { (plan : Plan) (t : ℕ) → plan.jobs ≡ jobs.now → IsPlan plan → result < t → before plan t ≡ empty plan.machine plan.order }
+    ensures ended { (plan : Plan) (t : ℕ) → plan.jobs ≡ jobs.now → IsPlan plan → result < t → before plan t ≡ empty plan.procs plan.order }
 {
     last_submit(jobs) + total_length(jobs)
 }

@@ -13,7 +13,7 @@ use Rattle.book_machine.specs.Machine.{Machine, Progress, Ticket, version, opene
 use Rattle.book_machine.specs.History.{Noted, IsLegal, after_all}
 use Rattle.version_book.specs.Book.{StateView, BookView, machine_at, machine_of}
 use Rattle.version_book.specs.Sound.{IsBook, IsSound}
-use Rattle.version_book.specs.Steps.{Answer, full, memory, told, Answers, Does, IsStep, note_of, notes_of, opening_state, reply_in}
+use Rattle.version_book.specs.Steps.{Answer, full, memory, outcome, Answers, Does, IsStep, note_of, notes_of, opening_state, reply_in}
 
 -- ---- what no call changes
 
@@ -49,7 +49,7 @@ give_up-counts n m (Some t) = (refl, omega arith, refl)
 
 counts : (call : BookCall) (m : Machine) → Counts m (changed_by call m)
 counts (Edit e) m = cond-counts m (record m { edits = m.edits ++ e ∷ [] }) (is_some (fault_of e (current m))) (refl, omega arith, refl)
-counts (AddScenario name setting) m = cond-counts m (record m { listing = with_scenario name setting m.listing; progress = m.progress ++ fresh m.listing.next ∷ [] }) (is_some (add_fault name m.listing)) (refl, omega arith, refl)
+counts (AddScenario name scenario) m = cond-counts m (record m { listing = with_scenario name scenario m.listing; progress = m.progress ++ fresh m.listing.next ∷ [] }) (is_some (add_fault name m.listing)) (refl, omega arith, refl)
 counts (DropScenario name) m = drop-counts name m (id_of name m.listing)
 counts (Retry id) m = (refl, omega arith, refl)
 counts Claim m = claim-counts m (due m)
@@ -64,8 +64,8 @@ after_all-push m [] note = refl
 after_all-push m (k ∷ notes) note = after_all-push (after k.call m) notes note
 
 IsLegal-push : (m : Machine) (notes : List Noted) (note : Noted) → IsLegal m notes → (after_all m notes).notes < note_limit → note.reply ≡ reply_to note.call (after_all m notes) → IsLegal m (notes ++ note ∷ [])
-IsLegal-push m [] note h room is = (room, is, tt)
-IsLegal-push m (k ∷ notes) note h room is = (h.0, h.1, IsLegal-push (after k.call m) notes note h.2 room is)
+IsLegal-push m [] note h capacity is = (capacity, is, tt)
+IsLegal-push m (k ∷ notes) note h capacity is = (h.0, h.1, IsLegal-push (after k.call m) notes note h.2 capacity is)
 
 -- ---- a step
 
@@ -77,34 +77,34 @@ step-machine old new who call r h =
     ap (λ n. machine_at n new) (length_push old.journal (note_of who call r)) ∙ sym (noted-is (changed_by call (machine_of old)) (length old.journal) new (sym (h.state (length old.journal))))
 
 step-book : (old : BookView) (new : StateView) (who : Caller) (call : BookCall) (r : Reply) → IsBook old → length old.journal < note_limit → IsStep old.state new call r → IsBook (record { state = new; journal = old.journal ++ note_of who call r ∷ [] })
-step-book old new who call r h room step =
+step-book old new who call r h capacity step =
     let n = length old.journal in
     let note = note_of who call r in
     let count = length_push old.journal note in
     let c = counts call (machine_of old) in
     let opening : new.opening ≡ old.state.opening = ap (λ (m : Machine). m.opening) (step.state n) ∙ c.0 in
     let next : new.next_ticket ≡ (changed_by call (machine_of old)).next_ticket = ap (λ (m : Machine). m.next_ticket) (step.state n) in
-    let few : (after_all (opened old.state.opening) old.journal).notes < note_limit = subst (λ (m : Machine). m.notes < note_limit) (sym h.led) room in
-    let told : r ≡ reply_to call (after_all (opened old.state.opening) old.journal) = step.reply n ∙ ap (reply_to call) (sym h.led) in
+    let few : (after_all (opened old.state.opening) old.journal).notes < note_limit = subst (λ (m : Machine). m.notes < note_limit) (sym h.led) capacity in
+    let outcome : r ≡ reply_to call (after_all (opened old.state.opening) old.journal) = step.reply n ∙ ap (reply_to call) (sym h.led) in
     record {
       sound = step.sound;
-      legal = subst (λ (log : List LogEntry). IsLegal (opened log) (old.journal ++ note ∷ [])) (sym opening) (IsLegal-push (opened old.state.opening) old.journal note h.legal few told);
+      legal = subst (λ (log : List LogEntry). IsLegal (opened log) (old.journal ++ note ∷ [])) (sym opening) (IsLegal-push (opened old.state.opening) old.journal note h.legal few outcome);
       led = ap (λ (log : List LogEntry). after_all (opened log) (old.journal ++ note ∷ [])) opening ∙ (after_all-push (opened old.state.opening) old.journal note ∙ (ap (after call) h.led ∙ sym (step-machine old new who call r step)));
-      room = omega (arith, count);
+      capacity = omega (arith, count);
       numbers = omega (arith, count, next, c.1, h.numbers);
     }
 
 -- what a call leaves is a book, and it answered as it should
 pub called : (old new : BookView) (who : Caller) (call : BookCall) (a : Answer) → IsBook old → length old.journal < note_limit → Does old.state new.state call a → new.journal ≡ old.journal ++ notes_of who call (reply_in a) → IsBook new × Answers old new who call a
-called old new who call full h room does journal = absurd does
-called old new who call memory h room does journal =
+called old new who call full h capacity does journal = absurd does
+called old new who call memory h capacity does journal =
     let same : new ≡ old = ap₂ (λ (s : StateView) (j : List Noted). let b : BookView = record { state = s; journal = j } in b) does (journal ∙ append-nil old.journal) in
-    (subst IsBook (sym same) h, (room, same))
-called old new who call (told r) h room does journal =
+    (subst IsBook (sym same) h, (capacity, same))
+called old new who call (outcome r) h capacity does journal =
     let P : List Noted → Type 0 = λ j. IsBook (record { state = new.state; journal = j }) in (
-      subst P (sym journal) (step-book old new.state who call r h room does),
+      subst P (sym journal) (step-book old new.state who call r h capacity does),
       (
-        room,
+        capacity,
         does.reply (length old.journal),
         ap (λ (j : List Noted). machine_at (length j) new.state) journal ∙ step-machine old new.state who call r does,
         journal,
@@ -115,7 +115,7 @@ called old new who call (told r) h room does journal =
 
 -- the same, of a book that was seen so
 pub answered : {b v : BookView} (new : BookView) (who : Caller) (call : BookCall) (a : Answer) → b ≡ v → IsBook b → length b.journal < note_limit → Does b.state new.state call a → new.journal ≡ b.journal ++ notes_of who call (reply_in a) → Answers v new who call a
-answered {b} {v} new who call a is h room does journal = subst (λ (w : BookView). Answers w new who call a) is (called b new who call a h room does journal).1
+answered {b} {v} new who call a is h capacity does journal = subst (λ (w : BookView). Answers w new who call a) is (called b new who call a h capacity does journal).1
 
 -- ---- before it
 
@@ -124,10 +124,10 @@ is-full {b} {v} f xs who call is h journal test =
     let le : note_limit ≤ length xs = leb-true note_limit (length xs) test in
     let count = length-map xs f in
     let same = ap length journal in
-    subst (λ (w : BookView). Answers w w who call full) is (omega (arith, h.room), refl)
+    subst (λ (w : BookView). Answers w w who call full) is (omega (arith, h.capacity), refl)
 
-pub has-room : {X : Type 0} (f : X → Noted) (xs : List X) → nat_le note_limit (length xs) ≡ false → length (map f xs) < note_limit
-has-room f xs test =
+pub has-capacity : {X : Type 0} (f : X → Noted) (xs : List X) → nat_le note_limit (length xs) ≡ false → length (map f xs) < note_limit
+has-capacity f xs test =
     let lt : length xs < note_limit = leb-false note_limit (length xs) test in
     let count = length-map xs f in
     omega arith
@@ -136,10 +136,10 @@ has-room f xs test =
 pub journal-is : {X : Type 0} (f : X → Noted) (xs ys zs : List X) (who : Caller) (c d : BookCall) (o p : Option Reply) → map f zs ≡ map f ys ++ notes_of who c o → ys ≡ xs → c ≡ d → o ≡ p → map f zs ≡ map f xs ++ notes_of who d p
 journal-is f xs ys zs who c d o p zs_is ys_is c_is o_is = zs_is ∙ (ap (λ ws. map f ws ++ notes_of who c o) ys_is ∙ ap₂ (λ (e : BookCall) (q : Option Reply). map f xs ++ notes_of who e q) c_is o_is)
 
--- a book that is as it was, but for its room
+-- a book that is as it was, but for its capacity
 pub as-it-was : {b v : BookView} {X : Type 0} (f : X → Noted) (xs ys : List X) (who : Caller) (call : BookCall) (a : Answer) → b ≡ v → b.journal ≡ map f xs → ys ≡ xs → nat_le note_limit (length xs) ≡ false → a ≡ memory → Answers v (record { state = b.state; journal = map f ys }) who call a
 as-it-was {b} {v} f xs ys who call a is journal ys_is test a_is =
-    let room = has-room f xs test in
+    let capacity = has-capacity f xs test in
     let same : record { state = b.state; journal = map f ys } ≡ b = ap (λ (j : List Noted). let w : BookView = record { state = b.state; journal = j } in w) (ap (map f) ys_is ∙ sym journal) in
     let count = ap length journal in
     subst (λ (q : Answer). Answers v (record { state = b.state; journal = map f ys }) who call q) (sym a_is) (subst (λ (w : BookView). Answers w (record { state = b.state; journal = map f ys }) who call memory) is (omega arith, same))
@@ -148,5 +148,5 @@ as-it-was {b} {v} f xs ys who call a is journal ys_is test a_is =
 
 pub opened-book : (s : StateView) (log : List LogEntry) (spacing : ℕ) (notes : List Noted) → IsSound s → s ≡ opening_state log spacing → notes ≡ [] → IsBook (record { state = s; journal = notes })
 opened-book s log spacing notes sound is none =
-    let whole : IsSound (opening_state log spacing) → IsBook (record { state = opening_state log spacing; journal = [] }) = λ it. record { sound = it; legal = tt; led = refl; room = omega arith; numbers = omega arith } in
+    let whole : IsSound (opening_state log spacing) → IsBook (record { state = opening_state log spacing; journal = [] }) = λ it. record { sound = it; legal = tt; led = refl; capacity = omega arith; numbers = omega arith } in
     subst (λ (ns : List Noted). IsBook (record { state = s; journal = ns })) (sym none) (subst (λ (t : StateView). IsSound t → IsBook (record { state = t; journal = [] })) (sym is) whole sound)

@@ -7,7 +7,7 @@ use Rattle.std.proofs.lemmas.Bool.{eqb-true, ne_eqb, eq-eqb, both_ways}
 use Rattle.std.proofs.lemmas.List.{map-append}
 use Rattle.std.proofs.lemmas.List.Elements.{All-nil, All-cons, All-weaker}
 use Rattle.std.proofs.lemmas.List.Kept.{AllPairs-cons}
-use Rattle.scenarios.specs.Scenario.{Setting}
+use Rattle.scenarios.specs.Scenario.{ScenarioView}
 use Rattle.book_machine.specs.Machine.{is_below}
 use Rattle.scenarios.specs.ScenarioList.{Listed, Listing, IdsRise, has_name, named, id_of, without, with_scenario, without_scenario}
 use Rattle.version_book.specs.Book.{ShownView, published_version}
@@ -53,7 +53,7 @@ alike-later : (p : ShownView → Bool) (x : ShownView) (xs : List ShownView) (ne
 alike-later p x xs next y h is = find-All (λ (z : ShownView). x.id < z.id) p xs y (All-weaker (λ (z : ShownView). x.id + 1 ≤ z.id) (λ (z : ShownView). x.id < z.id) (λ z le. omega arith) xs (at-least (x.id + 1) (x.id + 1) xs next (omega arith) h)) is
 
 abbrev Alike : ShownView → ShownView → Type 0
-Alike y x = x.id ≡ y.id → x.setting ≡ y.setting
+Alike y x = x.id ≡ y.id → x.scenario ≡ y.scenario
 
 alike-here : (p : ShownView → Bool) (x : ShownView) (xs : List ShownView) (next : ℕ) (y : ShownView) (b : Bool) → Rises (x.id + 1) xs next → (find p xs ≡ Some y → All (Alike y) xs) → cond b (Some x) (find p xs) ≡ Some y → All (Alike y) (x ∷ xs)
 alike-here p x xs next y true h later is =
@@ -96,20 +96,20 @@ ids-apart xs list same h = apart 1 xs list.next (rises-of 1 xs list.scenarios li
 pub ids-given : (xs : List ShownView) (list : Listing) → AreListed xs list → IdsRise 1 list.scenarios list.next → All (λ (x : ShownView). x.id < list.next) xs
 ids-given xs list same h = given 1 xs list.next (rises-of 1 xs list.scenarios list.next same h)
 
-pub ids-alike : (p : ShownView → Bool) (xs : List ShownView) (list : Listing) (y : ShownView) → AreListed xs list → IdsRise 1 list.scenarios list.next → find p xs ≡ Some y → All (λ (x : ShownView). x.id ≡ y.id → x.setting ≡ y.setting) xs
+pub ids-alike : (p : ShownView → Bool) (xs : List ShownView) (list : Listing) (y : ShownView) → AreListed xs list → IdsRise 1 list.scenarios list.next → find p xs ≡ Some y → All (λ (x : ShownView). x.id ≡ y.id → x.scenario ≡ y.scenario) xs
 ids-alike p xs list y same h is = alike p 1 xs list.next y (rises-of 1 xs list.scenarios list.next same h) is
 
 -- ---- one more
 
-pub ids-push : (first : ℕ) (ss : List Listed) (next : ℕ) (name : List ℕ) (setting : Setting) → IdsRise first ss next → IdsRise first (ss ++ record { name = name; id = next; setting = setting } ∷ []) (next + 1)
-ids-push first [] next name setting h = (h, omega arith)
-ids-push first (s ∷ ss) next name setting h = (h.0, ids-push (s.id + 1) ss next name setting h.1)
+pub ids-push : (first : ℕ) (ss : List Listed) (next : ℕ) (name : List ℕ) (scenario : ScenarioView) → IdsRise first ss next → IdsRise first (ss ++ record { name = name; id = next; scenario = scenario } ∷ []) (next + 1)
+ids-push first [] next name scenario h = (h, omega arith)
+ids-push first (s ∷ ss) next name scenario h = (h.0, ids-push (s.id + 1) ss next name scenario h.1)
 
-pub listed-push : (xs : List ShownView) (list : Listing) (x : ShownView) (name : List ℕ) → AreListed xs list → x.id ≡ list.next → AreListed (xs ++ x ∷ []) (with_scenario name x.setting list)
+pub listed-push : (xs : List ShownView) (list : Listing) (x : ShownView) (name : List ℕ) → AreListed xs list → x.id ≡ list.next → AreListed (xs ++ x ∷ []) (with_scenario name x.scenario list)
 listed-push xs list x name same is =
     map-append under_of_shown xs (x ∷ [])
-    ∙ (ap₂ (λ (us : List Under) (n : ℕ). us ++ (n, x.setting) ∷ []) same is
-    ∙ sym (map-append under_of_listed list.scenarios (record { name = name; id = list.next; setting = x.setting } ∷ [])))
+    ∙ (ap₂ (λ (us : List Under) (n : ℕ). us ++ (n, x.scenario) ∷ []) same is
+    ∙ sym (map-append under_of_listed list.scenarios (record { name = name; id = list.next; scenario = x.scenario } ∷ [])))
 
 -- ---- one gone
 

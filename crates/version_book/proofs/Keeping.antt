@@ -62,12 +62,12 @@ published-put : (id k : ℕ) (p q : PublishedView) (xs : List ShownView) → pub
 published-put id k p q [] is = inl is
 published-put id k p q (x ∷ xs) is = put-or-kept (has_id k x) id x p q (find (has_id id) xs) (find (has_id id) (with_change k (publishing p) xs)) is (published-put id k p q xs)
 
-told-so : (there : Option PublishedView) (p q : PublishedView) (v : ℕ) → p.version ≡ v → Left there p q → (there ≡ Some q) ⊎ (reply.Finished v ≡ reply.Finished q.version)
-told-so there p q v is (inl kept) = inl kept
-told-so there p q v is (inr same) = inr (ap reply.Finished (sym is) ∙ ap (λ (x : PublishedView). reply.Finished x.version) (sym same))
+outcome-so : (there : Option PublishedView) (p q : PublishedView) (v : ℕ) → p.version ≡ v → Left there p q → (there ≡ Some q) ⊎ (reply.Finished v ≡ reply.Finished q.version)
+outcome-so there p q v is (inl kept) = inl kept
+outcome-so there p q v is (inr same) = inr (ap reply.Finished (sym is) ∙ ap (λ (x : PublishedView). reply.Finished x.version) (sym same))
 
 pub keeps-put : (old new : StateView) (k v : ℕ) (p : PublishedView) → p.version ≡ v → new.shown ≡ with_change k (publishing p) old.shown → KeepsRuns old new (reply.Finished v)
-keeps-put old new k v p version put id q is = told-so (published_for id old.shown) p q v version (published-put id k p q old.shown (ap (published_for id) (sym put) ∙ is))
+keeps-put old new k v p version put id q is = outcome-so (published_for id old.shown) p q v version (published-put id k p q old.shown (ap (published_for id) (sym put) ∙ is))
 
 -- ---- a scenario more
 

@@ -9,7 +9,7 @@ use Rattle.std.proofs.lemmas.List.Sums.{sum_by-cons}
 use Rattle.swf_text.specs.Entry.{LogEntry}
 use Rattle.job_table.specs.Edit.{LogEdit, log_after}
 use Rattle.job_table.specs.Accepted.{AreAccepted}
-use Rattle.scenarios.specs.Scenario.{Setting}
+use Rattle.scenarios.specs.Scenario.{ScenarioView}
 use Rattle.book_machine.specs.declared.settle_state.SettleState.{SettleState}
 use Rattle.book_machine.specs.declared.settle_state.SettleState.TheVariants as settle
 use Rattle.book_machine.specs.Machine.{Progress, is_good, is_waiting, settled}
@@ -84,29 +84,29 @@ free-with {s} {w} v o r is lt v_is find_is r_is = subst (λ (u : StateView). r �
 
 -- ---- a task
 
-base-leads : (s : StateView) (under : Setting) (p : PublishedView) → IsSound s → IsOfItsVersion s.opening s.edits under p → LeadsTo s.current under (base_since s.edits p)
+base-leads : (s : StateView) (under : ScenarioView) (p : PublishedView) → IsSound s → IsOfItsVersion s.opening s.edits under p → LeadsTo s.current under (base_since s.edits p)
 base-leads s under p h of = record {
-  setting = of.setting;
+  scenario = of.scenario;
   accepted = subst (λ (log : List LogEntry). AreAccepted log (drop p.version s.edits)) (sym of.log) (AreAccepted-since s.opening s.edits p.version h.accepted);
   log = h.current ∙ (log_after-since s.opening s.edits p.version ∙ ap (λ (log : List LogEntry). log_after log (drop p.version s.edits)) (sym of.log));
 }
 
-bases-lead : (s : StateView) (under : Setting) (o : Option PublishedView) → IsSound s → IfSome o (IsOfItsVersion s.opening s.edits under) → IfSome (bases_since s.edits o) (LeadsTo s.current under)
+bases-lead : (s : StateView) (under : ScenarioView) (o : Option PublishedView) → IsSound s → IfSome o (IsOfItsVersion s.opening s.edits under) → IfSome (bases_since s.edits o) (LeadsTo s.current under)
 bases-lead s under None h of = tt
 bases-lead s under (Some p) h of = base-leads s under p h of
 
 -- a task of these is one
-pub task-sound : {s w : StateView} (ticket id v : ℕ) (log : List LogEntry) (x : ShownView) (setting : Setting) (base : Option BaseView) → s ≡ w → IsSound s → IfSome x.published (IsOfItsVersion w.opening w.edits x.setting) → log ≡ s.current → setting ≡ x.setting → base ≡ bases_since s.edits x.published → IsTask (record { ticket = ticket; id = id; version = v; log = log; setting = setting; spacing = s.spacing; base = base })
-task-sound {s} {w} ticket id v log x setting base seen h of log_is setting_is is =
-    let of' : IfSome x.published (IsOfItsVersion s.opening s.edits x.setting) = subst (λ (u : StateView). IfSome x.published (IsOfItsVersion u.opening u.edits x.setting)) (sym seen) of in
+pub task-sound : {s w : StateView} (ticket id v : ℕ) (log : List LogEntry) (x : ShownView) (scenario : ScenarioView) (base : Option BaseView) → s ≡ w → IsSound s → IfSome x.published (IsOfItsVersion w.opening w.edits x.scenario) → log ≡ s.current → scenario ≡ x.scenario → base ≡ bases_since s.edits x.published → IsTask (record { ticket = ticket; id = id; version = v; log = log; scenario = scenario; spacing = s.spacing; base = base })
+task-sound {s} {w} ticket id v log x scenario base seen h of log_is scenario_is is =
+    let of' : IfSome x.published (IsOfItsVersion s.opening s.edits x.scenario) = subst (λ (u : StateView). IfSome x.published (IsOfItsVersion u.opening u.edits x.scenario)) (sym seen) of in
     record {
       spacing = h.spacing;
-      base = subst (λ (l : List LogEntry). IfSome base (LeadsTo l setting)) (sym log_is) (subst (λ (u : Setting). IfSome base (LeadsTo s.current u)) (sym setting_is) (subst (λ (o : Option BaseView). IfSome o (LeadsTo s.current x.setting)) (sym is) (bases-lead s x.setting x.published h of')));
+      base = subst (λ (l : List LogEntry). IfSome base (LeadsTo l scenario)) (sym log_is) (subst (λ (u : ScenarioView). IfSome base (LeadsTo s.current u)) (sym scenario_is) (subst (λ (o : Option BaseView). IfSome o (LeadsTo s.current x.scenario)) (sym is) (bases-lead s x.scenario x.published h of')));
     }
 
-pub task-is : {s w : StateView} (ticket id v : ℕ) (log : List LogEntry) (x : ShownView) (setting : Setting) (spacing : ℕ) (base : Option BaseView) → s ≡ w → ticket ≡ s.next_ticket → id ≡ x.id → v ≡ length s.edits → log ≡ s.current → setting ≡ x.setting → spacing ≡ s.spacing → base ≡ bases_since s.edits x.published → record { ticket = ticket; id = id; version = v; log = log; setting = setting; spacing = spacing; base = base } ≡ task_for w x
-task-is {s} {w} ticket id v log x setting spacing base seen a b d e f h is =
-    let same : record { ticket = ticket; id = id; version = v; log = log; setting = setting; spacing = spacing; base = base } ≡ task_for s x = cc in
+pub task-is : {s w : StateView} (ticket id v : ℕ) (log : List LogEntry) (x : ShownView) (scenario : ScenarioView) (spacing : ℕ) (base : Option BaseView) → s ≡ w → ticket ≡ s.next_ticket → id ≡ x.id → v ≡ length s.edits → log ≡ s.current → scenario ≡ x.scenario → spacing ≡ s.spacing → base ≡ bases_since s.edits x.published → record { ticket = ticket; id = id; version = v; log = log; scenario = scenario; spacing = spacing; base = base } ≡ task_for w x
+task-is {s} {w} ticket id v log x scenario spacing base seen a b d e f h is =
+    let same : record { ticket = ticket; id = id; version = v; log = log; scenario = scenario; spacing = spacing; base = base } ≡ task_for s x = cc in
     same ∙ ap (λ (u : StateView). task_for u x) seen
 
 -- ---- the next task
@@ -114,8 +114,8 @@ task-is {s} {w} ticket id v log x setting spacing base seen a b d e f h is =
 pub next-busy : {s w : StateView} (v : ℕ) (x : ShownView) → s ≡ w → v ≡ length s.edits → find (is_due_at v s.tickets) s.shown ≡ Some x → 256 ≤ length s.tickets → IsNext w (Err (why.Fault (record {})))
 next-busy {s} {w} v x seen v_is is le = subst (λ (u : StateView). IsNext u (Err (why.Fault (record {})))) seen (x, due-with s v (Some x) v_is is, le)
 
-pub next-run : {s w : StateView} (v : ℕ) (x : ShownView) → s ≡ w → IsSound s → find (is_due_at v s.tickets) s.shown ≡ Some x → IfSome x.published (IsOfItsVersion w.opening w.edits x.setting)
-next-run {s} {w} v x seen h is = subst (λ (u : StateView). IfSome x.published (IsOfItsVersion u.opening u.edits x.setting)) seen (found-run s x (is_due_at v s.tickets) h is)
+pub next-run : {s w : StateView} (v : ℕ) (x : ShownView) → s ≡ w → IsSound s → find (is_due_at v s.tickets) s.shown ≡ Some x → IfSome x.published (IsOfItsVersion w.opening w.edits x.scenario)
+next-run {s} {w} v x seen h is = subst (λ (u : StateView). IfSome x.published (IsOfItsVersion u.opening u.edits x.scenario)) seen (found-run s x (is_due_at v s.tickets) h is)
 
 pub next-given : {s w : StateView} (v : ℕ) (x : ShownView) (task : TaskView) → s ≡ w → v ≡ length s.edits → find (is_due_at v s.tickets) s.shown ≡ Some x → length s.tickets < 256 → task ≡ task_for w x → IsNext w (Ok (Some task))
 next-given {s} {w} v x task seen v_is is lt task_is =
@@ -142,8 +142,8 @@ claim-with {s} {w} task t ts seen h next ts_is t_is =
     let n : IsNext s (Ok (Some task)) = subst (λ (u : StateView). IsNext u (Ok (Some task))) (sym seen) next in
     let x : ShownView = n.0 in
     let ticket : t ≡ ticket_for (task_for s x) = t_is ∙ ap ticket_for n.3 in
-    let told = ap (λ (k : TaskView). reply.Claimed k.ticket k.id k.version (version_in k.base)) n.3 ∙ ap (reply.Claimed s.next_ticket x.id (length s.edits)) (base-version s.edits x.published) in
-    claim-given s x ts _ h (sym (due-shown s) ∙ n.1) n.2 (ts_is ∙ ap (λ (u : TicketView). s.tickets ++ u ∷ []) ticket) told
+    let outcome = ap (λ (k : TaskView). reply.Claimed k.ticket k.id k.version (version_in k.base)) n.3 ∙ ap (reply.Claimed s.next_ticket x.id (length s.edits)) (base-version s.edits x.published) in
+    claim-given s x ts _ h (sym (due-shown s) ∙ n.1) n.2 (ts_is ∙ ap (λ (u : TicketView). s.tickets ++ u ∷ []) ticket) outcome
 
 -- the same of a task that stayed as it was
 pub claim-left : {s new : StateView} (task left : TaskView) → left ≡ task → IsStep s new Claim (reply.Claimed task.ticket task.id task.version (version_in task.base)) → IsStep s new Claim (reply.Claimed left.ticket left.id left.version (version_in left.base))

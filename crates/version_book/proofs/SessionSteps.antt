@@ -11,7 +11,7 @@ use Rattle.job_table.specs.Accepted.{IsEdit}
 use Rattle.job_table.specs.Edit.{LogEdit, applied, fault_of, log_after}
 use Rattle.scenarios.specs.declared.list_fault.AddFault.{AddFault}
 use Rattle.scenarios.specs.declared.list_fault.AddFault.TheVariants as faults
-use Rattle.scenarios.specs.Scenario.{Setting}
+use Rattle.scenarios.specs.Scenario.{ScenarioView}
 use Rattle.scenarios.specs.ScenarioList.{Listing, add_fault, id_of, with_scenario, without_scenario}
 use Rattle.book_machine.specs.declared.reply.Reply.{Reply}
 use Rattle.book_machine.specs.declared.reply.Reply.TheVariants as reply
@@ -42,9 +42,9 @@ edit_changed e m o = cond (is_some o) m (record m { edits = m.edits ++ e ∷ [] 
 fault-now : (s : StateView) (e : LogEdit) (o : Option EditFault) → IsSound s → fault_of e s.current ≡ o → fault_of e (log_after s.opening s.edits) ≡ o
 fault-now s e o h is = ap (fault_of e) (sym h.current) ∙ is
 
-published-stays : (s : StateView) (e : LogEdit) (under : Setting) (o : Option PublishedView) → IfSome o (IsOfItsVersion s.opening s.edits under) → IfSome o (IsOfItsVersion s.opening (s.edits ++ e ∷ []) under)
+published-stays : (s : StateView) (e : LogEdit) (under : ScenarioView) (o : Option PublishedView) → IfSome o (IsOfItsVersion s.opening s.edits under) → IfSome o (IsOfItsVersion s.opening (s.edits ++ e ∷ []) under)
 published-stays s e under None h = h
-published-stays s e under (Some p) h = record { made = omega (arith, h.made, length-append s.edits (e ∷ [])); log = h.log ∙ sym (log_at-stays s.opening s.edits e p.version h.made); setting = h.setting; run = h.run }
+published-stays s e under (Some p) h = record { made = omega (arith, h.made, length-append s.edits (e ∷ [])); log = h.log ∙ sym (log_at-stays s.opening s.edits e p.version h.made); scenario = h.scenario; run = h.run }
 
 ticket-stays : (s : StateView) (e : LogEdit) (t : TicketView) → IsTicketOfItsVersion s.opening s.edits t → IsTicketOfItsVersion s.opening (s.edits ++ e ∷ []) t
 ticket-stays s e t h = record { made = omega (arith, h.made, length-append s.edits (e ∷ [])); log = h.log ∙ sym (log_at-stays s.opening s.edits e t.version h.made) }
@@ -60,7 +60,7 @@ edit-sound s e h one is = record {
   current = ap (applied e) h.current ∙ sym (log_after-append s.opening s.edits (e ∷ []));
   listed = h.listed;
   ids = h.ids;
-  runs = All-weaker (λ (x : ShownView). IfSome x.published (IsOfItsVersion s.opening s.edits x.setting)) (λ (x : ShownView). IfSome x.published (IsOfItsVersion s.opening (s.edits ++ e ∷ []) x.setting)) (λ x. published-stays s e x.setting x.published) s.shown h.runs;
+  runs = All-weaker (λ (x : ShownView). IfSome x.published (IsOfItsVersion s.opening s.edits x.scenario)) (λ (x : ShownView). IfSome x.published (IsOfItsVersion s.opening (s.edits ++ e ∷ []) x.scenario)) (λ x. published-stays s e x.scenario x.published) s.shown h.runs;
   tickets = All-weaker (IsTicketOfItsVersion s.opening s.edits) (IsTicketOfItsVersion s.opening (s.edits ++ e ∷ [])) (ticket-stays s e) s.tickets h.tickets;
   claimed = h.claimed;
   few = h.few;
@@ -89,72 +89,72 @@ edit-accepted s e es log v h one is es_is log_is v_is =
 abbrev add_replied : ℕ → Option AddFault → Reply
 add_replied next o = elim o [ Some fault ↦ reply.AddRefused fault | None ↦ reply.Added next ]
 
-abbrev add_changed : List ℕ → Setting → Machine → Option AddFault → Machine
-add_changed name setting m o = cond (is_some o) m (record m { listing = with_scenario name setting m.listing; progress = m.progress ++ fresh m.listing.next ∷ [] })
+abbrev add_changed : List ℕ → ScenarioView → Machine → Option AddFault → Machine
+add_changed name scenario m o = cond (is_some o) m (record m { listing = with_scenario name scenario m.listing; progress = m.progress ++ fresh m.listing.next ∷ [] })
 
-pub add-refused : (s : StateView) (name : List ℕ) (setting : Setting) (fault : AddFault) → IsSound s → add_fault name s.listing ≡ Some fault → IsStep s s (AddScenario name setting) (reply.AddRefused fault)
-add-refused s name setting fault h is = still s (AddScenario name setting) (reply.AddRefused fault) h (λ n. sym (ap (add_replied s.listing.next) is)) (λ n. sym (ap (add_changed name setting (machine_at n s)) is))
+pub add-refused : (s : StateView) (name : List ℕ) (scenario : ScenarioView) (fault : AddFault) → IsSound s → add_fault name s.listing ≡ Some fault → IsStep s s (AddScenario name scenario) (reply.AddRefused fault)
+add-refused s name scenario fault h is = still s (AddScenario name scenario) (reply.AddRefused fault) h (λ n. sym (ap (add_replied s.listing.next) is)) (λ n. sym (ap (add_changed name scenario (machine_at n s)) is))
 
 -- what is told of a fault; nothing changed
-abbrev AddTold : StateView → List ℕ → Setting → Listing → AddFault → Type 0
-AddTold s name setting list fault = Does s (record s { listing = list }) (AddScenario name setting) (add_answer (Err (refusal_of fault)))
+abbrev AddAnswered : StateView → List ℕ → ScenarioView → Listing → AddFault → Type 0
+AddAnswered s name scenario list fault = Does s (record s { listing = list }) (AddScenario name scenario) (add_answer (Err (refusal_of fault)))
 
-add-some : (s : StateView) (name : List ℕ) (setting : Setting) (fault : AddFault) (list : Listing) → IsSound s → list ≡ s.listing → add_fault name s.listing ≡ Some fault → AddTold s name setting list fault
-add-some s name setting faults.BadName list h list_is is = subst (λ (l : Listing). AddTold s name setting l faults.BadName) (sym list_is) (add-refused s name setting faults.BadName h is)
-add-some s name setting faults.NameTaken list h list_is is = subst (λ (l : Listing). AddTold s name setting l faults.NameTaken) (sym list_is) (add-refused s name setting faults.NameTaken h is)
-add-some s name setting faults.TooMany list h list_is is = subst (λ (l : Listing). AddTold s name setting l faults.TooMany) (sym list_is) (add-refused s name setting faults.TooMany h is)
-add-some s name setting faults.Memory list h list_is is = ap (λ (l : Listing). let t : StateView = record s { listing = l } in t) list_is
+add-some : (s : StateView) (name : List ℕ) (scenario : ScenarioView) (fault : AddFault) (list : Listing) → IsSound s → list ≡ s.listing → add_fault name s.listing ≡ Some fault → AddAnswered s name scenario list fault
+add-some s name scenario faults.BadName list h list_is is = subst (λ (l : Listing). AddAnswered s name scenario l faults.BadName) (sym list_is) (add-refused s name scenario faults.BadName h is)
+add-some s name scenario faults.NameTaken list h list_is is = subst (λ (l : Listing). AddAnswered s name scenario l faults.NameTaken) (sym list_is) (add-refused s name scenario faults.NameTaken h is)
+add-some s name scenario faults.TooMany list h list_is is = subst (λ (l : Listing). AddAnswered s name scenario l faults.TooMany) (sym list_is) (add-refused s name scenario faults.TooMany h is)
+add-some s name scenario faults.Memory list h list_is is = ap (λ (l : Listing). let t : StateView = record s { listing = l } in t) list_is
 
-pub add-told : (s : StateView) (name : List ℕ) (setting : Setting) (fault : AddFault) (list : Listing) (o : Option AddFault) → IsSound s → list ≡ s.listing → add_fault name s.listing ≡ o → MatchOption o (fault ≡ faults.Memory) (λ f. fault ≡ f) → AddTold s name setting list fault
-add-told s name setting fault list None h list_is is told =
-    subst (λ (f : AddFault). AddTold s name setting list f) (sym told) (ap (λ (l : Listing). let t : StateView = record s { listing = l } in t) list_is)
-add-told s name setting fault list (Some f) h list_is is told = add-some s name setting fault list h list_is (is ∙ ap (λ (e : AddFault). Some e) (sym told))
+pub add-outcome : (s : StateView) (name : List ℕ) (scenario : ScenarioView) (fault : AddFault) (list : Listing) (o : Option AddFault) → IsSound s → list ≡ s.listing → add_fault name s.listing ≡ o → MatchOption o (fault ≡ faults.Memory) (λ f. fault ≡ f) → AddAnswered s name scenario list fault
+add-outcome s name scenario fault list None h list_is is outcome =
+    subst (λ (f : AddFault). AddAnswered s name scenario list f) (sym outcome) (ap (λ (l : Listing). let t : StateView = record s { listing = l } in t) list_is)
+add-outcome s name scenario fault list (Some f) h list_is is outcome = add-some s name scenario fault list h list_is (is ∙ ap (λ (e : AddFault). Some e) (sym outcome))
 
-pub match-told : (R : Type 0) {E : Type 0} (o : Option E) (fault : E) (memory : E) → MatchOption o (fault ≡ memory) (λ (f : E). ◌≡◌ {A = Result R E} (Err fault) (Err f)) → MatchOption o (fault ≡ memory) (λ (f : E). fault ≡ f)
-match-told R None fault memory h = h
-match-told R (Some f) fault memory h = cc
+pub match-outcome : (R : Type 0) {E : Type 0} (o : Option E) (fault : E) (memory : E) → MatchOption o (fault ≡ memory) (λ (f : E). ◌≡◌ {A = Result R E} (Err fault) (Err f)) → MatchOption o (fault ≡ memory) (λ (f : E). fault ≡ f)
+match-outcome R None fault memory h = h
+match-outcome R (Some f) fault memory h = cc
 
-abbrev fresh_shown : ℕ → Setting → ShownView
-fresh_shown id setting = record { id = id; setting = setting; published = None; mark = None }
+abbrev fresh_shown : ℕ → ScenarioView → ShownView
+fresh_shown id scenario = record { id = id; scenario = scenario; published = None; mark = None }
 
-ticket-older : (s : StateView) (setting : Setting) (t : TicketView) → IsTicketOfItsScenario s.shown s.listing.next t → IsTicketOfItsScenario (s.shown ++ fresh_shown s.listing.next setting ∷ []) (s.listing.next + 1) t
-ticket-older s setting t h = record {
-  setting = All-push (λ (x : ShownView). x.id ≡ t.id → x.setting ≡ t.setting) s.shown (fresh_shown s.listing.next setting) h.setting (λ e. absurd (omega (arith, h.given)));
+ticket-older : (s : StateView) (scenario : ScenarioView) (t : TicketView) → IsTicketOfItsScenario s.shown s.listing.next t → IsTicketOfItsScenario (s.shown ++ fresh_shown s.listing.next scenario ∷ []) (s.listing.next + 1) t
+ticket-older s scenario t h = record {
+  scenario = All-push (λ (x : ShownView). x.id ≡ t.id → x.scenario ≡ t.scenario) s.shown (fresh_shown s.listing.next scenario) h.scenario (λ e. absurd (omega (arith, h.given)));
   given = omega (arith, h.given);
 }
 
-abbrev added_state : StateView → List ℕ → Setting → StateView
-added_state s name setting = record s { listing = with_scenario name setting s.listing; shown = s.shown ++ fresh_shown s.listing.next setting ∷ [] }
+abbrev added_state : StateView → List ℕ → ScenarioView → StateView
+added_state s name scenario = record s { listing = with_scenario name scenario s.listing; shown = s.shown ++ fresh_shown s.listing.next scenario ∷ [] }
 
-add-sound : (s : StateView) (name : List ℕ) (setting : Setting) → IsSound s → IsSound (added_state s name setting)
-add-sound s name setting h = record {
+add-sound : (s : StateView) (name : List ℕ) (scenario : ScenarioView) → IsSound s → IsSound (added_state s name scenario)
+add-sound s name scenario h = record {
   spacing = h.spacing;
   opening = h.opening;
   accepted = h.accepted;
   current = h.current;
-  listed = listed-push s.shown s.listing (fresh_shown s.listing.next setting) name h.listed refl;
-  ids = ids-push 1 s.listing.scenarios s.listing.next name setting h.ids;
-  runs = All-push (λ (x : ShownView). IfSome x.published (IsOfItsVersion s.opening s.edits x.setting)) s.shown (fresh_shown s.listing.next setting) h.runs tt;
+  listed = listed-push s.shown s.listing (fresh_shown s.listing.next scenario) name h.listed refl;
+  ids = ids-push 1 s.listing.scenarios s.listing.next name scenario h.ids;
+  runs = All-push (λ (x : ShownView). IfSome x.published (IsOfItsVersion s.opening s.edits x.scenario)) s.shown (fresh_shown s.listing.next scenario) h.runs tt;
   tickets = h.tickets;
-  claimed = All-weaker (IsTicketOfItsScenario s.shown s.listing.next) (IsTicketOfItsScenario (s.shown ++ fresh_shown s.listing.next setting ∷ []) (s.listing.next + 1)) (ticket-older s setting) s.tickets h.claimed;
+  claimed = All-weaker (IsTicketOfItsScenario s.shown s.listing.next) (IsTicketOfItsScenario (s.shown ++ fresh_shown s.listing.next scenario ∷ []) (s.listing.next + 1)) (ticket-older s scenario) s.tickets h.claimed;
   few = h.few;
 }
 
-add-step : (s : StateView) (name : List ℕ) (setting : Setting) → IsSound s → add_fault name s.listing ≡ None → IsStep s (added_state s name setting) (AddScenario name setting) (reply.Added s.listing.next)
-add-step s name setting h is = record {
+add-step : (s : StateView) (name : List ℕ) (scenario : ScenarioView) → IsSound s → add_fault name s.listing ≡ None → IsStep s (added_state s name scenario) (AddScenario name scenario) (reply.Added s.listing.next)
+add-step s name scenario h is = record {
   reply = λ n. sym (ap (add_replied s.listing.next) is);
-  state = λ n. ap (λ (ps : List Progress). let m : Machine = record (machine_at n s) { listing = with_scenario name setting s.listing; progress = ps } in m) (map-append progress_of_shown s.shown (fresh_shown s.listing.next setting ∷ [])) ∙ sym (ap (add_changed name setting (machine_at n s)) is);
+  state = λ n. ap (λ (ps : List Progress). let m : Machine = record (machine_at n s) { listing = with_scenario name scenario s.listing; progress = ps } in m) (map-append progress_of_shown s.shown (fresh_shown s.listing.next scenario ∷ [])) ∙ sym (ap (add_changed name scenario (machine_at n s)) is);
   spacing = refl;
-  runs = keeps-added s (added_state s name setting) (reply.Added s.listing.next) (fresh_shown s.listing.next setting) refl refl;
-  sound = add-sound s name setting h;
+  runs = keeps-added s (added_state s name scenario) (reply.Added s.listing.next) (fresh_shown s.listing.next scenario) refl refl;
+  sound = add-sound s name scenario h;
 }
 
-pub add-accepted : (s : StateView) (name : List ℕ) (setting : Setting) (id : ℕ) (list : Listing) (xs : List ShownView) → IsSound s → add_fault name s.listing ≡ None → id ≡ s.listing.next → list ≡ with_scenario name setting s.listing → xs ≡ s.shown ++ fresh_shown id setting ∷ [] → IsStep s (record s { listing = list; shown = xs }) (AddScenario name setting) (reply.Added id)
-add-accepted s name setting id list xs h is id_is list_is xs_is =
-    let P : List ShownView → Type 0 = λ ys. IsStep s (record s { listing = list; shown = ys }) (AddScenario name setting) (reply.Added id) in
-    let Q : Listing → Type 0 = λ l. IsStep s (record s { listing = l; shown = s.shown ++ fresh_shown id setting ∷ [] }) (AddScenario name setting) (reply.Added id) in
-    let R : ℕ → Type 0 = λ i. IsStep s (record s { listing = with_scenario name setting s.listing; shown = s.shown ++ fresh_shown i setting ∷ [] }) (AddScenario name setting) (reply.Added i) in
-    subst P (sym xs_is) (subst Q (sym list_is) (subst R (sym id_is) (add-step s name setting h is)))
+pub add-accepted : (s : StateView) (name : List ℕ) (scenario : ScenarioView) (id : ℕ) (list : Listing) (xs : List ShownView) → IsSound s → add_fault name s.listing ≡ None → id ≡ s.listing.next → list ≡ with_scenario name scenario s.listing → xs ≡ s.shown ++ fresh_shown id scenario ∷ [] → IsStep s (record s { listing = list; shown = xs }) (AddScenario name scenario) (reply.Added id)
+add-accepted s name scenario id list xs h is id_is list_is xs_is =
+    let P : List ShownView → Type 0 = λ ys. IsStep s (record s { listing = list; shown = ys }) (AddScenario name scenario) (reply.Added id) in
+    let Q : Listing → Type 0 = λ l. IsStep s (record s { listing = l; shown = s.shown ++ fresh_shown id scenario ∷ [] }) (AddScenario name scenario) (reply.Added id) in
+    let R : ℕ → Type 0 = λ i. IsStep s (record s { listing = with_scenario name scenario s.listing; shown = s.shown ++ fresh_shown i scenario ∷ [] }) (AddScenario name scenario) (reply.Added i) in
+    subst P (sym xs_is) (subst Q (sym list_is) (subst R (sym id_is) (add-step s name scenario h is)))
 
 -- ---- a scenario less
 
@@ -179,7 +179,7 @@ abbrev dropped_state : StateView → List ℕ → ℕ → StateView
 dropped_state s name id = record s { listing = without_scenario name s.listing; shown = filter (not_this id) s.shown; tickets = filter (not_of id) s.tickets }
 
 ticket-left : (s : StateView) (id : ℕ) (t : TicketView) → IsTicketOfItsScenario s.shown s.listing.next t → IsTicketOfItsScenario (filter (not_this id) s.shown) s.listing.next t
-ticket-left s id t h = record { setting = All-filter (not_this id) (λ (x : ShownView). x.id ≡ t.id → x.setting ≡ t.setting) s.shown h.setting; given = h.given }
+ticket-left s id t h = record { scenario = All-filter (not_this id) (λ (x : ShownView). x.id ≡ t.id → x.scenario ≡ t.scenario) s.shown h.scenario; given = h.given }
 
 drop-sound : (s : StateView) (name : List ℕ) (id : ℕ) → IsSound s → id_of name s.listing ≡ Some id → IsSound (dropped_state s name id)
 drop-sound s name id h is = record {
@@ -189,7 +189,7 @@ drop-sound s name id h is = record {
   current = h.current;
   listed = listed-without s.shown s.listing name id h.listed h.ids is;
   ids = ids-without name 1 s.listing.scenarios s.listing.next h.ids;
-  runs = All-filter (not_this id) (λ (x : ShownView). IfSome x.published (IsOfItsVersion s.opening s.edits x.setting)) s.shown h.runs;
+  runs = All-filter (not_this id) (λ (x : ShownView). IfSome x.published (IsOfItsVersion s.opening s.edits x.scenario)) s.shown h.runs;
   tickets = All-filter (not_of id) (IsTicketOfItsVersion s.opening s.edits) s.tickets h.tickets;
   claimed = All-filter (not_of id) (IsTicketOfItsScenario (filter (not_this id) s.shown) s.listing.next) s.tickets (All-weaker (IsTicketOfItsScenario s.shown s.listing.next) (IsTicketOfItsScenario (filter (not_this id) s.shown) s.listing.next) (ticket-left s id) s.tickets h.claimed);
   few = omega (arith, h.few, length-filter-le (not_of id) s.tickets);
@@ -240,7 +240,7 @@ retry-step s id x h is =
       state = λ n. ap (λ (ps : List Progress). let m : Machine = record (machine_at n s) { progress = ps } in m) (change-progress id unmarking unmarked (λ y. refl) s.shown);
       spacing = refl;
       runs = keeps-change s (record s { shown = with_change id unmarking s.shown }) reply.Retried id unmarking (λ y. refl) (λ y. refl) refl;
-      sound = change-sound s id unmarking s.tickets h (λ y. refl) (all-always (λ (x : ShownView). has_id id x ≡ true → IfSome x.published (IsOfItsVersion s.opening s.edits x.setting) → IfSome x.published (IsOfItsVersion s.opening s.edits x.setting)) (λ y _ k. k) s.shown) (λ P k. k) (omega arith);
+      sound = change-sound s id unmarking s.tickets h (λ y. refl) (all-always (λ (x : ShownView). has_id id x ≡ true → IfSome x.published (IsOfItsVersion s.opening s.edits x.scenario) → IfSome x.published (IsOfItsVersion s.opening s.edits x.scenario)) (λ y _ k. k) s.shown) (λ P k. k) (omega arith);
     }
 
 pub retry-accepted : (s : StateView) (id : ℕ) (xs : List ShownView) → IsSound s → is_some (find (has_id id) s.shown) ≡ true → xs ≡ with_change id unmarking s.shown → IsStep s (record s { shown = xs }) (Retry id) reply.Retried
@@ -276,7 +276,7 @@ view-shown s id seen found x p h is some found_is le =
 pub view-is : {s v : StateView} (id seen : ℕ) (x : ShownView) (p q : PublishedView) → s ≡ v → IsSound s → find (has_id id) s.shown ≡ Some x → x.published ≡ Some p → q ≡ p → seen ≤ q.version → IsShownFor v id seen q
 view-is {s} {v} id seen x p q is h found some same le =
     let published : x.published ≡ Some q = some ∙ ap (λ (r : PublishedView). Some r) (sym same) in
-    let of : IfSome x.published (IsOfItsVersion s.opening s.edits x.setting) = find-All (λ (y : ShownView). IfSome y.published (IsOfItsVersion s.opening s.edits y.setting)) (has_id id) s.shown x h.runs found in
-    let version : IsOfItsVersion s.opening s.edits x.setting q = subst (λ (o : Option PublishedView). IfSome o (IsOfItsVersion s.opening s.edits x.setting)) published of in
+    let of : IfSome x.published (IsOfItsVersion s.opening s.edits x.scenario) = find-All (λ (y : ShownView). IfSome y.published (IsOfItsVersion s.opening s.edits y.scenario)) (has_id id) s.shown x h.runs found in
+    let version : IsOfItsVersion s.opening s.edits x.scenario q = subst (λ (o : Option PublishedView). IfSome o (IsOfItsVersion s.opening s.edits x.scenario)) published of in
     let shown : IsShownFor s id seen q = record { scenario = x; found = found; published = published; newer = le; version = version } in
     subst (λ (w : StateView). IsShownFor w id seen q) is shown

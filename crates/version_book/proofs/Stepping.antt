@@ -26,7 +26,7 @@ use Rattle.version_book.proofs.Lists.{find-map}
 
 -- a call that changes nothing
 pub still : (s : StateView) (call : BookCall) (r : Reply) → IsSound s → ((n : ℕ) → r ≡ reply_to call (machine_at n s)) → ((n : ℕ) → machine_at n s ≡ changed_by call (machine_at n s)) → IsStep s s call r
-still s call r sound told same = record { reply = told; state = same; spacing = refl; runs = keeps-same s s r refl; sound = sound }
+still s call r sound outcome same = record { reply = outcome; state = same; spacing = refl; runs = keeps-same s s r refl; sound = sound }
 
 -- ---- look-ups, as the machine makes them
 
@@ -100,17 +100,17 @@ all-always P h [] = All-nil P
 all-always P h (x ∷ xs) = All-cons P x xs (h x) (all-always P h xs)
 
 -- a ticket stays that of its scenario
-setting-kept : (f : ShownView → ShownView) (x : ShownView) (t : TicketView) → under_of_shown (f x) ≡ under_of_shown x → (x.id ≡ t.id → x.setting ≡ t.setting) → (f x).id ≡ t.id → (f x).setting ≡ t.setting
-setting-kept f x t is h e = ap (λ (u : Under). u.1) is ∙ h (sym (ap (λ (u : Under). u.0) is) ∙ e)
+scenario-kept : (f : ShownView → ShownView) (x : ShownView) (t : TicketView) → under_of_shown (f x) ≡ under_of_shown x → (x.id ≡ t.id → x.scenario ≡ t.scenario) → (f x).id ≡ t.id → (f x).scenario ≡ t.scenario
+scenario-kept f x t is h e = ap (λ (u : Under). u.1) is ∙ h (sym (ap (λ (u : Under). u.0) is) ∙ e)
 
 pub ticket-kept : (id : ℕ) (f : ShownView → ShownView) (next : ℕ) (xs : List ShownView) → ((x : ShownView) → under_of_shown (f x) ≡ under_of_shown x) → (t : TicketView) → IsTicketOfItsScenario xs next t → IsTicketOfItsScenario (with_change id f xs) next t
 ticket-kept id f next xs is t h = record {
-  setting = change-all (λ (x : ShownView). x.id ≡ t.id → x.setting ≡ t.setting) id f xs h.setting (all-always (λ (x : ShownView). has_id id x ≡ true → (x.id ≡ t.id → x.setting ≡ t.setting) → ((f x).id ≡ t.id → (f x).setting ≡ t.setting)) (λ x _. setting-kept f x t (is x)) xs);
+  scenario = change-all (λ (x : ShownView). x.id ≡ t.id → x.scenario ≡ t.scenario) id f xs h.scenario (all-always (λ (x : ShownView). has_id id x ≡ true → (x.id ≡ t.id → x.scenario ≡ t.scenario) → ((f x).id ≡ t.id → (f x).scenario ≡ t.scenario)) (λ x _. scenario-kept f x t (is x)) xs);
   given = h.given;
 }
 
 -- a sound state with a change of the scenarios of one id, and some tickets gone
-pub change-sound : (s : StateView) (id : ℕ) (f : ShownView → ShownView) (ts : List TicketView) → IsSound s → ((x : ShownView) → under_of_shown (f x) ≡ under_of_shown x) → All (λ (x : ShownView). has_id id x ≡ true → IfSome x.published (IsOfItsVersion s.opening s.edits x.setting) → IfSome (f x).published (IsOfItsVersion s.opening s.edits (f x).setting)) s.shown → ((P : TicketView → Type 0) → All P s.tickets → All P ts) → length ts ≤ length s.tickets → IsSound (record s { shown = with_change id f s.shown; tickets = ts })
+pub change-sound : (s : StateView) (id : ℕ) (f : ShownView → ShownView) (ts : List TicketView) → IsSound s → ((x : ShownView) → under_of_shown (f x) ≡ under_of_shown x) → All (λ (x : ShownView). has_id id x ≡ true → IfSome x.published (IsOfItsVersion s.opening s.edits x.scenario) → IfSome (f x).published (IsOfItsVersion s.opening s.edits (f x).scenario)) s.shown → ((P : TicketView → Type 0) → All P s.tickets → All P ts) → length ts ≤ length s.tickets → IsSound (record s { shown = with_change id f s.shown; tickets = ts })
 change-sound s id f ts h is runs part le = record {
   spacing = h.spacing;
   opening = h.opening;
@@ -118,7 +118,7 @@ change-sound s id f ts h is runs part le = record {
   current = h.current;
   listed = change-under id f is s.shown ∙ h.listed;
   ids = h.ids;
-  runs = change-all (λ (x : ShownView). IfSome x.published (IsOfItsVersion s.opening s.edits x.setting)) id f s.shown h.runs runs;
+  runs = change-all (λ (x : ShownView). IfSome x.published (IsOfItsVersion s.opening s.edits x.scenario)) id f s.shown h.runs runs;
   tickets = part (IsTicketOfItsVersion s.opening s.edits) h.tickets;
   claimed = All-weaker (IsTicketOfItsScenario s.shown s.listing.next) (IsTicketOfItsScenario (with_change id f s.shown) s.listing.next) (ticket-kept id f s.listing.next s.shown is) ts (part (IsTicketOfItsScenario s.shown s.listing.next) h.claimed);
   few = omega (arith, h.few);
@@ -137,17 +137,17 @@ pub none-of : {X : Type 0} (o : Option X) → is_some o ≡ false → o ≡ None
 none-of None is = refl
 none-of (Some x) is = cc
 
-pub none-told : {R E : Type 0} (o : Option E) (x : R) → MatchOption o ⊤ (λ (f : E). Ok x ≡ Err f) → o ≡ None
-none-told None x h = refl
-none-told (Some f) x h = cc
+pub none-outcome : {R E : Type 0} (o : Option E) (x : R) → MatchOption o ⊤ (λ (f : E). Ok x ≡ Err f) → o ≡ None
+none-outcome None x h = refl
+none-outcome (Some f) x h = cc
 
 pub some-of : {X : Type 0} (o : Option X) → is_some o ≡ true → (x : X) × (o ≡ Some x)
 some-of None is = cc
 some-of (Some x) is = (x, refl)
 
-pub ok-told : {R E : Type 0} (o : Option R) (e : E) (x : R) → ◌≡◌ {A = Result R E} (Ok x) (ok_or o e) → o ≡ Some x
-ok-told None e x is = cc
-ok-told (Some y) e x is = cc
+pub ok-outcome : {R E : Type 0} (o : Option R) (e : E) (x : R) → ◌≡◌ {A = Result R E} (Ok x) (ok_or o e) → o ≡ Some x
+ok-outcome None e x is = cc
+ok-outcome (Some y) e x is = cc
 
 pub is_some-map : {X Y : Type 0} (f : X → Y) (o : Option X) → is_some (option_map f o) ≡ is_some o
 is_some-map f None = refl
@@ -157,7 +157,7 @@ pub not-both : (b : Bool) → b ≡ false → b ≡ true → ⊥
 not-both true f t = cc
 not-both false f t = cc
 
--- ---- a list with room
+-- ---- a list with capacity
 
 fault-of : (named taken full : Bool) → (cond (not named) (Some BadName) (cond taken (Some NameTaken) (cond full (Some TooMany) None))) ≡ None → full ≡ false
 fault-of false taken full is = cc
@@ -173,8 +173,8 @@ below-of : (n : ℕ) → nat_le 64 n ≡ false → n < 64
 below-of n is = grind (arith, nat_tests)
 
 -- a list to which one can be added has fewer than 64, and as many are shown
-pub shown-room : (xs : List ShownView) (name : List ℕ) (list : Listing) → AreListed xs list → add_fault name list ≡ None → length xs < 64
-shown-room xs name list listed none =
+pub shown-capacity : (xs : List ShownView) (name : List ℕ) (list : Listing) → AreListed xs list → add_fault name list ≡ None → length xs < 64
+shown-capacity xs name list listed none =
     let full = fault-of (is_name name) (is_some (id_of name list)) (nat_le 64 (length list.scenarios) || nat_lt 4294967295 list.next) none in
     let below = below-of (length list.scenarios) (first-false (nat_le 64 (length list.scenarios)) (nat_lt 4294967295 list.next) full) in
     omega (arith, below, length-map xs under_of_shown, length-map list.scenarios under_of_listed, ap length listed)
@@ -189,7 +189,7 @@ opening-sound log spacing within table = record {
   current = refl;
   listed = refl;
   ids = omega arith;
-  runs = All-nil (λ (x : ShownView). IfSome x.published (IsOfItsVersion log [] x.setting));
+  runs = All-nil (λ (x : ShownView). IfSome x.published (IsOfItsVersion log [] x.scenario));
   tickets = All-nil (IsTicketOfItsVersion log []);
   claimed = All-nil (IsTicketOfItsScenario [] 1);
   few = omega arith;

@@ -17,7 +17,7 @@ use Rattle.tasks.specs.Tickets.{HasThoseOf, TicketView, has_number}
 use Rattle.version_book.specs.Book.{ShownView, StateView, machine_at, progress_of_shown, ticket_of_view, published_version}
 use Rattle.version_book.specs.Sound.{IsSound, IsOfItsVersion, IsTicketOfItsVersion, IsTicketOfItsScenario}
 use Rattle.version_book.specs.Steps.{Does, IsStep, Publishes}
-use Rattle.version_book.specs.Answers.{TellsFit, TellsStanding, finish_answer, fitted, told_of_run}
+use Rattle.version_book.specs.Answers.{TellsFit, TellsStanding, finish_answer, fitted, outcome_of_run}
 use Rattle.version_book.specs.declared.faults.FinishFault.{FinishFault}
 use Rattle.version_book.specs.declared.faults.FinishFault.TheVariants as finish
 use Rattle.version_book.specs.declared.refusal.Refusal.{Refusal}
@@ -109,35 +109,35 @@ finish-stale s n t ts o found h is o_is above ts_is found_is =
     let found' : found ≡ unwrap_or (version_shown t.id s.shown) 0 = found_is ∙ ap (λ (q : Option ℕ). unwrap_or q 0) o_is in
     subst (λ (us : List TicketView). IsStep s (record s { tickets = us }) (Finish n true) (reply.Stale found)) (sym ts_is) (subst (λ (v : ℕ). IsStep s (record s { tickets = left n s.tickets }) (Finish n true) (reply.Stale v)) (sym found') (stale-step s n t h is above'))
 
--- a run of a ticket's log and setting is of its version
+-- a run of a ticket's log and scenario is of its version
 abbrev PutRun : StateView → PublishedView → ShownView → Type 0
-PutRun s p x = IfSome x.published (IsOfItsVersion s.opening s.edits x.setting) → IsOfItsVersion s.opening s.edits x.setting p
+PutRun s p x = IfSome x.published (IsOfItsVersion s.opening s.edits x.scenario) → IsOfItsVersion s.opening s.edits x.scenario p
 
-put-run : (s : StateView) (n : ℕ) (t : TicketView) (run : RunView) → IsSound s → find (has_number n) s.tickets ≡ Some t → IsRun run → run.log ≡ t.log → run.setting ≡ t.setting → All (λ (x : ShownView). has_id t.id x ≡ true → PutRun s (record { version = t.version; run = run }) x) s.shown
-put-run s n t run h is sound log setting =
+put-run : (s : StateView) (n : ℕ) (t : TicketView) (run : RunView) → IsSound s → find (has_number n) s.tickets ≡ Some t → IsRun run → run.log ≡ t.log → run.scenario ≡ t.scenario → All (λ (x : ShownView). has_id t.id x ≡ true → PutRun s (record { version = t.version; run = run }) x) s.shown
+put-run s n t run h is sound log scenario =
     let made : IsTicketOfItsVersion s.opening s.edits t = find-All (IsTicketOfItsVersion s.opening s.edits) (has_number n) s.tickets t h.tickets is in
     let claimed : IsTicketOfItsScenario s.shown s.listing.next t = find-All (IsTicketOfItsScenario s.shown s.listing.next) (has_number n) s.tickets t h.claimed is in
-    All-weaker (λ (x : ShownView). x.id ≡ t.id → x.setting ≡ t.setting) (λ (x : ShownView). has_id t.id x ≡ true → PutRun s (record { version = t.version; run = run }) x) (λ x same has _. record { made = made.made; log = log ∙ made.log; setting = setting ∙ sym (same (eqb-true x.id t.id has)); run = sound }) s.shown claimed.setting
+    All-weaker (λ (x : ShownView). x.id ≡ t.id → x.scenario ≡ t.scenario) (λ (x : ShownView). has_id t.id x ≡ true → PutRun s (record { version = t.version; run = run }) x) (λ x same has _. record { made = made.made; log = log ∙ made.log; scenario = scenario ∙ sym (same (eqb-true x.id t.id has)); run = sound }) s.shown claimed.scenario
 
 put-progress : (s : StateView) (id : ℕ) (p : PublishedView) → IsSound s → is_below (version_shown id s.shown) p.version ≡ true → map progress_of_shown (with_change id (publishing p) s.shown) ≡ changed id (publish p.version) (map progress_of_shown s.shown)
 put-progress s id p h below =
     change-if id (publishing p) (publish p.version) s.shown (All-weaker (λ (x : ShownView). has_id id x ≡ true → is_below (published_version x) p.version ≡ is_below (version_shown id s.shown) p.version) (λ (x : ShownView). has_id id x ≡ true → progress_of_shown (publishing p x) ≡ publish p.version (progress_of_shown x)) (λ x same has. put-below x p (same has ∙ below)) s.shown (ids-below id p.version s.shown s.listing h.listed h.ids))
 
-finish-step : (s : StateView) (n : ℕ) (t : TicketView) (run : RunView) → IsSound s → find (has_number n) s.tickets ≡ Some t → is_below (version_shown t.id s.shown) t.version ≡ true → IsRun run → run.log ≡ t.log → run.setting ≡ t.setting → IsStep s (record s { shown = with_change t.id (publishing (record { version = t.version; run = run })) s.shown; tickets = left n s.tickets }) (Finish n true) (reply.Finished t.version)
-finish-step s n t run h is below sound log setting =
+finish-step : (s : StateView) (n : ℕ) (t : TicketView) (run : RunView) → IsSound s → find (has_number n) s.tickets ≡ Some t → is_below (version_shown t.id s.shown) t.version ≡ true → IsRun run → run.log ≡ t.log → run.scenario ≡ t.scenario → IsStep s (record s { shown = with_change t.id (publishing (record { version = t.version; run = run })) s.shown; tickets = left n s.tickets }) (Finish n true) (reply.Finished t.version)
+finish-step s n t run h is below sound log scenario =
     let p : PublishedView = record { version = t.version; run = run } in
     record {
       reply = λ k. sym (ap (λ (b : Bool). cond b (reply.Finished t.version) (reply.Stale (unwrap_or (version_shown t.id s.shown) 0))) below) ∙ finish-said s n t k is;
       state = λ k. ap₂ (with_both s k) (put-progress s t.id p h below) (sym (closed-left n s.tickets)) ∙ sym (ap (finish_changed n (machine_at k s) true) (there s n (Some t) k is));
       spacing = refl;
       runs = keeps-put s (record s { shown = with_change t.id (publishing p) s.shown; tickets = left n s.tickets }) t.id t.version p refl refl;
-      sound = change-sound s t.id (publishing p) (left n s.tickets) h (λ x. refl) (put-run s n t run h is sound log setting) (left-part n s.tickets) (length-filter-le (λ (u : TicketView). not (has_number n u)) s.tickets);
+      sound = change-sound s t.id (publishing p) (left n s.tickets) h (λ x. refl) (put-run s n t run h is sound log scenario) (left-part n s.tickets) (length-filter-le (λ (u : TicketView). not (has_number n u)) s.tickets);
     }
 
-pub finish-published : (s : StateView) (n : ℕ) (t : TicketView) (run : RunView) (xs : List ShownView) (ts : List TicketView) (o : Option ℕ) → IsSound s → find (has_number n) s.tickets ≡ Some t → o ≡ version_shown t.id s.shown → is_below o t.version ≡ true → IsRun run → run.log ≡ t.log → run.setting ≡ t.setting → xs ≡ with_change t.id (publishing (record { version = t.version; run = run })) s.shown → ts ≡ left n s.tickets → IsStep s (record s { shown = xs; tickets = ts }) (Finish n true) (reply.Finished t.version)
-finish-published s n t run xs ts o h is o_is below sound log setting xs_is ts_is =
+pub finish-published : (s : StateView) (n : ℕ) (t : TicketView) (run : RunView) (xs : List ShownView) (ts : List TicketView) (o : Option ℕ) → IsSound s → find (has_number n) s.tickets ≡ Some t → o ≡ version_shown t.id s.shown → is_below o t.version ≡ true → IsRun run → run.log ≡ t.log → run.scenario ≡ t.scenario → xs ≡ with_change t.id (publishing (record { version = t.version; run = run })) s.shown → ts ≡ left n s.tickets → IsStep s (record s { shown = xs; tickets = ts }) (Finish n true) (reply.Finished t.version)
+finish-published s n t run xs ts o h is o_is below sound log scenario xs_is ts_is =
     let below' : is_below (version_shown t.id s.shown) t.version ≡ true = subst (λ (q : Option ℕ). is_below q t.version ≡ true) o_is below in
-    subst (λ (ys : List ShownView). IsStep s (record s { shown = ys; tickets = ts }) (Finish n true) (reply.Finished t.version)) (sym xs_is) (subst (λ (us : List TicketView). IsStep s (record s { shown = with_change t.id (publishing (record { version = t.version; run = run })) s.shown; tickets = us }) (Finish n true) (reply.Finished t.version)) (sym ts_is) (finish-step s n t run h is below' sound log setting))
+    subst (λ (ys : List ShownView). IsStep s (record s { shown = ys; tickets = ts }) (Finish n true) (reply.Finished t.version)) (sym xs_is) (subst (λ (us : List TicketView). IsStep s (record s { shown = with_change t.id (publishing (record { version = t.version; run = run })) s.shown; tickets = us }) (Finish n true) (reply.Finished t.version)) (sym ts_is) (finish-step s n t run h is below' sound log scenario))
 
 -- ---- a ticket is given up
 
@@ -175,7 +175,7 @@ now-step s n t h is now =
       state = λ k. ap₂ (with_both s k) (change-progress t.id (marking t.version) (λ (p : Progress). record p { mark = Some t.version }) (λ x. refl) s.shown ∙ sym (ap (mark_now t.id t.version (map progress_of_shown s.shown)) test)) (sym (closed-left n s.tickets)) ∙ sym (ap (give_up_changed n (machine_at k s)) (there s n (Some t) k is));
       spacing = refl;
       runs = keeps-change s (record s { shown = with_change t.id (marking t.version) s.shown; tickets = left n s.tickets }) reply.GivenUp t.id (marking t.version) (λ x. refl) (λ x. refl) refl;
-      sound = change-sound s t.id (marking t.version) (left n s.tickets) h (λ x. refl) (all-always (λ (x : ShownView). has_id t.id x ≡ true → IfSome x.published (IsOfItsVersion s.opening s.edits x.setting) → IfSome x.published (IsOfItsVersion s.opening s.edits x.setting)) (λ x _ r. r) s.shown) (left-part n s.tickets) (length-filter-le (λ (u : TicketView). not (has_number n u)) s.tickets);
+      sound = change-sound s t.id (marking t.version) (left n s.tickets) h (λ x. refl) (all-always (λ (x : ShownView). has_id t.id x ≡ true → IfSome x.published (IsOfItsVersion s.opening s.edits x.scenario) → IfSome x.published (IsOfItsVersion s.opening s.edits x.scenario)) (λ x _ r. r) s.shown) (left-part n s.tickets) (length-filter-le (λ (u : TicketView). not (has_number n u)) s.tickets);
     }
 
 pub give_up-now : (s : StateView) (n : ℕ) (t : TicketView) (xs : List ShownView) (ts : List TicketView) → IsSound s → find (has_number n) s.tickets ≡ Some t → t.version ≡ length s.edits → xs ≡ with_change t.id (marking t.version) s.shown → ts ≡ left n s.tickets → IsStep s (record s { shown = xs; tickets = ts }) (GiveUp n) reply.GivenUp
@@ -229,7 +229,7 @@ claim-busy s x h is le =
     (λ k. sym (ap (claim_changed (machine_at k s)) (due-is s k (Some x) is) ∙ ap (λ (b : Bool). cond b (machine_at k s) (record (machine_at k s) { tickets = (machine_at k s).tickets ++ record { number = s.next_ticket; id = x.id; version = length s.edits } ∷ []; next_ticket = s.next_ticket + 1 })) (all-out s k le)))
 
 abbrev new_ticket : StateView → ShownView → TicketView
-new_ticket s x = record { number = s.next_ticket; id = x.id; version = length s.edits; log = s.current; setting = x.setting }
+new_ticket s x = record { number = s.next_ticket; id = x.id; version = length s.edits; log = s.current; scenario = x.scenario }
 
 claim-sound : (s : StateView) (x : ShownView) → IsSound s → find (is_due_at (length s.edits) s.tickets) s.shown ≡ Some x → length s.tickets < 256 → IsSound (record s { tickets = s.tickets ++ new_ticket s x ∷ []; next_ticket = s.next_ticket + 1 })
 claim-sound s x h is lt = record {
@@ -241,7 +241,7 @@ claim-sound s x h is lt = record {
   ids = h.ids;
   runs = h.runs;
   tickets = All-push (IsTicketOfItsVersion s.opening s.edits) s.tickets (new_ticket s x) h.tickets (record { made = omega arith; log = h.current ∙ sym (log_at-now s.opening s.edits) });
-  claimed = All-push (IsTicketOfItsScenario s.shown s.listing.next) s.tickets (new_ticket s x) h.claimed (record { setting = ids-alike (is_due_at (length s.edits) s.tickets) s.shown s.listing x h.listed h.ids is; given = find-All (λ (y : ShownView). y.id < s.listing.next) (is_due_at (length s.edits) s.tickets) s.shown x (ids-given s.shown s.listing h.listed h.ids) is });
+  claimed = All-push (IsTicketOfItsScenario s.shown s.listing.next) s.tickets (new_ticket s x) h.claimed (record { scenario = ids-alike (is_due_at (length s.edits) s.tickets) s.shown s.listing x h.listed h.ids is; given = find-All (λ (y : ShownView). y.id < s.listing.next) (is_due_at (length s.edits) s.tickets) s.shown x (ids-given s.shown s.listing h.listed h.ids) is });
   few = omega (arith, length_push s.tickets (new_ticket s x));
 }
 
@@ -259,14 +259,14 @@ claim-given s x ts r h is lt ts_is r_is =
     subst (λ (us : List TicketView). IsStep s (record s { tickets = us; next_ticket = s.next_ticket + 1 }) Claim r) (sym ts_is) (subst (λ (q : Reply). IsStep s (record s { tickets = s.tickets ++ new_ticket s x ∷ []; next_ticket = s.next_ticket + 1 }) Claim q) (sym r_is) (claim-step s x h is lt))
 
 -- what is published for a scenario that is found is of its version
-pub found-run : (s : StateView) (x : ShownView) (p : ShownView → Bool) → IsSound s → find p s.shown ≡ Some x → IfSome x.published (IsOfItsVersion s.opening s.edits x.setting)
-found-run s x p h is = find-All (λ (y : ShownView). IfSome y.published (IsOfItsVersion s.opening s.edits y.setting)) p s.shown x h.runs is
+pub found-run : (s : StateView) (x : ShownView) (p : ShownView → Bool) → IsSound s → find p s.shown ≡ Some x → IfSome x.published (IsOfItsVersion s.opening s.edits x.scenario)
+found-run s x p h is = find-All (λ (y : ShownView). IfSome y.published (IsOfItsVersion s.opening s.edits y.scenario)) p s.shown x h.runs is
 
 -- ---- the same, by what the code reads of the ticket
 
-pub finish-with : (s : StateView) (n : ℕ) (t : TicketView) (id v : ℕ) (run : RunView) (xs : List ShownView) (ts : List TicketView) (o : Option ℕ) → IsSound s → find (has_number n) s.tickets ≡ Some t → id ≡ t.id → v ≡ t.version → o ≡ version_shown id s.shown → is_below o v ≡ true → IsRun run → run.log ≡ t.log → run.setting ≡ t.setting → xs ≡ with_change id (publishing (record { version = v; run = run })) s.shown → ts ≡ left n s.tickets → IsStep s (record s { shown = xs; tickets = ts }) (Finish n true) (reply.Finished v)
-finish-with s n t id v run xs ts o h is id_is v_is o_is below sound log setting xs_is ts_is =
-    subst (λ (w : ℕ). IsStep s (record s { shown = xs; tickets = ts }) (Finish n true) (reply.Finished w)) (sym v_is) (finish-published s n t run xs ts o h is (o_is ∙ ap (λ i. version_shown i s.shown) id_is) (subst (λ (w : ℕ). is_below o w ≡ true) v_is below) sound log setting (xs_is ∙ ap₂ (λ i w. with_change i (publishing (record { version = w; run = run })) s.shown) id_is v_is) ts_is)
+pub finish-with : (s : StateView) (n : ℕ) (t : TicketView) (id v : ℕ) (run : RunView) (xs : List ShownView) (ts : List TicketView) (o : Option ℕ) → IsSound s → find (has_number n) s.tickets ≡ Some t → id ≡ t.id → v ≡ t.version → o ≡ version_shown id s.shown → is_below o v ≡ true → IsRun run → run.log ≡ t.log → run.scenario ≡ t.scenario → xs ≡ with_change id (publishing (record { version = v; run = run })) s.shown → ts ≡ left n s.tickets → IsStep s (record s { shown = xs; tickets = ts }) (Finish n true) (reply.Finished v)
+finish-with s n t id v run xs ts o h is id_is v_is o_is below sound log scenario xs_is ts_is =
+    subst (λ (w : ℕ). IsStep s (record s { shown = xs; tickets = ts }) (Finish n true) (reply.Finished w)) (sym v_is) (finish-published s n t run xs ts o h is (o_is ∙ ap (λ i. version_shown i s.shown) id_is) (subst (λ (w : ℕ). is_below o w ≡ true) v_is below) sound log scenario (xs_is ∙ ap₂ (λ i w. with_change i (publishing (record { version = w; run = run })) s.shown) id_is v_is) ts_is)
 
 pub stale-with : (s : StateView) (n : ℕ) (t : TicketView) (id v : ℕ) (ts : List TicketView) (o : Option ℕ) (found : ℕ) → IsSound s → find (has_number n) s.tickets ≡ Some t → id ≡ t.id → v ≡ t.version → o ≡ version_shown id s.shown → is_below o v ≡ false → ts ≡ left n s.tickets → found ≡ unwrap_or o 0 → IsStep s (record s { tickets = ts }) (Finish n true) (reply.Stale found)
 stale-with s n t id v ts o found h is id_is v_is o_is above ts_is found_is = finish-stale s n t ts o found h is (o_is ∙ ap (λ i. version_shown i s.shown) id_is) (subst (λ (w : ℕ). is_below o w ≡ false) v_is above) ts_is found_is
@@ -277,8 +277,8 @@ now-with s n t id v xs ts h is id_is v_is now xs_is ts_is = give_up-now s n t xs
 pub other-with : (s : StateView) (n : ℕ) (t : TicketView) (v : ℕ) (ts : List TicketView) → IsSound s → find (has_number n) s.tickets ≡ Some t → v ≡ t.version → (v ≡ length s.edits → ⊥) → ts ≡ left n s.tickets → IsStep s (record s { tickets = ts }) (GiveUp n) reply.GivenUp
 other-with s n t v ts h is v_is other ts_is = give_up-other s n t ts h is (λ e. other (v_is ∙ e)) ts_is
 
-pub fits-of : {s v : StateView} (n : ℕ) (t : TicketView) (run : RunView) → s ≡ v → find (has_number n) s.tickets ≡ Some t → run.log ≡ t.log → run.setting ≡ t.setting → Fits v n run
-fits-of {s} {v} n t run is some log setting = subst (λ (w : StateView). Fits w n run) is (subst (λ (o : Option TicketView). HasThoseOf o run) (sym some) (log, setting))
+pub fits-of : {s v : StateView} (n : ℕ) (t : TicketView) (run : RunView) → s ≡ v → find (has_number n) s.tickets ≡ Some t → run.log ≡ t.log → run.scenario ≡ t.scenario → Fits v n run
+fits-of {s} {v} n t run is some log scenario = subst (λ (w : StateView). Fits w n run) is (subst (λ (o : Option TicketView). HasThoseOf o run) (sym some) (log, scenario))
 
 pub those-of : {s v : StateView} (n : ℕ) (t : TicketView) (run : RunView) → s ≡ v → find (has_number n) s.tickets ≡ Some t → Fits v n run → HasThoseOf (Some t) run
 those-of {s} {v} n t run is some fits = subst (λ (o : Option TicketView). HasThoseOf o run) some (subst (λ (w : StateView). Fits w n run) (sym is) fits)
@@ -315,9 +315,9 @@ fitting-some {s} {v} new n run (Err e) is fits h = tt
 pub fitting-as : {s v : StateView} (new : StateView) (n : ℕ) (r : Result ℕ (Refusal FinishFault)) → s ≡ v → IfOk r (λ w. PublishesFitting s new n w) → IfOk r (λ w. PublishesFitting v new n w)
 fitting-as {s} {v} new n r is h = subst (λ (x : StateView). IfOk r (λ w. PublishesFitting x new n w)) is h
 
-pub fitting-told : {s v : StateView} (new : StateView) (n : ℕ) (run : RunView) (r : Result ℕ (Refusal FinishFault)) → s ≡ v → TellsFit (Fits s n run) r → IfOk r (λ w. Publishes s new n w run) → IfOk r (λ w. PublishesFitting v new n w)
-fitting-told {s} {v} new n run (Ok w) is fits h = fitting-some new n run (Ok w) is fits h
-fitting-told {s} {v} new n run (Err e) is fits h = tt
+pub fitting-outcome : {s v : StateView} (new : StateView) (n : ℕ) (run : RunView) (r : Result ℕ (Refusal FinishFault)) → s ≡ v → TellsFit (Fits s n run) r → IfOk r (λ w. Publishes s new n w run) → IfOk r (λ w. PublishesFitting v new n w)
+fitting-outcome {s} {v} new n run (Ok w) is fits h = fitting-some new n run (Ok w) is fits h
+fitting-outcome {s} {v} new n run (Err e) is fits h = tt
 
 -- ---- a ticket that stands
 
@@ -339,15 +339,15 @@ none-stands {s} {v} n is none stands =
 pub stands-as : {s v : StateView} (n : ℕ) → s ≡ v → is_some (find (has_number n) s.tickets) ≡ true → Stands v n
 stands-as {s} {v} n is some = subst (λ (w : StateView). Stands w n) is some
 
-pub stands-told : (S : Type 0) (r : Result ℕ (Refusal FinishFault)) → S → fitted r ≡ true → TellsStanding S (Some r)
-stands-told S (Ok version) stands is = stands
-stands-told S (Err why.JournalFull) stands is = tt
-stands-told S (Err (why.Fault finish.UnknownTicket)) stands is = cc
-stands-told S (Err (why.Fault finish.Stranger)) stands is = cc
-stands-told S (Err (why.Fault (finish.Stale published))) stands is = stands
-stands-told S (Err why.Memory) stands is = tt
+pub stands-outcome : (S : Type 0) (r : Result ℕ (Refusal FinishFault)) → S → fitted r ≡ true → TellsStanding S (Some r)
+stands-outcome S (Ok version) stands is = stands
+stands-outcome S (Err why.JournalFull) stands is = tt
+stands-outcome S (Err (why.Fault finish.UnknownTicket)) stands is = cc
+stands-outcome S (Err (why.Fault finish.Stranger)) stands is = cc
+stands-outcome S (Err (why.Fault (finish.Stale published))) stands is = stands
+stands-outcome S (Err why.Memory) stands is = tt
 
-pub published-left : (P : ℕ → Type 0) (r : Result ℕ (Refusal FinishFault)) (q : Result (Option ℕ) (Refusal FinishFault)) → told_of_run q ≡ Some r → IfOk r P → IfOk q (λ version. IfSome version P)
+pub published-left : (P : ℕ → Type 0) (r : Result ℕ (Refusal FinishFault)) (q : Result (Option ℕ) (Refusal FinishFault)) → outcome_of_run q ≡ Some r → IfOk r P → IfOk q (λ version. IfSome version P)
 published-left P r (Ok None) is h = cc
 published-left P r (Ok (Some version)) is h =
     let same : r ≡ Ok version = cc in

@@ -21,13 +21,13 @@ use Rattle.version_book.specs.declared.faults.FinishFault.{FinishFault}
 use Rattle.version_book.specs.declared.faults.FinishFault.TheVariants as finish
 use Rattle.version_book.specs.declared.faults.UnknownTicket.{UnknownTicket}
 use Rattle.version_book.specs.Book.{BookView}
-use Rattle.version_book.specs.Steps.{Answer, Answers, full, memory, told}
+use Rattle.version_book.specs.Steps.{Answer, Answers, full, memory, outcome}
 
 -- what a call returns, by the replies for its value and for its fault
 abbrev pub answer_of : {T F : Type 0} → (T → Reply) → (F → Reply) → Result T (Refusal F) → Answer
-answer_of replied refused (Ok value) = told (replied value)
+answer_of replied refused (Ok value) = outcome (replied value)
 answer_of replied refused (Err why.JournalFull) = full
-answer_of replied refused (Err (why.Fault fault)) = told (refused fault)
+answer_of replied refused (Err (why.Fault fault)) = outcome (refused fault)
 answer_of replied refused (Err why.Memory) = memory
 
 abbrev pub edit_answer : Result ℕ (Refusal EditFault) → Answer
@@ -102,10 +102,10 @@ TakesWhatFits Fits (Err (why.Fault (finish.Stale published))) = Unit {0}
 TakesWhatFits Fits (Err why.Memory) = Unit {0}
 
 -- the result for the run that a ticket's task has left, if it has left one
-abbrev pub told_of_run : Result (Option ℕ) (Refusal FinishFault) → Option (Result ℕ (Refusal FinishFault))
-told_of_run (Ok None) = None
-told_of_run (Ok (Some version)) = Some (Ok version)
-told_of_run (Err refusal) = Some (Err refusal)
+abbrev pub outcome_of_run : Result (Option ℕ) (Refusal FinishFault) → Option (Result ℕ (Refusal FinishFault))
+outcome_of_run (Ok None) = None
+outcome_of_run (Ok (Some version)) = Some (Ok version)
+outcome_of_run (Err refusal) = Some (Err refusal)
 
 -- the run that a ticket's task has left is finished; or it has left none, and nothing changes
 abbrev pub AnswersOfRun : BookView → BookView → Caller → ℕ → Option (Result ℕ (Refusal FinishFault)) → Type 0

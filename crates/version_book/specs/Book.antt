@@ -3,7 +3,7 @@ use Rattle.std.specs.Prelude.{ℕ, List, map, length, Option}
 use Rattle.std.specs.Option.{option_map}
 use Rattle.swf_text.specs.Entry.{LogEntry}
 use Rattle.job_table.specs.Edit.{LogEdit}
-use Rattle.scenarios.specs.Scenario.{Setting}
+use Rattle.scenarios.specs.Scenario.{ScenarioView}
 use Rattle.scenarios.specs.ScenarioList.{Listing}
 use Rattle.book_machine.specs.Machine.{Machine, Progress, Ticket}
 use Rattle.book_machine.specs.History.{Noted}
@@ -13,7 +13,7 @@ use Rattle.tasks.specs.Tickets.{TicketView}
 -- a scenario: its id, what a log is simulated under, what is published for it, and the version at which it was given up
 pub record ShownView : Type 0 where
   pub id : ℕ
-  pub setting : Setting
+  pub scenario : ScenarioView
   pub published : Option PublishedView
   pub mark : Option ℕ
 

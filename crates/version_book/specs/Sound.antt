@@ -5,11 +5,11 @@ use Rattle.swf_text.specs.Entry.{LogEntry}
 use Rattle.job_table.specs.Accepted.{AreAccepted}
 use Rattle.job_table.specs.Edit.{LogEdit, log_after, log_at}
 use Rattle.job_table.specs.Table.{IsTable}
-use Rattle.scenarios.specs.Scenario.{Setting}
+use Rattle.scenarios.specs.Scenario.{ScenarioView}
 use Rattle.scenarios.specs.ScenarioList.{Listing, Listed, IdsRise}
 use Rattle.checkpoints.specs.RunView.{IsRun}
 use Rattle.checkpoints.specs.Spacing.{IsSpacing}
-use Rattle.book_machine.specs.Machine.{opened, note_limit}
+use Rattle.book_machine.specs.Machine.{opened, note_limit, ticket_limit}
 use Rattle.book_machine.specs.History.{IsLegal, after_all}
 use Rattle.tasks.specs.Published.{PublishedView}
 use Rattle.tasks.specs.Tickets.{TicketView}
@@ -17,38 +17,38 @@ use Rattle.version_book.specs.Book.{ShownView, StateView, BookView, machine_of}
 
 -- ---- the runs
 
--- a run of the log of its version under this setting; the version is the current one or an older one
-pub record IsOfItsVersion (opening : List LogEntry) (accepted : List LogEdit) (under : Setting) (p : PublishedView) : Type 0 where
+-- a run of the log of its version under this scenario; the version is the current one or an older one
+pub record IsOfItsVersion (opening : List LogEntry) (accepted : List LogEdit) (under : ScenarioView) (p : PublishedView) : Type 0 where
   pub made : p.version ≤ length accepted
   pub log : p.run.log ≡ log_at opening accepted p.version
-  pub setting : p.run.setting ≡ under
+  pub scenario : p.run.scenario ≡ under
   pub run : IsRun p.run
 
 -- Whatever is shown for a scenario is the simulation, second by second, of the log of the version that it names.
 abbrev pub EachPublishedRunIsOfItsVersion : StateView → Type 0
-EachPublishedRunIsOfItsVersion s = All (λ (x : ShownView). IfSome x.published (IsOfItsVersion s.opening s.edits x.setting)) s.shown
+EachPublishedRunIsOfItsVersion s = All (λ (x : ShownView). IfSome x.published (IsOfItsVersion s.opening s.edits x.scenario)) s.shown
 
 -- a ticket of the log of its version
 pub record IsTicketOfItsVersion (opening : List LogEntry) (accepted : List LogEdit) (t : TicketView) : Type 0 where
   pub made : t.version ≤ length accepted
   pub log : t.log ≡ log_at opening accepted t.version
 
--- a ticket under the setting of its scenario, whose id was given
+-- a ticket under the scenario of its scenario, whose id was given
 pub record IsTicketOfItsScenario (shown : List ShownView) (next : ℕ) (t : TicketView) : Type 0 where
-  pub setting : All (λ (x : ShownView). x.id ≡ t.id → x.setting ≡ t.setting) shown
+  pub scenario : All (λ (x : ShownView). x.id ≡ t.id → x.scenario ≡ t.scenario) shown
   pub given : t.id < next
 
 -- ---- the book
 
 -- an id with what its scenario is simulated under
 abbrev pub Under : Type 0
-Under = ℕ × Setting
+Under = ℕ × ScenarioView
 
 abbrev pub under_of_shown : ShownView → Under
-under_of_shown x = (x.id, x.setting)
+under_of_shown x = (x.id, x.scenario)
 
 abbrev pub under_of_listed : Listed → Under
-under_of_listed x = (x.id, x.setting)
+under_of_listed x = (x.id, x.scenario)
 
 -- what is shown are the listed scenarios, in their order
 abbrev pub AreListed : List ShownView → Listing → Type 0
@@ -65,12 +65,12 @@ pub record IsSound (s : StateView) : Type 0 where
   pub runs : EachPublishedRunIsOfItsVersion s
   pub tickets : All (IsTicketOfItsVersion s.opening s.edits) s.tickets
   pub claimed : All (IsTicketOfItsScenario s.shown s.listing.next) s.tickets
-  pub few : length s.tickets ≤ 256
+  pub few : length s.tickets ≤ ticket_limit
 
 -- every book: it is sound, and its journal is a legal history of the opened log that leads to where it stands
 pub record IsBook (b : BookView) : Type 0 where
   pub sound : IsSound b.state
   pub legal : IsLegal (opened b.state.opening) b.journal
   pub led : after_all (opened b.state.opening) b.journal ≡ machine_of b
-  pub room : length b.journal ≤ note_limit
+  pub capacity : length b.journal ≤ note_limit
   pub numbers : b.state.next_ticket ≤ length b.journal + 1

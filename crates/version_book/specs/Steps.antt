@@ -19,13 +19,13 @@ use Rattle.version_book.specs.Sound.{IsSound}
 pub data Answer : Type 0 where
   full : Answer
   memory : Answer
-  told : (reply : Reply) → Answer
+  outcome : (reply : Reply) → Answer
 
 -- the reply, if the call is noted
 abbrev pub reply_in : Answer → Option Reply
 reply_in full = None
 reply_in memory = None
-reply_in (told reply) = Some reply
+reply_in (outcome reply) = Some reply
 
 abbrev pub note_of : Caller → BookCall → Reply → Noted
 note_of who call reply = record { caller = who; call = call; reply = reply }
@@ -46,7 +46,7 @@ KeepsRuns old new answer =
 abbrev pub Answers : BookView → BookView → Caller → BookCall → Answer → Type 0
 Answers old new who call full = (length old.journal ≡ note_limit) × (new ≡ old)
 Answers old new who call memory = (length old.journal < note_limit) × (new ≡ old)
-Answers old new who call (told reply) =
+Answers old new who call (outcome reply) =
     (length old.journal < note_limit) × (reply ≡ reply_to call (machine_of old)) × (machine_of new ≡ after call (machine_of old))
     × (new.journal ≡ old.journal ++ note_of who call reply ∷ []) × (new.state.spacing ≡ old.state.spacing) × KeepsRuns old.state new.state reply
 
@@ -63,7 +63,7 @@ pub record IsStep (old new : StateView) (call : BookCall) (answer : Reply) : Typ
 abbrev pub Does : StateView → StateView → BookCall → Answer → Type 0
 Does old new call full = ⊥
 Does old new call memory = new ≡ old
-Does old new call (told reply) = IsStep old new call reply
+Does old new call (outcome reply) = IsStep old new call reply
 
 -- The ticket of this number stood, and its scenario now shows this run at this version; all else that is shown is as it was.
 pub record Publishes (old new : StateView) (number version : ℕ) (run : RunView) : Type 0 where

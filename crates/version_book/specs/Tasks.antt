@@ -2,7 +2,7 @@
 use Rattle.std.specs.Prelude.{◌≡◌, ℕ, ◌==◌, ◌≤◌, ◌<◌, if◌then◌else◌, length, Option, None, Some, Result, Ok, Err, IsTrue, is_some, find}
 use Rattle.std.specs.Option.{option_map}
 use Rattle.checkpoints.specs.RunView.{RunView}
-use Rattle.book_machine.specs.Machine.{is_due, are_all_out}
+use Rattle.book_machine.specs.Machine.{is_due, are_all_out, ticket_limit}
 use Rattle.tasks.specs.Published.{PublishedView}
 use Rattle.tasks.specs.Tasks.{TaskView, bases_since, ticket_for}
 use Rattle.tasks.specs.Tickets.{HasThoseOf, TicketView}
@@ -21,7 +21,7 @@ task_for s x = record {
   id = x.id;
   version = length s.edits;
   log = s.current;
-  setting = x.setting;
+  scenario = x.scenario;
   spacing = s.spacing;
   base = bases_since s.edits x.published;
 }
@@ -32,7 +32,7 @@ due_shown s = find (λ (x : ShownView). is_due (machine_at 0 s) (progress_of_sho
 
 -- ---- a run that is handed in
 
--- a ticket of this number stands, and the run has its log and its setting
+-- a ticket of this number stands, and the run has its log and its scenario
 abbrev pub Fits : StateView → ℕ → RunView → Type 0
 Fits s number run = HasThoseOf (find (λ (t : TicketView). t.number == number) s.tickets) run
 
@@ -40,24 +40,24 @@ Fits s number run = HasThoseOf (find (λ (t : TicketView). t.number == number) s
 abbrev pub Stands : StateView → ℕ → Type 0
 Stands s number = IsTrue (is_some (find (λ (t : TicketView). t.number == number) s.tickets))
 
--- some run that has the log and the setting of the ticket of this number is published for the ticket
+-- some run that has the log and the scenario of the ticket of this number is published for the ticket
 abbrev pub PublishesFitting : StateView → StateView → ℕ → ℕ → Type 0
 PublishesFitting old new number version = (run : RunView) × Fits old number run × Publishes old new number version run
 
--- the ticket of this task stands, so a run of its log and setting fits
+-- the ticket of this task stands, so a run of its log and scenario fits
 abbrev pub IsOut : StateView → TaskView → Type 0
 IsOut s t = find (λ (it : TicketView). it.number == t.ticket) s.tickets ≡ Some (ticket_for t)
 
--- the id of the first scenario that is due, unless 256 tickets stand
+-- the id of the first scenario that is due, unless as many tickets stand as may
 abbrev pub free_due : StateView → Option ℕ
 free_due s = if are_all_out (machine_at 0 s) then None else option_map (λ (x : ShownView). x.id) (due_shown s)
 
 -- why a claim is refused, or the task that it returns
 abbrev pub IsNext : StateView → Result (Option TaskView) (Refusal TooManyTickets) → Type 0
 IsNext s (Ok None) = due_shown s ≡ None
-IsNext s (Ok (Some task)) = (x : ShownView) × (due_shown s ≡ Some x) × (length s.tickets < 256) × (task ≡ task_for s x)
+IsNext s (Ok (Some task)) = (x : ShownView) × (due_shown s ≡ Some x) × (length s.tickets < ticket_limit) × (task ≡ task_for s x)
 IsNext s (Err why.JournalFull) = ⊥
-IsNext s (Err (why.Fault fault)) = (x : ShownView) × (due_shown s ≡ Some x) × (256 ≤ length s.tickets)
+IsNext s (Err (why.Fault fault)) = (x : ShownView) × (due_shown s ≡ Some x) × (ticket_limit ≤ length s.tickets)
 IsNext s (Err why.Memory) = Unit {0}
 
 -- ---- a view
@@ -69,4 +69,4 @@ pub record IsShownFor (s : StateView) (id seen : ℕ) (p : PublishedView) : Type
   pub found : find (has_id id) s.shown ≡ Some scenario
   pub published : scenario.published ≡ Some p
   pub newer : seen ≤ p.version
-  pub version : IsOfItsVersion s.opening s.edits scenario.setting p
+  pub version : IsOfItsVersion s.opening s.edits scenario.scenario p

@@ -6,7 +6,7 @@ ghost use Rattle.std.specs.Arc.{arc_value};
 ghost use Rattle.job_table.specs.Edit.{edit_of};
 ghost use Rattle.book_machine.specs.declared.caller.Caller.TheVariants as caller;
 ghost use Rattle.book_machine.specs.Call.{AddScenario, Claim, DropScenario, Edit as Edits, Finish, GiveUp, Retry, View};
-ghost use Rattle.version_book.specs.Answers.{AnswersOfRun, TakesWhatFits, TellsFit, TellsStanding, add_answer, claim_answer, drop_answer, edit_answer, finish_answer, fitted, give_up_answer, retry_answer, told_of_run, view_answer};
+ghost use Rattle.version_book.specs.Answers.{AnswersOfRun, TakesWhatFits, TellsFit, TellsStanding, add_answer, claim_answer, drop_answer, edit_answer, finish_answer, fitted, give_up_answer, retry_answer, outcome_of_run, view_answer};
 ghost use Rattle.version_book.specs.Sound.{IsBook};
 ghost use Rattle.version_book.specs.Steps.{Answers, Publishes};
 ghost use Rattle.version_book.specs.Tasks.{Fits, IsOut, IsShownFor, PublishesFitting, Stands, due_shown, task_for};
@@ -26,11 +26,10 @@ use std::alloc::Allocator;
 use std::sync::Arc;
 use tasks::{Published, Task};
 
-// The result of a call that finished a run which its task had left.
-fn of_left(told: Result<u64, FinishRefusal>) -> Result<Option<u64>, FinishRefusal>
-    ensures { told_of_run result ≡ Some told }
+fn of_left(outcome: Result<u64, FinishRefusal>) -> Result<Option<u64>, FinishRefusal>
+    ensures { outcome_of_run result ≡ Some outcome }
 {
-    match told {
+    match outcome {
         Ok(version) => Ok(Some(version)),
         Err(refusal) => Err(refusal),
     }
@@ -50,10 +49,10 @@ impl<A: Allocator + Copy> Book<A> {
         }
         reserve_note(&mut self.journal)?;
         let call = Call::Edit(NotedEdit::new(self.alloc, edit)?);
-        let told = self.state.edit(edit);
-        let reply = replies::edit_reply(&told);
+        let outcome = self.state.edit(edit);
+        let reply = replies::edit_reply(&outcome);
         note(&mut self.journal, Caller::Session(session), call, reply);
-        told
+        outcome
     }
 
     /// Adds a scenario behind the others, and returns its id, which no scenario had before.
@@ -76,10 +75,10 @@ impl<A: Allocator + Copy> Book<A> {
             name: NotedName::new(self.alloc, name)?,
             scenario,
         };
-        let told = self.state.add(name, scenario);
-        let reply = replies::add_reply(&told);
+        let outcome = self.state.add(name, scenario);
+        let reply = replies::add_reply(&outcome);
         note(&mut self.journal, Caller::Session(session), call, reply);
-        told
+        outcome
     }
 
     /// Drops the scenario with this name and closes its tickets, and returns its id, which is not
@@ -97,10 +96,10 @@ impl<A: Allocator + Copy> Book<A> {
         let call = Call::DropScenario {
             name: NotedName::new(self.alloc, name)?,
         };
-        let told = self.state.drop_named(name);
-        let reply = replies::drop_reply(&told);
+        let outcome = self.state.drop_named(name);
+        let reply = replies::drop_reply(&outcome);
         note(&mut self.journal, Caller::Session(session), call, reply);
-        told
+        outcome
     }
 
     /// Removes the mark of a scenario that was given up, so that it is tried again.
@@ -114,15 +113,15 @@ impl<A: Allocator + Copy> Book<A> {
             return Err(RetryRefusal::JournalFull);
         }
         reserve_note(&mut self.journal)?;
-        let told = self.state.retry(id);
-        let reply = replies::retry_reply(&told);
+        let outcome = self.state.retry(id);
+        let reply = replies::retry_reply(&outcome);
         note(
             &mut self.journal,
             Caller::Session(session),
             Call::Retry { id },
             reply,
         );
-        told
+        outcome
     }
 
     /// What is published for a scenario, with its version: the simulation, second by second, of that
@@ -145,15 +144,15 @@ impl<A: Allocator + Copy> Book<A> {
             return Err(ViewRefusal::JournalFull);
         }
         reserve_note(&mut self.journal)?;
-        let told = self.state.view(id, seen);
-        let reply = replies::view_reply(&told);
+        let outcome = self.state.view(id, seen);
+        let reply = replies::view_reply(&outcome);
         note(
             &mut self.journal,
             Caller::Session(session),
             Call::View { id, seen },
             reply,
         );
-        told
+        outcome
     }
 
     /// Takes a ticket for the first scenario that is due, and returns its task; None where none is.
@@ -170,15 +169,15 @@ impl<A: Allocator + Copy> Book<A> {
             return Err(ClaimRefusal::JournalFull);
         }
         reserve_note(&mut self.journal)?;
-        let told = self.state.claim();
-        let reply = replies::claim_reply(&told);
+        let outcome = self.state.claim();
+        let reply = replies::claim_reply(&outcome);
         note(
             &mut self.journal,
             Caller::Worker(worker),
             Call::Claim,
             reply,
         );
-        told
+        outcome
     }
 
     /// Hands in a run for a ticket, publishes it, and returns the version at which it is published. No
@@ -202,50 +201,50 @@ impl<A: Allocator + Copy> Book<A> {
             return Err(FinishRefusal::JournalFull);
         }
         reserve_note(&mut self.journal)?;
-        let told = self.state.finish(ticket, run);
-        let reply = replies::finish_reply(&told);
-        let fits = replies::fitted(&told);
+        let outcome = self.state.finish(ticket, run);
+        let reply = replies::finish_reply(&outcome);
+        let fits = replies::fitted(&outcome);
         note(
             &mut self.journal,
             Caller::Worker(worker),
             Call::Finish { ticket, fits },
             reply,
         );
-        told
+        outcome
     }
 
-    /// Hands in the run that the ticket's task has left there by `Task::deliver`, publishes it, and returns
-    /// the version at which it is published; None where the task has left none, and then nothing changes. No
-    /// other published run changes.
+    /// Hands in the run that the ticket's task has left there by `Task::deliver`, publishes it, and
+    /// returns the version at which it is published; None where the task has left none, and then nothing
+    /// changes. No other published run changes.
     ///
-    /// It is refused as `finish` is, but never as a Stranger: what a task has left is of its ticket's log
-    /// and scenario, so it is not compared with them. JournalFull and UnknownTicket come before any run is
-    /// looked for, Stale only for one that is there.
+    /// It is refused as `finish` is, but never as a Stranger: what a task has left is of its ticket's
+    /// log and scenario, so it is not compared with them. JournalFull and UnknownTicket come before any
+    /// run is looked for, Stale only for one that is there.
     pub fn finish_delivered(
         &mut self,
         worker: u64,
         ticket: u64,
     ) -> Result<Option<u64>, FinishRefusal>
-        ensures answer { AnswersOfRun self.old self.new (caller.Worker worker) ticket (told_of_run result) }
-        ensures stands { TellsStanding (Stands self.old.state ticket) (told_of_run result) }
+        ensures answer { AnswersOfRun self.old self.new (caller.Worker worker) ticket (outcome_of_run result) }
+        ensures stands { TellsStanding (Stands self.old.state ticket) (outcome_of_run result) }
         ensures published { IfOk result (λ version. IfSome version (PublishesFitting self.old.state self.new.state ticket)) }
     {
         if is_full(&self.journal) {
             return Err(FinishRefusal::JournalFull);
         }
         reserve_note(&mut self.journal)?;
-        let Some(told) = self.state.finish_delivered(ticket) else {
+        let Some(outcome) = self.state.finish_delivered(ticket) else {
             return Ok(None);
         };
-        let reply = replies::finish_reply(&told);
-        let fits = replies::fitted(&told);
+        let reply = replies::finish_reply(&outcome);
+        let fits = replies::fitted(&outcome);
         note(
             &mut self.journal,
             Caller::Worker(worker),
             Call::Finish { ticket, fits },
             reply,
         );
-        of_left(told)
+        of_left(outcome)
     }
 
     /// Hands in the run that the ticket's task has left, as `finish_delivered` does, or this one, as
@@ -281,14 +280,14 @@ impl<A: Allocator + Copy> Book<A> {
             return Err(GiveUpRefusal::JournalFull);
         }
         reserve_note(&mut self.journal)?;
-        let told = self.state.give_up(ticket);
-        let reply = replies::give_up_reply(&told);
+        let outcome = self.state.give_up(ticket);
+        let reply = replies::give_up_reply(&outcome);
         note(
             &mut self.journal,
             Caller::Worker(worker),
             Call::GiveUp { ticket },
             reply,
         );
-        told
+        outcome
     }
 }

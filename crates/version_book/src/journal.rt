@@ -17,22 +17,20 @@ pub(crate) fn is_full<A: Allocator + Copy>(journal: &Vec<Note<A>, A>) -> bool
     journal.len() >= NOTE_LIMIT
 }
 
-// Reserves capacity for a note.
 pub(crate) fn reserve_note<A: Allocator + Copy>(journal: &mut Vec<Note<A>, A>) -> Result<(), Memory>
     ensures items { journal.new.items ≡ journal.old.items }
-    ensures room { OnOk result (vec_len journal.new < vec_capacity journal.new) }
+    ensures capacity { OnOk result (vec_len journal.new < vec_capacity journal.new) }
 {
     Ok(journal.reserve(1)?)
 }
 
-// Notes a call with its reply, if it has one.
 pub(crate) fn note<A: Allocator + Copy>(
     journal: &mut Vec<Note<A>, A>,
     caller: Caller,
     call: Call<A>,
     reply: Option<Reply>,
 )
-    requires room { vec_len journal.old < vec_capacity journal.old }
+    requires capacity { vec_len journal.old < vec_capacity journal.old }
     ensures { map noted_of journal.new.items ≡ map noted_of journal.old.items ++ notes_of caller (call_of call) reply }
 {
     if let Some(reply) = reply {

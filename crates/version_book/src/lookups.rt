@@ -10,21 +10,18 @@ use std::alloc::Allocator;
 use tasks::tickets::is_out;
 use tasks::{Published, Ticket};
 
-// The scenario with this id.
 pub(crate) fn shown_of<A: Allocator + Copy>(shown: &[Shown<A>], id: ScenarioId) -> Option<&Shown<A>>
     ensures { option_copied result ≡ find (has_id id) shown.now }
 {
     shown.iter().find(move |x| x.has_id(id))
 }
 
-// Whether a run of the scenario is to be made at this version.
 fn is_due<A: Allocator + Copy>(shown: &Shown<A>, version: u64, tickets: &[Ticket<A>]) -> bool
     ensures { result ≡ is_due_at version tickets.now shown.now }
 {
     shown.is_behind(version) && !shown.is_marked(version) && !is_out(tickets, shown.id(), version)
 }
 
-// The first scenario that is due.
 pub(crate) fn first_due<'a, A: Allocator + Copy>(
     shown: &'a [Shown<A>],
     version: u64,
@@ -35,7 +32,6 @@ pub(crate) fn first_due<'a, A: Allocator + Copy>(
     shown.iter().find(move |x| is_due(x, version, tickets))
 }
 
-// Whether a run that is new enough is still to come, for any scenario.
 fn is_any_awaited<A: Allocator + Copy>(shown: &[Shown<A>], seen: u64, version: u64) -> bool
     ensures { result ≡ list_any (is_awaited seen version) shown.now }
 {
@@ -49,7 +45,6 @@ fn count_behind<A: Allocator + Copy>(shown: &[Shown<A>], seen: u64) -> usize
     shown.iter().filter(move |x| x.is_behind(seen)).count()
 }
 
-// How far all scenarios are, beside a version that was seen.
 pub(crate) fn settled<A: Allocator + Copy>(
     shown: &[Shown<A>],
     seen: u64,
@@ -67,7 +62,6 @@ pub(crate) fn settled<A: Allocator + Copy>(
     SettleState::Failed(behind as u64)
 }
 
-// The version that is published for the scenario with this id.
 pub(crate) fn published_version<A: Allocator + Copy>(
     shown: &[Shown<A>],
     id: ScenarioId,
@@ -80,7 +74,6 @@ pub(crate) fn published_version<A: Allocator + Copy>(
     }
 }
 
-// The place of the scenario with this id.
 fn place_of<A: Allocator + Copy>(shown: &[Shown<A>], id: ScenarioId) -> Option<usize>
     ensures { result ≡ position (has_id id) shown.now }
 {
@@ -113,7 +106,6 @@ pub(crate) fn mark<A: Allocator + Copy>(shown: &mut Vec<Shown<A>, A>, id: Scenar
     }
 }
 
-// Takes the mark of the scenario with this id away, under the same condition.
 pub(crate) fn unmark<A: Allocator + Copy>(shown: &mut Vec<Shown<A>, A>, id: ScenarioId)
     requires { AreApart shown.old.items }
     ensures shown { shown.new.items ≡ with_change id unmarking shown.old.items }
@@ -124,7 +116,6 @@ pub(crate) fn unmark<A: Allocator + Copy>(shown: &mut Vec<Shown<A>, A>, id: Scen
     }
 }
 
-// Takes the scenario with this id out.
 pub(crate) fn hide<A: Allocator + Copy>(shown: &mut Vec<Shown<A>, A>, id: ScenarioId)
     ensures shown { shown.new.items ≡ filter (λ x. not (has_id id x)) shown.old.items }
     ensures capacity { vec_capacity shown.new ≡ vec_capacity shown.old }

@@ -14,40 +14,40 @@ use scenarios::{NoSuchScenario, ScenarioId};
 use std::alloc::Allocator;
 use tasks::{Published, Task};
 
-pub(crate) fn edit_reply(told: &Result<u64, EditRefusal>) -> Option<Reply>
-    ensures { result ≡ reply_in (edit_answer told.now) }
+pub(crate) fn edit_reply(outcome: &Result<u64, EditRefusal>) -> Option<Reply>
+    ensures { result ≡ reply_in (edit_answer outcome.now) }
 {
-    match told {
+    match outcome {
         Ok(version) => Some(Reply::Edited { version: *version }),
         Err(EditRefusal::Fault(fault)) => Some(Reply::EditRefused(*fault)),
         Err(EditRefusal::JournalFull) | Err(EditRefusal::Memory) => None,
     }
 }
 
-pub(crate) fn add_reply(told: &Result<ScenarioId, AddRefusal>) -> Option<Reply>
-    ensures { result ≡ reply_in (add_answer told.now) }
+pub(crate) fn add_reply(outcome: &Result<ScenarioId, AddRefusal>) -> Option<Reply>
+    ensures { result ≡ reply_in (add_answer outcome.now) }
 {
-    match told {
+    match outcome {
         Ok(id) => Some(Reply::Added { id: *id }),
         Err(AddRefusal::Fault(fault)) => Some(Reply::AddRefused(*fault)),
         Err(AddRefusal::JournalFull) | Err(AddRefusal::Memory) => None,
     }
 }
 
-pub(crate) fn drop_reply(told: &Result<ScenarioId, DropRefusal>) -> Option<Reply>
-    ensures { result ≡ reply_in (drop_answer told.now) }
+pub(crate) fn drop_reply(outcome: &Result<ScenarioId, DropRefusal>) -> Option<Reply>
+    ensures { result ≡ reply_in (drop_answer outcome.now) }
 {
-    match told {
+    match outcome {
         Ok(id) => Some(Reply::Dropped { id: *id }),
         Err(DropRefusal::Fault(NoSuchScenario)) => Some(Reply::NoSuchScenario),
         Err(DropRefusal::JournalFull) | Err(DropRefusal::Memory) => None,
     }
 }
 
-pub(crate) fn retry_reply(told: &Result<(), RetryRefusal>) -> Option<Reply>
-    ensures { result ≡ reply_in (retry_answer told.now) }
+pub(crate) fn retry_reply(outcome: &Result<(), RetryRefusal>) -> Option<Reply>
+    ensures { result ≡ reply_in (retry_answer outcome.now) }
 {
-    match told {
+    match outcome {
         Ok(()) => Some(Reply::Retried),
         Err(RetryRefusal::Fault(NoSuchScenario)) => Some(Reply::NoSuchScenario),
         Err(RetryRefusal::JournalFull) | Err(RetryRefusal::Memory) => None,
@@ -55,11 +55,11 @@ pub(crate) fn retry_reply(told: &Result<(), RetryRefusal>) -> Option<Reply>
 }
 
 pub(crate) fn view_reply<A: Allocator + Copy>(
-    told: &Result<Published<A>, ViewRefusal>,
+    outcome: &Result<Published<A>, ViewRefusal>,
 ) -> Option<Reply>
-    ensures { result ≡ reply_in (view_answer told.now) }
+    ensures { result ≡ reply_in (view_answer outcome.now) }
 {
-    match told {
+    match outcome {
         Ok(published) => Some(Reply::Shown {
             version: published.version(),
         }),
@@ -74,11 +74,11 @@ pub(crate) fn view_reply<A: Allocator + Copy>(
 }
 
 pub(crate) fn claim_reply<A: Allocator + Copy>(
-    told: &Result<Option<Task<A>>, ClaimRefusal>,
+    outcome: &Result<Option<Task<A>>, ClaimRefusal>,
 ) -> Option<Reply>
-    ensures { result ≡ reply_in (claim_answer told.now) }
+    ensures { result ≡ reply_in (claim_answer outcome.now) }
 {
-    match told {
+    match outcome {
         Ok(None) => Some(Reply::NoneDue),
         Ok(Some(task)) => Some(Reply::Claimed {
             ticket: task.ticket(),
@@ -91,10 +91,10 @@ pub(crate) fn claim_reply<A: Allocator + Copy>(
     }
 }
 
-pub(crate) fn finish_reply(told: &Result<u64, FinishRefusal>) -> Option<Reply>
-    ensures { result ≡ reply_in (finish_answer told.now) }
+pub(crate) fn finish_reply(outcome: &Result<u64, FinishRefusal>) -> Option<Reply>
+    ensures { result ≡ reply_in (finish_answer outcome.now) }
 {
-    match told {
+    match outcome {
         Ok(version) => Some(Reply::Finished { version: *version }),
         Err(FinishRefusal::Fault(FinishFault::UnknownTicket)) => Some(Reply::UnknownTicket),
         Err(FinishRefusal::Fault(FinishFault::Stranger)) => Some(Reply::Stranger),
@@ -105,20 +105,19 @@ pub(crate) fn finish_reply(told: &Result<u64, FinishRefusal>) -> Option<Reply>
     }
 }
 
-// Whether the run fitted its ticket.
-pub(crate) fn fitted(told: &Result<u64, FinishRefusal>) -> bool
-    ensures { result ≡ fitted told.now }
+pub(crate) fn fitted(outcome: &Result<u64, FinishRefusal>) -> bool
+    ensures { result ≡ fitted outcome.now }
 {
     matches!(
-        told,
+        outcome,
         Ok(_) | Err(FinishRefusal::Fault(FinishFault::Stale { .. }))
     )
 }
 
-pub(crate) fn give_up_reply(told: &Result<(), GiveUpRefusal>) -> Option<Reply>
-    ensures { result ≡ reply_in (give_up_answer told.now) }
+pub(crate) fn give_up_reply(outcome: &Result<(), GiveUpRefusal>) -> Option<Reply>
+    ensures { result ≡ reply_in (give_up_answer outcome.now) }
 {
-    match told {
+    match outcome {
         Ok(()) => Some(Reply::GivenUp),
         Err(GiveUpRefusal::Fault(UnknownTicket)) => Some(Reply::UnknownTicket),
         Err(GiveUpRefusal::JournalFull) | Err(GiveUpRefusal::Memory) => None,

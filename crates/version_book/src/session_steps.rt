@@ -56,13 +56,12 @@ fn put_edit<A: Allocator + Copy>(
     Ok(())
 }
 
-// Reserves capacity for one more edit, and returns a copy of the edit.
 fn kept_edit<A: Allocator + Copy>(
     edits: &mut Vec<Edit<A>, A>,
     edit: &Edit<A>,
 ) -> Result<Edit<A>, Memory>
     ensures items { edits.new.items ≡ edits.old.items }
-    ensures room { OnOk result (vec_len edits.new < vec_capacity edits.new) }
+    ensures capacity { OnOk result (vec_len edits.new < vec_capacity edits.new) }
     ensures copy { IfOk result (λ kept. edit_of kept ≡ edit_of edit.now) }
 {
     edits.reserve(1)?;
@@ -70,7 +69,6 @@ fn kept_edit<A: Allocator + Copy>(
 }
 
 impl<A: Allocator + Copy> State<A> {
-    // Edits the log.
     pub(crate) fn edit(&mut self, edit: &Edit<A>) -> Result<u64, EditRefusal>
         ensures { Does self.old self.new (Edits (edit_of edit.now)) (edit_answer result) }
     {
@@ -83,7 +81,6 @@ impl<A: Allocator + Copy> State<A> {
         Ok(self.version())
     }
 
-    // Adds a scenario.
     pub(crate) fn add(&mut self, name: &str, scenario: Scenario) -> Result<ScenarioId, AddRefusal>
         ensures { Does self.old self.new (AddScenario name.now scenario) (add_answer result) }
     {
@@ -92,7 +89,6 @@ impl<A: Allocator + Copy> State<A> {
         Ok(id)
     }
 
-    // Drops a scenario with its tickets.
     pub(crate) fn drop_named(&mut self, name: &str) -> Result<ScenarioId, DropRefusal>
         ensures { Does self.old self.new (DropScenario name.now) (drop_answer result) }
     {
@@ -106,7 +102,6 @@ impl<A: Allocator + Copy> State<A> {
         }
     }
 
-    // Takes a mark away.
     pub(crate) fn retry(&mut self, id: ScenarioId) -> Result<(), RetryRefusal>
         ensures { Does self.old self.new (Retry id) (retry_answer result) }
     {

@@ -22,10 +22,9 @@ impl<A: Allocator + Copy> Model for Shown<A> {
 
     ghost Value = { ShownView };
 
-    ghost view = { λ s. record { id = s.id; setting = s.scenario; published = s.published; mark = s.mark } };
+    ghost view = { λ s. record { id = s.id; scenario = s.scenario; published = s.published; mark = s.mark } };
 }
 
-// Nothing is published, or an older version.
 pub(crate) fn is_below(published: Option<u64>, version: u64) -> bool
     ensures { result ≡ is_below published version }
 {
@@ -35,7 +34,6 @@ pub(crate) fn is_below(published: Option<u64>, version: u64) -> bool
     }
 }
 
-// Whether a mark is of this version.
 fn is_mark(mark: Option<u64>, version: u64) -> bool
     ensures { result ≡ is_mark mark version }
 {
@@ -48,7 +46,7 @@ fn is_mark(mark: Option<u64>, version: u64) -> bool
 impl<A: Allocator + Copy> Shown<A> {
     // A scenario for which nothing is published.
     pub(crate) fn new(id: ScenarioId, scenario: Scenario) -> Shown<A>
-        ensures { result ≡ record { id = id; setting = scenario; published = None; mark = None } }
+        ensures { result ≡ record { id = id; scenario = scenario; published = None; mark = None } }
     {
         Shown {
             id,
@@ -58,35 +56,30 @@ impl<A: Allocator + Copy> Shown<A> {
         }
     }
 
-    // Its id.
     pub(crate) fn id(&self) -> ScenarioId
         ensures { result ≡ self.now.id }
     {
         self.id
     }
 
-    // Whether it has this id.
     pub(crate) fn has_id(&self, id: ScenarioId) -> bool
         ensures { result ≡ has_id id self.now }
     {
         self.id.number() == id.number()
     }
 
-    // What a log is simulated under.
     pub(crate) fn scenario(&self) -> Scenario
-        ensures { result ≡ self.now.setting }
+        ensures { result ≡ self.now.scenario }
     {
         self.scenario
     }
 
-    // What is published.
     pub(crate) fn published(&self) -> Option<&Published<A>>
         ensures { option_copied result ≡ self.now.published }
     {
         self.published.as_ref()
     }
 
-    // The version of what is published.
     pub(crate) fn published_version(&self) -> Option<u64>
         ensures { result ≡ published_version self.now }
     {
@@ -96,7 +89,6 @@ impl<A: Allocator + Copy> Shown<A> {
         }
     }
 
-    // Whether it was given up at this version.
     pub(crate) fn is_marked(&self, version: u64) -> bool
         ensures { result ≡ is_mark self.now.mark version }
     {
@@ -117,21 +109,18 @@ impl<A: Allocator + Copy> Shown<A> {
         self.is_behind(seen) && !(self.is_marked(version) && seen <= version)
     }
 
-    // Publishes a run.
     pub(crate) fn publish(&mut self, published: Published<A>)
         ensures { self.new ≡ record self.old { published = Some published } }
     {
         self.published = Some(published);
     }
 
-    // Its run was given up at this version.
     pub(crate) fn mark(&mut self, version: u64)
         ensures { self.new ≡ record self.old { mark = Some version } }
     {
         self.mark = Some(version);
     }
 
-    // Its run is to be tried again.
     pub(crate) fn unmark(&mut self)
         ensures { self.new ≡ record self.old { mark = None } }
     {

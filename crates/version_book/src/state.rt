@@ -38,6 +38,8 @@ impl<A: Allocator + Copy> Model for State<A> {
     ghost use Rattle.std.specs.Prelude.{◌≤◌, map, vec_capacity};
     ghost use Rattle.std.specs.Arc.{arc_value};
     ghost use Rattle.job_table.specs.Edit.{edit_of};
+    ghost use Rattle.scenarios.specs.Limits.{scenarios_limit};
+    ghost use Rattle.book_machine.specs.Machine.{ticket_limit};
     ghost use Rattle.version_book.specs.Book.{StateView};
     ghost use Rattle.version_book.specs.Sound.{IsSound};
 
@@ -45,13 +47,12 @@ impl<A: Allocator + Copy> Model for State<A> {
 
     ghost view = { λ s. record { spacing = s.spacing; opening = arc_value s.opening; current = arc_value s.current; edits = map edit_of s.edits.items; listing = s.scenarios; shown = s.shown.items; tickets = s.tickets.items; next_ticket = s.next_ticket } };
 
-    ghost invariant = { λ s. IsSound (record { spacing = s.spacing; opening = arc_value s.opening; current = arc_value s.current; edits = map edit_of s.edits.items; listing = s.scenarios; shown = s.shown.items; tickets = s.tickets.items; next_ticket = s.next_ticket }) × (64 ≤ vec_capacity s.shown) × (256 ≤ vec_capacity s.tickets) };
+    ghost invariant = { λ s. IsSound (record { spacing = s.spacing; opening = arc_value s.opening; current = arc_value s.current; edits = map edit_of s.edits.items; listing = s.scenarios; shown = s.shown.items; tickets = s.tickets.items; next_ticket = s.next_ticket }) × (scenarios_limit ≤ vec_capacity s.shown) × (ticket_limit ≤ vec_capacity s.tickets) };
 }
 
 impl<A: Allocator + Copy> State<A> {
     ghost use Rattle.version_book.specs.Steps.{opening_state};
 
-    // A log that was just opened.
     pub(crate) fn new(alloc: A, table: JobTable<A>, spacing: u32) -> Result<State<A>, RunFault>
         ensures state { IfOk result (λ s. s ≡ opening_state table spacing) }
         ensures sound { IfOk result IsSound }
@@ -77,7 +78,6 @@ impl<A: Allocator + Copy> State<A> {
         })
     }
 
-    // The current version. The state is sound.
     pub(crate) fn version(&self) -> u64
         ensures version { result ≡ length self.now.edits }
         ensures sound { IsSound self.now }
@@ -91,28 +91,24 @@ impl<A: Allocator + Copy> State<A> {
     ghost use Rattle.book_machine.specs.Machine.{settled};
     ghost use Rattle.version_book.specs.Tasks.{free_due};
 
-    // The log of the current version.
     pub(crate) fn current(&self) -> &Arc<JobTable<A>, A>
         ensures { arc_value result.now ≡ self.now.current }
     {
         &self.current
     }
 
-    // The scenarios.
     pub(crate) fn scenarios(&self) -> &ScenarioList<A>
         ensures { result.now ≡ self.now.listing }
     {
         &self.scenarios
     }
 
-    // The most event seconds of a new segment.
     pub(crate) fn spacing(&self) -> u32
         ensures { result ≡ self.now.spacing }
     {
         self.spacing
     }
 
-    // The scenario for which a claim would return a task.
     pub(crate) fn due(&self) -> Option<ScenarioId>
         ensures { result ≡ free_due self.now }
     {
@@ -126,7 +122,6 @@ impl<A: Allocator + Copy> State<A> {
         }
     }
 
-    // How far all scenarios are, compared with a version that was seen.
     pub(crate) fn settled(&self, seen: u64) -> SettleState
         ensures { (n : ℕ) → result ≡ settled seen (machine_at n self.now) }
     {

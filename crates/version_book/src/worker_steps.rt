@@ -23,9 +23,8 @@ use tasks::tickets::{close, take_run, ticket_of};
 use tasks::{Base, Published, Task};
 
 impl<A: Allocator + Copy> State<A> {
-    // The task of a scenario at the current version.
     fn task_for(&self, shown: &Shown<A>) -> Result<Task<A>, Memory>
-        requires { IfSome shown.now.published (IsOfItsVersion self.now.opening self.now.edits shown.now.setting) }
+        requires { IfSome shown.now.published (IsOfItsVersion self.now.opening self.now.edits shown.now.scenario) }
         ensures { IfOk result (λ task. task ≡ task_for self.now shown.now) }
     {
         let base = Base::since(self.alloc, shown.published(), self.edits.as_slice())?;
@@ -56,7 +55,6 @@ impl<A: Allocator + Copy> State<A> {
         Ok(Some(self.task_for(shown)?))
     }
 
-    // Takes a ticket for the first scenario that is due.
     pub(crate) fn claim(&mut self) -> Result<Option<Task<A>>, ClaimRefusal>
         requires { self.old.next_ticket < 18446744073709551615 }
         ensures does { Does self.old self.new Claim (claim_answer result) }
@@ -72,8 +70,8 @@ impl<A: Allocator + Copy> State<A> {
         Ok(Some(task))
     }
 
-    // Takes a run that has the log and the scenario of its ticket: publishes it, unless one of its version
-    // or a newer one is published, and closes the ticket.
+    // Takes a run that has the log and the scenario of its ticket: publishes it, unless one of its
+    // version or a newer one is published, and closes the ticket.
     fn accept(&mut self, number: u64, run: Arc<Run<A>, A>) -> Result<u64, FinishRefusal>
         requires { Fits self.old number (arc_value run) }
         ensures does { Does self.old self.new (Finish number true) (finish_answer result) }
@@ -97,7 +95,6 @@ impl<A: Allocator + Copy> State<A> {
         }))
     }
 
-    // Hands in a run for a ticket.
     pub(crate) fn finish(&mut self, number: u64, run: Arc<Run<A>, A>) -> Result<u64, FinishRefusal>
         ensures does { Does self.old self.new (Finish number (fitted result)) (finish_answer result) }
         ensures fits { TellsFit (Fits self.old number (arc_value run)) result }
@@ -112,12 +109,11 @@ impl<A: Allocator + Copy> State<A> {
         self.accept(number, run)
     }
 
-    // Hands in the run that the task of a ticket has left there, if it has left one.
     pub(crate) fn finish_delivered(&mut self, number: u64) -> Option<Result<u64, FinishRefusal>>
-        ensures does { IfSome result (λ told. Does self.old self.new (Finish number (fitted told)) (finish_answer told)) }
+        ensures does { IfSome result (λ outcome. Does self.old self.new (Finish number (fitted outcome)) (finish_answer outcome)) }
         ensures stands { TellsStanding (Stands self.old number) result }
         ensures none { IfNone result (self.new ≡ self.old) }
-        ensures published { IfSome result (λ told. IfOk told (PublishesFitting self.old self.new number)) }
+        ensures published { IfSome result (λ outcome. IfOk outcome (PublishesFitting self.old self.new number)) }
     {
         if ticket_of(self.tickets.as_slice(), number).is_none() {
             return Some(Err(FinishRefusal::Fault(FinishFault::UnknownTicket)));
@@ -126,7 +122,6 @@ impl<A: Allocator + Copy> State<A> {
         Some(self.accept(number, run))
     }
 
-    // Gives a ticket up.
     pub(crate) fn give_up(&mut self, number: u64) -> Result<(), GiveUpRefusal>
         ensures { Does self.old self.new (GiveUp number) (give_up_answer result) }
     {

@@ -30,9 +30,9 @@ module _ {X : Type 0} (test : Option X → Bool) (places : List (Option X)) (pas
   ends (Some k) l found = ends_some k found
 
 -- no place of a leaf passes from one on: then it is the first of those behind the leaf
-module _ {X : Type 0} (test : Option X → Bool) (places : List (Option X)) (past : test None ≡ false) (from span : ℕ) (room : length places ≤ 64 * span) where
+module _ {X : Type 0} (test : Option X → Bool) (places : List (Option X)) (past : test None ≡ false) (from span : ℕ) (capacity : length places ≤ 64 * span) where
   pub behind_leaf : (r : Option ℕ) → NonePasses test places (max from (64 * (from / 64))) (64 * (from / 64 + 1)) → IsFirst test places (max (64 * (from / 64 + 1)) (64 * 0)) (64 * (0 + span)) r → IsFirst test places from (length places) r
   behind_leaf r none rest =
       let edge = 64 * (from / 64 + 1) in
       let end = 64 * (0 + span) in
-      ends test places past from end r (omega (arith, room)) (in_second test places from edge (max edge (64 * 0)) end r (λ p l m. omega arith) (omega arith) (λ p low high. none p (omega arith) high) rest)
+      ends test places past from end r (omega (arith, capacity)) (in_second test places from edge (max edge (64 * 0)) end r (λ p l m. omega arith) (omega arith) (λ p low high. none p (omega arith) high) rest)

@@ -3,7 +3,7 @@ use Rattle.std.proofs.Common.{◌≡◌, ◌≢◌, ℕ, ◌+◌, ◌-◌, ◌*�
 use Rattle.std.proofs.lemmas.Bool.{cases_eq, cases_lt}
 use Rattle.std.proofs.lemmas.List.{length-append, length-set, get_or-set_same, get_or-set_other, get_or_append_left, get_or_push}
 use Rattle.waiting_places.specs.Bounds.{IsBelow, Keeps, LeastsView}
-use Rattle.waiting_places.specs.Places.{IsHead, IsPlaces, at_place, room_of, waiting}
+use Rattle.waiting_places.specs.Places.{IsHead, IsPlaces, at_place, capacity_of, waiting}
 use Rattle.waiting_places.specs.Tree.{IsTree, halved, leaf_of, node_at}
 use Rattle.waiting_places.proofs.Below.{within}
 use Rattle.waiting_places.proofs.Heads.{head_comes}
@@ -13,11 +13,11 @@ module _ {X : Type 0} (size estimate : X → ℕ) (nodes : List LeastsView) (pla
   -- one comes, and the bounds above its place are lowered
   pub grown : (new : List LeastsView) (more : List (Option X)) (item : X) → length new ≡ length nodes → more ≡ places ++ Some item ∷ [] → length places + 1 ≤ 32 * length nodes → ((k : ℕ) → Keeps (node_at nodes k) (node_at new k))
       → ((times : ℕ) → 1 ≤ halved times (leaf_of (length nodes) (length places)) → IsBelow (node_at new (halved times (leaf_of (length nodes) (length places)))) (size item) (estimate item)) → IsTree size estimate new more
-  grown new more item len e room kept met = record {
+  grown new more item len e capacity kept met = record {
     whole = record { height = tree.whole.height; power = len ∙ tree.whole.power };
     many = let many = tree.many in omega (arith, many, len);
     few = let few = tree.few in omega (arith, few, len);
-    room = omega (arith, room, len, ap length e, length-append places (Some item ∷ []));
+    capacity = omega (arith, capacity, len, ap length e, length-append places (Some item ∷ []));
     below = λ times place x is one. subst (λ (n : ℕ). 1 ≤ halved times (leaf_of n place) → IsBelow (node_at new (halved times (leaf_of n place))) (size x) (estimate x)) (sym len) (at times place x (sym (ap (λ (ys : List (Option X)). slice_index_or ys place None) e) ∙ is)) one;
   }
     where
@@ -42,7 +42,7 @@ module _ {X : Type 0} (size estimate : X → ℕ) (nodes : List LeastsView) (pla
     whole = tree.whole;
     many = tree.many;
     few = tree.few;
-    room = let room = tree.room in omega (arith, room, length-set {A = Option X} places place None);
+    capacity = let capacity = tree.capacity in omega (arith, capacity, length-set {A = Option X} places place None);
     below = λ times p x is one. tree.below times p x (stays p x is) one;
   }
     where
@@ -59,7 +59,7 @@ module _ {X : Type 0} (size estimate : X → ℕ) (nodes : List LeastsView) (pla
           (λ (ne : p ≢ place). sym (get_or-set_other places place p None None ne) ∙ is)
           (cases_eq p place)
 
-module _ {X : Type 0} (size estimate : X → ℕ) (places : List (Option X)) (nodes : List LeastsView) (len head room : ℕ) (kept : IsPlaces size estimate places nodes len head room) where
+module _ {X : Type 0} (size estimate : X → ℕ) (places : List (Option X)) (nodes : List LeastsView) (len head capacity : ℕ) (kept : IsPlaces size estimate places nodes len head capacity) where
   few : length places ≤ 2 ^ 46
   few = let list = kept.list in let some = kept.few in omega arith
 
@@ -68,7 +68,7 @@ module _ {X : Type 0} (size estimate : X → ℕ) (places : List (Option X)) (no
 
   pub comes : (more : List (Option X)) (new : List LeastsView) (item : X) (wide : ℕ) → more ≡ places ++ Some item ∷ [] → length new ≡ length nodes → ((k : ℕ) → Keeps (node_at nodes k) (node_at new k))
       → ((times : ℕ) → 1 ≤ halved times (leaf_of (length nodes) (length places)) → IsBelow (node_at new (halved times (leaf_of (length nodes) (length places)))) (size item) (estimate item))
-      → length places + 1 ≤ room_of (length nodes) → length more ≤ wide → IsPlaces size estimate more new (len + 1) head wide
+      → length places + 1 ≤ capacity_of (length nodes) → length more ≤ wide → IsPlaces size estimate more new (len + 1) head wide
   comes more new item wide e same keeps met l fit =
       let count = kept.count in
       let small = kept.few in
@@ -84,7 +84,7 @@ module _ {X : Type 0} (size estimate : X → ℕ) (places : List (Option X)) (no
             grown size estimate nodes places tree new more item same e (omega (arith, l, many)) keeps met;
       }
 
-  pub leaves : (place : ℕ) (item : X) → at_place places place ≡ Some item → (next : ℕ) → IsHead (set places place None) next → IsPlaces size estimate (set places place None) nodes (len - 1) next room
+  pub leaves : (place : ℕ) (item : X) → at_place places place ≡ Some item → (next : ℕ) → IsHead (set places place None) next → IsPlaces size estimate (set places place None) nodes (len - 1) next capacity
   leaves place item is next first =
       let there = within size estimate places place item is in
       let count = kept.count in

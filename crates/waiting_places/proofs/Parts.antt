@@ -117,7 +117,7 @@ module _ {X : Type 0} (size estimate : X → ℕ) (nodes : List LeastsView) (pla
     whole = record { height = tree.whole.height; power = len ∙ tree.whole.power };
     many = let many = tree.many in omega (arith, many, len);
     few = let few = tree.few in omega (arith, few, len);
-    room = let room = tree.room in omega (arith, room, len);
+    capacity = let capacity = tree.capacity in omega (arith, capacity, len);
     below = λ times place x is one. subst (λ (n : ℕ). 1 ≤ halved times (leaf_of n place) → IsBelow (node_at new (halved times (leaf_of n place))) (size x) (estimate x)) (sym len) (at times place x is) one;
   }
     where
@@ -152,7 +152,7 @@ module _ {X : Type 0} (size estimate : X → ℕ) (nodes : List LeastsView) (pla
     whole = record { height = tree.whole.height; power = len ∙ tree.whole.power };
     many = let many = tree.many in omega (arith, many, len);
     few = let few = tree.few in omega (arith, few, len);
-    room = let room = tree.room in omega (arith, room, len);
+    capacity = let capacity = tree.capacity in omega (arith, capacity, len);
     below = λ times place x is one. subst (λ (n : ℕ). 1 ≤ halved times (leaf_of n place) → IsBelow (node_at new (halved times (leaf_of n place))) (size x) (estimate x)) (sym len) (at times place x is) one;
   }
     where
@@ -167,7 +167,7 @@ module _ {X : Type 0} (size estimate : X → ℕ) (nodes : List LeastsView) (pla
           own zero same = omega (arith, same)
           own (suc t) same =
               let short = within size estimate places place x is in
-              let room = tree.room in
+              let capacity = tree.capacity in
               let whole = tree.whole.power in
               let less = halved-more t 0 t (leaf_of (length nodes) place) (omega arith) in
-              absurd (omega (arith, same, short, room, whole, less))
+              absurd (omega (arith, same, short, capacity, whole, less))

@@ -4,7 +4,7 @@ use Rattle.std.specs.List.{filter_map}
 use Rattle.waiting_places.specs.Bounds.{LeastsView}
 use Rattle.waiting_places.specs.Tree.{IsTree}
 
--- What callers see: the places, and how many more surely find room.
+-- What callers see: the places, and how many more surely find capacity.
 pub record PlacesView (X : Type 0) : Type 0 where
   pub places : List (Option X)
   pub spare : ℕ
@@ -44,14 +44,14 @@ pub record IsHead {X : Type 0} (places : List (Option X)) (head : ℕ) : Type 0 
   pub met : head < length places → is_some (at_place places head) ≡ true
 
 -- how many places there may be beside so many nodes: without a tree at most 128, and 64 for each leaf
-abbrev pub room_of : ℕ → ℕ
-room_of nodes = max 128 (32 * nodes)
+abbrev pub capacity_of : ℕ → ℕ
+capacity_of nodes = max 128 (32 * nodes)
 
--- what the fields keep: how many wait, the place of the first, room, and a tree of bounds where there are many places
-pub record IsPlaces {X : Type 0} (size estimate : X → ℕ) (places : List (Option X)) (nodes : List LeastsView) (len head room : ℕ) : Type 0 where
+-- what the fields keep: how many wait, the place of the first, capacity, and a tree of bounds where there are many places
+pub record IsPlaces {X : Type 0} (size estimate : X → ℕ) (places : List (Option X)) (nodes : List LeastsView) (len head capacity : ℕ) : Type 0 where
   pub count : len ≡ length (waiting places)
   pub first : IsHead places head
-  pub fit : length places ≤ room
-  pub list : length places ≤ room_of (length nodes)
+  pub fit : length places ≤ capacity
+  pub list : length places ≤ capacity_of (length nodes)
   pub few : length nodes ≤ 2 ^ 40
   pub tree : 1 ≤ length nodes → IsTree size estimate nodes places

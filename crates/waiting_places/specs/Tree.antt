@@ -27,7 +27,7 @@ pub record IsTree {X : Type 0} (size estimate : X → ℕ) (nodes : List LeastsV
   pub whole : IsWhole (length nodes)
   pub many : 4 ≤ length nodes
   pub few : length nodes ≤ 2 ^ 40
-  pub room : length places ≤ 32 * length nodes
+  pub capacity : length places ≤ 32 * length nodes
   pub below : (times place : ℕ) (x : X) → slice_index_or places place None ≡ Some x → 1 ≤ halved times (leaf_of (length nodes) place) → IsBelow (node_at nodes (halved times (leaf_of (length nodes) place))) (size x) (estimate x)
 
 -- below this node, of so many nodes, stand `span` leaves from this one on, counted from 0

@@ -1,5 +1,5 @@
 ghost use Rattle.std.specs.Prelude.{◌≡◌, ◌+◌, ◌*◌, ◌≤◌, ◌^◌, IfOk, length};
-ghost use Rattle.waiting_places.specs.Places.{room_of};
+ghost use Rattle.waiting_places.specs.Places.{capacity_of};
 ghost use Rattle.waiting_places.specs.Tree.{IsWhole};
 
 use crate::leasts::Leasts;
@@ -27,17 +27,17 @@ fn power_from(count: usize) -> usize
 // Nodes of a tree over so many places, which know of nobody; none where the places are few.
 pub(crate) fn nodes_for<A: Allocator + Copy>(
     alloc: A,
-    room: usize,
+    capacity: usize,
 ) -> Result<Vec<Leasts, A>, Memory>
-    requires { room ≤ 2 ^ 40 }
-    ensures enough { IfOk result (λ nodes. room ≤ room_of (length nodes.items)) }
+    requires { capacity ≤ 2 ^ 40 }
+    ensures enough { IfOk result (λ nodes. capacity ≤ capacity_of (length nodes.items)) }
     ensures whole { IfOk result (λ nodes. 1 ≤ length nodes.items → IsWhole (length nodes.items)) }
     ensures many { IfOk result (λ nodes. 1 ≤ length nodes.items → 4 ≤ length nodes.items) }
     ensures few { IfOk result (λ nodes. length nodes.items ≤ 2 ^ 40) }
 {
-    if room <= LIST {
+    if capacity <= LIST {
         return Ok(Vec::new(alloc));
     }
-    let leaves = power_from(room.div_ceil(SPAN));
+    let leaves = power_from(capacity.div_ceil(SPAN));
     Ok(vec![in alloc; Leasts::new(0); 2 * leaves]?)
 }

@@ -36,7 +36,6 @@ impl Model for Leasts {
     ghost invariant = { λ l. Falls l.estimates };
 }
 
-// A number, or the greatest of half its room where it has none there.
 fn short(number: u64) -> u32
     ensures { result ≡ min number (2 ^ 32 - 1) }
 {
@@ -72,7 +71,6 @@ fn shorten<T: Waits>(estimates: &mut [u32], place: &Option<T>)
     }
 }
 
-// Lowers each estimate to the least of those up to its class.
 fn fall(estimates: &mut [u32])
     ensures falls { Falls estimates.new }
     ensures low { (b c : ℕ) → b ≤ c → slice_index_or estimates.new c 0 ≤ slice_index_or estimates.old b 0 }
@@ -85,7 +83,6 @@ fn fall(estimates: &mut [u32])
     }
 }
 
-// The lesser of two sizes, where the second counts.
 fn size_of_both(size: u64, other: u64, counts: bool) -> u64
     ensures least { result ≤ size }
     ensures other { counts ≡ true → result ≤ other }
@@ -121,7 +118,6 @@ impl Sizes {
         self.size <= offer.extra
     }
 
-    // Of one more.
     fn add<T: Waits>(&mut self, item: &T)
         ensures kept { Keeps (sizes_known self.old) (sizes_known self.new) }
         ensures met { IsBelow (sizes_known self.new) (T.size item.now) (T.estimate item.now) }
@@ -131,7 +127,6 @@ impl Sizes {
         self.size_within = size_of_both(self.size_within, size, item.estimate() <= self.window);
     }
 
-    // Of who waits at one place more.
     fn add_place<T: Waits>(&mut self, place: &Option<T>)
         ensures kept { Keeps (sizes_known self.old) (sizes_known self.new) }
         ensures met { IfSome place.now (λ item. IsBelow (sizes_known self.new) (T.size item) (T.estimate item)) }
@@ -181,7 +176,6 @@ impl Leasts {
         self.sizes.is_small(offer)
     }
 
-    // Whether one of whom this is known may fit the offer; the class is that of what is free.
     pub(crate) fn may_fit(&self, offer: &Offer, class: usize) -> bool
         requires { class ≡ class_of offer.now.free }
         ensures { result ≡ may_fit offer.now self.now }
@@ -191,7 +185,6 @@ impl Leasts {
                 && u64::from(self.estimates[class]) <= offer.window)
     }
 
-    // Of one more; the class is that of its size.
     pub(crate) fn add<T: Waits>(&mut self, item: &T, class: usize)
         requires { class ≡ class_of (T.size item.now) }
         ensures kept { Keeps self.old self.new }
@@ -240,7 +233,6 @@ impl Leasts {
         }
     }
 
-    // Bounds on the sizes take the place of those that there are.
     pub(crate) fn set_sizes(&mut self, sizes: Sizes)
         ensures { (size estimate : ℕ) → IsBelow self.old size estimate → IsBelow (sizes_known sizes) size estimate → IsBelow self.new size estimate }
     {

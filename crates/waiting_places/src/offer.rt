@@ -26,7 +26,6 @@ impl Offer {
     }
 }
 
-// Whether one waits at this place, and fits the offer.
 pub(crate) fn holds<T: Waits>(place: &Option<T>, offer: &Offer) -> bool
     ensures { result ≡ holds (fits T.size T.estimate offer.now) place.now }
 {

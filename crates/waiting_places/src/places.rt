@@ -16,13 +16,13 @@ use std::alloc::Allocator;
 use std::marker::Model;
 use swf_text::Memory;
 
-/// The most places that room is made for.
+/// The most places that capacity is reserved for.
 const PLACES_LIMIT: usize = 1 << 40;
 
 /// Those who wait, each at a place of its own in order of arrival. Who leaves leaves its place empty, so
 /// that it costs a step. Beside more than 128 places stands a tree of lower bounds on those who wait at
 /// 64 places each. They are lowered at once when one comes, and raised only by a search that found
-/// nothing. Contracts see the places, and how many more surely find room.
+/// nothing. Contracts see the places, and how many more surely find capacity.
 #[derive(Drop)]
 pub struct Places<T: Waits, A: Allocator + Copy> {
     places: Vec<Option<T>, A>,
@@ -34,16 +34,15 @@ pub struct Places<T: Waits, A: Allocator + Copy> {
 
 impl<T: Waits, A: Allocator + Copy> Model for Places<T, A> {
     ghost use Rattle.std.specs.Prelude.{◌-◌, length, min, vec_capacity};
-    ghost use Rattle.waiting_places.specs.Places.{IsPlaces, PlacesView, room_of};
+    ghost use Rattle.waiting_places.specs.Places.{IsPlaces, PlacesView, capacity_of};
 
     ghost Value = { PlacesView T };
 
-    ghost view = { λ p. record { places = p.places.items; spare = min (vec_capacity p.places) (room_of (length p.nodes.items)) - length p.places.items } };
+    ghost view = { λ p. record { places = p.places.items; spare = min (vec_capacity p.places) (capacity_of (length p.nodes.items)) - length p.places.items } };
 
     ghost invariant = { λ p. IsPlaces T.size T.estimate p.places.items p.nodes.items p.len p.head (vec_capacity p.places) };
 }
 
-// Lowers the bounds above a place for the one who comes to it, where there is a tree.
 fn note<T: Waits>(nodes: &mut [Leasts], place: usize, item: &T)
     requires { 1 ≤ length nodes.old → leaf_of (length nodes.old) place < length nodes.old }
     ensures len { length nodes.new ≡ length nodes.old }
@@ -88,14 +87,14 @@ fn place_before<T: Waits>(places: &[Option<T>], count: usize) -> usize
 fn closed_up<T: Waits, A: Allocator + Copy>(
     alloc: A,
     places: &[Option<T>],
-    room: usize,
+    capacity: usize,
 ) -> Result<Places<T, A>, Memory>
-    requires few { room ≤ 2 ^ 40 }
-    requires enough { length (waiting places.now) ≤ room }
+    requires few { capacity ≤ 2 ^ 40 }
+    requires enough { length (waiting places.now) ≤ capacity }
     ensures places { IfOk result (λ closed. closed.places ≡ map (λ item. Some item) (waiting places.now)) }
-    ensures spare { IfOk result (λ closed. room ≤ closed.spare + length (waiting places.now)) }
+    ensures spare { IfOk result (λ closed. capacity ≤ closed.spare + length (waiting places.now)) }
 {
-    let mut closed = Places::with_room(alloc, room)?;
+    let mut closed = Places::with_capacity(alloc, capacity)?;
     for item in Waiting::at(places) {
         closed.push(*item);
     }
@@ -115,15 +114,15 @@ impl<T: Waits, A: Allocator + Copy> Places<T, A> {
         }
     }
 
-    // Nobody, with room for so many.
-    fn with_room(alloc: A, room: usize) -> Result<Places<T, A>, Memory>
-        requires { room ≤ 2 ^ 40 }
+    // Nobody, with capacity for so many.
+    fn with_capacity(alloc: A, capacity: usize) -> Result<Places<T, A>, Memory>
+        requires { capacity ≤ 2 ^ 40 }
         ensures places { IfOk result (λ p. p.places ≡ []) }
-        ensures spare { IfOk result (λ p. room ≤ p.spare) }
+        ensures spare { IfOk result (λ p. capacity ≤ p.spare) }
     {
-        let nodes = nodes_for(alloc, room)?;
+        let nodes = nodes_for(alloc, capacity)?;
         Ok(Places {
-            places: Vec::with_capacity(alloc, room)?,
+            places: Vec::with_capacity(alloc, capacity)?,
             nodes,
             len: 0,
             head: 0,
@@ -144,16 +143,16 @@ impl<T: Waits, A: Allocator + Copy> Places<T, A> {
         self.len == 0
     }
 
-    /// How many more surely find room.
+    /// How many more surely find capacity.
     pub fn spare(&self) -> usize
         ensures { result ≡ self.now.spare }
     {
-        let room = LIST.max(SPAN / 2 * self.nodes.len());
-        self.places.capacity().min(room) - self.places.len()
+        let capacity = LIST.max(SPAN / 2 * self.nodes.len());
+        self.places.capacity().min(capacity) - self.places.len()
     }
 
-    /// Makes room for so many more. Where there is none, those who wait move to the first places, in
-    /// order; where there is, it takes no memory and nobody moves.
+    /// Reserves capacity for so many more. Where there is none, those who wait move to the first places,
+    /// in order; where there is, it takes no memory and nobody moves.
     ///
     /// Memory where a growth was refused; then nothing has changed.
     pub fn reserve(&mut self, count: usize) -> Result<(), Memory>
@@ -161,21 +160,21 @@ impl<T: Waits, A: Allocator + Copy> Places<T, A> {
         ensures places { (self.new.places ≡ self.old.places) ⊎ (self.new.places ≡ map (λ item. Some item) (waiting self.old.places)) }
         ensures ok { OnOk result (count ≤ self.new.spare) }
         ensures err { OnErr result (self.new ≡ self.old) }
-        ensures room { count ≤ self.old.spare → IsOk result × (self.new ≡ self.old) }
+        ensures capacity { count ≤ self.old.spare → IsOk result × (self.new ≡ self.old) }
     {
         if count <= self.spare() {
             return Ok(());
         }
-        let room = (2 * self.len).saturating_add(count).max(SPAN);
-        if room > PLACES_LIMIT {
+        let capacity = (2 * self.len).saturating_add(count).max(SPAN);
+        if capacity > PLACES_LIMIT {
             return Err(Memory);
         }
-        let closed = closed_up(*self.places.allocator(), self.places.as_slice(), room)?;
+        let closed = closed_up(*self.places.allocator(), self.places.as_slice(), capacity)?;
         *self = closed;
         Ok(())
     }
 
-    /// One comes to the next place, where there is room; the place.
+    /// One comes to the next place, where there is capacity; the place.
     pub fn push(&mut self, item: T) -> usize
         requires { 1 ≤ self.old.spare }
         ensures place { result ≡ length self.old.places }
@@ -266,7 +265,8 @@ impl<T: Waits, A: Allocator + Copy> Places<T, A> {
         place_before(self.places.as_slice(), self.len - count)
     }
 
-    /// Those who wait but for so many first ones, in order. It costs a step for each place from theirs on.
+    /// Those who wait but for so many first ones, in order. It costs a step for each place from theirs
+    /// on.
     pub fn iter_behind(&self, count: usize) -> Waiting<'_, T>
         ensures { result ≡ drop count (waiting self.now.places) }
     {

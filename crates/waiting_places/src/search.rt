@@ -10,7 +10,6 @@ use crate::offer::{Offer, holds};
 use crate::tree::{SPAN, raise, raise_leaf};
 use crate::waits::Waits;
 
-// The first place from one on where one waits.
 pub(crate) fn first_some<T: Waits>(places: &[Option<T>], from: usize) -> Option<usize>
     ensures { IsFirst is_some places.now from (length places.now) result }
 {
@@ -49,7 +48,6 @@ fn takes_at_most<T: Waits>(place: &Option<T>, most: u64) -> bool
     }
 }
 
-// The first place from one to another where one waits who fits the offer.
 pub(crate) fn first_in<T: Waits>(
     places: &[Option<T>],
     from: usize,
@@ -67,7 +65,6 @@ pub(crate) fn first_in<T: Waits>(
     None
 }
 
-// The first place of a leaf; where there is none, its bounds are made anew.
 fn first_in_leaf<T: Waits>(
     nodes: &mut [Leasts],
     places: &[Option<T>],
@@ -88,7 +85,7 @@ fn first_in_leaf<T: Waits>(
     None
 }
 
-/// The first place of those below a node, unless its bounds told that there is none.
+/// The first place of those below a node, unless its bounds showed that there is none.
 #[cycle(first_below)]
 pub(crate) fn first_below<T: Waits>(
     nodes: &mut [Leasts],
@@ -112,7 +109,6 @@ pub(crate) fn first_below<T: Waits>(
     first_within(nodes, places, part, search)
 }
 
-// The first place of those below a node; where there is none, its bounds are made anew.
 #[cycle(first_below)]
 fn first_within<T: Waits>(
     nodes: &mut [Leasts],

@@ -10,7 +10,6 @@ use crate::waits::Waits;
 /// How many places a leaf has.
 pub(crate) const SPAN: usize = 64;
 
-// Lowers the bounds of a leaf and of all nodes above it, for one more.
 pub(crate) fn lower<T: Waits>(nodes: &mut [Leasts], leaf: usize, item: &T)
     requires { leaf < length nodes.old }
     ensures len { length nodes.new ≡ length nodes.old }
@@ -26,7 +25,7 @@ pub(crate) fn lower<T: Waits>(nodes: &mut [Leasts], leaf: usize, item: &T)
 }
 
 // Makes the bounds of a node anew, from those of the two below it. Those on the estimates it leaves as
-// they are where those on the sizes told that one may fit.
+// they are where those on the sizes showed that one may fit.
 pub(crate) fn raise(nodes: &mut [Leasts], node: usize, offer: &Offer)
     requires { 2 * node + 1 < length nodes.old }
     ensures len { length nodes.new ≡ length nodes.old }
@@ -45,7 +44,7 @@ pub(crate) fn raise(nodes: &mut [Leasts], node: usize, offer: &Offer)
 }
 
 // Makes the bounds of a leaf anew, from those who wait at its places. Those on the estimates it leaves as
-// they are where those on the sizes told that one may fit.
+// they are where those on the sizes showed that one may fit.
 pub(crate) fn raise_leaf<T: Waits>(
     nodes: &mut [Leasts],
     places: &[Option<T>],

@@ -21,7 +21,6 @@ impl<'a, T: Waits> Model for Waiting<'a, T> {
     ghost view = { λ w. waiting w.places.now };
 }
 
-// The first who waits, and the places behind; None where nobody waits.
 fn split<'a, T: Waits>(places: &'a [Option<T>]) -> Option<(&'a T, &'a [Option<T>])>
     ensures { MatchOption result (waiting places.now ≡ []) (λ found. waiting places.now ≡ found.0.now ∷ waiting found.1.now) }
 {
@@ -33,7 +32,6 @@ fn split<'a, T: Waits>(places: &'a [Option<T>]) -> Option<(&'a T, &'a [Option<T>
 }
 
 impl<'a, T: Waits> Waiting<'a, T> {
-    // Those at these places.
     pub(crate) fn at(places: &'a [Option<T>]) -> Waiting<'a, T>
         ensures { result ≡ waiting places.now }
     {

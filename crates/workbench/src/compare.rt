@@ -1,5 +1,5 @@
 //! Compares the product with the plain program of the definitions: on worked logs, whose starts are
-//! told, and on many generated ones, each in both orders; and what is made anew of an old run after
+//! answered, and on many generated ones, each in both orders; and what is made anew of an old run after
 //! edits with a run from nothing. It prints how many were compared, and the seed of each log where
 //! they differ.
 
@@ -41,9 +41,9 @@ struct Plan {
     text: &'static str,
     /// How many logs there are.
     logs: u64,
-    /// What is surely counted in all of these together: the jobs that start, but of edited logs the reruns
-    /// that took over old segments, that worked a part of the event seconds, and that took over the last
-    /// old segment but not all of them.
+    /// What is surely counted in all of these together: the jobs that start, but of edited logs the
+    /// reruns that took over old segments, that worked a part of the event seconds, and that took over
+    /// the last old segment but not all of them.
     fewest: [u64; 3],
 }
 
@@ -83,7 +83,6 @@ fn scenario_of(kind: Kind, seed: u64) -> Option<Scenario> {
     }
 }
 
-// Adds the lines of a generated log; none where memory is short.
 fn add_log(log: &mut String, kind: Kind, seed: u64, scenario: &Scenario) -> Option<()> {
     let mut chance = Chance::new(seed, 54);
     match kind {
@@ -93,7 +92,6 @@ fn add_log(log: &mut String, kind: Kind, seed: u64, scenario: &Scenario) -> Opti
     }
 }
 
-// Adds what a log gives in both orders.
 fn compare_orders(alloc: Global, log: &[u8], scenario: Scenario, seed: u64, found: &mut Found) {
     let spacing = [1, 2, 7, 256][seed as usize % 4];
     for order in [Order::Arrival, Order::Shortest] {
@@ -111,7 +109,6 @@ fn compare_seed(alloc: Global, kind: Kind, seed: u64, found: &mut Found) -> Opti
     Some(())
 }
 
-// Adds what a log of a kind gives.
 fn compare_log(alloc: Global, kind: Kind, seed: u64, found: &mut Found) {
     if let Kind::Edited = kind {
         return reruns::compare(alloc, seed, found);
@@ -126,12 +123,12 @@ fn compare_log(alloc: Global, kind: Kind, seed: u64, found: &mut Found) {
 fn tell<R: Print>(rt: &R, plan: &Plan, found: Found) -> bool {
     let (text, differences) = (plan.text, found.differences);
     let is_enough = found.has(&plan.fewest);
-    let is_told = println!(rt; "{text}, {differences} differences").is_ok();
+    let is_answered = println!(rt; "{text}, {differences} differences").is_ok();
     if !is_enough {
         // Where this line cannot be written, the status still tells.
         let _ = println!(rt; "{text}: too little was compared");
     }
-    is_told && is_enough && differences == 0
+    is_answered && is_enough && differences == 0
 }
 
 // Compares all logs of a kind: whether nothing differs.

@@ -1,7 +1,7 @@
-//! Changes logs and scripts at random, gives them to the reader and to the call that works a script,
-//! and counts the answers: 10,000 of each, or as many as are asked for. Besides, each beginning of a log
-//! is read; readers and writers fail at each of their calls; plain runs, scripts, and scripts side by
-//! side are worked where each growth is refused in turn; two workers cross; and a conversation is to flush
+//! Changes logs and scripts at random, gives them to the reader and to the call that works a script, and
+//! counts the answers: 10,000 of each, or as many as are asked for. Besides, each beginning of a log is
+//! read; readers and writers fail at each of their calls; plain runs, scripts, and scripts side by side
+//! are worked where each growth is refused in turn; two workers cross; and a conversation is to flush
 //! each answer. It is wrong where an answer is not one of those that are stated, where a log is read
 //! otherwise once it was written, and where a kind of answers that may come does not.
 
@@ -52,7 +52,6 @@ const PARTS: [Part; 8] = [
     Part::Held,
 ];
 
-// What is told of a part.
 fn text_of(part: Part) -> &'static str {
     match part {
         Part::Changed => "10000 logs and 10000 scripts, changed at random: all answers as stated",
@@ -67,7 +66,6 @@ fn text_of(part: Part) -> &'static str {
     }
 }
 
-// Does a part: whether all is right.
 fn is_right<R: AllocGlobal + Eprint + Threads + Wait + Sync>(rt: &R, part: Part) -> Result<bool> {
     let alloc = rt.alloc();
     let is_right = match part {
@@ -75,15 +73,14 @@ fn is_right<R: AllocGlobal + Eprint + Threads + Wait + Sync>(rt: &R, part: Part)
         Part::Cut => are_cut_as_stated(alloc),
         Part::Readers => devices::are_read(rt),
         Part::Writers => devices::are_written(rt)?,
-        Part::Growths => growths::are_told(rt),
-        Part::GrowthsBeside => growths::are_told_beside(rt),
+        Part::Growths => growths::are_answered(rt),
+        Part::GrowthsBeside => growths::are_answered_beside(rt),
         Part::Crossed => crossed::are_beside(rt),
         Part::Held => held::is_flushed(rt),
     };
     Ok(is_right)
 }
 
-// Does all parts, and tells of each: whether all is right.
 pub(crate) fn run_short<R: AllocGlobal + Print + Eprint + Threads + Wait + Sync>(
     rt: &R,
 ) -> Result<bool> {

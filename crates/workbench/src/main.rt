@@ -1,14 +1,14 @@
-//! Tries the product and times it: compares what runs with the plain program of the definitions, gives the product
-//! logs and scripts that are changed at random, readers and writers that fail and growths that are refused, and times a
-//! plain run and its edits.
+//! Tries the product and times it: compares what runs with the plain program of the definitions, gives
+//! the product logs and scripts that are changed at random, readers and writers that fail and growths
+//! that are refused, and times a plain run and its edits.
 //!
 //!     workbench
 //!     workbench fuzz ROUNDS
 //!     workbench time LOG PROCESSORS [changes|insertions]
 //!
-//! Without a word it compares and tries, and its status is 1 where something is wrong. The second form changes so
-//! many logs and scripts, and counts what they are answered. The third times the parts of a plain run of a log, or
-//! 200 edits of that kind.
+//! Without a word it compares and tries, and its status is 1 where something is wrong. The second form
+//! changes so many logs and scripts, and counts what they are answered. The third times the parts of a
+//! plain run of a log, or 200 edits of that kind.
 #![tactic(auto)]
 
 mod compare;
@@ -24,7 +24,6 @@ use std::rt::{Clock, Env, Files};
 use std::sync::Wait;
 use std::thread::Threads;
 
-// Compares, and then changes at random: whether all is right.
 fn run_all<R: AllocGlobal + Print + Eprint + Threads + Wait + Sync>(rt: &R) -> Result<bool> {
     let is_same = compare::run(rt);
     Ok(fuzz::run_short(rt)? && is_same)
@@ -35,7 +34,6 @@ fn run_fuzz<R: AllocGlobal + Print + Threads + Sync>(rt: &R, rounds: &str) -> Re
     fuzz::run_long(rt, rounds.parse().context("how many")?)
 }
 
-// Times what these words ask for.
 fn run_time<R: AllocGlobal + Clock + Files + Print + Threads + Sync>(
     rt: &R,
     name: &str,
@@ -46,7 +44,6 @@ fn run_time<R: AllocGlobal + Clock + Files + Print + Threads + Sync>(
     Ok(true)
 }
 
-// Does what these words ask for.
 fn run_words<R: AllocGlobal + Clock + Files + Print + Threads + Sync>(
     rt: &R,
     words: [Option<&str>; 4],

@@ -1,5 +1,6 @@
-//! Times a plain run of a log on a machine: reading, by one thread and by several, opening, simulating and
-//! printing, and ten thousand edits of its table, twice; or 200 edits, each until its run is published.
+//! Times a plain run of a log on a machine: reading, by one thread and by several, opening, simulating
+//! and printing, and ten thousand edits of its table, twice; or 200 edits, each until its run is
+//! published.
 
 mod edits;
 mod fault;
@@ -23,7 +24,6 @@ enum Task {
     Edits(Kind),
 }
 
-// What the third word asks for.
 fn task_of(word: Option<&str>) -> Option<Task> {
     match word {
         None => Some(Task::Parts),
@@ -33,14 +33,12 @@ fn task_of(word: Option<&str>) -> Option<Task> {
     }
 }
 
-// Prints how long it took to read the file, and its size.
 fn tell_file<R: Clock + Print>(timer: &mut Timer<'_, R>, bytes: usize) {
     let took = timer.took() / 1_000_000;
     let is_printed = println!(timer.rt; "file {took} ms, {bytes} bytes").is_ok();
     timer.note(is_printed);
 }
 
-// Times what is asked for of a log.
 fn time_log<R: AllocGlobal + Clock + Print + Threads + Sync>(
     timer: &mut Timer<'_, R>,
     log: &[u8],
@@ -53,7 +51,6 @@ fn time_log<R: AllocGlobal + Clock + Print + Threads + Sync>(
     }
 }
 
-// The same of the log in a file.
 fn time_file<R: AllocGlobal + Clock + Files + Print + Threads + Sync>(
     rt: &R,
     name: &str,

@@ -26,7 +26,7 @@ refused-claim old new who why.JournalFull is book h = cc
 refused-claim old new who (why.Fault fault) is book h = cc
 refused-claim old new who why.Memory is book h = refused old new who Claim book h
 
-pub refused-finish : (old new : BookView) (who : Caller) (ticket : ℕ) (told : Result ℕ (Refusal FinishFault)) → IsBook old → Answers old new who (Finish ticket (fitted told)) (finish_answer told) → end_of told ≡ Some ends.Memory → WasRefused who
+pub refused-finish : (old new : BookView) (who : Caller) (ticket : ℕ) (outcome : Result ℕ (Refusal FinishFault)) → IsBook old → Answers old new who (Finish ticket (fitted outcome)) (finish_answer outcome) → end_of outcome ≡ Some ends.Memory → WasRefused who
 refused-finish old new who ticket (Ok version) book h is = cc
 refused-finish old new who ticket (Err why.JournalFull) book h is = cc
 refused-finish old new who ticket (Err (why.Fault finish.UnknownTicket)) book h is = cc
@@ -34,7 +34,7 @@ refused-finish old new who ticket (Err (why.Fault finish.Stranger)) book h is = 
 refused-finish old new who ticket (Err (why.Fault (finish.Stale published))) book h is = cc
 refused-finish old new who ticket (Err why.Memory) book h is = refused old new who (Finish ticket false) book h
 
-pub refused-give-up : (old new : BookView) (who : Caller) (ticket : ℕ) (told : Result (Unit {0}) (Refusal UnknownTicket)) → IsBook old → Answers old new who (GiveUp ticket) (give_up_answer told) → end_of told ≡ Some ends.Memory → WasRefused who
+pub refused-give-up : (old new : BookView) (who : Caller) (ticket : ℕ) (outcome : Result (Unit {0}) (Refusal UnknownTicket)) → IsBook old → Answers old new who (GiveUp ticket) (give_up_answer outcome) → end_of outcome ≡ Some ends.Memory → WasRefused who
 refused-give-up old new who ticket (Ok u) book h is = cc
 refused-give-up old new who ticket (Err why.JournalFull) book h is = cc
 refused-give-up old new who ticket (Err (why.Fault fault)) book h is = cc

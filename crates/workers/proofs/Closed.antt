@@ -7,7 +7,7 @@ use Rattle.chronicle.specs.Events.{IsLegalFrom}
 use Rattle.chronicle.specs.Fronts.{Seen}
 use Rattle.version_book.specs.Book.{BookView}
 use Rattle.workers.specs.Callers.{SessionView, WorkerView}
-use Rattle.workers.specs.Closing.{AreAll, AreOpened, IsTheirs, IsTold, SpeaksAgainst, StandInOne}
+use Rattle.workers.specs.Closing.{AreAll, AreOpened, IsTheirs, IsAnswered, SpeaksAgainst, StandInOne}
 use Rattle.workers.specs.declared.close_fault.CloseFault.{CloseFault}
 use Rattle.workers.specs.Tied.{IsTied, opened_sessions, opened_workers}
 use Rattle.workers.proofs.Tying.{lain}
@@ -26,10 +26,10 @@ all_in all sessions workers opened theirs =
     (opened_all sessions workers (length sessions) (length workers) (opened_sessions all.events) (opened_workers all.events) a.as_many_sessions a.as_many_workers).1 a
 
 -- the lists are the notes after the opening ones
-pub told_in : (opening : Machine) (n : ℕ) (book : BookView) (all : Seen) (s w : ℕ) (stopped : Bool) (sessions : List SessionView) (workers : List WorkerView)
-    → n ≡ opening.notes → IsTied opening (lain book all s w stopped) → IsTheirs all sessions workers → IsTold sessions workers (drop n book.journal)
-told_in opening n book all s w stopped sessions workers at tied theirs =
-    subst (λ (ns : List Noted). IsTold sessions workers ns) ((tied theirs.kept).notes ∙ ap (λ (k : ℕ). drop k book.journal) (sym at)) theirs.lists
+pub outcome_in : (opening : Machine) (n : ℕ) (book : BookView) (all : Seen) (s w : ℕ) (stopped : Bool) (sessions : List SessionView) (workers : List WorkerView)
+    → n ≡ opening.notes → IsTied opening (lain book all s w stopped) → IsTheirs all sessions workers → IsAnswered sessions workers (drop n book.journal)
+outcome_in opening n book all s w stopped sessions workers at tied theirs =
+    subst (λ (ns : List Noted). IsAnswered sessions workers ns) ((tied theirs.kept).notes ∙ ap (λ (k : ℕ). drop k book.journal) (sym at)) theirs.lists
 
 -- all sessions stand in the history
 pub stand_in : (opening : Machine) (n : ℕ) (book : BookView) (all : Seen) (s w : ℕ) (stopped : Bool) (sessions : List SessionView) (workers : List WorkerView)

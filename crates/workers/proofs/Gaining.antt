@@ -10,7 +10,7 @@ use Rattle.book_machine.specs.declared.reply.Reply.{Reply}
 use Rattle.book_machine.specs.Call.{BookCall}
 use Rattle.book_machine.specs.History.{Noted}
 use Rattle.version_book.specs.Book.{BookView}
-use Rattle.version_book.specs.Steps.{Answer, Answers, full, memory, told, reply_in, note_of}
+use Rattle.version_book.specs.Steps.{Answer, Answers, full, memory, outcome, reply_in, note_of}
 use Rattle.workers.specs.Lists.{Exchanged, Gains, gained, reply_behind}
 
 behind_all : (xs : List Noted) → reply_behind (length xs) xs ≡ None
@@ -26,12 +26,12 @@ behind_last xs x =
 noted : (old new : BookView) (who : Caller) (call : BookCall) (answer : Answer) → Answers old new who call answer → reply_behind (length old.journal) new.journal ≡ reply_in answer
 noted old new who call full h = ap (λ (b : BookView). reply_behind (length old.journal) b.journal) h.1 ∙ behind_all old.journal
 noted old new who call memory h = ap (λ (b : BookView). reply_behind (length old.journal) b.journal) h.1 ∙ behind_all old.journal
-noted old new who call (told reply) h = ap (reply_behind (length old.journal)) h.3 ∙ behind_last old.journal (note_of who call reply)
+noted old new who call (outcome reply) h = ap (reply_behind (length old.journal)) h.3 ∙ behind_last old.journal (note_of who call reply)
 
 gains_reply : (old new : List Exchanged) (call : BookCall) (answer : Answer) → new ≡ old ++ gained call (reply_in answer) → Gains old new call answer
 gains_reply old new call full is = is ∙ append-nil old
 gains_reply old new call memory is = is ∙ append-nil old
-gains_reply old new call (told reply) is = is
+gains_reply old new call (outcome reply) is = is
 
 -- a list to which the noted reply was added gains the call
 pub gains : (old new : BookView) (who : Caller) (call called : BookCall) (answer : Answer) (list more : List Exchanged) (notes : ℕ) (reply : Option Reply)

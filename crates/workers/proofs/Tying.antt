@@ -24,9 +24,9 @@ use Rattle.version_book.specs.declared.refusal.Refusal.TheVariants as why
 use Rattle.version_book.specs.Answers.{view_answer}
 use Rattle.version_book.specs.Book.{BookView, machine_of}
 use Rattle.version_book.specs.Sound.{IsBook}
-use Rattle.version_book.specs.Steps.{Answer, Answers, full, memory, told, note_of}
+use Rattle.version_book.specs.Steps.{Answer, Answers, full, memory, outcome, note_of}
 use Rattle.version_book.specs.Tasks.{IsShownFor}
-use Rattle.workers.specs.Callers.{most, next_caller}
+use Rattle.workers.specs.Callers.{callers_limit, next_caller}
 use Rattle.workers.specs.History.{Calls, CalledAt, Views}
 use Rattle.workers.specs.Settling.{has_stopped, is_stop}
 use Rattle.workers.specs.Tied.{AreOne, Hears, IsTied, SharedView, opened_sessions, opened_workers, opens_session, opens_worker}
@@ -49,20 +49,20 @@ behind_last xs x =
 abbrev noted_by : Caller → BookCall → Answer → Option Noted
 noted_by who call full = None
 noted_by who call memory = None
-noted_by who call (told reply) = Some (note_of who call reply)
+noted_by who call (outcome reply) = Some (note_of who call reply)
 
 behind : (old new : BookView) (who : Caller) (call : BookCall) (answer : Answer) (notes : ℕ) → Answers old new who call answer → notes ≡ length old.journal
     → slice_get new.journal notes ≡ noted_by who call answer
 behind old new who call full notes h from = ap (λ (n : ℕ). slice_get new.journal n) from ∙ (ap (λ (b : BookView). slice_get b.journal (length old.journal)) h.1 ∙ behind_all old.journal)
 behind old new who call memory notes h from = ap (λ (n : ℕ). slice_get new.journal n) from ∙ (ap (λ (b : BookView). slice_get b.journal (length old.journal)) h.1 ∙ behind_all old.journal)
-behind old new who call (told reply) notes h from =
+behind old new who call (outcome reply) notes h from =
     ap (λ (n : ℕ). slice_get new.journal n) from ∙ (ap (λ (js : List Noted). slice_get js (length old.journal)) h.3 ∙ behind_last old.journal (note_of who call reply))
 
 fits : (opening : Machine) (old new : BookView) (history : Seen) (who : Caller) (call : BookCall) (answer : Answer)
     → state_after opening history.events ≡ machine_of old → Answers old new who call answer → IfSome (noted_by who call answer) (IsAccepted (state_after opening history.events))
 fits opening old new history who call full at h = tt
 fits opening old new history who call memory at h = tt
-fits opening old new history who call (told reply) at h = subst (λ (m : Machine). IsAccepted m (note_of who call reply)) (sym at) (h.0, h.1)
+fits opening old new history who call (outcome reply) at h = subst (λ (m : Machine). IsAccepted m (note_of who call reply)) (sym at) (h.0, h.1)
 
 -- the machine accepts what the book noted
 pub accepted : (opening : Machine) (old new : BookView) (history : Seen) (sessions workers : ℕ) (stopped : Bool) (who : Caller) (call : BookCall) (answer : Answer) (notes : ℕ)
@@ -93,7 +93,7 @@ or_true false = refl
 
 -- the next caller's number is how many there were
 pub next_is : (opened n : ℕ) → next_caller opened ≡ Some n → n ≡ opened
-next_is opened n is = go (nat_lt opened most) is
+next_is opened n is = go (nat_lt opened callers_limit) is
   where
     go : (b : Bool) → (if b then Some opened else None) ≡ Some n → n ≡ opened
     go true e = cc
@@ -124,7 +124,7 @@ tied_by : (opening : Machine) (old new : BookView) (history later : Seen) (sessi
     → IsTied opening (lain old history sessions workers stopped) → Answers old new who call answer → Hears history (noted_by who call answer) later → IsTied opening (lain new later sessions workers stopped)
 tied_by opening old new history later sessions workers stopped who call full tied h hears = stays opening old new history later sessions workers stopped tied h.1 hears
 tied_by opening old new history later sessions workers stopped who call memory tied h hears = stays opening old new history later sessions workers stopped tied h.1 hears
-tied_by opening old new history later sessions workers stopped who call (told reply) tied h hears = λ kept.
+tied_by opening old new history later sessions workers stopped who call (outcome reply) tied h hears = λ kept.
     let added = hears.0 kept in
     grows opening old new history later sessions workers stopped who call reply (tied added.0) added.1 h.2 h.3
 
@@ -178,7 +178,7 @@ called_at : (opening : Machine) (old new : BookView) (history later front : Seen
     → CalledAt opening history.events who call answer front.events
 called_at opening old new history later front who call full at h hears kept is = (ap (λ (m : Machine). m.notes) at ∙ h.0, is ∙ ap (λ (s : Seen). s.events) hears)
 called_at opening old new history later front who call memory at h hears kept is = is ∙ ap (λ (s : Seen). s.events) hears
-called_at opening old new history later front who call (told reply) at h hears kept is =
+called_at opening old new history later front who call (outcome reply) at h hears kept is =
     let fits : IsAccepted (state_after opening history.events) (note_of who call reply) = subst (λ (m : Machine). IsAccepted m (note_of who call reply)) (sym at) (h.0, h.1) in
     (fits.0, fits.1, is ∙ (hears.0 kept).1)
 

@@ -15,33 +15,33 @@ pub record SessionView : Type 0 where
 pub record WorkerView : Type 0 where
   pub number : ℕ
   pub list : List Exchanged
-  pub room : ℕ
+  pub capacity : ℕ
 
 -- the most sessions that a desk opens, and the most workers
-abbrev pub most : ℕ
-most = 64
+abbrev pub callers_limit : ℕ
+callers_limit = 64
 
 -- the number of the next caller of a kind, where this many were opened
 abbrev pub next_caller : ℕ → Option ℕ
-next_caller opened = if nat_lt opened most then Some opened else None
+next_caller opened = if nat_lt opened callers_limit then Some opened else None
 
 -- how many were opened then
 abbrev pub opened_after : ℕ → ℕ
-opened_after opened = if nat_lt opened most then opened + 1 else opened
+opened_after opened = if nat_lt opened callers_limit then opened + 1 else opened
 
 -- a caller that has made no call
 abbrev pub new_session : ℕ → Seen → SessionView
 new_session number front = record { number = number; list = []; seen = 0; front = front }
 
 abbrev pub new_worker : ℕ → WorkerView
-new_worker number = record { number = number; list = []; room = 0 }
+new_worker number = record { number = number; list = []; capacity = 0 }
 
--- one that was just opened, under a number below 64
+-- one that was just opened, under a number below the limit
 abbrev pub IsNewSession : SessionView → Type 0
-IsNewSession s = (s ≡ new_session s.number s.front) × (s.number < most)
+IsNewSession s = (s ≡ new_session s.number s.front) × (s.number < callers_limit)
 
 abbrev pub IsNewWorker : WorkerView → Type 0
-IsNewWorker w = (w ≡ new_worker w.number) × (w.number < most)
+IsNewWorker w = (w ≡ new_worker w.number) × (w.number < callers_limit)
 
 -- what a session has seen after an edit
 abbrev pub seen_after : {E : Type 0} → ℕ → Result ℕ E → ℕ

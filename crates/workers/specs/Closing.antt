@@ -27,7 +27,7 @@ is_known sessions workers n =
     || list_any (λ (w : WorkerView). same_caller n.caller (caller.Worker w.number)) workers
 
 -- The lists are the notes: each caller's list is the part with its name, in order, and no note is anyone else's.
-pub record IsTold (sessions : List SessionView) (workers : List WorkerView) (notes : List Noted) : Type 0 where
+pub record IsAnswered (sessions : List SessionView) (workers : List WorkerView) (notes : List Noted) : Type 0 where
   pub by_sessions : SessionsTell sessions notes
   pub by_workers : WorkersTell workers notes
   pub known : All (λ (n : Noted). is_known sessions workers n ≡ true) notes
@@ -55,7 +55,7 @@ StandInOne opening sessions notes =
 pub record IsTheirs (all : Seen) (sessions : List SessionView) (workers : List WorkerView) : Type 0 where
   pub kept : all.kept ≡ true
   pub fronts : All (λ (s : SessionView). Begins s.front all) sessions
-  pub lists : IsTold sessions workers (notes_of all.events)
+  pub lists : IsAnswered sessions workers (notes_of all.events)
 
 -- the callers are all that were opened in the history
 abbrev pub AreOpened : Seen → List SessionView → List WorkerView → Type 0
@@ -63,9 +63,9 @@ AreOpened all sessions workers = all.kept ≡ true → AreAll (opened_sessions a
 
 -- What speaks against closing: that callers are missing, or else that the history is not theirs; each exactly where it holds.
 abbrev pub SpeaksAgainst : Type 0 → Type 0 → Option CloseFault → Type 0
-SpeaksAgainst AreIn Told None = AreIn × Told
-SpeaksAgainst AreIn Told (Some faults.StillOut) = AreIn → ⊥
-SpeaksAgainst AreIn Told (Some faults.Mismatch) = AreIn × (Told → ⊥)
+SpeaksAgainst AreIn Answered None = AreIn × Answered
+SpeaksAgainst AreIn Answered (Some faults.StillOut) = AreIn → ⊥
+SpeaksAgainst AreIn Answered (Some faults.Mismatch) = AreIn × (Answered → ⊥)
 
 -- the desk stays open for this fault, beside all of its history
 abbrev pub StaysFor : CloseFault → Option Seen → List SessionView → List WorkerView → Type 0

@@ -16,7 +16,7 @@ use Rattle.version_book.specs.declared.refusal.Refusal.TheVariants as why
 use Rattle.version_book.specs.Answers.{view_answer}
 use Rattle.version_book.specs.Book.{BookView, machine_of}
 use Rattle.version_book.specs.Sound.{IsBook}
-use Rattle.version_book.specs.Steps.{Answer, full, memory, told, note_of}
+use Rattle.version_book.specs.Steps.{Answer, full, memory, outcome, note_of}
 use Rattle.version_book.specs.Tasks.{IsShownFor}
 use Rattle.workers.specs.Settling.{has_stopped}
 use Rattle.workers.specs.declared.current.Current.{Current}
@@ -33,7 +33,7 @@ EndsOpened who front = front.kept ≡ true → (before : List Happened) × (fron
 abbrev pub CalledAt : Machine → List Happened → Caller → BookCall → Answer → List Happened → Type 0
 CalledAt opening before who call full after = ((state_after opening before).notes ≡ note_limit) × (after ≡ before)
 CalledAt opening before who call memory after = after ≡ before
-CalledAt opening before who call (told reply) after =
+CalledAt opening before who call (outcome reply) after =
     ((state_after opening before).notes < note_limit) × (reply ≡ reply_to call (state_after opening before)) × (after ≡ before ++ Called (note_of who call reply) ∷ [])
 
 -- the history went on, and then the call was made

@@ -8,7 +8,7 @@ use Rattle.book_machine.specs.declared.reply.Reply.{Reply}
 use Rattle.book_machine.specs.Call.{BookCall}
 use Rattle.book_machine.specs.History.{Noted}
 use Rattle.book_machine.specs.Noted.{call_of}
-use Rattle.version_book.specs.Steps.{Answer, full, memory, told}
+use Rattle.version_book.specs.Steps.{Answer, full, memory, outcome}
 use Rattle.workers.specs.declared.listed_call.ListedCall.{ListedCall}
 
 -- a call that its caller made, and the reply that it got
@@ -51,4 +51,4 @@ reply_behind n notes = option_map (λ (note : Noted). note.reply) (slice_get not
 abbrev pub Gains : List Exchanged → List Exchanged → BookCall → Answer → Type 0
 Gains old new call full = new ≡ old
 Gains old new call memory = new ≡ old
-Gains old new call (told reply) = new ≡ old ++ exchanged call reply ∷ []
+Gains old new call (outcome reply) = new ≡ old ++ exchanged call reply ∷ []

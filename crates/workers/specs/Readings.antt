@@ -51,4 +51,4 @@ WasRefused who = (b : BookView) × (call : BookCall) × IsBook b × Answers b b 
 
 -- Memory ran out for a call of the worker: its list has no capacity for it, or a book refused it.
 abbrev pub LackedMemory : WorkerView → Type 0
-LackedMemory w = (w.room ≡ 0) ⊎ WasRefused (caller.Worker w.number)
+LackedMemory w = (w.capacity ≡ 0) ⊎ WasRefused (caller.Worker w.number)

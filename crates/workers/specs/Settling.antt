@@ -11,14 +11,14 @@ use Rattle.workers.specs.declared.settled.Settled.{Settled}
 use Rattle.workers.specs.declared.settled.Settled.TheVariants as settled_as
 
 -- by how far the scenarios are, and whether the desk is stopped; none: it waits on
-abbrev pub told_settled : SettleState → Bool → Option Settled
-told_settled state.Waiting stopped = if stopped then Some settled_as.Stopped else None
-told_settled (state.Failed n) stopped = Some (settled_as.Failed n)
-told_settled state.Done stopped = Some settled_as.Done
+abbrev pub outcome_settled : SettleState → Bool → Option Settled
+outcome_settled state.Waiting stopped = if stopped then Some settled_as.Stopped else None
+outcome_settled (state.Failed n) stopped = Some (settled_as.Failed n)
+outcome_settled state.Done stopped = Some settled_as.Done
 
 -- At some moment the wait of a session that has seen this version returned this.
 abbrev pub IsSettledOnce : ℕ → Settled → Type 0
-IsSettledOnce seen answer = (b : BookView) × (stopped : Bool) × IsBook b × (told_settled (settled seen (machine_of b)) stopped ≡ Some answer)
+IsSettledOnce seen answer = (b : BookView) × (stopped : Bool) × IsBook b × (outcome_settled (settled seen (machine_of b)) stopped ≡ Some answer)
 
 -- ---- stops
 

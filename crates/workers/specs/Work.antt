@@ -84,9 +84,9 @@ abbrev pub GivesUp : ℕ → List Exchanged → List Exchanged → Option Worker
 GivesUp ticket old new end =
     (answer : Result (Unit {0}) (Refusal UnknownTicket)) × Gains old new (GiveUp ticket) (give_up_answer answer) × (end ≡ end_of answer)
 
--- a run that was made is one of the task's log and setting
+-- a run that was made is one of the task's log and scenario
 abbrev pub IsWanted : TaskView → Option RunView → Type 0
-IsWanted task made = IfSome made (λ (run : RunView). (run.log ≡ task.log) × (run.setting ≡ task.setting))
+IsWanted task made = IfSome made (λ (run : RunView). (run.log ≡ task.log) × (run.scenario ≡ task.scenario))
 
 -- a run that was made is handed in, and where none was the ticket is given up
 abbrev pub HandsIn : ℕ → Option RunView → List Exchanged → List Exchanged → Option WorkerEnd → Type 0

@@ -3,11 +3,11 @@ ghost use Rattle.std.specs.List.{All};
 ghost use Rattle.chronicle.specs.Fronts.{Begins};
 ghost use Rattle.version_book.specs.Sound.{IsBook};
 ghost use Rattle.workers.specs.Callers.{SessionView};
-ghost use Rattle.workers.specs.Closing.{AreAll, AreOpened, IsTheirs, IsTold, SpeaksAgainst, StandInOne, StaysFor};
+ghost use Rattle.workers.specs.Closing.{AreAll, AreOpened, IsTheirs, IsAnswered, SpeaksAgainst, StandInOne, StaysFor};
 
 use crate::close_fault::CloseFault;
 use crate::desk::Desk;
-use crate::listing::is_told;
+use crate::listing::is_answered;
 use crate::parts::later_notes;
 use crate::roster::are_opened;
 use crate::session::Session;
@@ -18,7 +18,6 @@ use std::alloc::Allocator;
 use std::sync::{Condvar, Mutex};
 use version_book::Book;
 
-// Whether each session's part of the history begins the desk's.
 fn sessions_begin<A: Allocator + Copy, J: Naming>(
     sessions: &[Session<A, J>],
     whole: &Whole<J>,
@@ -33,7 +32,6 @@ fn sessions_begin<A: Allocator + Copy, J: Naming>(
     true
 }
 
-// Whether the history is that of the callers.
 fn is_theirs<A: Allocator + Copy, J: Naming>(
     shared: &Shared<A, J>,
     opening: usize,
@@ -49,14 +47,13 @@ fn is_theirs<A: Allocator + Copy, J: Naming>(
     if !sessions_begin(sessions, &shared.whole) {
         return false;
     }
-    is_told(
+    is_answered(
         sessions,
         workers,
         later_notes(shared.book.journal(), opening),
     )
 }
 
-// The fault of closing, if there is one.
 fn fault_of<A: Allocator + Copy, J: Naming>(
     shared: &Shared<A, J>,
     opening: usize,
@@ -76,7 +73,6 @@ fn fault_of<A: Allocator + Copy, J: Naming>(
     }
 }
 
-// Closes what lay under the lock: the book, or the fault with all that was passed in.
 fn closed<A: Allocator + Copy, J: Naming>(
     shared: Shared<A, J>,
     opening: usize,
@@ -94,7 +90,7 @@ fn closed<A: Allocator + Copy, J: Naming>(
     requires { opening ≡ J.opening.notes }
     ensures book { IfOk result IsBook }
     ensures all { IfOk result (λ b. AreAll (length sessions.items) (length workers.items) sessions.items workers.items) }
-    ensures told { IfOk result (λ b. IsTold sessions.items workers.items (drop opening b.journal)) }
+    ensures outcome { IfOk result (λ b. IsAnswered sessions.items workers.items (drop opening b.journal)) }
     ensures history { IfOk result (λ b. StandInOne J.opening sessions.items (drop opening b.journal)) }
     ensures fault { IfErr result (λ e. StaysFor e.0 (Some e.1.history) sessions.items workers.items) }
     ensures back { IfErr result (λ e. (e.2 ≡ sessions) × (e.3 ≡ workers)) }
@@ -106,12 +102,11 @@ fn closed<A: Allocator + Copy, J: Naming>(
     }
 }
 
-// A desk again over what closing returned, with the fault.
 fn reopened<A: Allocator + Copy, J: Naming>(
     alloc: A,
     opening: usize,
     changed: Condvar,
-    told: (
+    outcome: (
         CloseFault,
         Shared<A, J>,
         Vec<Session<A, J>, A>,
@@ -124,11 +119,11 @@ fn reopened<A: Allocator + Copy, J: Naming>(
     Vec<Worker<A>, A>,
 )
     requires { opening ≡ J.opening.notes }
-    ensures fault { result.0 ≡ told.0 }
-    ensures closed { result.1.closed ≡ Some told.1.history }
-    ensures back { (result.1.opening ≡ opening) × (result.2 ≡ told.2) × (result.3 ≡ told.3) }
+    ensures fault { result.0 ≡ outcome.0 }
+    ensures closed { result.1.closed ≡ Some outcome.1.history }
+    ensures back { (result.1.opening ≡ opening) × (result.2 ≡ outcome.2) × (result.3 ≡ outcome.3) }
 {
-    let (fault, shared, sessions, workers) = told;
+    let (fault, shared, sessions, workers) = outcome;
     let desk = Desk {
         alloc,
         opening,
@@ -163,7 +158,7 @@ pub fn close<A: Allocator + Copy, J: Naming>(
 >
     ensures book { IfOk result IsBook }
     ensures all { IfOk result (λ b. AreAll (length sessions.items) (length workers.items) sessions.items workers.items) }
-    ensures told { IfOk result (λ b. IsTold sessions.items workers.items (drop desk.opening b.journal)) }
+    ensures outcome { IfOk result (λ b. IsAnswered sessions.items workers.items (drop desk.opening b.journal)) }
     ensures history { IfOk result (λ b. StandInOne J.opening sessions.items (drop desk.opening b.journal)) }
     ensures fault { IfErr result (λ e. StaysFor e.0 e.1.closed sessions.items workers.items) }
     ensures back { IfErr result (λ e. (e.1.opening ≡ desk.opening) × (e.2 ≡ sessions) × (e.3 ≡ workers)) }
@@ -177,6 +172,6 @@ pub fn close<A: Allocator + Copy, J: Naming>(
     } = desk;
     match closed(shared.into_inner(), opening, sessions, workers) {
         Ok(book) => Ok(book),
-        Err(told) => Err(reopened(alloc, opening, changed, told)),
+        Err(outcome) => Err(reopened(alloc, opening, changed, outcome)),
     }
 }

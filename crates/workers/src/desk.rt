@@ -6,7 +6,7 @@ ghost use Rattle.version_book.specs.Book.{machine_of};
 ghost use Rattle.workers.specs.Callers.{IsNewSession, IsNewWorker};
 ghost use Rattle.workers.specs.History.{EndsOpened};
 ghost use Rattle.workers.specs.Readings.{is_idle};
-ghost use Rattle.workers.specs.Settling.{told_settled};
+ghost use Rattle.workers.specs.Settling.{outcome_settled};
 
 use crate::session::Session;
 use crate::shared::Shared;
@@ -83,7 +83,7 @@ impl<A: Allocator + Copy, J: Naming> Desk<A, J> {
     // The lock, taken once a session that has seen this version need not wait any longer; until then it
     // sleeps.
     pub(crate) fn when_settled<R: Wait>(&self, rt: &R, seen: u64) -> MutexGuard<'_, Shared<A, J>>
-        ensures { is_none (told_settled (settled seen (machine_of (mutex_guard_value result).book)) (mutex_guard_value result).stopped) ≡ false }
+        ensures { is_none (outcome_settled (settled seen (machine_of (mutex_guard_value result).book)) (mutex_guard_value result).stopped) ≡ false }
     {
         self.changed.wait_while(
             rt,

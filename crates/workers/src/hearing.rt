@@ -14,7 +14,6 @@ use chronicle::{Front, Naming, Whole};
 use std::alloc::Allocator;
 use version_book::Book;
 
-// How many calls were noted.
 pub(crate) fn notes_in<A: Allocator + Copy>(book: &Book<A>) -> usize
     ensures count { result ≡ length book.now.journal }
     ensures book { IsBook book.now }
@@ -23,14 +22,12 @@ pub(crate) fn notes_in<A: Allocator + Copy>(book: &Book<A>) -> usize
     book.journal().len()
 }
 
-// The note after the first `notes`, if there is one.
 fn note_behind<A: Allocator + Copy>(book: &Book<A>, notes: usize) -> Option<&Note<A>>
     ensures { option_map noted_of (option_copied result) ≡ slice_get book.now.journal notes }
 {
     book.journal().get(notes)
 }
 
-// Records the note after the first `notes` in the history, if there is one, and returns its reply.
 pub(crate) fn heard<A: Allocator + Copy, J: Naming>(
     whole: &mut Whole<J>,
     book: &Book<A>,
@@ -45,7 +42,6 @@ pub(crate) fn heard<A: Allocator + Copy, J: Naming>(
     Some(note.reply)
 }
 
-// The same, and the front advances past the note.
 pub(crate) fn followed<A: Allocator + Copy, J: Naming>(
     whole: &mut Whole<J>,
     front: &mut Front<J>,

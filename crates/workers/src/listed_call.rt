@@ -18,19 +18,18 @@ pub(crate) fn reserve_call<A: Allocator + Copy>(
     list: &mut Vec<ListedCall<A>, A>,
 ) -> Result<(), Memory>
     ensures items { list.new.items ≡ list.old.items }
-    ensures room { OnOk result (vec_len list.new < vec_capacity list.new) }
+    ensures capacity { OnOk result (vec_len list.new < vec_capacity list.new) }
     ensures none { OnErr result (vec_capacity list.new ≤ vec_len list.new) }
 {
     Ok(list.reserve(1)?)
 }
 
-// Adds a call with its reply, if it has one, for which there is capacity.
 pub(crate) fn keep<A: Allocator + Copy>(
     list: &mut Vec<ListedCall<A>, A>,
     call: Call<A>,
     reply: Option<Reply>,
 )
-    requires room { vec_len list.old < vec_capacity list.old }
+    requires capacity { vec_len list.old < vec_capacity list.old }
     ensures { map exchanged_of list.new.items ≡ map exchanged_of list.old.items ++ gained (call_of call) reply }
 {
     if let Some(reply) = reply {

@@ -6,7 +6,7 @@ ghost use Rattle.book_machine.specs.History.{Noted};
 ghost use Rattle.book_machine.specs.Noted.{noted_of};
 ghost use Rattle.workers.specs.Callers.{SessionView, WorkerView};
 ghost use Rattle.workers.specs.Lists.{same_caller};
-ghost use Rattle.workers.specs.Closing.{IsTold, SessionsTell, WorkersTell, is_known};
+ghost use Rattle.workers.specs.Closing.{IsAnswered, SessionsTell, WorkersTell, is_known};
 
 use crate::parts::{is_part, is_same_caller};
 use crate::session::Session;
@@ -15,7 +15,6 @@ use book_machine::{Caller, Note};
 use chronicle::Naming;
 use std::alloc::Allocator;
 
-// Whether each session's list is what the notes have of it.
 fn sessions_tell<A: Allocator + Copy, J: Naming>(
     sessions: &[Session<A, J>],
     notes: &[Note<A>],
@@ -30,7 +29,6 @@ fn sessions_tell<A: Allocator + Copy, J: Naming>(
     true
 }
 
-// Whether each worker's list is what the notes have of it.
 fn workers_tell<A: Allocator + Copy>(workers: &[Worker<A>], notes: &[Note<A>]) -> bool
     ensures { IsTrue result ↔ WorkersTell workers.now (map noted_of notes.now) }
 {
@@ -42,21 +40,18 @@ fn workers_tell<A: Allocator + Copy>(workers: &[Worker<A>], notes: &[Note<A>]) -
     true
 }
 
-// Whether one of the sessions made a note.
 fn is_of_session<A: Allocator + Copy, J: Naming>(sessions: &[Session<A, J>], who: Caller) -> bool
     ensures { result ≡ list_any (λ (s : SessionView). same_caller who (caller.Session s.number)) sessions.now }
 {
     sessions.iter().any(|session| is_same_caller(who, Caller::Session(session.number())))
 }
 
-// Whether one of the workers made a note.
 fn is_of_worker<A: Allocator + Copy>(workers: &[Worker<A>], who: Caller) -> bool
     ensures { result ≡ list_any (λ (w : WorkerView). same_caller who (caller.Worker w.number)) workers.now }
 {
     workers.iter().any(|worker| is_same_caller(who, Caller::Worker(worker.number())))
 }
 
-// Whether one of the callers made a note.
 fn is_of_caller<A: Allocator + Copy, J: Naming>(
     sessions: &[Session<A, J>],
     workers: &[Worker<A>],
@@ -67,7 +62,6 @@ fn is_of_caller<A: Allocator + Copy, J: Naming>(
     is_of_session(sessions, note.caller) || is_of_worker(workers, note.caller)
 }
 
-// Whether each note is of one of the callers.
 fn are_known<A: Allocator + Copy, J: Naming>(
     sessions: &[Session<A, J>],
     workers: &[Worker<A>],
@@ -84,12 +78,12 @@ fn are_known<A: Allocator + Copy, J: Naming>(
 }
 
 // Whether the callers' lists are the notes, and no note is anyone else's.
-pub(crate) fn is_told<A: Allocator + Copy, J: Naming>(
+pub(crate) fn is_answered<A: Allocator + Copy, J: Naming>(
     sessions: &[Session<A, J>],
     workers: &[Worker<A>],
     notes: &[Note<A>],
 ) -> bool
-    ensures { IsTrue result ↔ IsTold sessions.now workers.now (map noted_of notes.now) }
+    ensures { IsTrue result ↔ IsAnswered sessions.now workers.now (map noted_of notes.now) }
 {
     if !sessions_tell(sessions, notes) {
         return false;

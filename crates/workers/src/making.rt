@@ -13,7 +13,6 @@ pub(crate) trait Making<A: Allocator + Copy> {
     // The results that it may have: this run, or none.
     ghost gives: { Self → Option RunView → Type 0 };
 
-    // The run, or that a growth was refused.
     fn make(&mut self) -> Result<Arc<Run<A>, A>, Memory>
         ensures run { IfOk result (λ run. gives self.old (Some (arc_value run))) }
         ensures none { OnErr result (gives self.old None) };

@@ -7,7 +7,6 @@ use crate::listed_call::ListedCall;
 use book_machine::{Caller, Note};
 use std::alloc::Allocator;
 
-// Whether both are the same caller.
 pub(crate) fn is_same_caller(one: Caller, two: Caller) -> bool
     ensures { result ≡ same_caller one two }
 {
@@ -18,14 +17,12 @@ pub(crate) fn is_same_caller(one: Caller, two: Caller) -> bool
     }
 }
 
-// Whether a listed call is that of a note, with its reply.
 fn is_noted<A: Allocator + Copy>(listed: &ListedCall<A>, note: &Note<A>) -> bool
     ensures { IsTrue result ↔ (exchanged_of listed.now ≡ exchanged_by (noted_of note.now)) }
 {
     listed.call.same(&note.call) && listed.reply == note.reply
 }
 
-// Whether a list is the part of the notes with a caller's name.
 pub(crate) fn is_part<A: Allocator + Copy>(
     who: Caller,
     list: &[ListedCall<A>],
@@ -48,7 +45,6 @@ pub(crate) fn is_part<A: Allocator + Copy>(
     left.is_empty()
 }
 
-// The notes after the opening ones.
 pub(crate) fn later_notes<A: Allocator + Copy>(journal: &[Note<A>], opening: usize) -> &[Note<A>]
     ensures { result.now ≡ drop opening journal.now }
 {

@@ -8,21 +8,18 @@ use crate::worker::Worker;
 use chronicle::Naming;
 use std::alloc::Allocator;
 
-// Whether a session has this number.
 fn has_session<A: Allocator + Copy, J: Naming>(sessions: &[Session<A, J>], number: u64) -> bool
     ensures { result ≡ has_session sessions.now number }
 {
     sessions.iter().any(|session| session.number() == number)
 }
 
-// Whether a worker has this number.
 fn has_worker<A: Allocator + Copy>(workers: &[Worker<A>], number: u64) -> bool
     ensures { result ≡ has_worker workers.now number }
 {
     workers.iter().any(|worker| worker.number() == number)
 }
 
-// Whether the sessions have all numbers below the number of those opened.
 fn are_sessions_in<A: Allocator + Copy, J: Naming>(sessions: &[Session<A, J>], opened: u64) -> bool
     ensures { IsTrue result ↔ ((k : ℕ) → k < opened → has_session sessions.now k ≡ true) }
 {
@@ -34,7 +31,6 @@ fn are_sessions_in<A: Allocator + Copy, J: Naming>(sessions: &[Session<A, J>], o
     true
 }
 
-// Whether the workers have all numbers below the number of those opened.
 fn are_workers_in<A: Allocator + Copy>(workers: &[Worker<A>], opened: u64) -> bool
     ensures { IsTrue result ↔ ((k : ℕ) → k < opened → has_worker workers.now k ≡ true) }
 {
@@ -46,7 +42,6 @@ fn are_workers_in<A: Allocator + Copy>(workers: &[Worker<A>], opened: u64) -> bo
     true
 }
 
-// Whether the callers are those that were opened.
 fn are_all<A: Allocator + Copy, J: Naming>(
     shared: &Shared<A, J>,
     sessions: &[Session<A, J>],
@@ -60,7 +55,6 @@ fn are_all<A: Allocator + Copy, J: Naming>(
         && are_workers_in(workers, shared.workers)
 }
 
-// Whether the callers are all that were opened, where the desk has kept its history.
 pub(crate) fn are_opened<A: Allocator + Copy, J: Naming>(
     shared: &Shared<A, J>,
     sessions: &[Session<A, J>],

@@ -84,7 +84,6 @@ impl<A: Allocator + Copy, J: Naming> Session<A, J> {
         self.seen
     }
 
-    // Whether the part of the history that it has seen begins this one.
     pub(crate) fn begins(&self, whole: &Whole<J>) -> bool
         ensures { IsTrue result ↔ Begins self.now.front whole.now }
     {
@@ -105,15 +104,15 @@ impl<A: Allocator + Copy, J: Naming> Session<A, J> {
     {
         let call = Call::Edit(NotedEdit::new(self.alloc, edit)?);
         reserve_call(&mut self.list)?;
-        let told = desk
+        let outcome = desk
             .shared
             .lock(rt)
             .edit_for(self.number, &mut self.list, &mut self.front, call, edit);
-        if let Ok(version) = told {
+        if let Ok(version) = outcome {
             self.seen = self.seen.max(version);
             desk.changed.notify_all();
         }
-        told
+        outcome
     }
 
     /// Adds a scenario, as `Book::add_scenario` does. All that wait are woken.
@@ -134,7 +133,7 @@ impl<A: Allocator + Copy, J: Naming> Session<A, J> {
             scenario,
         };
         reserve_call(&mut self.list)?;
-        let told = desk.shared.lock(rt).add_for(
+        let outcome = desk.shared.lock(rt).add_for(
             self.number,
             &mut self.list,
             &mut self.front,
@@ -142,10 +141,10 @@ impl<A: Allocator + Copy, J: Naming> Session<A, J> {
             name,
             scenario,
         );
-        if told.is_ok() {
+        if outcome.is_ok() {
             desk.changed.notify_all();
         }
-        told
+        outcome
     }
 
     /// Drops the scenario with this name, as `Book::drop_scenario` does. All that wait are woken.
@@ -164,14 +163,14 @@ impl<A: Allocator + Copy, J: Naming> Session<A, J> {
             name: NotedName::new(self.alloc, name)?,
         };
         reserve_call(&mut self.list)?;
-        let told = desk
+        let outcome = desk
             .shared
             .lock(rt)
             .drop_for(self.number, &mut self.list, &mut self.front, call, name);
-        if told.is_ok() {
+        if outcome.is_ok() {
             desk.changed.notify_all();
         }
-        told
+        outcome
     }
 
     /// Has a scenario that was given up tried again, as `Book::retry` does. All that wait are woken.
@@ -187,18 +186,18 @@ impl<A: Allocator + Copy, J: Naming> Session<A, J> {
         ensures seen { self.new.seen ≡ self.old.seen }
     {
         reserve_call(&mut self.list)?;
-        let told = desk
+        let outcome = desk
             .shared
             .lock(rt)
             .retry_for(self.number, &mut self.list, &mut self.front, id);
-        if told.is_ok() {
+        if outcome.is_ok() {
             desk.changed.notify_all();
         }
-        told
+        outcome
     }
 
-    /// What is published for a scenario, as `Book::view` returns it: its version is not below the one that
-    /// this session has seen, and is from then on the one that it has seen.
+    /// What is published for a scenario, as `Book::view` returns it: its version is not below the one
+    /// that this session has seen, and is from then on the one that it has seen.
     pub fn view<R: Wait>(
         &mut self,
         rt: &R,
@@ -213,16 +212,16 @@ impl<A: Allocator + Copy, J: Naming> Session<A, J> {
         ensures shown { IfOk result (IsShownOnce id self.old.seen) }
     {
         reserve_call(&mut self.list)?;
-        let told = desk.shared.lock(rt).view_for(
+        let outcome = desk.shared.lock(rt).view_for(
             self.number,
             &mut self.list,
             &mut self.front,
             id,
             self.seen,
         );
-        if let Ok(published) = &told {
+        if let Ok(published) = &outcome {
             self.seen = published.version();
         }
-        told
+        outcome
     }
 }

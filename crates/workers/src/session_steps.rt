@@ -22,7 +22,6 @@ use std::alloc::Allocator;
 use version_book::{AddRefusal, DropRefusal, EditRefusal, Published, RetryRefusal, ViewRefusal};
 
 impl<A: Allocator + Copy, J: Naming> Shared<A, J> {
-    // An edit of the log.
     pub(crate) fn edit_for(
         &mut self,
         session: u64,
@@ -31,7 +30,7 @@ impl<A: Allocator + Copy, J: Naming> Shared<A, J> {
         call: Call<A>,
         edit: &Edit<A>,
     ) -> Result<u64, EditRefusal>
-        requires room { vec_len list.old < vec_capacity list.old }
+        requires capacity { vec_len list.old < vec_capacity list.old }
         requires call { call_of call ≡ Edits (edit_of edit.now) }
         ensures book { Answers self.old.book self.new.book (caller.Session session) (Edits (edit_of edit.now)) (edit_answer result) }
         ensures list { Gains (map exchanged_of list.old.items) (map exchanged_of list.new.items) (Edits (edit_of edit.now)) (edit_answer result) }
@@ -39,13 +38,12 @@ impl<A: Allocator + Copy, J: Naming> Shared<A, J> {
     {
         let notes = notes_in(&self.book);
         front.follow(&self.whole);
-        let told = self.book.edit(session, edit);
+        let outcome = self.book.edit(session, edit);
         let reply = followed(&mut self.whole, front, &self.book, notes);
         keep(list, call, reply);
-        told
+        outcome
     }
 
-    // One scenario more.
     pub(crate) fn add_for(
         &mut self,
         session: u64,
@@ -55,7 +53,7 @@ impl<A: Allocator + Copy, J: Naming> Shared<A, J> {
         name: &str,
         scenario: Scenario,
     ) -> Result<ScenarioId, AddRefusal>
-        requires room { vec_len list.old < vec_capacity list.old }
+        requires capacity { vec_len list.old < vec_capacity list.old }
         requires call { call_of call ≡ AddScenario name.now scenario }
         ensures book { Answers self.old.book self.new.book (caller.Session session) (AddScenario name.now scenario) (add_answer result) }
         ensures list { Gains (map exchanged_of list.old.items) (map exchanged_of list.new.items) (AddScenario name.now scenario) (add_answer result) }
@@ -63,13 +61,12 @@ impl<A: Allocator + Copy, J: Naming> Shared<A, J> {
     {
         let notes = notes_in(&self.book);
         front.follow(&self.whole);
-        let told = self.book.add_scenario(session, name, scenario);
+        let outcome = self.book.add_scenario(session, name, scenario);
         let reply = followed(&mut self.whole, front, &self.book, notes);
         keep(list, call, reply);
-        told
+        outcome
     }
 
-    // One scenario less.
     pub(crate) fn drop_for(
         &mut self,
         session: u64,
@@ -78,7 +75,7 @@ impl<A: Allocator + Copy, J: Naming> Shared<A, J> {
         call: Call<A>,
         name: &str,
     ) -> Result<ScenarioId, DropRefusal>
-        requires room { vec_len list.old < vec_capacity list.old }
+        requires capacity { vec_len list.old < vec_capacity list.old }
         requires call { call_of call ≡ DropScenario name.now }
         ensures book { Answers self.old.book self.new.book (caller.Session session) (DropScenario name.now) (drop_answer result) }
         ensures list { Gains (map exchanged_of list.old.items) (map exchanged_of list.new.items) (DropScenario name.now) (drop_answer result) }
@@ -86,13 +83,12 @@ impl<A: Allocator + Copy, J: Naming> Shared<A, J> {
     {
         let notes = notes_in(&self.book);
         front.follow(&self.whole);
-        let told = self.book.drop_scenario(session, name);
+        let outcome = self.book.drop_scenario(session, name);
         let reply = followed(&mut self.whole, front, &self.book, notes);
         keep(list, call, reply);
-        told
+        outcome
     }
 
-    // A scenario is tried again.
     pub(crate) fn retry_for(
         &mut self,
         session: u64,
@@ -100,17 +96,17 @@ impl<A: Allocator + Copy, J: Naming> Shared<A, J> {
         front: &mut Front<J>,
         id: ScenarioId,
     ) -> Result<(), RetryRefusal>
-        requires room { vec_len list.old < vec_capacity list.old }
+        requires capacity { vec_len list.old < vec_capacity list.old }
         ensures book { Answers self.old.book self.new.book (caller.Session session) (Retry id) (retry_answer result) }
         ensures list { Gains (map exchanged_of list.old.items) (map exchanged_of list.new.items) (Retry id) (retry_answer result) }
         ensures history { Calls J.opening front.old (caller.Session session) (Retry id) (retry_answer result) front.new }
     {
         let notes = notes_in(&self.book);
         front.follow(&self.whole);
-        let told = self.book.retry(session, id);
+        let outcome = self.book.retry(session, id);
         let reply = followed(&mut self.whole, front, &self.book, notes);
         keep(list, Call::Retry { id }, reply);
-        told
+        outcome
     }
 
     // What is published for a scenario, unless the session has seen a newer version.
@@ -122,7 +118,7 @@ impl<A: Allocator + Copy, J: Naming> Shared<A, J> {
         id: ScenarioId,
         seen: u64,
     ) -> Result<Published<A>, ViewRefusal>
-        requires room { vec_len list.old < vec_capacity list.old }
+        requires capacity { vec_len list.old < vec_capacity list.old }
         ensures book { Answers self.old.book self.new.book (caller.Session session) (View id seen) (view_answer result) }
         ensures list { Gains (map exchanged_of list.old.items) (map exchanged_of list.new.items) (View id seen) (view_answer result) }
         ensures history { Views J.opening front.old (caller.Session session) id seen result front.new }
@@ -131,9 +127,9 @@ impl<A: Allocator + Copy, J: Naming> Shared<A, J> {
     {
         let notes = notes_in(&self.book);
         front.follow(&self.whole);
-        let told = self.book.view(session, id, seen);
+        let outcome = self.book.view(session, id, seen);
         let reply = followed(&mut self.whole, front, &self.book, notes);
         keep(list, Call::View { id, seen }, reply);
-        told
+        outcome
     }
 }

@@ -10,7 +10,7 @@ ghost use Rattle.version_book.specs.Sound.{IsBook};
 ghost use Rattle.workers.specs.Callers.{next_caller, opened_after};
 ghost use Rattle.workers.specs.History.{EndsOpened, IsCurrentAt, Reads, Settles};
 ghost use Rattle.workers.specs.Readings.{IsCurrentOf, is_idle};
-ghost use Rattle.workers.specs.Settling.{IsSettledOnce, told_settled};
+ghost use Rattle.workers.specs.Settling.{IsSettledOnce, outcome_settled};
 ghost use Rattle.workers.specs.Tied.{IsTied};
 
 use crate::current::Current;
@@ -75,9 +75,9 @@ impl<A: Allocator + Copy, J: Naming> Shared<A, J> {
         }
     }
 
-    /// The book. Its invariant holds each time that the lock is taken: each published run is the simulation,
-    /// second by second, of the log of the version that it names, under its scenario, and the journal
-    /// is a legal history of all calls that leads to the book's state.
+    /// The book. Its invariant holds each time that the lock is taken: each published run is the
+    /// simulation, second by second, of the log of the version that it names, under its scenario, and
+    /// the journal is a legal history of all calls that leads to the book's state.
     pub fn book(&self) -> &Book<A>
         ensures value { result.now ≡ self.now.book }
         ensures book { IsBook self.now.book }
@@ -89,7 +89,7 @@ impl<A: Allocator + Copy, J: Naming> Shared<A, J> {
     /// What the wait of a session that has seen this version returns: how far the scenarios are, Stopped
     /// where one is waited for and the desk is stopped, and None while the wait goes on.
     pub fn settled_for(&self, seen: u64) -> Option<Settled>
-        ensures told { result ≡ told_settled (settled seen (machine_of self.now.book)) self.now.stopped }
+        ensures outcome { result ≡ outcome_settled (settled seen (machine_of self.now.book)) self.now.stopped }
         ensures book { IsBook self.now.book }
     {
         let _version = self.book.version();
@@ -107,7 +107,6 @@ impl<A: Allocator + Copy, J: Naming> Shared<A, J> {
         !self.stopped && self.book.due().is_none()
     }
 
-    // Opens a session, and returns its number and the history up to there.
     pub(crate) fn next_session(&mut self) -> Option<(u64, Front<J>)>
         ensures number { option_map (λ it. it.0) result ≡ next_caller self.old.sessions }
         ensures front { IfSome result (λ it. EndsOpened (caller.Session it.0) it.1) }
@@ -119,7 +118,6 @@ impl<A: Allocator + Copy, J: Naming> Shared<A, J> {
         Some((number, self.whole.front()))
     }
 
-    // Opens a worker, and returns its number.
     pub(crate) fn next_worker(&mut self) -> Option<u64>
         ensures number { result ≡ next_caller self.old.workers }
         ensures rest { self.new ≡ record self.old { workers = opened_after self.old.workers; history = self.new.history } }
@@ -130,7 +128,6 @@ impl<A: Allocator + Copy, J: Naming> Shared<A, J> {
         Some(number)
     }
 
-    // Stops the desk.
     pub(crate) fn stop(&mut self)
         ensures { self.new ≡ record self.old { stopped = true; history = self.new.history } }
     {
@@ -138,7 +135,6 @@ impl<A: Allocator + Copy, J: Naming> Shared<A, J> {
         self.stopped = true;
     }
 
-    // The book, taken out.
     pub(crate) fn into_book(self) -> Book<A>
         ensures value { result ≡ self.book }
         ensures book { IsBook result }
@@ -147,7 +143,6 @@ impl<A: Allocator + Copy, J: Naming> Shared<A, J> {
         self.book
     }
 
-    // Whether the history is kept. Its calls are a legal history, and it is tied to the book.
     pub(crate) fn is_kept(&self) -> bool
         ensures kept { result ≡ self.now.history.kept }
         ensures legal { IsLegalFrom J.opening self.now.history.events }
@@ -156,7 +151,6 @@ impl<A: Allocator + Copy, J: Naming> Shared<A, J> {
         self.whole.is_kept()
     }
 
-    // The current version.
     pub(crate) fn version(&self) -> u64
         ensures version { result ≡ length self.now.book.state.edits }
         ensures book { IsBook self.now.book }
@@ -164,7 +158,6 @@ impl<A: Allocator + Copy, J: Naming> Shared<A, J> {
         self.book.version()
     }
 
-    // The same, and the front advances to the end of the history.
     pub(crate) fn version_along(&self, front: &mut Front<J>) -> u64
         ensures { Reads J.opening front.old (λ m. result ≡ version m) front.new }
     {
@@ -172,7 +165,6 @@ impl<A: Allocator + Copy, J: Naming> Shared<A, J> {
         self.version()
     }
 
-    // The id of the scenario with this name.
     pub(crate) fn find(&self, name: &str) -> Option<ScenarioId>
         ensures found { result ≡ id_of name.now self.now.book.state.listing }
         ensures book { IsBook self.now.book }
@@ -181,7 +173,6 @@ impl<A: Allocator + Copy, J: Naming> Shared<A, J> {
         self.book.id_of(name)
     }
 
-    // The same, and the front advances to the end of the history.
     pub(crate) fn find_along(&self, name: &str, front: &mut Front<J>) -> Option<ScenarioId>
         ensures { Reads J.opening front.old (λ m. result ≡ id_of name.now m.listing) front.new }
     {
@@ -189,7 +180,6 @@ impl<A: Allocator + Copy, J: Naming> Shared<A, J> {
         self.find(name)
     }
 
-    // The version, the log and the scenarios.
     pub(crate) fn current(&self) -> Result<Current<A>, Memory>
         ensures current { IfOk result (IsCurrentOf self.now.book) }
         ensures book { IsBook self.now.book }
@@ -201,7 +191,6 @@ impl<A: Allocator + Copy, J: Naming> Shared<A, J> {
         })
     }
 
-    // The same, and the front advances to the end of the history.
     pub(crate) fn current_along(&self, front: &mut Front<J>) -> Result<Current<A>, Memory>
         ensures { Reads J.opening front.old (λ m. IfOk result (IsCurrentAt m)) front.new }
     {
@@ -211,15 +200,14 @@ impl<A: Allocator + Copy, J: Naming> Shared<A, J> {
 
     // The result for a session that waits no longer.
     pub(crate) fn settle(&self, seen: u64) -> Settled
-        requires { is_none (told_settled (settled seen (machine_of self.now.book)) self.now.stopped) ≡ false }
+        requires { is_none (outcome_settled (settled seen (machine_of self.now.book)) self.now.stopped) ≡ false }
         ensures { IsSettledOnce seen result }
     {
         self.settled_for(seen).unwrap()
     }
 
-    // The same, and the front advances to the end of the history.
     pub(crate) fn settle_along(&self, seen: u64, front: &mut Front<J>) -> Settled
-        requires { is_none (told_settled (settled seen (machine_of self.now.book)) self.now.stopped) ≡ false }
+        requires { is_none (outcome_settled (settled seen (machine_of self.now.book)) self.now.stopped) ≡ false }
         ensures { Settles J.opening front.old seen result front.new }
     {
         front.follow(&self.whole);

@@ -49,14 +49,13 @@ impl<A: Allocator + Copy> Model for Worker<A> {
 
     ghost Value = { WorkerView };
 
-    ghost view = { λ w. record { number = w.number; list = map exchanged_of w.list.items; room = vec_capacity w.list - vec_len w.list } };
+    ghost view = { λ w. record { number = w.number; list = map exchanged_of w.list.items; capacity = vec_capacity w.list - vec_len w.list } };
 }
 
-// Whether a worker ends after this result of a call, and why.
-fn end_of<T: Copy, F: Copy>(told: Result<T, Refusal<F>>) -> Option<WorkerEnd>
-    ensures { result ≡ end_of told }
+fn end_of<T: Copy, F: Copy>(outcome: Result<T, Refusal<F>>) -> Option<WorkerEnd>
+    ensures { result ≡ end_of outcome }
 {
-    match told {
+    match outcome {
         Err(Refusal::JournalFull) => Some(WorkerEnd::Full),
         Err(Refusal::Memory) => Some(WorkerEnd::Memory),
         _ => None,
@@ -102,7 +101,6 @@ impl<A: Allocator + Copy> Worker<A> {
         desk.when_busy(rt).next_for(self.number, &mut self.list)
     }
 
-    // Hands in the run for a ticket, and wakes all that wait.
     fn finish<J: Naming, R: Wait>(
         &mut self,
         rt: &R,
@@ -118,15 +116,14 @@ impl<A: Allocator + Copy> Worker<A> {
         if reserve_call(&mut self.list).is_err() {
             return Some(WorkerEnd::Memory);
         }
-        let told = desk
+        let outcome = desk
             .shared
             .lock(rt)
             .finish_for(self.number, &mut self.list, ticket, run);
         desk.changed.notify_all();
-        end_of(told)
+        end_of(outcome)
     }
 
-    // Gives a ticket up, and wakes all that wait.
     fn give_up<J: Naming, R: Wait>(
         &mut self,
         rt: &R,
@@ -141,12 +138,12 @@ impl<A: Allocator + Copy> Worker<A> {
         if reserve_call(&mut self.list).is_err() {
             return Some(WorkerEnd::Memory);
         }
-        let told = desk
+        let outcome = desk
             .shared
             .lock(rt)
             .give_up_for(self.number, &mut self.list, ticket);
         desk.changed.notify_all();
-        end_of(told)
+        end_of(outcome)
     }
 
     // Makes the run for a ticket without the lock, and hands it in; or gives the ticket up, where a
@@ -174,7 +171,6 @@ impl<A: Allocator + Copy> Worker<A> {
         }
     }
 
-    // Works a task, and hands in its run or gives it up.
     fn work<J: Naming, R: Wait, G: Gate>(
         &mut self,
         rt: &R,
@@ -191,7 +187,6 @@ impl<A: Allocator + Copy> Worker<A> {
         self.make(rt, desk, gate, ticket, &mut task)
     }
 
-    // One round: waits, claims, works, hands in. None where another round follows.
     fn round<J: Naming, R: Wait, G: Gate>(
         &mut self,
         rt: &R,

@@ -24,34 +24,32 @@ use std::alloc::Allocator;
 use std::sync::Arc;
 use version_book::{ClaimRefusal, FinishFault, FinishRefusal, GiveUpRefusal, Task, TooManyTickets};
 
-// Whether the run fitted its ticket, by the result.
-fn is_fitting(told: &Result<u64, FinishRefusal>) -> bool
-    ensures { result ≡ fitted told.now }
+fn is_fitting(outcome: &Result<u64, FinishRefusal>) -> bool
+    ensures { result ≡ fitted outcome.now }
 {
     matches!(
-        told,
+        outcome,
         Ok(_) | Err(FinishRefusal::Fault(FinishFault::Stale { .. }))
     )
 }
 
 impl<A: Allocator + Copy, J: Naming> Shared<A, J> {
-    // Claims a ticket for the first scenario that is due.
     pub(crate) fn claim_for(
         &mut self,
         worker: u64,
         list: &mut Vec<ListedCall<A>, A>,
     ) -> Result<Option<Task<A>>, ClaimRefusal>
-        requires room { vec_len list.old < vec_capacity list.old }
+        requires capacity { vec_len list.old < vec_capacity list.old }
         ensures book { Answers self.old.book self.new.book (caller.Worker worker) Claim (claim_answer result) }
         ensures list { Gains (map exchanged_of list.old.items) (map exchanged_of list.new.items) Claim (claim_answer result) }
         ensures task { IfOk result (λ task. task ≡ option_map (task_for self.old.book.state) (due_shown self.old.book.state)) }
         ensures is_book { IsBook self.old.book }
     {
         let notes = notes_in(&self.book);
-        let told = self.book.claim(worker);
+        let outcome = self.book.claim(worker);
         let reply = heard(&mut self.whole, &self.book, notes);
         keep(list, Call::Claim, reply);
-        told
+        outcome
     }
 
     // The next task of a worker that was woken, claimed unless the desk is stopped; or why it ends.
@@ -60,7 +58,7 @@ impl<A: Allocator + Copy, J: Naming> Shared<A, J> {
         worker: u64,
         list: &mut Vec<ListedCall<A>, A>,
     ) -> Result<Task<A>, WorkerEnd>
-        requires room { vec_len list.old < vec_capacity list.old }
+        requires capacity { vec_len list.old < vec_capacity list.old }
         requires busy { is_idle self.old.stopped self.old.book.state ≡ false }
         ensures book { Finds result self.old.stopped (caller.Worker worker) self.old.book self.new.book }
         ensures list { GainsClaim result (map exchanged_of list.old.items) (map exchanged_of list.new.items) }
@@ -79,7 +77,6 @@ impl<A: Allocator + Copy, J: Naming> Shared<A, J> {
         }
     }
 
-    // Hands in the run that a ticket's task has left, or this one.
     pub(crate) fn finish_for(
         &mut self,
         worker: u64,
@@ -87,7 +84,7 @@ impl<A: Allocator + Copy, J: Naming> Shared<A, J> {
         ticket: u64,
         run: Arc<Run<A>, A>,
     ) -> Result<u64, FinishRefusal>
-        requires room { vec_len list.old < vec_capacity list.old }
+        requires capacity { vec_len list.old < vec_capacity list.old }
         ensures book { Answers self.old.book self.new.book (caller.Worker worker) (Finish ticket (fitted result)) (finish_answer result) }
         ensures list { Gains (map exchanged_of list.old.items) (map exchanged_of list.new.items) (Finish ticket (fitted result)) (finish_answer result) }
         ensures fits { TakesWhatFits (Fits self.old.book.state ticket (arc_value run)) result }
@@ -95,30 +92,29 @@ impl<A: Allocator + Copy, J: Naming> Shared<A, J> {
         ensures memory { end_of result ≡ Some ends.Memory → WasRefused (caller.Worker worker) }
     {
         let notes = notes_in(&self.book);
-        let told = self.book.hand_in(worker, ticket, run);
-        let fits = is_fitting(&told);
+        let outcome = self.book.hand_in(worker, ticket, run);
+        let fits = is_fitting(&outcome);
         let reply = heard(&mut self.whole, &self.book, notes);
         keep(list, Call::Finish { ticket, fits }, reply);
-        told
+        outcome
     }
 
-    // Gives a ticket up.
     pub(crate) fn give_up_for(
         &mut self,
         worker: u64,
         list: &mut Vec<ListedCall<A>, A>,
         ticket: u64,
     ) -> Result<(), GiveUpRefusal>
-        requires room { vec_len list.old < vec_capacity list.old }
+        requires capacity { vec_len list.old < vec_capacity list.old }
         ensures book { Answers self.old.book self.new.book (caller.Worker worker) (GiveUp ticket) (give_up_answer result) }
         ensures list { Gains (map exchanged_of list.old.items) (map exchanged_of list.new.items) (GiveUp ticket) (give_up_answer result) }
         ensures full { end_of result ≡ Some ends.Full → WasFull }
         ensures memory { end_of result ≡ Some ends.Memory → WasRefused (caller.Worker worker) }
     {
         let notes = notes_in(&self.book);
-        let told = self.book.give_up(worker, ticket);
+        let outcome = self.book.give_up(worker, ticket);
         let reply = heard(&mut self.whole, &self.book, notes);
         keep(list, Call::GiveUp { ticket }, reply);
-        told
+        outcome
     }
 }

@@ -12,12 +12,10 @@ use swf_text::{SwfText, read_swf};
 /// A job and the second at which it starts.
 pub(crate) type Placed = (PlainJob, u64);
 
-// The table of a log, to be shared.
 fn table_of(alloc: Global, text: &SwfText<Global>) -> Option<Arc<JobTable<Global>, Global>> {
     Arc::new(alloc, JobTable::from_text(alloc, text).ok()?).ok()
 }
 
-// The starts of a log by the event loop.
 fn engine_starts(alloc: Global, text: &SwfText<Global>, scenario: &Scenario) -> Option<Vec<Start>> {
     let table = table_of(alloc, text)?;
     Engine::new(alloc, table, *scenario).finish().ok()
@@ -91,7 +89,6 @@ fn agreed_text(
     .then_some(starts)
 }
 
-// The same, of a log that is to be read.
 pub(crate) fn agreed(
     alloc: Global,
     log: &[u8],

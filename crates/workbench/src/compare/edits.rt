@@ -47,14 +47,12 @@ fn kind_of(place: u64) -> Kind {
     }
 }
 
-// A generated table.
 pub(crate) fn made_table(alloc: Global, chance: &mut Chance) -> Option<JobTable<Global>> {
     let mut log = String::new(alloc);
     add_edited(&mut log, chance)?;
     table_of(alloc, log.as_bytes())
 }
 
-// The last second in which a job is submitted.
 fn last_second(table: &JobTable<Global>) -> u64 {
     let mut last = 0;
     for entry in table.from_second(0) {
@@ -63,7 +61,6 @@ fn last_second(table: &JobTable<Global>) -> u64 {
     last
 }
 
-// The second of a place.
 fn second_of(chance: &mut Chance, place: u64, table: &JobTable<Global>) -> u64 {
     let last = last_second(table);
     match place {
@@ -74,7 +71,6 @@ fn second_of(chance: &mut Chance, place: u64, table: &JobTable<Global>) -> u64 {
     }
 }
 
-// The number of the first entry that is submitted at the second or later.
 fn number_from(table: &JobTable<Global>, second: u64) -> Option<u64> {
     let entry = table.from_second(second).peek()?;
     Some(entry.number())
@@ -90,7 +86,6 @@ fn skipped_from(table: &JobTable<Global>, second: u64, scenario: &Scenario) -> O
     number_from(table, second)
 }
 
-// The edit by which a job joins, submitted at this second.
 fn insertion(alloc: Global, chance: &mut Chance, second: u64) -> Option<Edit<Global>> {
     let number = chance.below(NUMBERS);
     let mut line = String::new(alloc);
@@ -98,13 +93,11 @@ fn insertion(alloc: Global, chance: &mut Chance, second: u64) -> Option<Edit<Glo
     Some(Edit::Insert(entry_of(alloc, line.as_bytes())?))
 }
 
-// The value of a whole number.
 fn value_of(alloc: Global, number: u64) -> Option<Value> {
     let text = format!(in alloc; "{number}").ok()?;
     Value::from_bytes(text.as_bytes())
 }
 
-// A number for a field.
 fn drawn(chance: &mut Chance, field: u8, table: &JobTable<Global>) -> u64 {
     match field {
         2 => {
@@ -118,7 +111,6 @@ fn drawn(chance: &mut Chance, field: u8, table: &JobTable<Global>) -> u64 {
     }
 }
 
-// The edit that gives a field of an entry another value.
 fn change(
     alloc: Global,
     chance: &mut Chance,
@@ -168,8 +160,8 @@ fn aim_of(chance: &mut Chance, seed: u64, is_first: bool) -> Aim {
     }
 }
 
-// Adds so many edits of a table, each of which is accepted after those before it, or as many as there are in
-// 32 tries.
+// Adds so many edits of a table, each of which is accepted after those before it, or as many as there
+// are in 32 tries.
 fn add_edits(
     alloc: Global,
     chance: &mut Chance,

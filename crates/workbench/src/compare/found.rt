@@ -13,7 +13,6 @@ impl Found {
         differences: 0,
     };
 
-    // Adds what was counted in another log; none is a difference.
     pub(crate) fn add(&mut self, counts: Option<[u64; 3]>) {
         let Some(counts) = counts else {
             self.differences = self.differences.saturating_add(1);

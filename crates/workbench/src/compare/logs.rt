@@ -25,12 +25,10 @@ struct Line {
     user: i64,
 }
 
-// A user.
 fn user(chance: &mut Chance) -> i64 {
     USERS[chance.below(3) as usize]
 }
 
-// A tail.
 fn tail(chance: &mut Chance) -> &'static str {
     TAILS[chance.below(4) as usize]
 }
@@ -56,7 +54,6 @@ fn small_line(chance: &mut Chance, number: u64, base: u64) -> Line {
     }
 }
 
-// A size for a machine: mostly small, sometimes of any size, and one in forty is too large.
 fn size(chance: &mut Chance, procs: u64) -> i64
     requires { procs ≤ 1000 }
 {
@@ -105,7 +102,6 @@ fn large_line(chance: &mut Chance, number: u64, submit: u64, procs: u64) -> Line
     }
 }
 
-// Adds the line of a job; none where memory is short.
 fn add_line(log: &mut String, line: &Line) -> Option<()> {
     let Line {
         number,

@@ -13,7 +13,6 @@ use std::sync::Arc;
 /// The most event seconds of a segment.
 const SPACINGS: [u32; 3] = [1, 3, 256];
 
-// A run made anew of an old one by these edits; none where one is refused.
 fn rerun_of(
     alloc: Global,
     was: &Run<Global>,
@@ -24,7 +23,6 @@ fn rerun_of(
     rerun(alloc, was, edits, table, spacing).ok()
 }
 
-// Whether a run has these rows, and tells each row's start by its number.
 fn has_rows(run: &Run<Global>, rows: &[Row]) -> bool {
     for row in rows {
         if run.start_of(row.number) != Some(row.start) {
@@ -45,14 +43,12 @@ fn same_schedules(a: &Run<Global>, b: &Run<Global>) -> bool {
     }
 }
 
-// Whether two runs have equal tables.
 fn same_tables(a: &Run<Global>, b: &Run<Global>) -> bool {
     a.tables().overall() == b.tables().overall()
         && a.tables().users() == b.tables().users()
         && a.tables().days() == b.tables().days()
 }
 
-// Adds the starts of a run, in order.
 fn add_starts(starts: &mut Vec<Start>, run: &Run<Global>) -> Option<()> {
     for segment in run.segments() {
         starts.extend_from_slice(segment.starts()).ok()?;
@@ -78,9 +74,9 @@ fn is_from_nothing(alloc: Global, run: &Run<Global>, spacing: u32) -> Option<boo
     )
 }
 
-// Whether a rerun that took this work took over old segments, worked a part of the event seconds, and took
-// over the last old segment but not all of them; none where it worked more than there was, or took over
-// other than the kept segments.
+// Whether a rerun that took this work took over old segments, worked a part of the event seconds, and
+// took over the last old segment but not all of them; none where it worked more than there was, or took
+// over other than the kept segments.
 fn counted(work: Work, counts: Counts) -> Option<[u64; 3]> {
     if work.handled > counts.work || work.reused != counts.kept {
         return None;
@@ -93,8 +89,8 @@ fn counted(work: Work, counts: Counts) -> Option<[u64; 3]> {
     ])
 }
 
-// What is counted of a rerun after these edits; none where it differs from a run from nothing, or from the
-// definitions.
+// What is counted of a rerun after these edits; none where it differs from a run from nothing, or from
+// the definitions.
 fn counted_after(
     alloc: Global,
     was: &Run<Global>,
@@ -108,7 +104,6 @@ fn counted_after(
     counted(work, counts_of(alloc, was, &again)?)
 }
 
-// The same, of a table under a scenario.
 fn counted_of(
     alloc: Global,
     table: &Arc<JobTable<Global>, Global>,
@@ -120,7 +115,6 @@ fn counted_of(
     counted_after(alloc, &was, edits, spacing)
 }
 
-// Adds what the edits of a table give in both orders, at each spacing.
 fn compare_table(
     alloc: Global,
     table: &Arc<JobTable<Global>, Global>,
@@ -146,7 +140,6 @@ fn compare_seed(alloc: Global, seed: u64, found: &mut Found) -> Option<()> {
     (!edits.is_empty()).then_some(())
 }
 
-// Adds what a generated log and its edits give.
 pub(crate) fn compare(alloc: Global, seed: u64, found: &mut Found) {
     if compare_seed(alloc, seed, found).is_none() {
         found.add(None);

@@ -18,7 +18,6 @@ fn wait(placed: &Placed) -> u64 {
     placed.1.wrapping_sub(placed.0.submit())
 }
 
-// The bounded slowdown, in thousandths.
 fn slowdown(placed: &Placed) -> u64 {
     let length = placed.0.length();
     let turnaround = wait(placed).wrapping_add(length);
@@ -29,7 +28,6 @@ fn busy(placed: &Placed) -> u64 {
     placed.0.size().wrapping_mul(placed.0.length())
 }
 
-// The processor-seconds of a job in a day, second by second.
 fn busy_in(placed: &Placed, day: u64) -> u64 {
     let mut taken = 0u64;
     for second in placed.1..end(placed) {
@@ -48,7 +46,6 @@ fn mean(sum: u64, jobs: u64) -> u128 {
     }
 }
 
-// How many entries of a log are skipped, by reason.
 fn skips(text: &SwfText<Global>, scenario: &Scenario) -> Skips {
     let (mut size, mut run, mut large, mut long) = (0u64, 0u64, 0u64, 0u64);
     for entry in text.entries() {
@@ -68,7 +65,6 @@ fn skips(text: &SwfText<Global>, scenario: &Scenario) -> Skips {
     }
 }
 
-// The numbers over all jobs.
 fn overall(skips: Skips, procs: u64, jobs: &[Placed]) -> Overall {
     let count = jobs.len() as u64;
     let (mut killed, mut first, mut last) = (0u64, u64::MAX, 0u64);
@@ -99,7 +95,6 @@ fn overall(skips: Skips, procs: u64, jobs: &[Placed]) -> Overall {
     }
 }
 
-// The row of a user.
 fn user_row(user: i64, jobs: &[Placed]) -> UserRow {
     let (mut count, mut waits, mut slowdowns, mut taken) = (0u64, 0u64, 0u64, 0u64);
     for placed in jobs {
@@ -119,7 +114,6 @@ fn user_row(user: i64, jobs: &[Placed]) -> UserRow {
     }
 }
 
-// Whether these are the rows of all users who have a job.
 fn are_users(rows: &[UserRow], jobs: &[Placed]) -> bool {
     let mut place = 0usize;
     for user in &USERS {
@@ -135,7 +129,7 @@ fn are_users(rows: &[UserRow], jobs: &[Placed]) -> bool {
 }
 
 // The row of a day, of a machine with so many processor-seconds a day.
-fn day_row(day: u64, room: u64, jobs: &[Placed]) -> DayRow {
+fn day_row(day: u64, capacity: u64, jobs: &[Placed]) -> DayRow {
     let mut taken = 0u64;
     for placed in jobs {
         taken = taken.wrapping_add(busy_in(placed, day));
@@ -143,15 +137,15 @@ fn day_row(day: u64, room: u64, jobs: &[Placed]) -> DayRow {
     DayRow {
         day,
         busy: u128::from(taken),
-        utilization: mean(taken.wrapping_mul(100_000), room.max(1)),
+        utilization: mean(taken.wrapping_mul(100_000), capacity.max(1)),
     }
 }
 
 // Whether these are the rows of all days in which a processor-second is taken.
-fn are_days(rows: &[DayRow], room: u64, jobs: &[Placed]) -> bool {
+fn are_days(rows: &[DayRow], capacity: u64, jobs: &[Placed]) -> bool {
     let mut place = 0usize;
     for day in 0..3 {
-        let row = day_row(day, room, jobs);
+        let row = day_row(day, capacity, jobs);
         if row.busy > 0 {
             if rows.get(place) != Some(&row) {
                 return false;
@@ -162,12 +156,10 @@ fn are_days(rows: &[DayRow], room: u64, jobs: &[Placed]) -> bool {
     place == rows.len()
 }
 
-// Whether a row is that of a job with its start.
 fn is_placed(row: &Row, placed: &Placed) -> bool {
     row.number == placed.0.number() && row.start == placed.1 && row.end == end(placed)
 }
 
-// Whether these rows are those of jobs with their starts, in this order.
 fn are_placed(rows: &[Row], jobs: &[Placed]) -> bool {
     if rows.len() != jobs.len() {
         return false;
@@ -180,7 +172,6 @@ fn are_placed(rows: &[Row], jobs: &[Placed]) -> bool {
     true
 }
 
-// Whether a run tells each job's start by its number.
 fn finds_starts(run: &Run<Global>, jobs: &[Placed]) -> bool {
     for placed in jobs {
         if run.start_of(placed.0.number()) != Some(placed.1) {
@@ -190,7 +181,6 @@ fn finds_starts(run: &Run<Global>, jobs: &[Placed]) -> bool {
     true
 }
 
-// Whether a run has these starts by its schedule.
 fn has_rows(run: &Run<Global>, jobs: &[Placed]) -> bool {
     match run.schedule() {
         Ok(rows) => are_placed(rows.as_slice(), jobs),

@@ -15,8 +15,8 @@ struct Stretch {
     next: Option<u64>,
 }
 
-/// What is known of a new plan: its schedule, its event seconds, and the jobs that the edits touched, as they
-/// were before and as they are after them.
+/// What is known of a new plan: its schedule, its event seconds, and the jobs that the edits touched, as
+/// they were before and as they are after them.
 #[derive(Clone, Copy)]
 struct Plan<'a> {
     rows: &'a [Row],
@@ -37,12 +37,10 @@ pub(crate) struct Counts {
     pub(crate) rejoins: bool,
 }
 
-// The job of a number in a table.
 fn job_of(table: &JobTable<Global>, scenario: &Scenario, number: u64) -> Option<Job> {
     effective(table.get(number)?, scenario).ok()
 }
 
-// Adds a job, if there is one.
 fn add_job(jobs: &mut Vec<Job>, job: Option<Job>) -> Option<()> {
     match job {
         Some(job) => jobs.push(job).ok(),
@@ -50,7 +48,6 @@ fn add_job(jobs: &mut Vec<Job>, job: Option<Job>) -> Option<()> {
     }
 }
 
-// Adds the jobs that differ in the tables of two runs.
 fn add_touched(touched: &mut Vec<Job>, was: &Run<Global>, is: &Run<Global>) -> Option<()> {
     let scenario = was.scenario();
     for number in 0..NUMBERS {
@@ -64,7 +61,6 @@ fn add_touched(touched: &mut Vec<Job>, was: &Run<Global>, is: &Run<Global>) -> O
     Some(())
 }
 
-// Whether a second is one of these.
 fn is_among(seconds: &[u64], second: u64) -> bool {
     for known in seconds {
         if *known == second {
@@ -82,7 +78,6 @@ fn add(seconds: &mut Vec<u64>, second: u64) -> Option<()> {
     seconds.push(second).ok()
 }
 
-// Adds the event seconds of a schedule, each once.
 fn add_events(events: &mut Vec<u64>, rows: &[Row]) -> Option<()> {
     for row in rows {
         add(events, row.submit)?;
@@ -91,13 +86,11 @@ fn add_events(events: &mut Vec<u64>, rows: &[Row]) -> Option<()> {
     Some(())
 }
 
-// Whether a segment of the plan may begin at a second.
 fn may_begin(events: &[u64], first: u64) -> bool {
     first == 0 || is_among(events, first - 1)
 }
 
 impl Stretch {
-    // Whether a second lies in the stretch.
     fn has(self, second: u64) -> bool {
         match self.next {
             Some(next) => second >= self.first && second < next,
@@ -116,14 +109,12 @@ fn is_touched(old: &Segment<Global>, stretch: Stretch, touched: &[Job]) -> bool 
     false
 }
 
-// Whether an old segment with this stretch is kept.
 fn is_kept(old: &Segment<Global>, stretch: Stretch, plan: &Plan<'_>) -> bool {
     may_begin(plan.events, stretch.first)
         && is_before(plan.rows, old.before(), stretch.first)
         && !is_touched(old, stretch, plan.touched)
 }
 
-// The stretch of the segment at this place.
 fn stretch_at(segments: &[Arc<Segment<Global>, Global>], place: usize) -> Stretch
     requires { place < length segments.now }
 {
@@ -137,7 +128,6 @@ fn stretch_at(segments: &[Arc<Segment<Global>, Global>], place: usize) -> Stretc
     }
 }
 
-// Adds the stretches of the old segments that are kept.
 fn add_kept(
     kept: &mut Vec<Stretch>,
     segments: &[Arc<Segment<Global>, Global>],
@@ -152,7 +142,6 @@ fn add_kept(
     Some(())
 }
 
-// Whether a second lies in one of these stretches.
 fn is_within(stretches: &[Stretch], second: u64) -> bool {
     for stretch in stretches {
         if stretch.has(second) {
@@ -162,7 +151,6 @@ fn is_within(stretches: &[Stretch], second: u64) -> bool {
     false
 }
 
-// How many seconds lie in none of these stretches.
 fn count_outside(seconds: &[u64], kept: &[Stretch]) -> u64 {
     let mut count = 0u64;
     for second in seconds {
@@ -171,7 +159,6 @@ fn count_outside(seconds: &[u64], kept: &[Stretch]) -> u64 {
     count
 }
 
-// Whether the last one of these stretches has all later seconds.
 fn is_open(stretches: &[Stretch]) -> bool {
     match stretches.last() {
         Some(stretch) => stretch.next.is_none(),
@@ -179,7 +166,6 @@ fn is_open(stretches: &[Stretch]) -> bool {
     }
 }
 
-// What there is to be worked and to be kept of an old run, by a new plan.
 fn counts_by(alloc: Global, was: &Run<Global>, plan: &Plan<'_>) -> Option<Counts> {
     let mut kept = Vec::new(alloc);
     add_kept(&mut kept, was.segments(), plan)?;
@@ -218,8 +204,8 @@ fn is_cut(segments: &[Arc<Segment<Global>, Global>], plan: &Plan<'_>) -> bool {
     }
 }
 
-// What there is to be worked and to be kept of an old run, by a new one with these rows and event seconds;
-// none where its segments are no cut.
+// What there is to be worked and to be kept of an old run, by a new one with these rows and event
+// seconds; none where its segments are no cut.
 fn counts_at(
     alloc: Global,
     was: &Run<Global>,
@@ -240,15 +226,14 @@ fn counts_at(
     counts_by(alloc, was, &plan)
 }
 
-// The same, of a new run with these rows.
 fn counts_with(alloc: Global, was: &Run<Global>, is: &Run<Global>, rows: &[Row]) -> Option<Counts> {
     let mut events = Vec::new(alloc);
     add_events(&mut events, rows)?;
     counts_at(alloc, was, is, rows, events.as_slice())
 }
 
-// What there is to be worked and to be kept of an old run, by a new one; none where the new one's segments
-// are no cut.
+// What there is to be worked and to be kept of an old run, by a new one; none where the new one's
+// segments are no cut.
 pub(crate) fn counts_of(alloc: Global, was: &Run<Global>, is: &Run<Global>) -> Option<Counts> {
     let rows = is.schedule().ok()?;
     counts_with(alloc, was, is, rows.as_slice())

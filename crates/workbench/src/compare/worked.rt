@@ -94,7 +94,6 @@ const LOGS: [Worked; 9] = [
     },
 ];
 
-// Adds the lines of these jobs; none where memory is short.
 fn add_lines(log: &mut String, rows: &[Row]) -> Option<()> {
     for row in rows {
         let (number, submit, size, run, estimate) = *row;
@@ -107,13 +106,12 @@ fn add_lines(log: &mut String, rows: &[Row]) -> Option<()> {
     Some(())
 }
 
-// Whether these are the starts that are told.
-fn are_started(starts: &[Start], told: &[Started]) -> bool {
-    if starts.len() != told.len() {
+fn are_started(starts: &[Start], outcome: &[Started]) -> bool {
+    if starts.len() != outcome.len() {
         return false;
     }
     for place in 0..starts.len() {
-        if (starts[place].number, starts[place].at) != told[place] {
+        if (starts[place].number, starts[place].at) != outcome[place] {
             return false;
         }
     }
@@ -137,6 +135,8 @@ pub(crate) fn compare<R: AllocGlobal + Print>(rt: &R) -> bool {
             right = right.wrapping_add(1);
         }
     }
-    let is_told = println!(rt; "worked logs: {right} of {count} right in both programs").is_ok();
-    is_told && right == count
+    let is_answered = println!(rt;
+        "worked logs: {right} of {count} right in both programs"
+    ).is_ok();
+    is_answered && right == count
 }

@@ -29,7 +29,6 @@ pub(crate) struct Counts {
     worked: [u64; 6],
 }
 
-// Counts one more of a kind.
 fn count(kinds: &[&str], counts: &mut [u64], kind: &str) {
     for (known, count) in kinds.iter().zip(counts.iter_mut()) {
         if *known == kind {
@@ -38,7 +37,6 @@ fn count(kinds: &[&str], counts: &mut [u64], kind: &str) {
     }
 }
 
-// Works a script that is changed on a log.
 fn work_changed<R: AllocGlobal + Threads + Sync>(
     rt: &R,
     chance: &mut Chance,
@@ -82,7 +80,6 @@ pub(crate) fn counts_of<R: AllocGlobal + Threads + Sync>(
     Ok(counts)
 }
 
-// Prints each kind with its count.
 fn tell<R: Print>(rt: &R, kinds: &[&str], counts: &[u64]) -> io::Result<()> {
     for (kind, count) in kinds.iter().zip(counts.iter()) {
         println!(rt; "{count} {kind}")?;
@@ -90,7 +87,6 @@ fn tell<R: Print>(rt: &R, kinds: &[&str], counts: &[u64]) -> io::Result<()> {
     Ok(())
 }
 
-// Prints all counts.
 pub(crate) fn tell_counts<R: Print>(rt: &R, counts: &Counts) -> io::Result<()> {
     tell(rt, &READ, &counts.read)?;
     tell(rt, &WORKED, &counts.worked)
@@ -105,7 +101,6 @@ pub(crate) fn are_as_stated(counts: &Counts) -> bool {
     came && others == [0; 4] && read[2..9].iter().all(|count| *count > 0)
 }
 
-// Counts what the reader answers to each beginning of the four jobs.
 fn counts_of_cuts(alloc: Global) -> [u64; 12] {
     let mut counts = [0; 12];
     for len in 0..FOUR.len() + 1 {

@@ -37,7 +37,6 @@ impl Gate for Crossed {
     }
 }
 
-// Works the script.
 fn settle<R: AllocGlobal + Threads + Wait + Sync>(
     rt: &R,
     gate: &Crossed,
@@ -47,7 +46,6 @@ fn settle<R: AllocGlobal + Threads + Wait + Sync>(
     run_shared_gated(rt, rt.alloc(), &[script], out, FOUR, TEN, gate)
 }
 
-// Whether two workers work beside each other.
 pub(crate) fn are_beside<R: AllocGlobal + Threads + Wait + Sync>(rt: &R) -> bool {
     let gate = Crossed(Flags::new());
     let mut out = Vec::new(rt.alloc());

@@ -13,8 +13,8 @@ use swf_text::Memory;
 /// An input of five bytes.
 const FIVE: &[u8] = b"abcde";
 
-// Whether the input of five bytes is read from a reader that fails at the call behind so many: one byte past
-// the limit at most is read, and otherwise the end is looked for.
+// Whether the input of five bytes is read from a reader that fails at the call behind so many: one byte
+// past the limit at most is read, and otherwise the end is looked for.
 fn is_cut(alloc: Global, limit: u32, calls: usize) -> bool {
     let needed = limit.min(5) as usize + 1;
     match read_input(alloc, Dripping::new(FIVE, calls, false), u64::from(limit)) {
@@ -24,7 +24,8 @@ fn is_cut(alloc: Global, limit: u32, calls: usize) -> bool {
     }
 }
 
-// Whether that holds of limits below, at and above the five bytes, and a reader that fails at each of its calls.
+// Whether that holds of limits below, at and above the five bytes, and a reader that fails at each of
+// its calls.
 fn are_cut(alloc: Global) -> bool {
     for limit in 4..7u32 {
         for calls in 0..8 {
@@ -36,17 +37,17 @@ fn are_cut(alloc: Global) -> bool {
     true
 }
 
-// Whether the script of edits is answered as it should be where its reader fails at the call behind so many,
-// or is interrupted: where the reader fails before it gave all, nothing is written.
+// Whether the script of edits is answered as it should be where its reader fails at the call behind so
+// many, or is interrupted: where the reader fails before it gave all, nothing is written.
 fn is_read<R: AllocGlobal + Threads + Sync>(rt: &R, calls: usize, goes_on: bool) -> bool {
     let script = edits(0);
     let reader = Dripping::new(script, calls, goes_on);
-    let mut told = Vec::new(rt.alloc());
-    let answer = run_alone(rt, rt.alloc(), reader, &mut told, FOUR, TEN);
+    let mut outcome = Vec::new(rt.alloc());
+    let answer = run_alone(rt, rt.alloc(), reader, &mut outcome, FOUR, TEN);
     if goes_on || calls > script.len() {
-        return answer == Ok(()) && is_of(told.as_slice(), &EDITED);
+        return answer == Ok(()) && is_of(outcome.as_slice(), &EDITED);
     }
-    answer == Err(ProgramFault::Read) && told.is_empty()
+    answer == Err(ProgramFault::Read) && outcome.is_empty()
 }
 
 // Whether inputs are read as they should be where a reader fails at each of its calls.
@@ -66,7 +67,6 @@ const WRITTEN: [(Work, &[&[u8]], usize); 3] = [
     (Work::Views, &VIEWED, 1),
 ];
 
-// Whether a text is written up to where this writer fails, which is told.
 fn is_written<R: AllocGlobal + Threads + Wait + Sync>(
     rt: &R,
     work: Work,

@@ -19,7 +19,7 @@ const MANY: u64 = 20_000;
 enum Came {
     /// None was refused, and all went well.
     Whole,
-    /// One was refused, at one of the places that are told from others.
+    /// One was refused, at one of the places that are answered from others.
     Refused(usize),
 }
 
@@ -59,7 +59,6 @@ fn judged(
     }
 }
 
-// Tells what was answered where the growth of this number was refused.
 fn tell<R: Eprint>(rt: &R, nth: u64, answer: Result<(), ProgramFault>, text: &[u8]) {
     let text = str::from_utf8(text).unwrap_or("no text");
     // Where even this line cannot be written, the status still tells.
@@ -69,7 +68,6 @@ fn tell<R: Eprint>(rt: &R, nth: u64, answer: Result<(), ProgramFault>, text: &[u
     };
 }
 
-// Works something where the growth of this number is refused.
 fn came_of<R: AllocGlobal + Eprint + Threads + Wait + Sync>(
     rt: &R,
     work: Work,
@@ -85,7 +83,6 @@ fn came_of<R: AllocGlobal + Eprint + Threads + Wait + Sync>(
     came
 }
 
-// Notes that a place came.
 fn note(met: &mut [bool; 8], place: usize) {
     if let Some(is_met) = met.get_mut(place) {
         *is_met = true;
@@ -110,9 +107,9 @@ fn goes_on<R: AllocGlobal + Eprint + Threads + Wait + Sync>(
     false
 }
 
-// Whether a plain run ends with out of memory, and scripts of edits are answered so in each place: with both
-// of the removals, with one and with none, so that the journal grows in other commands.
-pub(crate) fn are_told<R: AllocGlobal + Eprint + Threads + Wait + Sync>(rt: &R) -> bool {
+// Whether a plain run ends with out of memory, and scripts of edits are answered so in each place: with
+// both of the removals, with one and with none, so that the journal grows in other commands.
+pub(crate) fn are_answered<R: AllocGlobal + Eprint + Threads + Wait + Sync>(rt: &R) -> bool {
     let mut met = [false; 8];
     for removals in 0..3 {
         if !goes_on(rt, Work::Edits(removals), &mut met) {
@@ -123,6 +120,6 @@ pub(crate) fn are_told<R: AllocGlobal + Eprint + Threads + Wait + Sync>(rt: &R) 
 }
 
 // Whether scripts side by side are answered as they may be.
-pub(crate) fn are_told_beside<R: AllocGlobal + Eprint + Threads + Wait + Sync>(rt: &R) -> bool {
+pub(crate) fn are_answered_beside<R: AllocGlobal + Eprint + Threads + Wait + Sync>(rt: &R) -> bool {
     goes_on(rt, Work::Views, &mut [false; 8])
 }

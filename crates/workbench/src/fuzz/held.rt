@@ -1,4 +1,4 @@
-// A conversation whose writer may hold back what it is not told to flush.
+// A conversation whose writer may hold back what it is not asked to flush.
 use crate::fuzz::works::TEN;
 use checking::FOUR;
 use easybook::{ProgramFault, run_live};
@@ -35,13 +35,11 @@ impl Write for Holding {
     }
 }
 
-// Holds the conversation.
 fn talk<R: AllocGlobal + Threads + Sync>(rt: &R, writer: &mut Holding) -> Result<(), ProgramFault> {
     let log = Vec::from_slice(rt.alloc(), FOUR)?;
     run_live(rt, rt.alloc(), log, Cursor::new(COMMANDS), writer, TEN)
 }
 
-// Whether each answer is flushed, once.
 pub(crate) fn is_flushed<R: AllocGlobal + Threads + Sync>(rt: &R) -> bool {
     let mut writer = Holding {
         given: Vec::new(rt.alloc()),

@@ -60,9 +60,9 @@ fn first<'t>(text: &'t [u8], report: &[u8]) -> Option<(Answer, &'t [u8])> {
 }
 
 // Whether a command for a report may be answered so: a run that has failed is not shown, and of one
-// that is there it isn't told that there is none yet.
-fn may_be(told: Answer, settled: Answer, is_there: bool) -> bool {
-    match told {
+// that is there it isn't answered that there is none yet.
+fn may_be(outcome: Answer, settled: Answer, is_there: bool) -> bool {
+    match outcome {
         Answer::Report => settled != Answer::Failed,
         Answer::NotYet => !is_there,
         Answer::Memory => true,
@@ -76,11 +76,11 @@ fn behind_reports(text: &[u8], settled: Answer) -> Option<&[u8]> {
     let mut rest = text;
     let mut is_there = settled == Answer::Settled;
     for report in [TABLE, USERS, DAYS] {
-        let (told, later) = first(rest, report)?;
-        if !may_be(told, settled, is_there) {
+        let (outcome, later) = first(rest, report)?;
+        if !may_be(outcome, settled, is_there) {
             return None;
         }
-        is_there = is_there || told == Answer::Report;
+        is_there = is_there || outcome == Answer::Report;
         rest = later;
     }
     Some(rest)
@@ -97,22 +97,21 @@ fn behind_answers(text: &[u8]) -> Option<&[u8]> {
     }
 }
 
-// What stands behind the answers to both scripts.
 fn behind_both(text: &[u8]) -> Option<&[u8]> {
     let second = behind_answers(behind(text, &[b"== 1\n"])?)?;
     behind_answers(behind(second, &[b"== 2\n"])?)
 }
 
-// How many lines of a text are this one.
 fn lines_that_are(text: &[u8], wanted: &[u8]) -> usize {
     text.split(|byte| *byte == b'\n')
         .filter(|line| *line == wanted)
         .count()
 }
 
-// Whether at most one thing is told of the growth that was refused: that a command found no memory, that
-// the run failed, or that the desk was stopped. Both scripts may be told of one of the last two.
-fn is_told_once(text: &[u8]) -> bool {
+// Whether at most one thing is said of the growth that was refused: that a command found no memory,
+// that the run failed, or that the desk was stopped. Both scripts may be answered of one of the last
+// two.
+fn is_answered_once(text: &[u8]) -> bool {
     let short = lines_that_are(text, b"refused Memory").min(2);
     let failed = lines_that_are(text, b"failed 1").min(1);
     let stopped = lines_that_are(text, b"stopped").min(1);
@@ -122,5 +121,5 @@ fn is_told_once(text: &[u8]) -> bool {
 // Whether this may be written of both scripts. All may go well, too: a worker that finds no memory for a
 // note where there is nothing left to do ends, and nobody waits for it.
 pub(crate) fn are_viewed(text: &[u8]) -> bool {
-    behind_both(text).is_some_and(|rest| rest.is_empty()) && is_told_once(text)
+    behind_both(text).is_some_and(|rest| rest.is_empty()) && is_answered_once(text)
 }

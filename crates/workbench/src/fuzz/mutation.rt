@@ -36,22 +36,18 @@ struct Change<'t> {
     new: &'t [u8],
 }
 
-// What stands in a text from a place on.
 fn from_place(text: &[u8], at: usize) -> &[u8] {
     &text[at.min(text.len())..]
 }
 
-// The first bytes of a text.
 fn first_bytes(text: &[u8], count: usize) -> &[u8] {
     &text[..count.min(text.len())]
 }
 
-// A place in a text, or its end.
 fn place(chance: &mut Chance, text: &[u8]) -> usize {
     chance.below((text.len() as u64).saturating_add(1)) as usize
 }
 
-// A stretch of the text.
 fn stretch<'t>(chance: &mut Chance, text: &'t [u8]) -> &'t [u8] {
     let rest = from_place(text, place(chance, text));
     first_bytes(rest, chance.below(STRETCH) as usize)
@@ -69,7 +65,6 @@ fn around(text: &[u8], at: usize, mark: u8, other: u8) -> (usize, usize) {
     (from, at.saturating_add(end).saturating_sub(from))
 }
 
-// The word around a place is exchanged for a piece.
 fn of_word<'t>(text: &'t [u8], at: usize, new: &'t [u8]) -> Change<'t> {
     let (at, gone) = around(text, at, b' ', b'\n');
     Change { at, gone, new }
@@ -82,8 +77,8 @@ fn of_line(text: &[u8], at: usize) -> Change<'_> {
     Change { at, gone: 0, new }
 }
 
-// A change at random: a byte exchanged, put in or taken out, the end cut off, a piece put in the place of a
-// byte or of a word, or a line or another stretch put in once more.
+// A change at random: a byte exchanged, put in or taken out, the end cut off, a piece put in the place
+// of a byte or of a word, or a line or another stretch put in once more.
 fn drawn<'t>(chance: &mut Chance, text: &'t [u8], byte: &'t [u8]) -> Change<'t> {
     let at = place(chance, text);
     let piece = PIECES[chance.below(16) as usize];
@@ -100,7 +95,6 @@ fn drawn<'t>(chance: &mut Chance, text: &'t [u8], byte: &'t [u8]) -> Change<'t> 
     Change { at, gone, new }
 }
 
-// The text with a change.
 fn exchanged(alloc: Global, text: &[u8], change: Change<'_>) -> Result<Vec<u8>, Memory> {
     let mut new = Vec::from_slice(alloc, first_bytes(text, change.at))?;
     new.extend_from_slice(change.new)?;
@@ -108,14 +102,12 @@ fn exchanged(alloc: Global, text: &[u8], change: Change<'_>) -> Result<Vec<u8>, 
     Ok(new)
 }
 
-// The text with one change at random.
 fn changed(alloc: Global, chance: &mut Chance, text: &[u8]) -> Result<Vec<u8>, Memory> {
     let byte = [chance.below(256) as u8];
     let change = drawn(chance, text, &byte);
     exchanged(alloc, text, change)
 }
 
-// The text with one to four changes.
 pub(crate) fn mutated(alloc: Global, chance: &mut Chance, text: &[u8]) -> Result<Vec<u8>, Memory> {
     let mut new = changed(alloc, chance, text)?;
     for _ in 0..chance.below(4) {

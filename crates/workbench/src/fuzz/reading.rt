@@ -42,7 +42,6 @@ fn is_kept(alloc: Global, text: &SwfText<Global>) -> bool {
     }
 }
 
-// What the reader answers to these bytes.
 pub(crate) fn answer(alloc: Global, bytes: &[u8]) -> &'static str {
     match read_swf(alloc, bytes) {
         Ok(text) if is_kept(alloc, &text) => KEPT,

@@ -11,12 +11,10 @@ pub(crate) fn behind<'t>(text: &'t [u8], pieces: &[&[u8]]) -> Option<&'t [u8]> {
     Some(rest)
 }
 
-// Whether a text is of these pieces alone.
 pub(crate) fn is_of(text: &[u8], pieces: &[&[u8]]) -> bool {
     behind(text, pieces).is_some_and(|rest| rest.is_empty())
 }
 
-// The text of these pieces.
 pub(crate) fn joined(alloc: Global, pieces: &[&[u8]]) -> Result<Vec<u8>, Memory> {
     let mut text = Vec::new(alloc);
     for piece in pieces {

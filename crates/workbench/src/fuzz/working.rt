@@ -45,7 +45,6 @@ const OPTIONS: Options = Options {
     workers: 1,
 };
 
-// The kind of a fault.
 fn kind_of(fault: ProgramFault) -> &'static str {
     match fault {
         ProgramFault::Log(_) => "no log",
@@ -55,12 +54,10 @@ fn kind_of(fault: ProgramFault) -> &'static str {
     }
 }
 
-// Whether a text begins with one of these.
 fn begins(text: &[u8], names: &[&[u8]]) -> bool {
     names.iter().any(|name| text.starts_with(name))
 }
 
-// What stands behind the first blank.
 fn behind_blank(text: &[u8]) -> &[u8] {
     match memchr(b' ', text) {
         Some(at) => &text[at + 1..],
@@ -79,21 +76,26 @@ fn is_stated(line: &[u8]) -> bool {
     !line.starts_with(b"failed ") && !line.starts_with(b"stopped")
 }
 
-// Whether all lines are, the last of which ends with its line feed.
 fn are_stated(text: &[u8]) -> bool {
     let is_whole = text.is_empty() || text.ends_with(b"\n");
     is_whole && text.split(|byte| *byte == b'\n').all(is_stated)
 }
 
-// What is answered to a script on a log.
 pub(crate) fn answer<R: AllocGlobal + Threads + Sync>(
     rt: &R,
     log: &[u8],
     script: &[u8],
 ) -> &'static str {
-    let mut told = Vec::new(rt.alloc());
-    match run_alone(rt, rt.alloc(), Cursor::new(script), &mut told, log, OPTIONS) {
-        Ok(()) if are_stated(told.as_slice()) => STATED,
+    let mut outcome = Vec::new(rt.alloc());
+    match run_alone(
+        rt,
+        rt.alloc(),
+        Cursor::new(script),
+        &mut outcome,
+        log,
+        OPTIONS,
+    ) {
+        Ok(()) if are_stated(outcome.as_slice()) => STATED,
         Ok(()) => OTHERS,
         Err(fault) => kind_of(fault),
     }

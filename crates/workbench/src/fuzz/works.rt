@@ -45,12 +45,10 @@ pub(crate) enum Work {
     Views,
 }
 
-// The script in which at most two removals come first.
 pub(crate) fn edits(removals: usize) -> &'static [u8] {
     &EDITS[REMOVAL * (2 - removals.min(2))..]
 }
 
-// Both scripts of views.
 fn views<A: Allocator + Copy>(alloc: A) -> Result<Vec<Vec<u8, A>, A>, Memory> {
     let mut scripts = Vec::new(alloc);
     for _ in 0..2 {
@@ -59,7 +57,6 @@ fn views<A: Allocator + Copy>(alloc: A) -> Result<Vec<Vec<u8, A>, A>, Memory> {
     Ok(scripts)
 }
 
-// Works them.
 fn work_views<R: Threads + Wait + Sync, A: Allocator + Copy + Send + Sync, W: Write>(
     rt: &R,
     alloc: A,
@@ -70,7 +67,6 @@ fn work_views<R: Threads + Wait + Sync, A: Allocator + Copy + Send + Sync, W: Wr
 }
 
 impl Work {
-    // Works it on an allocator, and writes what comes of it.
     pub(crate) fn work<R: Threads + Wait + Sync, A: Allocator + Copy + Send + Sync, W: Write>(
         self,
         rt: &R,

@@ -28,12 +28,10 @@ pub(crate) enum Kind {
     Insertions,
 }
 
-// The run time that an edit gives, in seconds.
 fn run_time(place: u64) -> u64 {
     place.wrapping_mul(997) % 4_000 + 1
 }
 
-// Another run time for a job.
 fn change(alloc: Global, number: u64, place: u64) -> Option<Edit<Global>> {
     let text = format!(in alloc; "{}", run_time(place)).ok()?;
     Some(Edit::Change {
@@ -43,13 +41,11 @@ fn change(alloc: Global, number: u64, place: u64) -> Option<Edit<Global>> {
     })
 }
 
-// The entry of a line.
 fn entry_of(alloc: Global, line: &[u8]) -> Option<EntryLines<Global>> {
     let text = read_swf(alloc, line).ok()?;
     text.entries().first()?.lines().ok()
 }
 
-// A job more.
 fn insertion(alloc: Global, number: u64, submit: u64, place: u64) -> Option<Edit<Global>> {
     let run = run_time(place);
     let line = format!(in alloc;
@@ -98,7 +94,7 @@ fn tell<R: Clock + Print>(timer: &mut Timer<'_, R>, work: Work) {
         ..
     } = work;
     let is_printed = println!(timer.rt;
-        "edit {took} us, {handled} event seconds, {reused} segments taken over"
+        "edit {took} us, {handled} event seconds, {reused} segments reused"
     ).is_ok();
     timer.note(is_printed);
 }
@@ -122,7 +118,6 @@ fn time_edit<R: Clock + Print>(
     }
 }
 
-// Times the edit of a place.
 fn time_place<R: AllocGlobal + Clock + Print>(
     timer: &mut Timer<'_, R>,
     book: &mut Book<Global>,
@@ -152,7 +147,6 @@ fn time_first<R: Clock + Print>(
     Ok(())
 }
 
-// The book of a log.
 fn book_of<R: AllocGlobal + Clock + Print>(
     timer: &mut Timer<'_, R>,
     log: &[u8],
@@ -165,7 +159,6 @@ fn book_of<R: AllocGlobal + Clock + Print>(
     }
 }
 
-// Simulates the log of a book, and times the edits of a kind.
 fn time_all<R: AllocGlobal + Clock + Print>(
     timer: &mut Timer<'_, R>,
     book: &mut Book<Global>,
@@ -180,7 +173,7 @@ fn time_all<R: AllocGlobal + Clock + Print>(
 }
 
 /// Simulates a log under a scenario, and then times the edits of a kind, each with the run that it asks
-/// for; what the first simulation took is told beside them.
+/// for; what the first simulation took is answered beside them.
 pub(crate) fn time_edits<R: AllocGlobal + Clock + Print>(
     timer: &mut Timer<'_, R>,
     log: &[u8],

@@ -19,7 +19,6 @@ const SPACING: u32 = 256;
 /// How many edits are timed.
 const EDITS: u64 = 10_000;
 
-// Prints what a part took, and an entry's share of it.
 fn tell_took<R: Clock + Print>(timer: &mut Timer<'_, R>, what: &str, took: u64, entries: u64) {
     let milliseconds = took / 1_000_000;
     let share = took / entries.max(1);
@@ -27,13 +26,11 @@ fn tell_took<R: Clock + Print>(timer: &mut Timer<'_, R>, what: &str, took: u64, 
     timer.note(is_printed);
 }
 
-// Ends a part, and prints what it took.
 fn tell<R: Clock + Print>(timer: &mut Timer<'_, R>, what: &str, entries: u64) {
     let took = timer.took();
     tell_took(timer, what, took, entries);
 }
 
-// Reads and opens a log: its table.
 pub(crate) fn table_of<R: AllocGlobal + Clock + Print>(
     timer: &mut Timer<'_, R>,
     log: &[u8],
@@ -56,7 +53,6 @@ pub(crate) fn table_of<R: AllocGlobal + Clock + Print>(
     }
 }
 
-// Reads the log with a thread for each processor, and lets it go.
 fn read_with_threads<R: AllocGlobal + Clock + Print + Threads + Sync>(
     timer: &mut Timer<'_, R>,
     log: &[u8],
@@ -88,7 +84,6 @@ fn edit_all_over<A: Allocator + Copy>(table: &mut JobTable<A>) -> u64 {
     changed
 }
 
-// Times edits all over a table.
 fn time_changes<R: Clock + Print>(
     timer: &mut Timer<'_, R>,
     what: &str,
@@ -118,7 +113,6 @@ fn time_table<R: AllocGlobal + Clock + Print>(
     Ok(())
 }
 
-// Makes the text of a run's schedule.
 fn print<R: AllocGlobal + Clock + Print>(
     timer: &mut Timer<'_, R>,
     run: &Run<Global>,
@@ -134,7 +128,6 @@ fn print<R: AllocGlobal + Clock + Print>(
     Ok(())
 }
 
-// Simulates a table, and prints its schedule.
 fn time_run<R: AllocGlobal + Clock + Print>(
     timer: &mut Timer<'_, R>,
     table: JobTable<Global>,
@@ -155,7 +148,6 @@ fn time_run<R: AllocGlobal + Clock + Print>(
     }
 }
 
-// Times reading by several threads, and edits of a table.
 fn time_before<R: AllocGlobal + Clock + Print + Threads + Sync>(
     timer: &mut Timer<'_, R>,
     log: &[u8],

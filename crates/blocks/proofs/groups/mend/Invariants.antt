@@ -5,7 +5,7 @@ use Rattle.blocks.proofs.groups.mend.Given as goal
 abbrev pub invariant-missing : goal.invariant-missing
 invariant-missing g l = record {
   known : AreGroups g.T.Ranked.weight l.blocks l.groups.items;
-  room : vec_capacity l.initial.groups ≤ vec_capacity l.groups;
+  capacity : vec_capacity l.initial.groups ≤ vec_capacity l.groups;
 }
 
 abbrev pub decreases-missing : goal.decreases-missing

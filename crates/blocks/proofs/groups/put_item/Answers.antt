@@ -23,8 +23,8 @@ insert-requires-clause-within g c =
     let here = again_is c.args.place.block c.args.blocks.now c.index-blocks-place.result c.requires.block c.index-blocks-place.is in
     omega (arith, c.requires.within, ap length here)
 
-pub insert-requires-clause-room : goal.insert-requires-clause-room
-insert-requires-clause-room g c =
+pub insert-requires-clause-capacity : goal.insert-requires-clause-capacity
+insert-requires-clause-capacity g c =
     let here = again_is c.args.place.block c.args.blocks.now c.index-blocks-place.result c.requires.block c.index-blocks-place.is in
     omega (arith, c.requires.short, ap length here)
 

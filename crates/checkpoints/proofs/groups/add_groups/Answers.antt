@@ -4,7 +4,7 @@ use Rattle.std.proofs.lemmas.List.{length-map, drop_all}
 use Rattle.metrics.specs.Part.{PartSums}
 use Rattle.checkpoints.specs.Groups.{GroupView, group_parts, ArePartsFrom}
 use Rattle.checkpoints.proofs.Grouping.{Adding, adding-first, adding-more, adding-done}
-use Rattle.checkpoints.proofs.TakenOver.{from-last, between-few, next-parts}
+use Rattle.checkpoints.proofs.Reused.{from-last, between-few, next-parts}
 use Rattle.checkpoints.proofs.groups.add_groups.Goals as goal
 
 abbrev now : Bor PartSums → PartSums

@@ -2,7 +2,7 @@ use Rattle.std.proofs.Common.{rules, [], ◌∷◌, ◌++◌, map, take, drop, �
 use Rattle.metrics.specs.Part.{PartSums}
 use Rattle.checkpoints.specs.Groups.{GroupView, group_parts, AreGroupsOf, ArePartsFrom, AreInRow}
 use Rattle.checkpoints.specs.Regrouping.{IsRegrouping}
-use Rattle.checkpoints.proofs.TakenOver.{group-few, place-known, between-few, bounds-known, between-same, passed-over, taken-over, from-last}
+use Rattle.checkpoints.proofs.Reused.{group-few, place-known, between-few, bounds-known, between-same, passed-over, group-reused, from-last}
 use Rattle.checkpoints.proofs.regrouping.pass_group.Goals as goal
 
 abbrev now : Bor PartSums → PartSums
@@ -47,7 +47,7 @@ returns-clause-groups g c left h =
     let all : List GroupView = c.push.new.self.items in
     let found = c.in-Some.ensures in
     subst (λ n. IsRegrouping news places left all end end (first + n)) (sym c.count-count.ensures)
-    (taken-over news places left c.args.so_far.now.grouped.groups.items hs all c.args.group.now count c.args.so_far.now.place first to end h c.next_place-so_far.ensures.from
+    (group-reused news places left c.args.so_far.now.grouped.groups.items hs all c.args.group.now count c.args.so_far.now.place first to end h c.next_place-so_far.ensures.from
     (found.0 ∙ ap (λ n. to + n) c.count-count.ensures) found.1 (subst (λ n. AreInRow first (take n (drop to places))) c.count-count.ensures found.2)
     (λ vs k. subst (λ (ws : List PartSums). AreGroupsOf (vs ++ ws) hs) (between-same now c.args.parts.now count to) (c.in_ok-add_groups.ensures.groups vs k))
     (c.in_ok-push.ensures.items ∙ ap (λ x. hs ++ x ∷ []) c.in_ok-share.ensures))

@@ -5,7 +5,7 @@ use Rattle.std.proofs.lemmas.Option.{slice_get_read, slice_get-map}
 use Rattle.metrics.specs.Part.{PartSums}
 use Rattle.checkpoints.specs.Groups.{GroupView, AreGroupsOf, group_parts}
 use Rattle.checkpoints.specs.Regrouping.{IsRegrouping}
-use Rattle.checkpoints.proofs.TakenOver.{rest-grouped, between-few, behind-same}
+use Rattle.checkpoints.proofs.Reused.{rest-grouped, between-few, behind-same}
 use Rattle.checkpoints.proofs.regrouping.regrouped.Goals as goal
 
 abbrev now : Bor PartSums → PartSums

@@ -1,7 +1,7 @@
 use Rattle.std.proofs.Common.{◌∙◌, ap, sym, subst, List}
 use Rattle.std.specs.Arc.{arc_value}
 use Rattle.swf_text.specs.Entry.{LogEntry}
-use Rattle.scenarios.specs.Scenario.{Setting}
+use Rattle.scenarios.specs.Scenario.{ScenarioView}
 use Rattle.scenarios.specs.Plan.{Plan, plan_of}
 use Rattle.scenarios.specs.PlanView.{PlanView, plan_in}
 use Rattle.checkpoints.specs.Cut.{IsShortCut}
@@ -13,7 +13,7 @@ pub segments-init : goal.segments-init
 segments-init g c =
     let plan : Plan = plan_in c.view-view.result in
     cutting-first plan (plan_of (arc_value c.in_ok-clone.field-0) c.scenario.result) c.args.spacing c.new-engine.result _ c.new-engine.ensures
-    (ap (λ (log : List LogEntry). plan_of log c.scenario.result) (c.in_ok-clone.ensures.cases ∙ c.table.ensures.table) ∙ ap (λ (s : Setting). plan_of c.args.plan.now.log s) c.scenario.ensures.scenario ∙ ap plan_in (sym c.view-view.ensures.same))
+    (ap (λ (log : List LogEntry). plan_of log c.scenario.result) (c.in_ok-clone.ensures.cases ∙ c.table.ensures.table) ∙ ap (λ (s : ScenarioView). plan_of c.args.plan.now.log s) c.scenario.ensures.scenario ∙ ap plan_in (sym c.view-view.ensures.same))
     (ap (all_in plan) c.new-segments.ensures)
 
 pub add_next-requires-clause-cut : goal.add_next-requires-clause-cut

@@ -5,7 +5,7 @@ use Rattle.scenarios.specs.PlanView.{plan_in}
 use Rattle.frames.specs.Frames.{stands_somewhere}
 use Rattle.easy_rule.specs.Simulation.{start_of}
 use Rattle.timeline.specs.Stretches.{waiting_stretch, waiting_stretches}
-use Rattle.event_loop.specs.Coming.{NonFalling}
+use Rattle.event_loop.specs.Upcoming.{NonFalling}
 use Rattle.event_loop.proofs.Lemmas.{non-falling, from-falling}
 use Rattle.checkpoints.proofs.Walks.{until, until-in, ended-at, coming-is, put-one}
 use Rattle.checkpoints.proofs.waiting_frame.add_coming.Goals as goal

@@ -3,7 +3,7 @@ use Rattle.frames.specs.Frames.{stands_somewhere}
 use Rattle.scenarios.specs.PlanView.{plan_in}
 use Rattle.easy_rule.specs.Simulation.{start_of}
 use Rattle.timeline.specs.Stretches.{coming_between, waiting_stretches}
-use Rattle.event_loop.specs.Coming.{NonFalling}
+use Rattle.event_loop.specs.Upcoming.{NonFalling}
 use Rattle.checkpoints.proofs.Walks.{until}
 use Rattle.checkpoints.proofs.waiting_frame.add_coming.Given as goal
 

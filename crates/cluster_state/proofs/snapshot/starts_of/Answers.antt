@@ -13,8 +13,8 @@ use Rattle.cluster_state.proofs.snapshot.starts_of.Goals as goal
 pub returns-clause-numbers : goal.returns-clause-numbers
 returns-clause-numbers g c =
     let rs = c.args.running.now.running in
-    let row = by_end rs in
-    sorted-numbers row c.sort_by_key.new.self.items (λ n. (let o = c.requires n in omega (arith, o, sum_by-by_end (λ (r : Placed). cond (nat_eq r.job.number n) 1 0) rs)))
+    let runners = by_end rs in
+    sorted-numbers runners c.sort_by_key.new.self.items (λ n. (let o = c.requires n in omega (arith, o, sum_by-by_end (λ (r : Placed). cond (nat_eq r.job.number n) 1 0) rs)))
     (subst (λ (ns : List RunningNumber). IsPermutation ns c.sort_by_key.new.self.items) c.in_ok-numbers.ensures.numbers c.in_ok-sort_by_key.ensures.permutation)
     (IsNonDecreasingBy-from_sort_by_key (λ (r : RunningNumber). r.number) c.sort_by_key.new.self.items c.in_ok-sort_by_key.ensures.sorted (λ a r q k. search rules))
     ∙ ap (map number_of) c.in_ok-numbers.ensures.by_number
@@ -22,8 +22,8 @@ returns-clause-numbers g c =
 pub returns-clause-rise : goal.returns-clause-rise
 returns-clause-rise g c =
     let rs = c.args.running.now.running in
-    let row = by_end rs in
-    let sorted = sorted-numbers row c.sort_by_key.new.self.items (λ n. (let o = c.requires n in omega (arith, o, sum_by-by_end (λ (r : Placed). cond (nat_eq r.job.number n) 1 0) rs)))
+    let runners = by_end rs in
+    let sorted = sorted-numbers runners c.sort_by_key.new.self.items (λ n. (let o = c.requires n in omega (arith, o, sum_by-by_end (λ (r : Placed). cond (nat_eq r.job.number n) 1 0) rs)))
     (subst (λ (ns : List RunningNumber). IsPermutation ns c.sort_by_key.new.self.items) c.in_ok-numbers.ensures.numbers c.in_ok-sort_by_key.ensures.permutation)
     (IsNonDecreasingBy-from_sort_by_key (λ (r : RunningNumber). r.number) c.sort_by_key.new.self.items c.in_ok-sort_by_key.ensures.sorted (λ a r q k. search rules)) in
-    rw sorted (numbers-rise (by_number row) (rises-by_number row))
+    rw sorted (numbers-rise (by_number runners) (rises-by_number runners))

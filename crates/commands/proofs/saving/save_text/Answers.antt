@@ -2,7 +2,7 @@ use Rattle.std.proofs.Common.{◌<◌, length, map, [], ◌∙◌, arith, refl}
 use Rattle.std.proofs.lemmas.List.{length-map}
 use Rattle.std.proofs.lemmas.Option.{get_or_from_slice_get}
 use Rattle.commands.specs.Opening.{comment_of}
-use Rattle.commands.proofs.Told.{item_text, within_map, text_pushed, taken_more, joined_more}
+use Rattle.commands.proofs.Declared.{item_text, within_map, text_pushed, taken_more, joined_more}
 use Rattle.commands.proofs.saving.save_text.Goals as goal
 
 pub loop-comment-preserved : goal.loop-comment-preserved

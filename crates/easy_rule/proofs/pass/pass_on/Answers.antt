@@ -2,7 +2,7 @@ use Rattle.std.proofs.Common.{◌≡◌, ◌+◌, ◌≤◌, [], ◌∷◌, ◌+
 use Rattle.cluster_state.specs.State.{ClusterView}
 use Rattle.easy_rule.specs.Pass.{less}
 use Rattle.easy_rule.specs.Decision.{IsDecision}
-use Rattle.easy_rule.proofs.Begun.{begun-done, begun-more, next-shorter, room-then}
+use Rattle.easy_rule.proofs.Begun.{begun-done, begun-more, next-shorter, capacity-then}
 use Rattle.easy_rule.proofs.CandidateLemmas.{candidate-started, candidate-starts}
 use Rattle.easy_rule.proofs.pass.pass_on.Goals as goal
 
@@ -31,7 +31,7 @@ candidates-preserved g c =
     record {
       begun = λ first b. begun-more first v d now c.candidates.chosen.items c.push.new.self.items job h k.found is spare items (c.candidates.invariant.begun first b);
       pass = candidate-started v m d now c.candidates.left c.left_by-left.result c.in-Some.at c.start_at-from.result job same h k is c.start_at-from.ensures.rest left;
-      room = room-then v d now _ _ _ _ job h k.found c.candidates.invariant.room is spare c.in-Ok.ensures.len c.push.ensures.capacity;
+      capacity = capacity-then v d now _ _ _ _ job h k.found c.candidates.invariant.capacity is spare c.in-Ok.ensures.len c.push.ensures.capacity;
     }
 
 pub returns-clause-decided : goal.returns-clause-decided

@@ -1,4 +1,4 @@
-use Rattle.easy_rule.proofs.Begun.{begun-more, head-next, next-shorter, room-then}
+use Rattle.easy_rule.proofs.Begun.{begun-more, head-next, next-shorter, capacity-then}
 use Rattle.easy_rule.proofs.pass.start_heads.Goals as goal
 
 pub heads-smaller : goal.heads-smaller
@@ -18,5 +18,5 @@ heads-preserved g c =
     let is = c.in-Some.ensures.state in
     record {
       begun = begun-more c.args.cluster.now v d now c.heads.chosen.items c.push.new.self.items head h e is c.start_head.ensures.spare c.in-Ok.ensures.items c.heads.invariant.begun;
-      room = room-then v d now _ _ _ _ head h e c.heads.invariant.room is c.start_head.ensures.spare c.in-Ok.ensures.len c.push.ensures.capacity;
+      capacity = capacity-then v d now _ _ _ _ head h e c.heads.invariant.capacity is c.start_head.ensures.spare c.in-Ok.ensures.len c.push.ensures.capacity;
     }

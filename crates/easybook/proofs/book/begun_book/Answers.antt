@@ -1,7 +1,7 @@
 use Rattle.std.proofs.Common.{◌++◌, ℕ, List, map, sym, subst}
 use Rattle.easybook.specs.Opened.{IsOpened}
 use Rattle.easybook.specs.Plain.{IsFaultOf}
-use Rattle.easybook.proofs.Beguns.{err-is, told-so}
+use Rattle.easybook.proofs.Beguns.{err-is, outcome-so}
 use Rattle.easybook.proofs.book.begun_book.Goals as goal
 
 pub returns-clause-book : goal.returns-clause-book
@@ -11,6 +11,6 @@ returns-clause-book g c =
 
 pub returns-in_err-opening-clause-fault : goal.returns-in_err-opening-clause-fault
 returns-in_err-opening-clause-fault g c =
-    let told = err-is c.from_residual.result c.in_err-opening.field-0.0 c.from_residual.ensures.1 in
-    told-so _ c.from_residual.result c.in_err-opening.field-0.0 told
+    let outcome = err-is c.from_residual.result c.in_err-opening.field-0.0 c.from_residual.ensures.1 in
+    outcome-so _ c.from_residual.result c.in_err-opening.field-0.0 outcome
     (λ read is. subst (λ (bytes : List ℕ). IsFaultOf (read ++ bytes) c.args.options.procs c.in_err-opening.field-0.0) c.as_slice.ensures.value (c.in_err-opening.ensures.fault read is))

@@ -7,4 +7,4 @@ unreachable-requires g c = c.requires (sym c.in_default.ensures.value)
 
 pub returns : goal.returns
 returns g c = λ log procs is.
-    printed log procs _ c.args.opening.table c.args.opening.scenarios (record { name = c.in-Some.first.0.now; id = c.in-Some.first.1; setting = c.in-Some.first.2 }) _ _ c.write_under.result is (sym c.in-Some.ensures.value) c.write_under.ensures
+    printed log procs _ c.args.opening.table c.args.opening.scenarios (record { name = c.in-Some.first.0.now; id = c.in-Some.first.1; scenario = c.in-Some.first.2 }) _ _ c.write_under.result is (sym c.in-Some.ensures.value) c.write_under.ensures

@@ -8,5 +8,5 @@ pub returns : goal.returns
 returns g c =
     let table : arc_value c.in_ok-new.field-0 ≡ c.args.table = search rules in
     let log = ap (λ (v : PlanView). v.log) c.new-plan.ensures.view ∙ table in
-    let setting = ap (λ (v : PlanView). v.setting) c.new-plan.ensures.view in
-    (_, is-printed c.args.name.now _ c.in_ok-report.ensures.text c.in_ok-report.ensures.lines log setting, c.in_ok-write.ensures)
+    let scenario = ap (λ (v : PlanView). v.scenario) c.new-plan.ensures.view in
+    (_, is-printed c.args.name.now _ c.in_ok-report.ensures.text c.in_ok-report.ensures.lines log scenario, c.in_ok-write.ensures)

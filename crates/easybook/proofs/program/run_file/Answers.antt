@@ -8,9 +8,9 @@ pub returns-in_err-opened : goal.returns-in_err-opened
 returns-in_err-opened g c =
     let u = c.in_ok-begun.ensures.front in
     let log = u.front ++ c.in_ok-begun.begun.rest.items in
-    let told = err-is c.from_residual-in_err-opened.result c.in_err-opened.field-0.0 c.from_residual-in_err-opened.ensures.1 in
+    let outcome = err-is c.from_residual-in_err-opened.result c.in_err-opened.field-0.0 c.from_residual-in_err-opened.ensures.1 in
     file_ends g.row.A.Denot (g.L.Read.remaining c.args.log) c.args.options.procs (g.R.Read.remaining c.args.script) (g.W.Write.contents c.args.writer.now) _ log c.in_ok-script.script.items c.from_residual-in_err-opened.result u.whole c.in_ok-script.ensures.front
-    (refused-so g.row.A.Denot log (Some c.in_ok-script.script.items) c.args.options.procs _ c.in_err-opened.field-0.0 c.from_residual-in_err-opened.result told (c.in_err-opened.ensures.fault u.front u.is_front))
+    (refused-so g.row.A.Denot log (Some c.in_ok-script.script.items) c.args.options.procs _ c.in_err-opened.field-0.0 c.from_residual-in_err-opened.result outcome (c.in_err-opened.ensures.fault u.front u.is_front))
 
 pub returns : goal.returns
 returns g c =

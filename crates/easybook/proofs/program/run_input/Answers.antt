@@ -9,10 +9,10 @@ returns-in_err-opening g c =
     let begun = c.in_ok-begun.begun in
     let log = c.split_input.result.0.now in
     let script = option_map (λ (s : Bor (List ℕ)). s.now) c.split_input.result.1 in
-    let told = err-is c.from_residual-in_err-opening.result c.in_err-opening.field-0.0 c.from_residual-in_err-opening.ensures.1 in
+    let outcome = err-is c.from_residual-in_err-opening.result c.in_err-opening.field-0.0 c.from_residual-in_err-opening.ensures.1 in
     let cut = subst (λ (l : List ℕ). IsCut l log script) c.as_slice.ensures.value c.split_input.ensures in
     input-ends _ g.row.A.Denot (g.R.Read.remaining c.args.reader) begun.front begun.rest.items log script c.args.options.procs _ _ c.in_ok-begun.ensures.whole cut c.from_residual-in_err-opening.result
-    (λ front is. refused-so g.row.A.Denot (front ++ log) script c.args.options.procs _ c.in_err-opening.field-0.0 c.from_residual-in_err-opening.result told (c.in_err-opening.ensures.fault front is))
+    (λ front is. refused-so g.row.A.Denot (front ++ log) script c.args.options.procs _ c.in_err-opening.field-0.0 c.from_residual-in_err-opening.result outcome (c.in_err-opening.ensures.fault front is))
 
 pub returns-in_ok-opened-in-Some : goal.returns-in_ok-opened-in-Some
 returns-in_ok-opened-in-Some g c =

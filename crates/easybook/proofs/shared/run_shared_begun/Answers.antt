@@ -19,7 +19,7 @@ returns-then-not-are_within g c =
 pub returns-in_err-opened : goal.returns-in_err-opened
 returns-in_err-opened g c =
     let scripts : List (List ℕ) = map (λ s. s.items) c.args.scripts.now in
-    let told : c.from_residual.result ≡ Err c.in_err-opened.field-0.0 = search rules in
+    let outcome : c.from_residual.result ≡ Err c.in_err-opened.field-0.0 = search rules in
     let few : list_all (λ s. nat_le (length s.items) script_limit) c.args.scripts.now ≡ true = search rules in
     let within : are_within scripts ≡ true = list_all-map (λ (s : List ℕ). nat_le (length s) script_limit) (λ s. s.items) c.args.scripts.now ∙ few in
-    λ read is. shared_unopened c.from_residual.result g.row.A.Denot (read ++ c.args.begun.rest.items) c.args.options.procs scripts _ c.in_err-opened.field-0.0 told within (c.in_err-opened.ensures.fault read is)
+    λ read is. shared_unopened c.from_residual.result g.row.A.Denot (read ++ c.args.begun.rest.items) c.args.options.procs scripts _ c.in_err-opened.field-0.0 outcome within (c.in_err-opened.ensures.fault read is)

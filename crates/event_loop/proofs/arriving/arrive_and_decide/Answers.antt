@@ -19,4 +19,4 @@ start_at_once-requires-clause-settled g c =
     let plan : Plan = plan_in c.args.plan.now in
     let s : State = c.args.cluster.now.state in
     let only : submitted plan c.args.second ≡ c.in-Some.job ∷ [] = subst (λ (o : Option EffectiveJob). IfSome o (λ job. submitted plan c.args.second ≡ job ∷ [])) c.in-Some.is c.in_ok-job.ensures.only in
-    subst (λ (js : List EffectiveJob). IfSome c.args.known (λ w. IsSettledFront (joined s js) c.args.second (length s.waiting) w)) only c.requires.due.settled
+    subst (λ (js : List EffectiveJob). IfSome c.args.last_shadow (λ w. IsSettledFront (joined s js) c.args.second (length s.waiting) w)) only c.requires.due.settled

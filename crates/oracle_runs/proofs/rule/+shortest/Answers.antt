@@ -1,6 +1,6 @@
 use Rattle.std.proofs.Common.{◌≡◌, Bool, true, false, List, ◌∷◌, Some, None, find, sym, ◌∙◌, ap, rules}
 use Rattle.scenarios.specs.Job.{EffectiveJob}
-use Rattle.cluster_state.specs.Row.{by_estimate}
+use Rattle.cluster_state.specs.Candidates.{by_estimate}
 use Rattle.easy_rule.specs.Rule.{may_backfill}
 use Rattle.oracle_runs.proofs.Choice.{shortest-passed, shortest-alone, shortest-later, shortest-first}
 use Rattle.oracle_runs.proofs.rule.+shortest.Goals as goal

@@ -12,7 +12,7 @@ overflow_sub-gap g c =
     let s : State = c.args.state.now in
     let head : EffectiveJob = c.in-Some.head.now in
     let queue : s.waiting ≡ head ∷ c.in-Some.later.now = sym c.waiting.ensures.jobs ∙ c.in-Some.ensures.cases.0 in
-    let fits : head.size ≤ s.machine = All-head (λ (j : EffectiveJob). j.size ≤ s.machine) head c.in-Some.later.now (rw queue at c.waiting.ensures.sound.waiting_fit) in
+    let fits : head.size ≤ s.procs = All-head (λ (j : EffectiveJob). j.size ≤ s.procs) head c.in-Some.later.now (rw queue at c.waiting.ensures.sound.waiting_fit) in
     rw (c.available.ensures, c.shadow_time-shadow.ensures, c.size-2.ensures.value, c.size-3.ensures.value) (shadow_time-IsLeast s head.size c.waiting.ensures.sound.fits fits).holds
 
 pub returns-in-Arrival-clause-next : goal.returns-in-Arrival-clause-next

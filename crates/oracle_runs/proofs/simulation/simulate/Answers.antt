@@ -3,7 +3,7 @@ use Rattle.scenarios.specs.Plan.{Plan}
 use Rattle.cluster_state.specs.State.{State}
 use Rattle.easy_rule.specs.Rule.{state_after}
 use Rattle.easy_rule.specs.Simulation.{before, starts_before, last_submit, bound}
-use Rattle.timeline.proofs.Lemmas.{sound-arrivals, second-is, machine-is, before-more, starts_before-more, short-plan, all-started, all-start-early}
+use Rattle.timeline.proofs.Lemmas.{sound-arrivals, second-is, procs-is, before-more, starts_before-more, short-plan, all-started, all-start-early}
 use Rattle.oracle_runs.proofs.Ending.{ended-until-is}
 use Rattle.oracle_runs.proofs.simulation.simulate.Goals as goal
 
@@ -41,7 +41,7 @@ arrive_at-requires-clause-sizes g c =
     let s = short-plan c.args.plan.now c.jobs-jobs.ensures.plan in
     let ends = c.bound-t-end.ensures c.args.plan.now (sym c.jobs-jobs.ensures.jobs) in
     let left = ended-until-is c.args.plan.now c.loop-t.state c.end_at.new.self c.loop-t.t (omega (arith, s, ends)) c.jobs-jobs.ensures.plan c.loop-t.invariant.state c.end_at.ensures in
-    rw (c.jobs-jobs.ensures.jobs, machine-is c.args.plan.now c.loop-t.state c.end_at.new.self c.loop-t.t (omega (arith, s, ends)) c.jobs-jobs.ensures.plan c.loop-t.invariant.state left) c.jobs-jobs.ensures.plan.sizes
+    rw (c.jobs-jobs.ensures.jobs, procs-is c.args.plan.now c.loop-t.state c.end_at.new.self c.loop-t.t (omega (arith, s, ends)) c.jobs-jobs.ensures.plan c.loop-t.invariant.state left) c.jobs-jobs.ensures.plan.sizes
 
 pub decide-requires : goal.decide-requires
 decide-requires g c =

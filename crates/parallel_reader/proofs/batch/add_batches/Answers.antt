@@ -13,7 +13,7 @@ batches-init g c =
       front = [];
       whole = ap (λ (ls : List (Bor (List ℕ))). texts ls ++ lines c.args.bytes.now) (sym none);
       place = omega arith;
-      done = none_added _ _ ∙ ap Ok (sym c.make_room-refused.ensures);
+      done = none_added _ _ ∙ ap Ok (sym c.reserve-refused.ensures);
       read = c.new-ready.ensures.readings ∙ ap read_texts (sym none);
       within = omega (arith, ap length none);
     }

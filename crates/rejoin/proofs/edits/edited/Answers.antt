@@ -17,6 +17,6 @@ returns-clause-table g c = (edited-all edit_of c.args.table.now c.loop-edit.new 
 pub returns-in_err-apply-clause-fault : goal.returns-in_err-apply-clause-fault
 returns-in_err-apply-clause-fault g c =
     let is : edit_of c.edit-item.result ≡ edit_of (get_or c.args.edits.now c.loop-edit.edit-index c.edit-item.result) = search rules in
-    let told = edited-refused edit_of c.args.table.now c.loop-edit.new c.args.edits.now c.loop-edit.edit-index c.edit-item.result _ c.in_err-apply.field-0.0 c.loop-edit-test.true is c.in_err-apply.ensures.fault c.loop-edit.invariant in
+    let outcome = edited-refused edit_of c.args.table.now c.loop-edit.new c.args.edits.now c.loop-edit.edit-index c.edit-item.result _ c.in_err-apply.field-0.0 c.loop-edit-test.true is c.in_err-apply.ensures.fault c.loop-edit.invariant in
     let same : c.from_residual-in_err-apply.result ≡ Err c.in_err-apply.field-0.0 = search rules in
-    rw same told
+    rw same outcome

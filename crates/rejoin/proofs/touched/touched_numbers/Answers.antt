@@ -27,7 +27,7 @@ returns-clause-those g c =
     let numbers = c.loop-edit.numbers.items in
     those-distinct (IsTouched (plan_in old) (plan_in c.args.new_plan.now)) numbers _ c.distinct.ensures.same
     (subst (λ (v : PlanView). AreThose (IsTouched (plan_in old) (plan_in v)) numbers) (sym c.requires.edited)
-    (touched-all edit_of old.log (log_after old.log (map edit_of c.args.edits.now)) old.setting c.args.edits.now c.loop-edit.edit-index numbers c.loop-edit-test.false c.requires.table c.requires.accepted refl
+    (touched-all edit_of old.log (log_after old.log (map edit_of c.args.edits.now)) old.scenario c.args.edits.now c.loop-edit.edit-index numbers c.loop-edit-test.false c.requires.table c.requires.accepted refl
     (subst (λ (v : PlanView). Collected (plan_in old) (plan_in v) (map edit_of (take c.loop-edit.edit-index c.args.edits.now)) numbers) c.requires.edited c.loop-edit.invariant)))
 
 pub returns-clause-rising : goal.returns-clause-rising

@@ -7,4 +7,4 @@ pub returns : goal.returns
 returns g c =
     let s = c.args.skips.now in
     five c.args.text.now.items (word_and_number (codes "skipped size") s.size) (word_and_number (codes " run") s.run) (word_and_number (codes " large") s.large) (word_and_number (codes " long") s.long) (codes "\n")
-    c.in_ok-push_told.ensures c.in_ok-push_told-2.ensures c.in_ok-push_told-3.ensures c.in_ok-push_told-4.ensures c.in_ok-push.ensures.items
+    c.in_ok-push_labelled.ensures c.in_ok-push_labelled-2.ensures c.in_ok-push_labelled-3.ensures c.in_ok-push_labelled-4.ensures c.in_ok-push.ensures.items

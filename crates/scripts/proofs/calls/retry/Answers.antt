@@ -13,5 +13,5 @@ returns g c =
       Some c.in-Some.id,
       c.find.new.self,
       found,
-      call-scenario g.S.Analyst.rules c.find.new.self c.retry-told.new.self (Retry c.in-Some.id) c.args.name became.Retried (λ _. reply.Retried) (λ _. reply.NoSuchScenario) (λ _. no_such_scenario_name) (λ value. refl) (λ fault. refl) c.retry-told.result _ c.retry-told.ensures c.of_scenario.ensures,
+      call-scenario g.S.Analyst.rules c.find.new.self c.retry-outcome.new.self (Retry c.in-Some.id) c.args.name became.Retried (λ _. reply.Retried) (λ _. reply.NoSuchScenario) (λ _. no_such_scenario_name) (λ value. refl) (λ fault. refl) c.retry-outcome.result _ c.retry-outcome.ensures c.of_scenario.ensures,
     )

@@ -7,8 +7,8 @@ use Rattle.scripts.proofs.hearing.pass_line.Goals as goal
 pub returns-in_err-next_line : goal.returns-in_err-next_line
 returns-in_err-next_line g c =
     let (passed, none, read) = c.loop.invariant in
-    let told : c.from_residual.result ≡ Err c.in_err-next_line.field-0.0 = search rules in
-    rw told (passed_on (g.R.Read.remaining c.args.reader.now) (g.R.Read.remaining c.loop.reader) (g.R.Read.remaining c.next_line.new.reader) passed _ none read c.in_err-next_line.ensures)
+    let outcome : c.from_residual.result ≡ Err c.in_err-next_line.field-0.0 = search rules in
+    rw outcome (passed_on (g.R.Read.remaining c.args.reader.now) (g.R.Read.remaining c.loop.reader) (g.R.Read.remaining c.next_line.new.reader) passed _ none read c.in_err-next_line.ensures)
 
 pub returns-in-Feed : goal.returns-in-Feed
 returns-in-Feed g c =

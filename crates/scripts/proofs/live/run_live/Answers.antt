@@ -15,8 +15,8 @@ loop-number-init g c =
 
 pub returns-in_err-follows : goal.returns-in_err-follows
 returns-in_err-follows g c =
-    let told : c.from_residual-in_err-follows.result ≡ Err c.in_err-follows.field-0.0 = search rules in
-    rw told (c.in_err-follows.ensures (record { machine = machine_of c.args.book; seen = 0 }) (g.R.Read.remaining c.args.reader.now) (g.W.Write.contents c.args.writer.now) c.loop-number.invariant)
+    let outcome : c.from_residual-in_err-follows.result ≡ Err c.in_err-follows.field-0.0 = search rules in
+    rw outcome (c.in_err-follows.ensures (record { machine = machine_of c.args.book; seen = 0 }) (g.R.Read.remaining c.args.reader.now) (g.W.Write.contents c.args.writer.now) c.loop-number.invariant)
 
 pub returns-then-not-follows : goal.returns-then-not-follows
 returns-then-not-follows g c =

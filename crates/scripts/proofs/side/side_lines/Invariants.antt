@@ -9,5 +9,5 @@ abbrev pub invariant-loop-place : goal.invariant-loop-place
 invariant-loop-place g l = record {
   lines : AreBeside g.S.Analyst.rules g.row.A.Denot l.fn.analyst (take l.place l.list.scenarios) (map side_line l.lines.items) l.analyst;
   count : vec_len l.lines ≤ l.place;
-  room : length l.list.scenarios ≤ vec_capacity l.lines;
+  capacity : length l.list.scenarios ≤ vec_capacity l.lines;
 }

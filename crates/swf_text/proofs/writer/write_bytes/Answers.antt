@@ -11,5 +11,5 @@ loop-written-preserved g c =
     let whole : take (length bytes - written) (drop written bytes) ≡ drop written bytes = take_all (length bytes - written) (drop written bytes) (omega (arith, length-drop written bytes)) in
     record {
       within = omega (arith, c.in-Ok.ensures.bound, length-take (length bytes - written) (drop written bytes), length-drop written bytes);
-      told = appends_more _ _ _ written c.in-Ok.count bytes c.loop-written.invariant.told (subst (λ (l : List ℕ). Appends (g.W.Write.contents c.loop-written.writer) (g.W.Write.contents c.write.new.self) (take c.in-Ok.count l)) whole c.in-Ok.ensures.bytes);
+      outcome = appends_more _ _ _ written c.in-Ok.count bytes c.loop-written.invariant.outcome (subst (λ (l : List ℕ). Appends (g.W.Write.contents c.loop-written.writer) (g.W.Write.contents c.write.new.self) (take c.in-Ok.count l)) whole c.in-Ok.ensures.bytes);
     }

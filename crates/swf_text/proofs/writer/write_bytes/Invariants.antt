@@ -5,7 +5,7 @@ use Rattle.swf_text.proofs.writer.write_bytes.Given as goal
 abbrev pub invariant-loop-written : goal.invariant-loop-written
 invariant-loop-written g l = record {
   within : l.written ≤ length l.bytes;
-  told : Appends (g.W.Write.contents l.fn.writer) (g.W.Write.contents l.writer) (take l.written l.bytes);
+  outcome : Appends (g.W.Write.contents l.fn.writer) (g.W.Write.contents l.writer) (take l.written l.bytes);
 }
 
 abbrev pub decreases-loop-written : goal.decreases-loop-written

@@ -17,11 +17,11 @@ pub returns-in_err-write_bytes-2-clause-text : goal.returns-in_err-write_bytes-2
 returns-in_err-write_bytes-2-clause-text g c =
     let p = err_from_is_err_and c.from_residual-in_err-write_bytes-2.result c.from_residual-in_err-write_bytes-2.ensures.1 in
     rw (p.1) (subst (λ (ps : List (List ℤ)). (n : ℕ) × Appends (g.W.Write.contents c.args.writer.now) (g.W.Write.contents c.write_bytes-in-loop-part.new.writer) (take n (line_text c.args.entry.now.main ++ flat_map line_text ps))) c.parts-part-items.ensures
-    (texts_stop_last line_text values _ _ _ (line_text c.args.entry.now.main) c.parts-part-items.result.now c.loop-part.part-index c.part-item.result _ (omega arith) c.part-item.is (c.as_slice-in-loop-part.ensures.value ∙ c.line_text-in-loop-part.ensures.text) c.loop-part.invariant.told c.in_err-write_bytes-2.ensures))
+    (texts_stop_last line_text values _ _ _ (line_text c.args.entry.now.main) c.parts-part-items.result.now c.loop-part.part-index c.part-item.result _ (omega arith) c.part-item.is (c.as_slice-in-loop-part.ensures.value ∙ c.line_text-in-loop-part.ensures.text) c.loop-part.invariant.outcome c.in_err-write_bytes-2.ensures))
 
 pub loop-part-preserved : goal.loop-part-preserved
 loop-part-preserved g c = record {
-  told = texts_grow line_text values _ _ _ (line_text c.args.entry.now.main) c.parts-part-items.result.now c.loop-part.part-index c.part-item.result _ (omega arith) c.part-item.is (c.as_slice-in-loop-part.ensures.value ∙ c.line_text-in-loop-part.ensures.text) c.loop-part.invariant.told c.in_ok-write_bytes-2.ensures;
+  outcome = texts_grow line_text values _ _ _ (line_text c.args.entry.now.main) c.parts-part-items.result.now c.loop-part.part-index c.part-item.result _ (omega arith) c.part-item.is (c.as_slice-in-loop-part.ensures.value ∙ c.line_text-in-loop-part.ensures.text) c.loop-part.invariant.outcome c.in_ok-write_bytes-2.ensures;
   main = c.loop-part.invariant.main;
   parts = all_more AreFields values c.parts-part-items.result.now c.loop-part.part-index c.part-item.result (omega arith) c.loop-part.invariant.parts (subst (λ (f : Fields). AreFields (values f)) c.part-item.is c.line_text-in-loop-part.ensures.fields);
 }

@@ -7,7 +7,7 @@ use Rattle.swf_text.proofs.writer.write_entry.Given as goal
 
 abbrev pub invariant-loop-part : goal.invariant-loop-part
 invariant-loop-part g l = record {
-  told : Appends (g.W.Write.contents l.fn.writer) (g.W.Write.contents l.writer) (line_text l.entry.main ++ flat_map line_text (map values (take l.part-index l.part-items)));
+  outcome : Appends (g.W.Write.contents l.fn.writer) (g.W.Write.contents l.writer) (line_text l.entry.main ++ flat_map line_text (map values (take l.part-index l.part-items)));
   main : AreFields l.entry.main;
   parts : AllByRecursion AreFields (map values (take l.part-index l.part-items));
 }

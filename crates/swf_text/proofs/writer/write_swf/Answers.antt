@@ -19,18 +19,18 @@ pub returns-in_err-write_entry-clause-text : goal.returns-in_err-write_entry-cla
 returns-in_err-write_entry-clause-text g c =
     let p = err_from_is_err_and c.from_residual-in_err-write_entry.result c.from_residual-in_err-write_entry.ensures.1 in
     rw (p.1) (subst (λ (entries : List LogEntry). (n : ℕ) × Appends (g.W.Write.contents c.args.writer.now) (g.W.Write.contents c.write_entry.new.writer) (take n (flat_map comment_text c.args.text.now.comments ++ flat_map entry_text entries))) (map_same c.entries-entry-items.result.now ∙ c.entries-entry-items.ensures.entries)
-    (texts_stop_last entry_text (λ (entry : LogEntry). entry) _ _ _ (flat_map comment_text c.args.text.now.comments) c.entries-entry-items.result.now c.loop-entry.entry-index c.entry-item.result _ (omega arith) c.entry-item.is refl c.loop-entry.invariant.told c.in_err-write_entry.ensures.text))
+    (texts_stop_last entry_text (λ (entry : LogEntry). entry) _ _ _ (flat_map comment_text c.args.text.now.comments) c.entries-entry-items.result.now c.loop-entry.entry-index c.entry-item.result _ (omega arith) c.entry-item.is refl c.loop-entry.invariant.outcome c.in_err-write_entry.ensures.text))
 
 pub loop-entry-preserved : goal.loop-entry-preserved
 loop-entry-preserved g c = record {
-  told = texts_grow entry_text (λ (entry : LogEntry). entry) _ _ _ (flat_map comment_text c.args.text.now.comments) c.entries-entry-items.result.now c.loop-entry.entry-index c.entry-item.result _ (omega arith) c.entry-item.is refl c.loop-entry.invariant.told c.in_ok-write_entry.ensures.text;
+  outcome = texts_grow entry_text (λ (entry : LogEntry). entry) _ _ _ (flat_map comment_text c.args.text.now.comments) c.entries-entry-items.result.now c.loop-entry.entry-index c.entry-item.result _ (omega arith) c.entry-item.is refl c.loop-entry.invariant.outcome c.in_ok-write_entry.ensures.text;
   fields = all_more HasFields (λ (entry : LogEntry). entry) c.entries-entry-items.result.now c.loop-entry.entry-index c.entry-item.result (omega arith) c.loop-entry.invariant.fields (subst HasFields c.entry-item.is c.in_ok-write_entry.ensures.fields);
 }
 
 pub returns-clause-text : goal.returns-clause-text
 returns-clause-text g c =
     subst (λ (entries : List LogEntry). Appends (g.W.Write.contents c.args.writer.now) (g.W.Write.contents c.loop-entry.writer) (flat_map comment_text c.args.text.now.comments ++ flat_map entry_text entries))
-    (map_whole c.entries-entry-items.result.now c.loop-entry.entry-index (omega arith) ∙ c.entries-entry-items.ensures.entries) c.loop-entry.invariant.told
+    (map_whole c.entries-entry-items.result.now c.loop-entry.entry-index (omega arith) ∙ c.entries-entry-items.ensures.entries) c.loop-entry.invariant.outcome
 
 pub returns-clause-read_again : goal.returns-clause-read_again
 returns-clause-read_again g c = λ comments. read_again c.args.text.now comments

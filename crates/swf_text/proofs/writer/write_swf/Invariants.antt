@@ -10,6 +10,6 @@ invariant-loop-comment g l = Appends (g.W.Write.contents l.fn.writer) (g.W.Write
 
 abbrev pub invariant-loop-entry : goal.invariant-loop-entry
 invariant-loop-entry g l = record {
-  told : Appends (g.W.Write.contents l.fn.writer) (g.W.Write.contents l.writer) (flat_map comment_text l.text.comments ++ flat_map entry_text (map (λ (entry : LogEntry). entry) (take l.entry-index l.entry-items)));
+  outcome : Appends (g.W.Write.contents l.fn.writer) (g.W.Write.contents l.writer) (flat_map comment_text l.text.comments ++ flat_map entry_text (map (λ (entry : LogEntry). entry) (take l.entry-index l.entry-items)));
   fields : AllByRecursion HasFields (map (λ (entry : LogEntry). entry) (take l.entry-index l.entry-items));
 }

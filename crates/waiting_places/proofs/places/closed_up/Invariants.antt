@@ -7,5 +7,5 @@ invariant-loop-item g l = record {
   next : (goal.iterator-loop-item g).can_next l.item-iterator;
   finite : (goal.iterator-loop-item g).is_finite l.item-iterator;
   places : l.closed.places ++ map (λ item. Some item) l.item-iterator ≡ map (λ item. Some item) (waiting l.places);
-  spare : l.room + length l.item-iterator ≤ l.closed.spare + length (waiting l.places);
+  spare : l.capacity + length l.item-iterator ≤ l.closed.spare + length (waiting l.places);
 }

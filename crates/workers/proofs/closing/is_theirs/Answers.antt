@@ -2,7 +2,7 @@ use Rattle.std.proofs.Common.{rules, ◌≡◌, ◌∙◌, true, false, IsTrue, 
 use Rattle.book_machine.specs.History.{Noted}
 use Rattle.book_machine.specs.Noted.{noted_of}
 use Rattle.chronicle.specs.Events.{notes_of}
-use Rattle.workers.specs.Closing.{IsTold}
+use Rattle.workers.specs.Closing.{IsAnswered}
 use Rattle.workers.proofs.Portions.{later, refuses}
 use Rattle.workers.proofs.closing.is_theirs.Goals as goal
 
@@ -25,6 +25,6 @@ returns g c =
     let notes = later c.journal.result.now c.later_notes.result.now c.args.opening c.args.shared.now.book.journal c.later_notes.ensures journal in
     let same : map noted_of c.later_notes.result.now ≡ notes_of c.args.shared.now.history.events =
     notes ∙ (ap (λ n. drop n c.args.shared.now.book.journal) c.requires ∙ sym one.notes) in (
-      (λ told. record { kept = kept; fronts = rw (← c.shared.view_is) (c.sessions_begin.ensures.0 begin); lists = subst (λ (ns : List Noted). IsTold c.args.sessions.now c.args.workers.now ns) same (c.is_told.ensures.0 told) }),
-      (λ t. c.is_told.ensures.1 (subst (λ (ns : List Noted). IsTold c.args.sessions.now c.args.workers.now ns) (sym same) t.lists)),
+      (λ outcome. record { kept = kept; fronts = rw (← c.shared.view_is) (c.sessions_begin.ensures.0 begin); lists = subst (λ (ns : List Noted). IsAnswered c.args.sessions.now c.args.workers.now ns) same (c.is_answered.ensures.0 outcome) }),
+      (λ t. c.is_answered.ensures.1 (subst (λ (ns : List Noted). IsAnswered c.args.sessions.now c.args.workers.now ns) (sym same) t.lists)),
     )

@@ -2,17 +2,17 @@ use Rattle.std.proofs.Common.{◌≡◌, ◌≤◌, [], ap, arith, length, subst
 use Rattle.blocks.specs.Rows.{BlocksView}
 use Rattle.blocks.proofs.Bounds.{low_one}
 use Rattle.blocks.proofs.Grouped.{groups_empty}
-use Rattle.blocks.proofs.Rooms.{begun_row, first_block}
+use Rattle.blocks.proofs.Capacities.{begun_row, first_block}
 use Rattle.blocks.proofs.block_row.BlockRow.begin.Goals as goal
 
 pub take_from-block-requires-clause-some : goal.take_from-block-requires-clause-some
-take_from-block-requires-clause-some g c = omega (arith, subst (λ (v : BlocksView g.row.T.Denot). 1 ≤ v.spare) (sym c.self.view_is) c.requires.room)
+take_from-block-requires-clause-some g c = omega (arith, subst (λ (v : BlocksView g.row.T.Denot). 1 ≤ v.spare) (sym c.self.view_is) c.requires.capacity)
 
-pub insert-requires-clause-room : goal.insert-requires-clause-room
-insert-requires-clause-room g c = omega (arith, ap length c.take_from-block.ensures.none)
+pub insert-requires-clause-capacity : goal.insert-requires-clause-capacity
+insert-requires-clause-capacity g c = omega (arith, ap length c.take_from-block.ensures.none)
 
-pub put_into-requires-clause-room : goal.put_into-requires-clause-room
-put_into-requires-clause-room g c = omega (arith, c.self.invariant.0.usable, c.take_from-block.ensures.count)
+pub put_into-requires-clause-capacity : goal.put_into-requires-clause-capacity
+put_into-requires-clause-capacity g c = omega (arith, c.self.invariant.0.usable, c.take_from-block.ensures.count)
 
 pub invariant_of-self : goal.invariant_of-self
 invariant_of-self g c =

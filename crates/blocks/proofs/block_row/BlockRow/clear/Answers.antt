@@ -1,7 +1,7 @@
 use Rattle.std.proofs.Common.{[], ap, arith, length, rules, ◌≡◌}
 use Rattle.blocks.proofs.Bounds.{low_none}
 use Rattle.blocks.proofs.Grouped.{groups_none}
-use Rattle.blocks.proofs.Rooms.{cleared_row}
+use Rattle.blocks.proofs.Capacities.{cleared_row}
 use Rattle.blocks.proofs.block_row.BlockRow.clear.Goals as goal
 
 pub invariant_of-self : goal.invariant_of-self

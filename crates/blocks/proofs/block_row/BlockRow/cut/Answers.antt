@@ -4,11 +4,11 @@ use Rattle.blocks.specs.Rows.{BlocksView, cut_at}
 use Rattle.blocks.proofs.Bounds.{low_cut}
 use Rattle.blocks.proofs.Edits.{cut_by, cut_length, read_is}
 use Rattle.blocks.proofs.Grouped.{groups_cut}
-use Rattle.blocks.proofs.Rooms.{cut_row, over_here}
+use Rattle.blocks.proofs.Capacities.{cut_row, over_here}
 use Rattle.blocks.proofs.block_row.BlockRow.cut.Goals as goal
 
 pub take_from-high-requires-clause-some : goal.take_from-high-requires-clause-some
-take_from-high-requires-clause-some g c = omega (arith, subst (λ (v : BlocksView g.row.T.Denot). 1 ≤ v.spare) (sym c.self.view_is) c.requires.room)
+take_from-high-requires-clause-some g c = omega (arith, subst (λ (v : BlocksView g.row.T.Denot). 1 ≤ v.spare) (sym c.self.view_is) c.requires.capacity)
 
 pub index_mut-requires : goal.index_mut-requires
 index_mut-requires g c = omega (arith, c.self.inside.used.ok.0, subst (λ (v : BlocksView g.row.T.Denot). c.args.block < length v.blocks) (sym c.self.view_is) c.requires.block)
@@ -27,8 +27,8 @@ put_into-requires-clause-within g c =
     let lt = subst (λ (v : BlocksView g.row.T.Denot). c.args.block < length v.blocks) (sym c.self.view_is) c.requires.block in
     omega (arith, lt, length-set c.self.inside.used.items c.args.block c.cut.new.self)
 
-pub put_into-requires-clause-room : goal.put_into-requires-clause-room
-put_into-requires-clause-room g c = omega (arith, c.self.invariant.0.usable, c.take_from-high.ensures.count, length-set c.self.inside.used.items c.args.block c.cut.new.self)
+pub put_into-requires-clause-capacity : goal.put_into-requires-clause-capacity
+put_into-requires-clause-capacity g c = omega (arith, c.self.invariant.0.usable, c.take_from-high.ensures.count, length-set c.self.inside.used.items c.args.block c.cut.new.self)
 
 pub overflow_sub-self : goal.overflow_sub-self
 overflow_sub-self g c =
@@ -41,10 +41,10 @@ invariant_of-self g c =
     let used = c.self.inside.used.items in
     let lt = subst (λ (v : BlocksView g.row.T.Denot). c.args.block < length v.blocks) (sym c.self.view_is) c.requires.block in
     let full = subst (λ (v : BlocksView g.row.T.Denot). length (get_or v.blocks c.args.block []) ≡ 128) (sym c.self.view_is) c.requires.full in
-    let room = subst (λ (v : BlocksView g.row.T.Denot). 1 ≤ v.spare) (sym c.self.view_is) c.requires.room in
+    let capacity = subst (λ (v : BlocksView g.row.T.Denot). 1 ≤ v.spare) (sym c.self.view_is) c.requires.capacity in
     let made = cut_by c.args.block used c.index_mut.result.now lt c.index_mut.ensures.value c.cut.new.self c.cut.new.high c.put_into.new.blocks.items c.cut.ensures.low c.cut.ensures.high c.put_into.ensures.items in
     let count = ap length made ∙ cut_length c.args.block used lt in (
-      cut_row c.self.invariant.0 c.args.block c.put_into.new.blocks.items c.take_from-high.new.empty.items _ _ lt full room made c.take_from-high.ensures.cleared c.take_from-high.ensures.count (omega (arith, c.put_into.ensures.kept)) (omega (arith, c.take_from-high.ensures.kept)),
+      cut_row c.self.invariant.0 c.args.block c.put_into.new.blocks.items c.take_from-high.new.empty.items _ _ lt full capacity made c.take_from-high.ensures.cleared c.take_from-high.ensures.count (omega (arith, c.put_into.ensures.kept)) (omega (arith, c.take_from-high.ensures.kept)),
       low_cut g.T.Ranked.weight c.self.inside.least c.args.block used c.put_into.new.blocks.items c.self.invariant.1 lt made,
       groups_cut g.T.Ranked.weight c.args.block used c.put_into.new.blocks.items c.self.inside.groups.items _ lt made c.truncate.ensures.items c.self.invariant.2,
       omega (arith, c.self.invariant.3, count, c.take_from-high.ensures.count, c.truncate.ensures.capacity),

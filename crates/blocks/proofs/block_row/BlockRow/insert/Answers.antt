@@ -6,8 +6,8 @@ use Rattle.blocks.proofs.block_row.BlockRow.insert.Goals as goal
 pub begin-requires-clause-none : goal.begin-requires-clause-none
 begin-requires-clause-none g c = sym c.blocks-2.ensures.blocks ∙ none_by c.blocks-2.result.now (sym c.if-is_empty.true ∙ c.is_empty.ensures)
 
-pub begin-requires-clause-room : goal.begin-requires-clause-room
-begin-requires-clause-room g c = c.requires.room
+pub begin-requires-clause-capacity : goal.begin-requires-clause-capacity
+begin-requires-clause-capacity g c = c.requires.capacity
 
 pub returns-then-is_empty-clause-items : goal.returns-then-is_empty-clause-items
 returns-then-is_empty-clause-items g c =
@@ -32,8 +32,8 @@ enter-requires-clause-block g c = subst (λ (r : List (List g.row.T.Denot)). c.o
 pub enter-requires-clause-within : goal.enter-requires-clause-within
 enter-requires-clause-within g c = subst (λ (r : List (List g.row.T.Denot)). c.open_place-place.result.at ≤ length (get_or r c.open_place-place.result.block [])) c.blocks-3.ensures.blocks c.open_place-place.ensures.within
 
-pub enter-requires-clause-room : goal.enter-requires-clause-room
-enter-requires-clause-room g c = c.requires.room
+pub enter-requires-clause-capacity : goal.enter-requires-clause-capacity
+enter-requires-clause-capacity g c = c.requires.capacity
 
 pub returns-clause-items : goal.returns-clause-items
 returns-clause-items g c =

@@ -3,7 +3,7 @@ use Rattle.blocks.specs.Rows.{BlocksView, joined_at}
 use Rattle.blocks.proofs.Bounds.{low_joined}
 use Rattle.blocks.proofs.Edits.{join_by, join_length, join_reads}
 use Rattle.blocks.proofs.Grouped.{groups_joined}
-use Rattle.blocks.proofs.Rooms.{joined_row}
+use Rattle.blocks.proofs.Capacities.{joined_row}
 use Rattle.blocks.proofs.block_row.BlockRow.join.Goals as goal
 
 pub overflow_add-block : goal.overflow_add-block
@@ -24,8 +24,8 @@ join-requires g c =
     let read = join_reads c.args.block c.self.inside.used.items c.remove-next.new.self.items c.index_mut.result.now c.remove-next.result lt c.remove-next.ensures.items c.remove-next.ensures.value c.index_mut.ensures.value in
     omega (arith, short, ap length read.0, ap length read.1)
 
-pub keep_in-requires-clause-room : goal.keep_in-requires-clause-room
-keep_in-requires-clause-room g c =
+pub keep_in-requires-clause-capacity : goal.keep_in-requires-clause-capacity
+keep_in-requires-clause-capacity g c =
     let lt = subst (λ (v : BlocksView g.row.T.Denot). c.args.block + 1 < length v.blocks) (sym c.self.view_is) c.requires.block in
     omega (arith, lt, c.self.invariant.0.returnable)
 

@@ -1,9 +1,9 @@
 use Rattle.std.proofs.Common.{◌≤◌, ◌∙◌, List, ap, arith, length, refl, subst, sym, vec_capacity}
 use Rattle.std.specs.List.{All}
 use Rattle.blocks.specs.Light.{IsFirstLight}
-use Rattle.blocks.specs.Rows.{BlocksView, IsRow, flat, room_of}
+use Rattle.blocks.specs.Rows.{BlocksView, IsRow, flat, capacity_of}
 use Rattle.blocks.proofs.Grouped.{groups_same, lent}
-use Rattle.blocks.proofs.Rooms.{many}
+use Rattle.blocks.proofs.Capacities.{many}
 use Rattle.blocks.proofs.block_row.BlockRow.look.Goals as goal
 
 pub mend-requires-clause-few : goal.mend-requires-clause-few
@@ -12,8 +12,8 @@ mend-requires-clause-few g c = omega (arith, many c.self.invariant.0, c.self.inv
 pub mend-requires-clause-groups : goal.mend-requires-clause-groups
 mend-requires-clause-groups g c = groups_same g.T.Ranked.weight c.self.inside.used.items c.as_slice.result.now c.self.inside.groups.items c.self.inside.groups.items c.as_slice.ensures.value refl c.self.invariant.2
 
-pub mend-requires-clause-room : goal.mend-requires-clause-room
-mend-requires-clause-room g c = omega (arith, c.self.invariant.3, ap length c.as_slice.ensures.value)
+pub mend-requires-clause-capacity : goal.mend-requires-clause-capacity
+mend-requires-clause-capacity g c = omega (arith, c.self.invariant.3, ap length c.as_slice.ensures.value)
 
 pub first_light-requires : goal.first_light-requires
 first_light-requires g c =
@@ -32,7 +32,7 @@ invariant_of-self g c =
       subst (λ (r : List (List g.row.T.Denot)). IsRow r c.self.inside.empty.items c.self.inside.over c.self.inside.len c.self.inside.used.cap (vec_capacity c.self.inside.empty)) (sym made) c.self.invariant.0,
       subst (λ (r : List (List g.row.T.Denot)). All (λ x. c.self.inside.least ≤ g.T.Ranked.weight x) (flat r)) (sym made) c.self.invariant.1,
       groups_same g.T.Ranked.weight c.as_mut_slice.result.now _ c.first_light.new.groups _ (made ∙ sym c.as_mut_slice.ensures.value) groups c.first_light.ensures.groups,
-      omega (arith, c.self.invariant.3, ap length made, c.mend.ensures.room),
+      omega (arith, c.self.invariant.3, ap length made, c.mend.ensures.capacity),
     )
 
 pub returns-clause-place : goal.returns-clause-place
@@ -44,5 +44,5 @@ pub returns-clause-same : goal.returns-clause-same
 returns-clause-same g c =
     let same = c.first_light.ensures.same ∙ c.as_mut_slice.ensures.value in
     let made = lent c.self.inside.used.len c.first_light.new.blocks c.self.inside.used.items c.self.inside.used.ok.0 (ap length same) ∙ same in
-    let view : List (List g.row.T.Denot) → BlocksView g.row.T.Denot = λ r. record { blocks = r; spare = room_of (length r) (length c.self.inside.empty.items) c.self.inside.over } in
+    let view : List (List g.row.T.Denot) → BlocksView g.row.T.Denot = λ r. record { blocks = r; spare = capacity_of (length r) (length c.self.inside.empty.items) c.self.inside.over } in
     ap view made ∙ c.self.view_is

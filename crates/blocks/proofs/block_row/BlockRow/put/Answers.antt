@@ -3,7 +3,7 @@ use Rattle.blocks.specs.Rows.{BlocksView, flat}
 use Rattle.blocks.proofs.Bounds.{low_put}
 use Rattle.blocks.proofs.Edits.{seen_length}
 use Rattle.blocks.proofs.Grouped.{groups_same, lent, lent_length, lent_set}
-use Rattle.blocks.proofs.Rooms.{many, over_here, over_many, put_kept, put_row, put_spare}
+use Rattle.blocks.proofs.Capacities.{many, over_here, over_many, put_kept, put_row, put_spare}
 use Rattle.blocks.proofs.block_row.BlockRow.put.Goals as goal
 
 pub put_item-requires-clause-block : goal.put_item-requires-clause-block
@@ -46,13 +46,13 @@ invariant_of-self g c =
     let lt = subst (λ (v : BlocksView g.row.T.Denot). k < length v.blocks) (sym c.self.view_is) c.requires.block in
     let le = subst (λ (v : BlocksView g.row.T.Denot). c.args.place.at ≤ length (get_or v.blocks k [])) (sym c.self.view_is) c.requires.within in
     let short = subst (λ (v : BlocksView g.row.T.Denot). length (get_or v.blocks k []) < 128) (sym c.self.view_is) c.requires.short in
-    let room = subst (λ (v : BlocksView g.row.T.Denot). 64 < length (get_or v.blocks k []) → 1 ≤ v.spare) (sym c.self.view_is) c.requires.room in
+    let capacity = subst (λ (v : BlocksView g.row.T.Denot). 64 < length (get_or v.blocks k []) → 1 ≤ v.spare) (sym c.self.view_is) c.requires.capacity in
     let len = seen_length k c.self.inside.used.items c.as_slice.result.now c.items_of-len.result.now c.items_of-len.ensures.value c.as_slice.ensures.value in
     let made = lent_set c.self.inside.used.len k c.put_item.new.blocks used c.as_mut_slice.result.now (λ (r : List (List g.row.T.Denot)). insert (get_or r k []) c.args.place.at c.args.item) c.self.inside.used.ok.0 c.as_mut_slice.ensures.value c.put_item.ensures.blocks in
     let count = lent_length k c.put_item.new.blocks used c.as_mut_slice.result.now (λ (r : List (List g.row.T.Denot)). insert (get_or r k []) c.args.place.at c.args.item) c.as_mut_slice.ensures.value c.put_item.ensures.blocks in
     let back = lent c.self.inside.used.len c.put_item.new.blocks used c.self.inside.used.ok.0 count in
     let groups = lent c.self.inside.groups.len c.put_item.new.groups c.self.inside.groups.items c.self.inside.groups.ok.0 (c.put_item.auto.groups ∙ ap length c.as_mut_slice-2.ensures.value) in (
-      put_row c.self.invariant.0 k c.args.place.at (length c.items_of-len.result.now) c.over_of.result c.over_of-2.result _ c.args.item _ _ lt le short room len c.over_of.ensures c.over_of-2.ensures made (omega arith) (omega arith),
+      put_row c.self.invariant.0 k c.args.place.at (length c.items_of-len.result.now) c.over_of.result c.over_of-2.result _ c.args.item _ _ lt le short capacity len c.over_of.ensures c.over_of-2.ensures made (omega arith) (omega arith),
       low_put g.T.Ranked.weight c.self.inside.least k used _ c.self.invariant.1 _ c.args.place.at c.args.item lt le made (omega arith) (omega arith),
       groups_same g.T.Ranked.weight c.put_item.new.blocks _ c.put_item.new.groups _ back groups c.put_item.ensures.groups,
       omega (arith, c.self.invariant.3, ap length back, count),

@@ -3,7 +3,7 @@ use Rattle.blocks.specs.Rows.{BlocksView}
 use Rattle.blocks.proofs.Bounds.{low_retired}
 use Rattle.blocks.proofs.Edits.{only_by, read_is}
 use Rattle.blocks.proofs.Grouped.{groups_retired, retired_length}
-use Rattle.blocks.proofs.Rooms.{here_all, retired_row}
+use Rattle.blocks.proofs.Capacities.{here_all, retired_row}
 use Rattle.blocks.proofs.block_row.BlockRow.retire.Goals as goal
 
 pub remove-last-requires : goal.remove-last-requires
@@ -21,8 +21,8 @@ keep_in-requires-clause-none g c =
     let one = subst (λ (v : BlocksView g.row.T.Denot). length (get_or v.blocks c.args.block []) ≡ 1) (sym c.self.view_is) c.requires.one in
     only_by c.args.block c.self.inside.used.items c.remove-last.result lt c.remove-last.ensures.value c.remove-item.new.self one c.remove-item.ensures.left
 
-pub keep_in-requires-clause-room : goal.keep_in-requires-clause-room
-keep_in-requires-clause-room g c =
+pub keep_in-requires-clause-capacity : goal.keep_in-requires-clause-capacity
+keep_in-requires-clause-capacity g c =
     let lt = subst (λ (v : BlocksView g.row.T.Denot). c.args.block < length v.blocks) (sym c.self.view_is) c.requires.block in
     omega (arith, lt, c.self.invariant.0.returnable)
 

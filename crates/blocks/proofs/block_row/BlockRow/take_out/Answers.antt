@@ -3,7 +3,7 @@ use Rattle.blocks.specs.Rows.{BlocksView, flat}
 use Rattle.blocks.proofs.Bounds.{low_taken}
 use Rattle.blocks.proofs.Edits.{seen_length}
 use Rattle.blocks.proofs.Grouped.{groups_same, lent, lent_length, lent_set}
-use Rattle.blocks.proofs.Rooms.{here_all, many, over_here, over_many, taken_row, taken_spare}
+use Rattle.blocks.proofs.Capacities.{here_all, many, over_here, over_many, taken_row, taken_spare}
 use Rattle.blocks.proofs.block_row.BlockRow.take_out.Goals as goal
 
 pub take_item-item-requires-clause-block : goal.take_item-item-requires-clause-block

@@ -1,7 +1,7 @@
 use Rattle.std.proofs.Common.{map}
 use Rattle.std.specs.Arc.{arc_value}
 use Rattle.scenarios.specs.PlanView.{plan_in}
-use Rattle.checkpoints.specs.Groups.{parts_of, AreLevelsOf}
+use Rattle.checkpoints.specs.Groups.{parts_of, IsMergeTreeOf}
 use Rattle.checkpoints.proofs.Totals.{cut-few}
 use Rattle.checkpoints.proofs.run.Run.of_plan.Goals as goal
 
@@ -10,11 +10,11 @@ of-requires g c = rw c.as_slice.ensures.value (cut-few (plan_in c.args.plan) (ma
 
 pub tables_anew-requires : goal.tables_anew-requires
 tables_anew-requires g c =
-    let levels : AreLevelsOf (parts_of (map arc_value c.args.segments.items)) c.in_ok-levels.levels = rw c.as_slice.ensures.value at c.in_ok-levels.ensures in
-    (map arc_value c.args.segments.items, c.requires, levels)
+    let merge_tree : IsMergeTreeOf (parts_of (map arc_value c.args.segments.items)) c.in_ok-merge_tree.merge_tree = rw c.as_slice.ensures.value at c.in_ok-merge_tree.ensures in
+    (map arc_value c.args.segments.items, c.requires, merge_tree)
 
 pub invariant_of-result : goal.invariant_of-result
-invariant_of-result g c = (record { cut = c.requires; tables = c.in_ok-tables.ensures }, rw c.as_slice.ensures.value at c.in_ok-levels.ensures)
+invariant_of-result g c = (record { cut = c.requires; tables = c.in_ok-tables.ensures }, rw c.as_slice.ensures.value at c.in_ok-merge_tree.ensures)
 
 pub returns-clause-sound : goal.returns-clause-sound
 returns-clause-sound g c = record { cut = c.requires; tables = c.in_ok-tables.ensures }

@@ -16,7 +16,7 @@ returns-in_err-job g c =
     let plan : Plan = plan_in c.self.inside.plan in
     let p : IsPlan plan = c.view.ensures.sound in
     let none : job_numbered plan.jobs c.args.number ≡ None = sym (rw c.view.ensures.same at c.in_err-job.ensures.job) in
-    c.from_residual.ensures ∙ sym (not-started plan c.args.number p none) ∙ ap (λ (r : RunView). start_of (sim (plan_of r.log r.setting)) c.args.number) c.self.view_is
+    c.from_residual.ensures ∙ sym (not-started plan c.args.number p none) ∙ ap (λ (r : RunView). start_of (sim (plan_of r.log r.scenario)) c.args.number) c.self.view_is
 
 pub returns : goal.returns
 returns g c =
@@ -31,4 +31,4 @@ returns g c =
     ∙ ap (λ ss. start_of (all_starts (map arc_value ss)) c.args.number) (rest-is c.saturating_sub.result c.as_slice.result.now)
     ∙ ap (λ ss. start_of (starts-from arc_value ss c.saturating_sub.result) c.args.number) (c.as_slice.ensures.value ∙ sym c.deref.ensures.value)
     ∙ found-by arc_value plan c.deref.result.now c.args.number c.partition_point-later.result c.saturating_sub.result c.submit-submit.result job p cut found submit c.partition_point-later.ensures.bound c.saturating_sub.ensures (λ j d l. point.0 j d (omega arith) l)
-    ∙ ap (λ (r : RunView). start_of (sim (plan_of r.log r.setting)) c.args.number) c.self.view_is
+    ∙ ap (λ (r : RunView). start_of (sim (plan_of r.log r.scenario)) c.args.number) c.self.view_is

@@ -17,7 +17,7 @@ pub with_running-requires-clause-sound : goal.with_running-requires-clause-sound
 with_running-requires-clause-sound g c =
     let p : Numbers = c.args.snapshot.now in
     let plan : Plan = plan_of c.args.table.now c.args.scenario.now in
-    let small = c.procs.ensures.setting.procs_fit in
+    let small = c.procs.ensures.scenario.procs_fit in
     rw (c.procs.ensures.value, c.order.ensures, c.deref.ensures.value)
     (sound-running p plan c.in_ok-running.running.items c.running.ensures.sound c.requires small (rw c.running.ensures.numbers at c.in_ok-running.ensures.jobs ∙ ap (λ (v : PlanView). filter_map (running_numbered (plan_in v).jobs) p.running) c.of-plan.ensures.view) c.in_ok-running.ensures.limits)
 

@@ -13,7 +13,7 @@ join-requires-clause-absent g c =
     let job : EffectiveJob = c.in-Some.candidate in
     let at : at_place places c.args.place ≡ Some job = search rules in
     let fits = subst (λ (o : Option EffectiveJob). IsSomeAnd o (λ (j : EffectiveJob). j.size ≤ free s)) at (rw (← c.self.view_is) at c.requires.fits) in
-    (place-can-run s places c.args.place job c.args.now c.self.invariant.sound c.get.ensures.row at fits c.requires.now).absent
+    (place-can-run s places c.args.place job c.args.now c.self.invariant.sound c.get.ensures.candidates at fits c.requires.now).absent
 
 pub take_at-requires-clause-once : goal.take_at-requires-clause-once
 take_at-requires-clause-once g c = once-waiting (state_of c.self.inside) c.self.invariant.sound
@@ -25,7 +25,7 @@ invariant_of-self g c =
     let job : EffectiveJob = c.in-Some.candidate in
     let at : at_place places c.args.place ≡ Some job = search rules in
     let fits = subst (λ (o : Option EffectiveJob). IsSomeAnd o (λ (j : EffectiveJob). j.size ≤ free s)) at (rw (← c.self.view_is) at c.requires.fits) in
-    let can = place-can-run s places c.args.place job c.args.now c.self.invariant.sound c.get.ensures.row at fits c.requires.now in
+    let can = place-can-run s places c.args.place job c.args.now c.self.invariant.sound c.get.ensures.candidates at fits c.requires.now in
     let taken = subst (λ (o : Option EffectiveJob). IfSome o (λ (j : EffectiveJob). c.take_at.new.self.jobs ≡ without j.number s.waiting)) at c.take_at.ensures.jobs in
     record {
       accounted = rw c.join.ensures.running (omega (arith, can.held, fits, c.self.invariant.accounted, c.size.ensures.value));

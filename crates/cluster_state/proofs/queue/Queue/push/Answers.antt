@@ -1,6 +1,6 @@
 use Rattle.std.proofs.Common.{◌∷◌, [], ◌++◌, ◌∙◌, List, ap}
 use Rattle.scenarios.specs.Job.{EffectiveJob}
-use Rattle.cluster_state.specs.Rooms.{QueueView}
+use Rattle.cluster_state.specs.Capacities.{QueueView}
 use Rattle.cluster_state.proofs.PlaceLemmas.{waiting-push}
 use Rattle.cluster_state.proofs.queue.Queue.push.Goals as goal
 

@@ -1,6 +1,6 @@
 use Rattle.std.proofs.Common.{ap, ◌∙◌}
 use Rattle.waiting_places.specs.Places.{waiting}
-use Rattle.cluster_state.specs.Rooms.{QueueView}
+use Rattle.cluster_state.specs.Capacities.{QueueView}
 use Rattle.cluster_state.specs.State.{without}
 use Rattle.cluster_state.proofs.PlaceLemmas.{leaves-numbered, once-numbered, without-nobody}
 use Rattle.cluster_state.proofs.queue.Queue.remove.Goals as goal

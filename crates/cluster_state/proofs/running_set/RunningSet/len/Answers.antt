@@ -4,4 +4,4 @@ use Rattle.cluster_state.proofs.NumberLemmas.{length-by_number}
 use Rattle.cluster_state.proofs.running_set.RunningSet.len.Goals as goal
 
 pub returns : goal.returns
-returns g c = rw (← c.self.view_is) (c.len.ensures ∙ sym (length-by_number (flat c.self.inside.row.blocks)))
+returns g c = rw (← c.self.view_is) (c.len.ensures ∙ sym (length-by_number (flat c.self.inside.runners.blocks)))

@@ -10,17 +10,17 @@ use Rattle.cluster_state.proofs.running_set.RunningSet.next_end.Goals as goal
 pub returns-clause-none : goal.returns-clause-none
 returns-clause-none g c =
     let ends = heap_items c.self.inside.ends in
-    let row = flat c.self.inside.row.blocks in
-    rw (← c.self.view_is) (next-end-none (λ (e : Reverse End). e.0.end) ends (by_number row) c.first_end.result c.first_end.ensures.first (ends-of ends row c.self.invariant.kept_ends))
+    let runners = flat c.self.inside.runners.blocks in
+    rw (← c.self.view_is) (next-end-none (λ (e : Reverse End). e.0.end) ends (by_number runners) c.first_end.result c.first_end.ensures.first (ends-of ends runners c.self.invariant.kept_ends))
 
 pub returns-clause-found : goal.returns-clause-found
 returns-clause-found g c =
     let ends = heap_items c.self.inside.ends in
-    let row = flat c.self.inside.row.blocks in
-    rw (← c.self.view_is) (next-end-found (λ (e : Reverse End). e.0.end) ends (by_number row) c.first_end.result c.first_end.ensures.first (ends-of ends row c.self.invariant.kept_ends))
+    let runners = flat c.self.inside.runners.blocks in
+    rw (← c.self.view_is) (next-end-found (λ (e : Reverse End). e.0.end) ends (by_number runners) c.first_end.result c.first_end.ensures.first (ends-of ends runners c.self.invariant.kept_ends))
 
 pub returns-clause-least : goal.returns-clause-least
 returns-clause-least g c =
     let ends = heap_items c.self.inside.ends in
-    let row = flat c.self.inside.row.blocks in
-    rw (← c.self.view_is) (next-end-least (λ (e : Reverse End). e.0.end) ends (by_number row) c.first_end.result c.first_end.ensures.least (ends-of ends row c.self.invariant.kept_ends))
+    let runners = flat c.self.inside.runners.blocks in
+    rw (← c.self.view_is) (next-end-least (λ (e : Reverse End). e.0.end) ends (by_number runners) c.first_end.result c.first_end.ensures.least (ends-of ends runners c.self.invariant.kept_ends))

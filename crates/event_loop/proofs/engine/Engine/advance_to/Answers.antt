@@ -11,7 +11,7 @@ invariant_of-self g c =
     let now : Progress = c.work_until.new.self in
     let plan : Plan = plan_in c.self.inside.plan in
     let h = c.in_ok-starts.ensures.starts in
-    engine-on old now plan c.self.inside.cluster.state c.self.inside.coming c.self.inside.known c.self.inside.position c.self.inside.handled c.args.second c.self.inside.failed
+    engine-on old now plan c.self.inside.cluster.state c.self.inside.upcoming c.self.inside.last_shadow c.self.inside.position c.self.inside.handled c.args.second c.self.inside.failed
     c.self.view_is c.self.invariant h.further.plan h.going c.in_ok-starts.ensures.quiet c.in_ok-starts.ensures.within
 
 pub returns-clause-starts : goal.returns-clause-starts

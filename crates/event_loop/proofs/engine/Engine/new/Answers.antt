@@ -9,7 +9,7 @@ invariant_of-result g c = record {
   is_plan = c.new-plan.ensures.sound;
   counted = omega arith;
   state_is = rw c.new-plan.ensures.view (λ _. c.for_scenario.ensures);
-  coming_is = λ _. rw c.view.ensures.same at c.at-coming.ensures.coming;
-  known_is = λ _. tt;
+  upcoming_is = λ _. rw c.view.ensures.same at c.at-upcoming.ensures.upcoming;
+  last_shadow_is = λ _. tt;
   failed_is = λ e. absurd (true≢false (sym e));
 }

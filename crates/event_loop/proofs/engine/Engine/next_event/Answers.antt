@@ -12,4 +12,4 @@ returns-clause-going g c = λ _.
     let a = c.self.inside.position in
     rw (← c.self.view_is, c.earlier.ensures)
     (next-earlier plan a c.self.inside.cluster.state c.next.result c.next_end.result e.is_plan (e.state_is c.if-self.false)
-    (next-submit plan a c.next.result e.is_plan (c.next.ensures ∙ next-is c.self.inside.coming a plan.jobs (e.coming_is c.if-self.false))) c.next_end.ensures.none.0 c.next_end.ensures.found c.next_end.ensures.least)
+    (next-submit plan a c.next.result e.is_plan (c.next.ensures ∙ next-is c.self.inside.upcoming a plan.jobs (e.upcoming_is c.if-self.false))) c.next_end.ensures.none.0 c.next_end.ensures.found c.next_end.ensures.least)

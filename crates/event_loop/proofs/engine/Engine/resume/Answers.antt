@@ -24,7 +24,7 @@ invariant_of-result g c =
       is_plan = c.new-plan.ensures.sound;
       counted = omega arith;
       state_is = λ _. (rw same at c.in_ok-cluster.ensures) ∙ (before-fits plan c.args.second c.args.snapshot.now sound c.requires).1 ∙ ap (λ (v : PlanView). before (plan_in v) c.args.second) (sym c.new-plan.ensures.view);
-      coming_is = λ _. rw c.view.ensures.same at c.at-coming.ensures.coming;
-      known_is = λ _. tt;
+      upcoming_is = λ _. rw c.view.ensures.same at c.at-upcoming.ensures.upcoming;
+      last_shadow_is = λ _. tt;
       failed_is = λ e. absurd (true≢false (sym e));
     }

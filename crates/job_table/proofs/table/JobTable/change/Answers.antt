@@ -5,17 +5,17 @@ use Rattle.swf_text.specs.Log.{log_of, with_entry}
 use Rattle.job_table.specs.Edit.{entry_of, without, changed}
 use Rattle.job_table.proofs.Edited.{change-places, number-stays, log-changed}
 use Rattle.job_table.specs.Table.{second_of}
-use Rattle.job_table.proofs.Stored.{stored-moved, tells-again, told-of, entry-told}
+use Rattle.job_table.proofs.Stored.{stored-moved, tells-again, outcome-of, entry-outcome}
 use Rattle.job_table.proofs.Counted.{fewest-change, fewest-in-place, most-in-place, most-moved}
 use Rattle.job_table.proofs.Tables.{placed-is}
 use Rattle.job_table.proofs.table.JobTable.change.Goals as goal
 
 pub unwrap-submit-requires : goal.unwrap-submit-requires
 unwrap-submit-requires g c =
-    ap is_some c.second.ensures ∙ told-of c.args.number (flat c.self.inside.rows) c.args.self.now (flat c.self.inside.index) c.self.invariant.index c.self.view_is c.requires.there
+    ap is_some c.second.ensures ∙ outcome-of c.args.number (flat c.self.inside.rows) c.args.self.now (flat c.self.inside.index) c.self.invariant.index c.self.view_is c.requires.there
 
 pub unwrap-was-requires : goal.unwrap-was-requires
-unwrap-was-requires g c = entry-told c.args.number (flat c.self.inside.rows) c.args.self.now c.entry_at.result c.entry_at.ensures c.self.view_is c.requires.there
+unwrap-was-requires g c = entry-outcome c.args.number (flat c.self.inside.rows) c.args.self.now c.entry_at.result c.entry_at.ensures c.self.view_is c.requires.there
 
 pub exchange-requires-clause-known : goal.exchange-requires-clause-known
 exchange-requires-clause-known g c =

@@ -17,9 +17,9 @@ with_one-requires-clause-table g c = c.self.invariant.table
 
 pub invariant_of-self : goal.invariant_of-self
 invariant_of-self g c =
-    let room : length (flat c.self.inside.rows) < 4194304 = subst (λ (es : List LogEntry). length es < 4194304) (sym c.self.view_is) c.requires.room in
+    let capacity : length (flat c.self.inside.rows) < 4194304 = subst (λ (es : List LogEntry). length es < 4194304) (sym c.self.view_is) c.requires.capacity in
     let lacks = lacks-it c.args.entry.now c.in_ok-copy.copy (flat c.self.inside.rows) c.args.self.now (flat c.self.inside.index) c.self.invariant.table c.self.invariant.index c.self.view_is c.in_ok-copy.ensures c.requires.new in
-    stored-more (flat c.self.inside.rows) (flat c.in_ok-rows.rows) (flat c.self.inside.index) (flat c.in_ok-index.index) c.self.inside.len c.self.invariant c.in_ok-copy.copy c.number.result c.submit.result c.submit.ensures.entry lacks room c.in_ok-rows.ensures.rows c.number.ensures.number c.submit.ensures.second c.in_ok-index.ensures.set.rising c.in_ok-index.ensures.set.gives
+    stored-more (flat c.self.inside.rows) (flat c.in_ok-rows.rows) (flat c.self.inside.index) (flat c.in_ok-index.index) c.self.inside.len c.self.invariant c.in_ok-copy.copy c.number.result c.submit.result c.submit.ensures.entry lacks capacity c.in_ok-rows.ensures.rows c.number.ensures.number c.submit.ensures.second c.in_ok-index.ensures.set.rising c.in_ok-index.ensures.set.gives
 
 pub returns-clause-ok : goal.returns-clause-ok
 returns-clause-ok g c =

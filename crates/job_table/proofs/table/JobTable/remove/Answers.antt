@@ -4,12 +4,12 @@ use Rattle.swf_text.specs.Entry.{LogEntry}
 use Rattle.swf_text.specs.Log.{log_of}
 use Rattle.job_table.specs.Edit.{without}
 use Rattle.job_table.proofs.Edited.{log-less}
-use Rattle.job_table.proofs.Stored.{stored-less, entry-there, told-of}
+use Rattle.job_table.proofs.Stored.{stored-less, entry-there, outcome-of}
 use Rattle.job_table.proofs.table.JobTable.remove.Goals as goal
 
 pub unwrap-submit-requires : goal.unwrap-submit-requires
 unwrap-submit-requires g c =
-    ap is_some c.second.ensures ∙ told-of c.args.number (flat c.self.inside.rows) c.args.self.now (flat c.self.inside.index) c.self.invariant.index c.self.view_is c.requires
+    ap is_some c.second.ensures ∙ outcome-of c.args.number (flat c.self.inside.rows) c.args.self.now (flat c.self.inside.index) c.self.invariant.index c.self.view_is c.requires
 
 pub invariant_of-self : goal.invariant_of-self
 invariant_of-self g c =

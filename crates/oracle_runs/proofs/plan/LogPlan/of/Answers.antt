@@ -25,4 +25,4 @@ invariant_of-result g c =
       numbered = rw (sym c.entries.ensures.entries) c.in_ok-jobs.ensures.numbered;
     } in
     let up = c.in_ok-sort_by_key.ensures.sorted key (answers_always _ _ _ (λ f a r h k. search rules)) in
-    plan-sound es c.args.scenario.now c.in_ok-jobs.jobs.items (record { machine = c.args.scenario.now.procs; order = c.args.scenario.now.order; jobs = c.sort_by_key.new.self.items }) c.entries.ensures.log c.procs.ensures.setting collected refl c.sort_by_key.ensures.permutation up
+    plan-sound es c.args.scenario.now c.in_ok-jobs.jobs.items (record { procs = c.args.scenario.now.procs; order = c.args.scenario.now.order; jobs = c.sort_by_key.new.self.items }) c.entries.ensures.log c.procs.ensures.scenario collected refl c.sort_by_key.ensures.permutation up

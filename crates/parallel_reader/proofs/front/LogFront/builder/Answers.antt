@@ -16,7 +16,7 @@ loop-entry-init g c =
     let all = c.deref.result.now in
     let value : all ≡ items = c.deref.ensures.value in
     let view = c.self.view_is in
-    let head : with_lines 1 c.make_room-refused.new.self (lines c.as_slice.result.now) ≡ text_of c.self.inside.head.items = ap (λ (t : LogText). with_lines 1 t (lines c.as_slice.result.now)) (c.make_room-refused.ensures ∙ c.new-text.ensures) ∙ ap text_of c.as_slice.ensures.value in
+    let head : with_lines 1 c.reserve-refused.new.self (lines c.as_slice.result.now) ≡ text_of c.self.inside.head.items = ap (λ (t : LogText). with_lines 1 t (lines c.as_slice.result.now)) (c.reserve-refused.ensures ∙ c.new-text.ensures) ∙ ap text_of c.as_slice.ensures.value in
     record {
       front = take headed items;
       whole = sym (ap (λ (p : Progress). p.text.entries) view) ∙ sym (take-append-drop headed items) ∙ ap (λ (l : List LogEntry). take headed items ++ l) (ap (drop headed) (sym value) ∙ sym (take_rest all headed));

@@ -8,7 +8,7 @@ returns g c =
     let all = c.are_all.ensures in
     record {
       kept = λ s rest e.
-          let told = decided change ok c.args.at c.args.position s rest e (c.requires.here s rest e) c.args.ledger.now c.requires.noted c.requires.begins c.submitted_before-submitted.result c.submitted_before-submitted.ensures.count c.submitted_before-submitted.ensures.small
+          let outcome = decided change ok c.args.at c.args.position s rest e (c.requires.here s rest e) c.args.ledger.now c.requires.noted c.requires.begins c.submitted_before-submitted.result c.submitted_before-submitted.ensures.count c.submitted_before-submitted.ensures.small
           c.has_met-met.result c.has_ended-ended.result c.is_clear-clear.result c.has_met-met.ensures c.has_ended-ended.ensures (c.is_clear-clear.ensures s rest e) in
-          ((λ t. told.0 (all.0 t)), (λ k. all.1 (told.1 k)));
+          ((λ t. outcome.0 (all.0 t)), (λ k. all.1 (outcome.1 k)));
     }

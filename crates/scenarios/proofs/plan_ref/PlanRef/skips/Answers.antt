@@ -7,4 +7,4 @@ use Rattle.scenarios.proofs.plan_ref.PlanRef.skips.Goals as goal
 pub returns : goal.returns
 returns g c =
     c.skips_among.ensures ∙ ap (λ log. skips_of log c.self.inside.scenario) (c.from_second.ensures.entries ∙ from-zero c.self.inside.table.now)
-    ∙ ap (λ (view : PlanView). skips_of view.log view.setting) c.self.view_is
+    ∙ ap (λ (view : PlanView). skips_of view.log view.scenario) c.self.view_is

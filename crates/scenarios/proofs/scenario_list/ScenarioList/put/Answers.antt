@@ -13,7 +13,7 @@ invariant_of-self-2 g c =
     let is_free : Listing → Type 0 = λ l. add_fault c.args.name.now l ≡ None in
     let can = can_add c.args.name.now old (subst is_free (sym c.self.view_is) c.requires) in
     rw (c.in_ok-insert.ensures.entries, rows-insert_entry string_bytes c.args.name.now c.in_ok-key.key (c.of-id.result, c.args.scenario) c.in_ok-key.ensures.ok c.self.inside.named.entries can.new, c.of-id.ensures)
-    (IsListing-with c.args.name.now c.args.scenario old c.self.invariant can c.procs.ensures.setting)
+    (IsListing-with c.args.name.now c.args.scenario old c.self.invariant can c.procs.ensures.scenario)
 
 pub returns-clause-added : goal.returns-clause-added
 returns-clause-added g c =

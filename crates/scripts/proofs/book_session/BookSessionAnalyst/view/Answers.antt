@@ -2,10 +2,10 @@ use Rattle.book_machine.specs.declared.caller.Caller.TheVariants as caller
 use Rattle.scripts.proofs.Looking.{view-true-as}
 use Rattle.scripts.proofs.book_session.BookSessionAnalyst.view.Goals as goal
 
-pub returns-in-Ok-clause-told : goal.returns-in-Ok-clause-told
-returns-in-Ok-clause-told g c =
-    view-true-as c.self.inside.book c.view-told.new.self (caller.Session 0) c.args.id c.self.inside.seen _ c.self.view_is c.view-told.ensures.book c.view-told.ensures.shown c.view-told.ensures.answer
+pub returns-in-Ok-clause-outcome : goal.returns-in-Ok-clause-outcome
+returns-in-Ok-clause-outcome g c =
+    view-true-as c.self.inside.book c.view-outcome.new.self (caller.Session 0) c.args.id c.self.inside.seen _ c.self.view_is c.view-outcome.ensures.book c.view-outcome.ensures.shown c.view-outcome.ensures.answer
 
-pub returns-in_default-clause-told : goal.returns-in_default-clause-told
-returns-in_default-clause-told g c =
-    view-true-as c.self.inside.book c.view-told.new.self (caller.Session 0) c.args.id c.self.inside.seen _ c.self.view_is c.view-told.ensures.book c.view-told.ensures.shown c.view-told.ensures.answer
+pub returns-in_default-clause-outcome : goal.returns-in_default-clause-outcome
+returns-in_default-clause-outcome g c =
+    view-true-as c.self.inside.book c.view-outcome.new.self (caller.Session 0) c.args.id c.self.inside.seen _ c.self.view_is c.view-outcome.ensures.book c.view-outcome.ensures.shown c.view-outcome.ensures.answer

@@ -7,7 +7,7 @@ use Rattle.book_machine.specs.Noted.{noted_of}
 use Rattle.version_book.specs.declared.refusal.Refusal.TheVariants as refusals
 use Rattle.version_book.specs.Book.{BookView}
 use Rattle.version_book.specs.Answers.{add_answer}
-use Rattle.version_book.proofs.Histories.{called, answered, is-full, has-room, journal-is, as-it-was}
+use Rattle.version_book.proofs.Histories.{called, answered, is-full, has-capacity, journal-is, as-it-was}
 use Rattle.version_book.proofs.book.Book.add_scenario.Goals as goal
 
 pub returns-then-is_full : goal.returns-then-is_full
@@ -18,21 +18,21 @@ returns-then-is_full g c =
 pub returns-in_err-reserve_note : goal.returns-in_err-reserve_note
 returns-in_err-reserve_note g c =
     let test : nat_le note_limit (length c.self.inside.journal.items) ≡ false = search rules in
-    let told : c.from_residual.result ≡ Err refusals.Memory = search rules in
-    as-it-was noted_of c.self.inside.journal.items c.reserve_note.new.journal.items (caller.Session c.args.session) (AddScenario c.args.name.now c.args.scenario) _ c.self.view_is refl c.in_err-reserve_note.ensures.items test (ap add_answer told)
+    let outcome : c.from_residual.result ≡ Err refusals.Memory = search rules in
+    as-it-was noted_of c.self.inside.journal.items c.reserve_note.new.journal.items (caller.Session c.args.session) (AddScenario c.args.name.now c.args.scenario) _ c.self.view_is refl c.in_err-reserve_note.ensures.items test (ap add_answer outcome)
 
 pub invariant_of-self-2 : goal.invariant_of-self-2
 invariant_of-self-2 g c =
     let test : nat_le note_limit (length c.self.inside.journal.items) ≡ false = search rules in
-    let new : BookView = record { state = c.add-told.new.self; journal = map noted_of c.note.new.journal.items } in
+    let new : BookView = record { state = c.add-outcome.new.self; journal = map noted_of c.note.new.journal.items } in
     let journal = journal-is noted_of c.self.inside.journal.items _ _ (caller.Session c.args.session) _ (AddScenario c.args.name.now c.args.scenario) _ _ c.note.ensures c.in_ok-reserve_note.ensures.items (ap (λ n. AddScenario n c.args.scenario) c.in_ok-new.ensures) c.add_reply-reply.ensures in
-    let room = has-room noted_of c.self.inside.journal.items test in
-    (called _ new (caller.Session c.args.session) (AddScenario c.args.name.now c.args.scenario) _ c.self.invariant room c.add-told.ensures journal).0
+    let capacity = has-capacity noted_of c.self.inside.journal.items test in
+    (called _ new (caller.Session c.args.session) (AddScenario c.args.name.now c.args.scenario) _ c.self.invariant capacity c.add-outcome.ensures journal).0
 
 pub returns : goal.returns
 returns g c =
     let test : nat_le note_limit (length c.self.inside.journal.items) ≡ false = search rules in
-    let new : BookView = record { state = c.add-told.new.self; journal = map noted_of c.note.new.journal.items } in
+    let new : BookView = record { state = c.add-outcome.new.self; journal = map noted_of c.note.new.journal.items } in
     let journal = journal-is noted_of c.self.inside.journal.items _ _ (caller.Session c.args.session) _ (AddScenario c.args.name.now c.args.scenario) _ _ c.note.ensures c.in_ok-reserve_note.ensures.items (ap (λ n. AddScenario n c.args.scenario) c.in_ok-new.ensures) c.add_reply-reply.ensures in
-    let room = has-room noted_of c.self.inside.journal.items test in
-    answered new (caller.Session c.args.session) (AddScenario c.args.name.now c.args.scenario) _ c.self.view_is c.self.invariant room c.add-told.ensures journal
+    let capacity = has-capacity noted_of c.self.inside.journal.items test in
+    answered new (caller.Session c.args.session) (AddScenario c.args.name.now c.args.scenario) _ c.self.view_is c.self.invariant capacity c.add-outcome.ensures journal

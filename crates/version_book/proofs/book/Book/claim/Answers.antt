@@ -7,7 +7,7 @@ use Rattle.book_machine.specs.Noted.{noted_of}
 use Rattle.version_book.specs.declared.refusal.Refusal.TheVariants as refusals
 use Rattle.version_book.specs.Book.{BookView}
 use Rattle.version_book.specs.Answers.{claim_answer}
-use Rattle.version_book.proofs.Histories.{called, answered, is-full, has-room, journal-is, as-it-was}
+use Rattle.version_book.proofs.Histories.{called, answered, is-full, has-capacity, journal-is, as-it-was}
 use Rattle.version_book.proofs.Claimed.{next-unused, out-of}
 use Rattle.version_book.proofs.book.Book.claim.Goals as goal
 
@@ -19,24 +19,24 @@ returns-then-is_full-clause-answer g c =
 pub returns-in_err-reserve_note-clause-answer : goal.returns-in_err-reserve_note-clause-answer
 returns-in_err-reserve_note-clause-answer g c =
     let test : nat_le note_limit (length c.self.inside.journal.items) ≡ false = search rules in
-    let told : c.from_residual.result ≡ Err refusals.Memory = search rules in
-    as-it-was noted_of c.self.inside.journal.items c.reserve_note.new.journal.items (caller.Worker c.args.worker) (Claim) _ c.self.view_is refl c.in_err-reserve_note.ensures.items test (ap claim_answer told)
+    let outcome : c.from_residual.result ≡ Err refusals.Memory = search rules in
+    as-it-was noted_of c.self.inside.journal.items c.reserve_note.new.journal.items (caller.Worker c.args.worker) (Claim) _ c.self.view_is refl c.in_err-reserve_note.ensures.items test (ap claim_answer outcome)
 
 pub invariant_of-self-2 : goal.invariant_of-self-2
 invariant_of-self-2 g c =
     let test : nat_le note_limit (length c.self.inside.journal.items) ≡ false = search rules in
-    let new : BookView = record { state = c.claim-told.new.self; journal = map noted_of c.note.new.journal.items } in
+    let new : BookView = record { state = c.claim-outcome.new.self; journal = map noted_of c.note.new.journal.items } in
     let journal = journal-is noted_of c.self.inside.journal.items _ _ (caller.Worker c.args.worker) _ (Claim) _ _ c.note.ensures c.in_ok-reserve_note.ensures.items refl c.claim_reply-reply.ensures in
-    let room = has-room noted_of c.self.inside.journal.items test in
-    (called _ new (caller.Worker c.args.worker) (Claim) _ c.self.invariant room c.claim-told.ensures.does journal).0
+    let capacity = has-capacity noted_of c.self.inside.journal.items test in
+    (called _ new (caller.Worker c.args.worker) (Claim) _ c.self.invariant capacity c.claim-outcome.ensures.does journal).0
 
 pub returns-clause-answer : goal.returns-clause-answer
 returns-clause-answer g c =
     let test : nat_le note_limit (length c.self.inside.journal.items) ≡ false = search rules in
-    let new : BookView = record { state = c.claim-told.new.self; journal = map noted_of c.note.new.journal.items } in
+    let new : BookView = record { state = c.claim-outcome.new.self; journal = map noted_of c.note.new.journal.items } in
     let journal = journal-is noted_of c.self.inside.journal.items _ _ (caller.Worker c.args.worker) _ (Claim) _ _ c.note.ensures c.in_ok-reserve_note.ensures.items refl c.claim_reply-reply.ensures in
-    let room = has-room noted_of c.self.inside.journal.items test in
-    answered new (caller.Worker c.args.worker) (Claim) _ c.self.view_is c.self.invariant room c.claim-told.ensures.does journal
+    let capacity = has-capacity noted_of c.self.inside.journal.items test in
+    answered new (caller.Worker c.args.worker) (Claim) _ c.self.view_is c.self.invariant capacity c.claim-outcome.ensures.does journal
 
 pub returns-clause-out : goal.returns-clause-out
-returns-clause-out g c = out-of c.self.inside.state c.claim-told.new.self c.claim-told.result (next-unused _ c.self.invariant) c.claim-told.ensures.task c.claim-told.ensures.tickets
+returns-clause-out g c = out-of c.self.inside.state c.claim-outcome.new.self c.claim-outcome.result (next-unused _ c.self.invariant) c.claim-outcome.ensures.task c.claim-outcome.ensures.tickets

@@ -8,7 +8,7 @@ use Rattle.book_machine.specs.Noted.{noted_of}
 use Rattle.version_book.specs.declared.refusal.Refusal.TheVariants as refusals
 use Rattle.version_book.specs.Book.{BookView}
 use Rattle.version_book.specs.Answers.{finish_answer, fitted}
-use Rattle.version_book.proofs.Histories.{called, answered, is-full, has-room, journal-is, as-it-was}
+use Rattle.version_book.proofs.Histories.{called, answered, is-full, has-capacity, journal-is, as-it-was}
 use Rattle.version_book.proofs.WorkerSteps.{published-as}
 use Rattle.version_book.proofs.book.Book.finish.Goals as goal
 
@@ -20,24 +20,24 @@ returns-then-is_full-clause-answer g c =
 pub returns-in_err-reserve_note-clause-answer : goal.returns-in_err-reserve_note-clause-answer
 returns-in_err-reserve_note-clause-answer g c =
     let test : nat_le note_limit (length c.self.inside.journal.items) ≡ false = search rules in
-    let told : c.from_residual.result ≡ Err refusals.Memory = search rules in
-    as-it-was noted_of c.self.inside.journal.items c.reserve_note.new.journal.items (caller.Worker c.args.worker) (Finish c.args.ticket (fitted c.from_residual.result)) _ c.self.view_is refl c.in_err-reserve_note.ensures.items test (ap finish_answer told)
+    let outcome : c.from_residual.result ≡ Err refusals.Memory = search rules in
+    as-it-was noted_of c.self.inside.journal.items c.reserve_note.new.journal.items (caller.Worker c.args.worker) (Finish c.args.ticket (fitted c.from_residual.result)) _ c.self.view_is refl c.in_err-reserve_note.ensures.items test (ap finish_answer outcome)
 
 pub invariant_of-self-2 : goal.invariant_of-self-2
 invariant_of-self-2 g c =
     let test : nat_le note_limit (length c.self.inside.journal.items) ≡ false = search rules in
-    let new : BookView = record { state = c.finish-told.new.self; journal = map noted_of c.note.new.journal.items } in
-    let journal = journal-is noted_of c.self.inside.journal.items _ _ (caller.Worker c.args.worker) _ (Finish c.args.ticket (fitted c.finish-told.result)) _ _ c.note.ensures c.in_ok-reserve_note.ensures.items (ap (Finish c.args.ticket) c.fitted-fits.ensures) c.finish_reply-reply.ensures in
-    let room = has-room noted_of c.self.inside.journal.items test in
-    (called _ new (caller.Worker c.args.worker) (Finish c.args.ticket (fitted c.finish-told.result)) _ c.self.invariant room c.finish-told.ensures.does journal).0
+    let new : BookView = record { state = c.finish-outcome.new.self; journal = map noted_of c.note.new.journal.items } in
+    let journal = journal-is noted_of c.self.inside.journal.items _ _ (caller.Worker c.args.worker) _ (Finish c.args.ticket (fitted c.finish-outcome.result)) _ _ c.note.ensures c.in_ok-reserve_note.ensures.items (ap (Finish c.args.ticket) c.fitted-fits.ensures) c.finish_reply-reply.ensures in
+    let capacity = has-capacity noted_of c.self.inside.journal.items test in
+    (called _ new (caller.Worker c.args.worker) (Finish c.args.ticket (fitted c.finish-outcome.result)) _ c.self.invariant capacity c.finish-outcome.ensures.does journal).0
 
 pub returns-clause-answer : goal.returns-clause-answer
 returns-clause-answer g c =
     let test : nat_le note_limit (length c.self.inside.journal.items) ≡ false = search rules in
-    let new : BookView = record { state = c.finish-told.new.self; journal = map noted_of c.note.new.journal.items } in
-    let journal = journal-is noted_of c.self.inside.journal.items _ _ (caller.Worker c.args.worker) _ (Finish c.args.ticket (fitted c.finish-told.result)) _ _ c.note.ensures c.in_ok-reserve_note.ensures.items (ap (Finish c.args.ticket) c.fitted-fits.ensures) c.finish_reply-reply.ensures in
-    let room = has-room noted_of c.self.inside.journal.items test in
-    answered new (caller.Worker c.args.worker) (Finish c.args.ticket (fitted c.finish-told.result)) _ c.self.view_is c.self.invariant room c.finish-told.ensures.does journal
+    let new : BookView = record { state = c.finish-outcome.new.self; journal = map noted_of c.note.new.journal.items } in
+    let journal = journal-is noted_of c.self.inside.journal.items _ _ (caller.Worker c.args.worker) _ (Finish c.args.ticket (fitted c.finish-outcome.result)) _ _ c.note.ensures c.in_ok-reserve_note.ensures.items (ap (Finish c.args.ticket) c.fitted-fits.ensures) c.finish_reply-reply.ensures in
+    let capacity = has-capacity noted_of c.self.inside.journal.items test in
+    answered new (caller.Worker c.args.worker) (Finish c.args.ticket (fitted c.finish-outcome.result)) _ c.self.view_is c.self.invariant capacity c.finish-outcome.ensures.does journal
 
 pub returns-clause-published : goal.returns-clause-published
-returns-clause-published g c = published-as c.finish-told.new.self c.args.ticket (arc_value c.args.run) c.finish-told.result (ap (λ (b : BookView). b.state) c.self.view_is) c.finish-told.ensures.published
+returns-clause-published g c = published-as c.finish-outcome.new.self c.args.ticket (arc_value c.args.run) c.finish-outcome.result (ap (λ (b : BookView). b.state) c.self.view_is) c.finish-outcome.ensures.published

@@ -8,10 +8,10 @@ use Rattle.version_book.specs.declared.faults.FinishFault.{FinishFault}
 use Rattle.version_book.specs.declared.refusal.Refusal.{Refusal}
 use Rattle.version_book.specs.declared.refusal.Refusal.TheVariants as refusals
 use Rattle.version_book.specs.Book.{BookView, StateView}
-use Rattle.version_book.specs.Answers.{AnswersOfRun, TellsStanding, fitted, told_of_run}
+use Rattle.version_book.specs.Answers.{AnswersOfRun, TellsStanding, fitted, outcome_of_run}
 use Rattle.version_book.specs.Steps.{Answers, memory}
 use Rattle.version_book.specs.Tasks.{Stands}
-use Rattle.version_book.proofs.Histories.{called, answered, is-full, has-room, journal-is, as-it-was}
+use Rattle.version_book.proofs.Histories.{called, answered, is-full, has-capacity, journal-is, as-it-was}
 use Rattle.version_book.proofs.WorkerSteps.{fitting-as, published-left}
 use Rattle.version_book.proofs.book.Book.finish_delivered.Goals as goal
 
@@ -23,9 +23,9 @@ returns-then-is_full-clause-answer g c =
 pub returns-in_err-reserve_note-clause-answer : goal.returns-in_err-reserve_note-clause-answer
 returns-in_err-reserve_note-clause-answer g c =
     let test : nat_le note_limit (length c.self.inside.journal.items) ≡ false = search rules in
-    let told : c.from_residual.result ≡ Err refusals.Memory = search rules in
+    let outcome : c.from_residual.result ≡ Err refusals.Memory = search rules in
     let new : BookView = record { state = c.self.inside.state; journal = map noted_of c.reserve_note.new.journal.items } in
-    subst (λ (r : Result (Option ℕ) (Refusal FinishFault)). AnswersOfRun c.args.self.now new (caller.Worker c.args.worker) c.args.ticket (told_of_run r)) (sym told) (as-it-was noted_of c.self.inside.journal.items c.reserve_note.new.journal.items (caller.Worker c.args.worker) (Finish c.args.ticket false) memory c.self.view_is refl c.in_err-reserve_note.ensures.items test refl)
+    subst (λ (r : Result (Option ℕ) (Refusal FinishFault)). AnswersOfRun c.args.self.now new (caller.Worker c.args.worker) c.args.ticket (outcome_of_run r)) (sym outcome) (as-it-was noted_of c.self.inside.journal.items c.reserve_note.new.journal.items (caller.Worker c.args.worker) (Finish c.args.ticket false) memory c.self.view_is refl c.in_err-reserve_note.ensures.items test refl)
 
 pub returns-in_default-clause-answer : goal.returns-in_default-clause-answer
 returns-in_default-clause-answer g c =
@@ -37,22 +37,22 @@ pub invariant_of-self-2 : goal.invariant_of-self-2
 invariant_of-self-2 g c =
     let test : nat_le note_limit (length c.self.inside.journal.items) ≡ false = search rules in
     let new : BookView = record { state = c.finish_delivered.new.self; journal = map noted_of c.note.new.journal.items } in
-    let journal = journal-is noted_of c.self.inside.journal.items _ _ (caller.Worker c.args.worker) _ (Finish c.args.ticket (fitted c.in-Some.told)) _ _ c.note.ensures c.in_ok-reserve_note.ensures.items (ap (Finish c.args.ticket) c.fitted-fits.ensures) c.finish_reply-reply.ensures in
-    let room = has-room noted_of c.self.inside.journal.items test in
-    (called _ new (caller.Worker c.args.worker) (Finish c.args.ticket (fitted c.in-Some.told)) _ c.self.invariant room c.in-Some.ensures.does journal).0
+    let journal = journal-is noted_of c.self.inside.journal.items _ _ (caller.Worker c.args.worker) _ (Finish c.args.ticket (fitted c.in-Some.outcome)) _ _ c.note.ensures c.in_ok-reserve_note.ensures.items (ap (Finish c.args.ticket) c.fitted-fits.ensures) c.finish_reply-reply.ensures in
+    let capacity = has-capacity noted_of c.self.inside.journal.items test in
+    (called _ new (caller.Worker c.args.worker) (Finish c.args.ticket (fitted c.in-Some.outcome)) _ c.self.invariant capacity c.in-Some.ensures.does journal).0
 
 pub returns-clause-answer : goal.returns-clause-answer
 returns-clause-answer g c =
     let test : nat_le note_limit (length c.self.inside.journal.items) ≡ false = search rules in
     let new : BookView = record { state = c.finish_delivered.new.self; journal = map noted_of c.note.new.journal.items } in
-    let journal = journal-is noted_of c.self.inside.journal.items _ _ (caller.Worker c.args.worker) _ (Finish c.args.ticket (fitted c.in-Some.told)) _ _ c.note.ensures c.in_ok-reserve_note.ensures.items (ap (Finish c.args.ticket) c.fitted-fits.ensures) c.finish_reply-reply.ensures in
-    let room = has-room noted_of c.self.inside.journal.items test in
-    subst (AnswersOfRun c.args.self.now new (caller.Worker c.args.worker) c.args.ticket) (sym c.of_left.ensures) (answered new (caller.Worker c.args.worker) (Finish c.args.ticket (fitted c.in-Some.told)) _ c.self.view_is c.self.invariant room c.in-Some.ensures.does journal)
+    let journal = journal-is noted_of c.self.inside.journal.items _ _ (caller.Worker c.args.worker) _ (Finish c.args.ticket (fitted c.in-Some.outcome)) _ _ c.note.ensures c.in_ok-reserve_note.ensures.items (ap (Finish c.args.ticket) c.fitted-fits.ensures) c.finish_reply-reply.ensures in
+    let capacity = has-capacity noted_of c.self.inside.journal.items test in
+    subst (AnswersOfRun c.args.self.now new (caller.Worker c.args.worker) c.args.ticket) (sym c.of_left.ensures) (answered new (caller.Worker c.args.worker) (Finish c.args.ticket (fitted c.in-Some.outcome)) _ c.self.view_is c.self.invariant capacity c.in-Some.ensures.does journal)
 
 pub returns-clause-stands : goal.returns-clause-stands
 returns-clause-stands g c =
-    let before : TellsStanding (Stands c.args.self.now.state c.args.ticket) (Some c.in-Some.told) = subst (λ (b : BookView). TellsStanding (Stands b.state c.args.ticket) (Some c.in-Some.told)) c.self.view_is c.in-Some.ensures.stands in
+    let before : TellsStanding (Stands c.args.self.now.state c.args.ticket) (Some c.in-Some.outcome) = subst (λ (b : BookView). TellsStanding (Stands b.state c.args.ticket) (Some c.in-Some.outcome)) c.self.view_is c.in-Some.ensures.stands in
     subst (TellsStanding (Stands c.args.self.now.state c.args.ticket)) (sym c.of_left.ensures) before
 
 pub returns-clause-published : goal.returns-clause-published
-returns-clause-published g c = published-left _ c.in-Some.told c.of_left.result c.of_left.ensures (fitting-as c.finish_delivered.new.self c.args.ticket c.in-Some.told (ap (λ (b : BookView). b.state) c.self.view_is) c.in-Some.ensures.published)
+returns-clause-published g c = published-left _ c.in-Some.outcome c.of_left.result c.of_left.ensures (fitting-as c.finish_delivered.new.self c.args.ticket c.in-Some.outcome (ap (λ (b : BookView). b.state) c.self.view_is) c.in-Some.ensures.published)

@@ -10,8 +10,8 @@ use Rattle.version_book.proofs.state.State.claim.Goals as goal
 
 pub returns-in_err-task-clause-does : goal.returns-in_err-task-clause-does
 returns-in_err-task-clause-does g c =
-    let told : c.from_residual.result ≡ Err c.in_err-task.field-0.0 = search rules in
-    does-as _ _ refl (ap claim_answer (sym told)) (claim-refused c.args.self.now c.in_err-task.field-0.0 (subst IsSound c.self.view_is c.self.invariant.0) c.in_err-task.ensures)
+    let outcome : c.from_residual.result ≡ Err c.in_err-task.field-0.0 = search rules in
+    does-as _ _ refl (ap claim_answer (sym outcome)) (claim-refused c.args.self.now c.in_err-task.field-0.0 (subst IsSound c.self.view_is c.self.invariant.0) c.in_err-task.ensures)
 
 pub returns-in_default-clause-does : goal.returns-in_default-clause-does
 returns-in_default-clause-does g c =

@@ -7,7 +7,7 @@ use Rattle.version_book.specs.Answers.{TellsStanding}
 use Rattle.version_book.specs.Book.{StateView}
 use Rattle.version_book.specs.Tasks.{Stands}
 use Rattle.version_book.proofs.Stepping.{still-as}
-use Rattle.version_book.proofs.WorkerSteps.{finish-unknown, fitting-some, none-found, none-stands, some-found, stands-as, stands-told}
+use Rattle.version_book.proofs.WorkerSteps.{finish-unknown, fitting-some, none-found, none-stands, some-found, stands-as, stands-outcome}
 use Rattle.version_book.proofs.state.State.finish_delivered.Goals as goal
 
 pub returns-then-is_none-clause-does : goal.returns-then-is_none-clause-does
@@ -29,8 +29,8 @@ returns-in_err-run-clause-stands g c =
     let test : is_none c.ticket_of.result ≡ false = search rules in
     let is : option_copied c.ticket_of.result ≡ find (has_number c.args.number) c.self.inside.tickets.items = search rules in
     let some = some-found c.ticket_of.result _ test is in
-    let told : c.from_residual.result ≡ None = search rules in
-    subst (TellsStanding (Stands c.args.self.now c.args.number)) (sym told) (stands-as c.args.number c.self.view_is some)
+    let outcome : c.from_residual.result ≡ None = search rules in
+    subst (TellsStanding (Stands c.args.self.now c.args.number)) (sym outcome) (stands-as c.args.number c.self.view_is some)
 
 pub accept-requires : goal.accept-requires
 accept-requires g c = subst (λ (ts : List TicketView). HasThoseOf (find (has_number c.args.number) ts) (arc_value c.in_ok-run.run')) (sym c.in_ok-run.ensures.tickets) c.in_ok-run.ensures.run
@@ -40,7 +40,7 @@ returns-clause-stands g c =
     let test : is_none c.ticket_of.result ≡ false = search rules in
     let is : option_copied c.ticket_of.result ≡ find (has_number c.args.number) c.self.inside.tickets.items = search rules in
     let some = some-found c.ticket_of.result _ test is in
-    stands-told _ c.accept.result (stands-as c.args.number c.self.view_is some) c.accept.ensures.fits
+    stands-outcome _ c.accept.result (stands-as c.args.number c.self.view_is some) c.accept.ensures.fits
 
 pub returns-clause-published : goal.returns-clause-published
 returns-clause-published g c =

@@ -11,4 +11,4 @@ returns-in_err-reserve_call-clause-history g c =
     rw (← c.self.view_is, e) (views_nothing g.J.Naming.opening _ (caller.Session c.self.inside.number) c.args.id c.self.inside.seen)
 
 pub returns-in-Ok-clause-history : goal.returns-in-Ok-clause-history
-returns-in-Ok-clause-history g c = rw (← c.self.view_is) c.view_for-told.ensures.history
+returns-in-Ok-clause-history g c = rw (← c.self.view_is) c.view_for-outcome.ensures.history

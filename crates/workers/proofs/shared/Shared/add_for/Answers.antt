@@ -5,13 +5,13 @@ use Rattle.workers.proofs.Tying.{accepted, called, tied}
 use Rattle.workers.proofs.shared.Shared.add_for.Goals as goal
 
 pub followed-reply-requires : goal.followed-reply-requires
-followed-reply-requires g c = record { accepted = accepted _ _ _ _ _ _ _ (caller.Session c.args.session) (AddScenario c.args.name.now c.args.scenario) _ _ c.self.invariant c.add_scenario-told.ensures c.notes_in-notes.ensures.count }
+followed-reply-requires g c = record { accepted = accepted _ _ _ _ _ _ _ (caller.Session c.args.session) (AddScenario c.args.name.now c.args.scenario) _ _ c.self.invariant c.add_scenario-outcome.ensures c.notes_in-notes.ensures.count }
 
 pub returns-clause-list : goal.returns-clause-list
-returns-clause-list g c = gains _ _ _ _ _ _ _ _ _ _ c.add_scenario-told.ensures c.notes_in-notes.ensures.count c.followed-reply.ensures.reply c.requires.call c.keep.ensures
+returns-clause-list g c = gains _ _ _ _ _ _ _ _ _ _ c.add_scenario-outcome.ensures c.notes_in-notes.ensures.count c.followed-reply.ensures.reply c.requires.call c.keep.ensures
 
 pub returns-clause-history : goal.returns-clause-history
-returns-clause-history g c = called _ _ _ _ _ _ _ _ (caller.Session c.args.session) (AddScenario c.args.name.now c.args.scenario) _ _ _ _ _ c.self.invariant c.add_scenario-told.ensures c.notes_in-notes.ensures.count c.followed-reply.ensures.whole c.follow.ensures c.followed-reply.ensures.front
+returns-clause-history g c = called _ _ _ _ _ _ _ _ (caller.Session c.args.session) (AddScenario c.args.name.now c.args.scenario) _ _ _ _ _ c.self.invariant c.add_scenario-outcome.ensures c.notes_in-notes.ensures.count c.followed-reply.ensures.whole c.follow.ensures c.followed-reply.ensures.front
 
 pub invariant_of-self : goal.invariant_of-self
-invariant_of-self g c = tied _ _ _ _ _ _ _ _ (caller.Session c.args.session) (AddScenario c.args.name.now c.args.scenario) _ _ c.self.invariant c.add_scenario-told.ensures c.notes_in-notes.ensures.count c.followed-reply.ensures.whole
+invariant_of-self g c = tied _ _ _ _ _ _ _ _ (caller.Session c.args.session) (AddScenario c.args.name.now c.args.scenario) _ _ c.self.invariant c.add_scenario-outcome.ensures c.notes_in-notes.ensures.count c.followed-reply.ensures.whole

@@ -6,13 +6,13 @@ use Rattle.workers.proofs.Tying.{accepted, tied}
 use Rattle.workers.proofs.shared.Shared.claim_for.Goals as goal
 
 pub heard-reply-requires : goal.heard-reply-requires
-heard-reply-requires g c = record { accepted = accepted _ _ _ _ _ _ _ (caller.Worker c.args.worker) (Claim) _ _ c.self.invariant c.claim-told.ensures.answer c.notes_in-notes.ensures.count }
+heard-reply-requires g c = record { accepted = accepted _ _ _ _ _ _ _ (caller.Worker c.args.worker) (Claim) _ _ c.self.invariant c.claim-outcome.ensures.answer c.notes_in-notes.ensures.count }
 
 pub returns-clause-list : goal.returns-clause-list
-returns-clause-list g c = gains _ _ _ _ _ _ _ _ _ _ c.claim-told.ensures.answer c.notes_in-notes.ensures.count c.heard-reply.ensures.reply refl c.keep.ensures
+returns-clause-list g c = gains _ _ _ _ _ _ _ _ _ _ c.claim-outcome.ensures.answer c.notes_in-notes.ensures.count c.heard-reply.ensures.reply refl c.keep.ensures
 
 pub invariant_of-self : goal.invariant_of-self
-invariant_of-self g c = tied _ _ _ _ _ _ _ _ (caller.Worker c.args.worker) (Claim) _ _ c.self.invariant c.claim-told.ensures.answer c.notes_in-notes.ensures.count c.heard-reply.ensures.whole
+invariant_of-self g c = tied _ _ _ _ _ _ _ _ (caller.Worker c.args.worker) (Claim) _ _ c.self.invariant c.claim-outcome.ensures.answer c.notes_in-notes.ensures.count c.heard-reply.ensures.whole
 
 pub returns-clause-book : goal.returns-clause-book
-returns-clause-book g c = rw (← c.self.view_is) c.claim-told.ensures.answer
+returns-clause-book g c = rw (← c.self.view_is) c.claim-outcome.ensures.answer

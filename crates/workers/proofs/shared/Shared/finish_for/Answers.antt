@@ -8,16 +8,16 @@ use Rattle.workers.proofs.Tying.{accepted, tied}
 use Rattle.workers.proofs.shared.Shared.finish_for.Goals as goal
 
 pub heard-reply-requires : goal.heard-reply-requires
-heard-reply-requires g c = record { accepted = accepted _ _ _ _ _ _ _ (caller.Worker c.args.worker) (Finish c.args.ticket (fitted c.hand_in-told.result)) _ _ c.self.invariant c.hand_in-told.ensures.answer c.notes_in-notes.ensures.count }
+heard-reply-requires g c = record { accepted = accepted _ _ _ _ _ _ _ (caller.Worker c.args.worker) (Finish c.args.ticket (fitted c.hand_in-outcome.result)) _ _ c.self.invariant c.hand_in-outcome.ensures.answer c.notes_in-notes.ensures.count }
 
 pub returns-clause-list : goal.returns-clause-list
-returns-clause-list g c = gains _ _ _ _ _ _ _ _ _ _ c.hand_in-told.ensures.answer c.notes_in-notes.ensures.count c.heard-reply.ensures.reply (ap (λ f. Finish c.args.ticket f) c.is_fitting-fits.ensures) c.keep.ensures
+returns-clause-list g c = gains _ _ _ _ _ _ _ _ _ _ c.hand_in-outcome.ensures.answer c.notes_in-notes.ensures.count c.heard-reply.ensures.reply (ap (λ f. Finish c.args.ticket f) c.is_fitting-fits.ensures) c.keep.ensures
 
 pub returns-clause-memory : goal.returns-clause-memory
-returns-clause-memory g c = λ e. refused-finish _ _ _ c.args.ticket c.hand_in-told.result c.notes_in-notes.ensures.book c.hand_in-told.ensures.answer e
+returns-clause-memory g c = λ e. refused-finish _ _ _ c.args.ticket c.hand_in-outcome.result c.notes_in-notes.ensures.book c.hand_in-outcome.ensures.answer e
 
 pub invariant_of-self : goal.invariant_of-self
-invariant_of-self g c = tied _ _ _ _ _ _ _ _ (caller.Worker c.args.worker) (Finish c.args.ticket (fitted c.hand_in-told.result)) _ _ c.self.invariant c.hand_in-told.ensures.answer c.notes_in-notes.ensures.count c.heard-reply.ensures.whole
+invariant_of-self g c = tied _ _ _ _ _ _ _ _ (caller.Worker c.args.worker) (Finish c.args.ticket (fitted c.hand_in-outcome.result)) _ _ c.self.invariant c.hand_in-outcome.ensures.answer c.notes_in-notes.ensures.count c.heard-reply.ensures.whole
 
 pub returns-clause-book : goal.returns-clause-book
-returns-clause-book g c = rw (← c.self.view_is) c.hand_in-told.ensures.answer
+returns-clause-book g c = rw (← c.self.view_is) c.hand_in-outcome.ensures.answer

@@ -6,13 +6,13 @@ use Rattle.workers.proofs.Tying.{accepted, called, tied}
 use Rattle.workers.proofs.shared.Shared.retry_for.Goals as goal
 
 pub followed-reply-requires : goal.followed-reply-requires
-followed-reply-requires g c = record { accepted = accepted _ _ _ _ _ _ _ (caller.Session c.args.session) (Retry c.args.id) _ _ c.self.invariant c.retry-told.ensures c.notes_in-notes.ensures.count }
+followed-reply-requires g c = record { accepted = accepted _ _ _ _ _ _ _ (caller.Session c.args.session) (Retry c.args.id) _ _ c.self.invariant c.retry-outcome.ensures c.notes_in-notes.ensures.count }
 
 pub returns-clause-list : goal.returns-clause-list
-returns-clause-list g c = gains _ _ _ _ _ _ _ _ _ _ c.retry-told.ensures c.notes_in-notes.ensures.count c.followed-reply.ensures.reply refl c.keep.ensures
+returns-clause-list g c = gains _ _ _ _ _ _ _ _ _ _ c.retry-outcome.ensures c.notes_in-notes.ensures.count c.followed-reply.ensures.reply refl c.keep.ensures
 
 pub returns-clause-history : goal.returns-clause-history
-returns-clause-history g c = called _ _ _ _ _ _ _ _ (caller.Session c.args.session) (Retry c.args.id) _ _ _ _ _ c.self.invariant c.retry-told.ensures c.notes_in-notes.ensures.count c.followed-reply.ensures.whole c.follow.ensures c.followed-reply.ensures.front
+returns-clause-history g c = called _ _ _ _ _ _ _ _ (caller.Session c.args.session) (Retry c.args.id) _ _ _ _ _ c.self.invariant c.retry-outcome.ensures c.notes_in-notes.ensures.count c.followed-reply.ensures.whole c.follow.ensures c.followed-reply.ensures.front
 
 pub invariant_of-self : goal.invariant_of-self
-invariant_of-self g c = tied _ _ _ _ _ _ _ _ (caller.Session c.args.session) (Retry c.args.id) _ _ c.self.invariant c.retry-told.ensures c.notes_in-notes.ensures.count c.followed-reply.ensures.whole
+invariant_of-self g c = tied _ _ _ _ _ _ _ _ (caller.Session c.args.session) (Retry c.args.id) _ _ c.self.invariant c.retry-outcome.ensures c.notes_in-notes.ensures.count c.followed-reply.ensures.whole

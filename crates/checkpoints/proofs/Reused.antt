@@ -1,0 +1,194 @@
+-- Old groups that are reused, and what stands between them.
+use Rattle.std.proofs.Common.{◌≡◌, ℕ, zero, suc, ◌+◌, ◌-◌, ◌≤◌, ◌<◌, ◌^◌, List, [], ◌∷◌, ◌++◌, map, take, drop, length, length-append, length-drop, Option, Some, None, IfSome, option_map, refl, sym, ◌∙◌, ap, arith, subst, drop_at, drop-drop, take-add, take_all}
+use Rattle.std.specs.List.{AllZip, slice_get, slice_range}
+use Rattle.std.proofs.lemmas.List.{take-map, drop-map, drop_more, length-map, map-append, take-append-drop}
+use Rattle.std.proofs.lemmas.Option.{slice_get_within, slice_get-map, get_or_from_slice_get}
+use Rattle.metrics.specs.Part.{PartSums}
+use Rattle.checkpoints.specs.Segment.{SegmentView}
+use Rattle.checkpoints.specs.Merged.{AreFew}
+use Rattle.checkpoints.specs.Groups.{GroupView, parts_of, group_parts, AreGroupsOf, AreFrom, ArePartsFrom, AreInRow}
+use Rattle.checkpoints.specs.Regrouping.{IsRegrouping}
+use Rattle.checkpoints.proofs.Grouping.{groups-last}
+use Rattle.checkpoints.proofs.Merging.{halves, front-few, back-few}
+
+abbrev From : List PartSums → PartSums → Option ℕ → Type 0
+From olds v place = IfSome place (λ k. slice_get olds k ≡ Some v)
+
+zip-drop : {A B : Type 0} (R : A → B → Type 0) (n : ℕ) (xs : List A) (ys : List B) → AllZip R xs ys → AllZip R (drop n xs) (drop n ys)
+zip-drop R zero xs ys z = z
+zip-drop R (suc n) [] [] z = tt
+zip-drop R (suc n) [] (y ∷ ys) z = absurd z
+zip-drop R (suc n) (x ∷ xs) [] z = absurd z
+zip-drop R (suc n) (x ∷ xs) (y ∷ ys) z = zip-drop R n xs ys z.1
+
+pub zip-long : {A B : Type 0} (R : A → B → Type 0) (xs : List A) (ys : List B) → AllZip R xs ys → length xs ≡ length ys
+zip-long R [] [] z = refl
+zip-long R [] (y ∷ ys) z = absurd z
+zip-long R (x ∷ xs) [] z = absurd z
+zip-long R (x ∷ xs) (y ∷ ys) z = let e = zip-long R xs ys z.1 in omega (arith, e)
+
+zip-last : {A B : Type 0} (R : A → B → Type 0) (xs : List A) (ys : List B) (x : A) (y : B) → AllZip R xs ys → R x y → AllZip R (xs ++ x ∷ []) (ys ++ y ∷ [])
+zip-last R [] [] x y z r = (r, tt)
+zip-last R [] (b ∷ ys) x y z r = absurd z
+zip-last R (a ∷ xs) [] x y z r = absurd z
+zip-last R (a ∷ xs) (b ∷ ys) x y z r = (z.0, zip-last R xs ys x y z.1 r)
+
+-- a group more comes from its place
+pub from-last : (olds : List PartSums) (gs : List GroupView) (places : List (Option ℕ)) (g : GroupView) (place : Option ℕ) → ArePartsFrom olds (group_parts gs) places → IfSome place (λ k. slice_get olds k ≡ Some g.part) → ArePartsFrom olds (group_parts (gs ++ g ∷ [])) (places ++ place ∷ [])
+from-last olds gs places g place z r =
+    subst (λ vs. ArePartsFrom olds vs (places ++ place ∷ [])) (sym (map-append (λ (g : GroupView). g.part) gs (g ∷ []))) (zip-last (From olds) (group_parts gs) places g.part place z r)
+
+-- the part of a segment comes from where the segment does
+part-found : (olds : List SegmentView) (k : ℕ) (s : SegmentView) → slice_get olds k ≡ Some s → slice_get (parts_of olds) k ≡ Some s.part
+part-found olds k s e = slice_get-map (λ (s : SegmentView). s.part) olds k ∙ ap (option_map (λ (s : SegmentView). s.part)) e
+
+part-from : (olds : List SegmentView) (s : SegmentView) (place : Option ℕ) → IfSome place (λ k. slice_get olds k ≡ Some s) → From (parts_of olds) s.part place
+part-from olds s None h = tt
+part-from olds s (Some k) h = part-found olds k s h
+
+pub parts-from : (olds news : List SegmentView) (places : List (Option ℕ)) → AreFrom olds news places → ArePartsFrom (parts_of olds) (parts_of news) places
+parts-from olds [] [] z = tt
+parts-from olds [] (p ∷ places) z = absurd z
+parts-from olds (s ∷ news) [] z = absurd z
+parts-from olds (s ∷ news) (p ∷ places) z = (part-from olds s p z.0, parts-from olds news places z.1)
+
+-- the old ones from a place on begin with the one at it
+drop-is : (olds : List PartSums) (k : ℕ) (v : PartSums) → slice_get olds k ≡ Some v → drop k olds ≡ v ∷ drop (k + 1) olds
+drop-is olds k v e = drop_more olds k v (slice_get_within olds k v e) ∙ ap (λ x. x ∷ drop (k + 1) olds) (get_or_from_slice_get olds k v v e)
+
+-- parts that come from old ones side by side are these
+row-same : (olds : List PartSums) (n k : ℕ) (vs : List PartSums) (places : List (Option ℕ)) → AllZip (From olds) vs places → AreInRow k (take n places) → n ≤ length places → take n vs ≡ take n (drop k olds)
+row-same olds zero k vs places z row l = refl
+row-same olds (suc n) k [] [] z row l = absurd (omega (arith, l))
+row-same olds (suc n) k [] (p ∷ places) z row l = absurd z
+row-same olds (suc n) k (v ∷ vs) [] z row l = absurd z
+row-same olds (suc n) k (v ∷ vs) (p ∷ places) z row l =
+    let here : slice_get olds k ≡ Some v = subst (From olds v) row.0 z.0 in
+    ap (λ l. v ∷ l) (row-same olds n (k + 1) vs places z.1 row.1 (omega (arith, l))) ∙ sym (ap (take (suc n)) (drop-is olds k v here))
+
+pub row-taken : (olds news : List PartSums) (places : List (Option ℕ)) (place k n : ℕ) → ArePartsFrom olds news places → AreInRow k (take n (drop place places)) → place + n ≤ length places → take n (drop place news) ≡ take n (drop k olds)
+row-taken olds news places place k n z row l =
+    let d = length-drop place places in
+    row-same olds n k (drop place news) (drop place places) (zip-drop (From olds) place news places z) row (omega (arith, d, l))
+
+-- the old parts behind a group
+parts-behind : (olds : List PartSums) (first : ℕ) (front back : List PartSums) (c : ℕ) → drop first olds ≡ front ++ back → length front ≡ c → drop (first + c) olds ≡ back
+parts-behind olds first front back c e n = sym (drop-drop c first olds) ∙ ap (drop c) e ∙ drop_at front back c n
+
+parts-within : (olds : List PartSums) (first : ℕ) (front back : List PartSums) (c : ℕ) → drop first olds ≡ front ++ back → length front ≡ c → first ≤ length olds → first + c ≤ length olds
+parts-within olds first front back c e n l =
+    let a = ap length e in
+    let d = length-drop first olds in
+    let b = length-append front back in omega (arith, a, d, b, n, l)
+
+-- the old group's parts are few
+pub group-few : (news : List PartSums) (places : List (Option ℕ)) (left gs : List GroupView) (g : GroupView) (count place first : ℕ) → IsRegrouping news places (g ∷ left) gs count place first → first + g.count < 2 ^ 64
+group-few news places left gs g count place first h =
+    let o = h.old in
+    let w = parts-within h.olds first o.0 o.1 g.count o.2 o.3 h.first_within in
+    let few = h.few in omega (arith, w, few)
+
+pub place-known : (news : List PartSums) (places : List (Option ℕ)) (left gs : List GroupView) (count place first : ℕ) → IsRegrouping news places left gs count place first → place ≤ length places
+place-known news places left gs count place first h =
+    let long = zip-long (From h.olds) news places h.from in
+    let w = h.place_within in omega (arith, long, w)
+
+-- it is passed over
+pub passed-over : (news : List PartSums) (places : List (Option ℕ)) (left gs : List GroupView) (g : GroupView) (count place first to : ℕ) → IsRegrouping news places (g ∷ left) gs count place first → place ≤ to → to ≤ length places → IsRegrouping news places left gs count to (first + g.count)
+passed-over news places left gs g count place first to h l m =
+    let o = h.old in
+    let long = zip-long (From h.olds) news places h.from in
+    let c = h.count_within in
+    record {
+      olds = h.olds;
+      from = h.from;
+      old = subst (λ vs. AreGroupsOf vs left) (sym (parts-behind h.olds first o.0 o.1 g.count o.2 o.3)) o.5;
+      first_within = parts-within h.olds first o.0 o.1 g.count o.2 o.3 h.first_within;
+      few = h.few;
+      groups = h.groups;
+      count_within = omega (arith, c, l);
+      place_within = omega (arith, long, m);
+    }
+
+-- new parts, up to a place and behind it
+parts-between : (news : List PartSums) (a b n : ℕ) → a ≤ b → (take a news ++ slice_range news a b) ++ take n (drop b news) ≡ take (b + n) news
+parts-between news a b n l =
+    let whole : a + (b - a) ≡ b = omega (arith, l) in
+    ap (λ x. x ++ take n (drop b news)) (sym (take-add a (b - a) news) ∙ ap (λ k. take k news) whole) ∙ sym (take-add b n news)
+
+take-front : (xs ys zs : List PartSums) (c : ℕ) → zs ≡ xs ++ ys → length xs ≡ c → take c zs ≡ xs
+take-front xs ys zs c e n = ap (take c) e ∙ go xs ys c n where
+  go : (xs ys : List PartSums) (c : ℕ) → length xs ≡ c → take c (xs ++ ys) ≡ xs
+  go [] ys zero n = refl
+  go [] ys (suc c) n = absurd (omega (arith, n))
+  go (x ∷ xs) ys zero n = absurd (omega (arith, n))
+  go (x ∷ xs) ys (suc c) n = ap (λ l. x ∷ l) (go xs ys c (omega (arith, n)))
+
+-- it is reused, behind groups of the parts before it
+pub group-reused : (news : List PartSums) (places : List (Option ℕ)) (left gs hs all : List GroupView) (g : GroupView) (count place first to end : ℕ) → IsRegrouping news places (g ∷ left) gs count place first
+    → place ≤ to → end ≡ to + g.count → end ≤ length places → AreInRow first (take g.count (drop to places))
+    → ((vs : List PartSums) → AreGroupsOf vs gs → AreGroupsOf (vs ++ slice_range news count to) hs) → all ≡ hs ++ g ∷ []
+    → IsRegrouping news places left all end end (first + g.count)
+group-reused news places left gs hs all g count place first to end h l e m row more is =
+    let o = h.old in
+    let passed = passed-over news places left gs g count place first end h (omega (arith, l, e)) m in
+    let c = h.count_within in
+    let between : count ≤ to = omega (arith, c, l) in
+    let same : take g.count (drop to news) ≡ take g.count (drop first h.olds) = row-taken h.olds news places to first g.count h.from row (omega (arith, e, m)) in
+    let front : take g.count (drop to news) ≡ o.0 = same ∙ take-front o.0 o.1 (drop first h.olds) g.count o.2 o.3 in
+    let parts : (take count news ++ slice_range news count to) ++ o.0 ≡ take end news =
+    ap (λ x. (take count news ++ slice_range news count to) ++ x) (sym front) ∙ parts-between news count to g.count between ∙ ap (λ k. take k news) (sym e) in
+    let grouped : AreGroupsOf ((take count news ++ slice_range news count to) ++ o.0) (hs ++ g ∷ []) = groups-last (take count news ++ slice_range news count to) o.0 hs g (more (take count news) h.groups) o.3 o.4 in
+    record {
+      olds = passed.olds;
+      from = passed.from;
+      old = passed.old;
+      first_within = passed.first_within;
+      few = passed.few;
+      groups = subst (λ vs. AreGroupsOf vs all) parts (subst (λ gs'. AreGroupsOf ((take count news ++ slice_range news count to) ++ o.0) gs') (sym is) grouped);
+      count_within = omega arith;
+      place_within = passed.place_within;
+    }
+
+-- what is left when all old groups are passed
+pub rest-grouped : (news : List PartSums) (places : List (Option ℕ)) (left gs hs : List GroupView) (count place first : ℕ) → IsRegrouping news places left gs count place first
+    → ((vs : List PartSums) → AreGroupsOf vs gs → AreGroupsOf (vs ++ drop count news) hs) → AreGroupsOf news hs
+rest-grouped news places left gs hs count place first h more = subst (λ vs. AreGroupsOf vs hs) (take-append-drop count news) (more (take count news) h.groups)
+
+-- how it begins
+pub regrouping-begins : (olds news : List PartSums) (places : List (Option ℕ)) (gs : List GroupView) → ArePartsFrom olds news places → AreGroupsOf olds gs → length olds < 2 ^ 64 → IsRegrouping news places gs [] 0 0 0
+regrouping-begins olds news places gs from old few = record {
+  olds = olds;
+  from = from;
+  old = old;
+  first_within = omega arith;
+  few = few;
+  groups = refl;
+  count_within = omega arith;
+  place_within = omega arith;
+}
+
+module _ {X : Type 0} (f : X → PartSums) where
+  -- some parts between two places have few jobs
+  pub between-few : (xs : List X) (a b : ℕ) → AreFew (map f xs) → AreFew (map f (slice_range xs a b))
+  between-few xs a b h = front-few f (drop a xs) (take (b - a) (drop a xs)) (drop (b - a) (drop a xs)) (b - a) refl refl (back-few f xs (take a xs) (drop a xs) a refl refl h)
+
+  pub bounds-known : (xs : List X) (places : List (Option ℕ)) (left gs : List GroupView) (count place first to : ℕ) → IsRegrouping (map f xs) places left gs count place first → to ≤ length places → to ≤ length xs
+  bounds-known xs places left gs count place first to h l =
+      let long = zip-long (From h.olds) (map f xs) places h.from in
+      let m = length-map xs f in omega (arith, long, m, l)
+
+  -- and they are between the same places
+  pub between-same : (xs : List X) (a b : ℕ) → map f (slice_range xs a b) ≡ slice_range (map f xs) a b
+  between-same xs a b = sym (ap (take (b - a)) (drop-map f a xs) ∙ take-map f (b - a) (drop a xs))
+
+  pub behind-same : (xs : List X) (a : ℕ) → map f (slice_range xs a (length xs)) ≡ drop a (map f xs)
+  behind-same xs a =
+      let l = length-drop a xs in
+      ap (map f) (take_all (length xs - a) (drop a xs) (omega (arith, l))) ∙ sym (drop-map f a xs)
+
+  -- the parts from a place on, up to another and behind it
+  pub next-parts : (xs : List X) (a b : ℕ) → a ≤ b → map f (drop a xs) ≡ map f (slice_range xs a b) ++ map f (drop b xs)
+  next-parts xs a b l =
+      let whole : a + (b - a) ≡ b = omega (arith, l) in
+      sym (halves f (drop a xs) (slice_range xs a b) (drop b xs) (b - a) refl (sym (drop-drop (b - a) a xs ∙ ap (λ k. drop k xs) whole)))

@@ -1,6 +1,0 @@
-use Rattle.blocks.specs.Rows.{flat}
-use Rattle.cluster_state.proofs.TicketLemmas.{IsFilling}
-use Rattle.cluster_state.proofs.row.fill.Given as goal
-
-abbrev pub invariant-loop-place : goal.invariant-loop-place
-invariant-loop-place g l = IsFilling l.places l.place l.row.spare (flat l.row.blocks)

@@ -1,6 +1,0 @@
-use Rattle.std.proofs.Common.{◌≡◌, map, take}
-use Rattle.commands.specs.Opening.{told}
-use Rattle.commands.proofs.opening.told_list.Given as goal
-
-abbrev pub invariant-loop-comment : goal.invariant-loop-comment
-invariant-loop-comment g l = l.list ≡ told (take l.comment-index (map (λ c. c.items) l.comments))
