@@ -6,12 +6,14 @@ use book_machine::SettleState;
 use chronicle::Naming;
 use job_table::Edit;
 use scenarios::{Scenario, ScenarioId};
-use scripts::{Analyst, Reading};
+use scripts::Analyst;
 use std::alloc::Allocator;
 use std::marker::Model;
 use std::sync::Wait;
 use swf_text::Memory;
-use version_book::{AddRefusal, DropRefusal, EditRefusal, Published, RetryRefusal, ViewRefusal};
+use version_book::{
+    AddRefusal, DropRefusal, EditRefusal, Published, Reading, RetryRefusal, ViewRefusal,
+};
 use workers::{Desk, Session, Settled};
 
 /// A session, the desk that opened it, and the handle by which its thread waits for the desk.
@@ -67,24 +69,19 @@ impl<'d, A: Allocator + Copy, J: Naming, R: Wait> Analyst<A> for DeskSession<'d,
     }
 
     fn find(&mut self, name: &str) -> Option<ScenarioId> {
-        self.session.find_along(self.rt, self.desk, name)
+        self.session.find(self.rt, self.desk, name)
     }
 
     fn version(&mut self) -> u64 {
-        self.session.version_along(self.rt, self.desk)
+        self.session.version(self.rt, self.desk)
     }
 
     fn current(&mut self) -> Result<Reading<A>, Memory> {
-        let current = self.session.current_along(self.rt, self.desk)?;
-        Ok(Reading {
-            version: current.version,
-            table: current.table,
-            scenarios: current.scenarios,
-        })
+        self.session.current(self.rt, self.desk)
     }
 
     fn settle(&mut self) -> SettleState {
-        state_of(self.session.settle_along(self.rt, self.desk))
+        state_of(self.session.settle(self.rt, self.desk))
     }
 
     fn seen(&self) -> u64 {

@@ -75,7 +75,7 @@ impl<A: Allocator + Copy> Growing<'_, A> {
     fn reads_again<R: Wait, J: Naming>(
         &self,
         handle: &DeskHandle<'_, R, A, J>,
-        session: &Session<A, J>,
+        session: &mut Session<A, J>,
         before: Looks,
     ) -> Result<(), Wrong> {
         self.notes_want(handle.looks(session) == before)?;
@@ -85,7 +85,7 @@ impl<A: Allocator + Copy> Growing<'_, A> {
     fn reads<R: Wait, J: Naming>(
         &self,
         handle: &DeskHandle<'_, R, A, J>,
-        session: &Session<A, J>,
+        session: &mut Session<A, J>,
     ) -> Result<(), Wrong> {
         let before = handle.looks(session);
         match handle.reads(session) {
@@ -97,7 +97,7 @@ impl<A: Allocator + Copy> Growing<'_, A> {
     fn base<R: Wait, J: Naming>(
         &self,
         handle: &DeskHandle<'_, R, A, J>,
-        session: &Session<A, J>,
+        session: &mut Session<A, J>,
     ) -> Result<ScenarioId, Wrong> {
         match handle.find(session, "base") {
             Some(base) => Ok(base),

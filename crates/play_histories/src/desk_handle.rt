@@ -40,26 +40,26 @@ pub(crate) struct DeskHandle<'a, R, A: Allocator + Copy, J: Naming> {
 }
 
 impl<R: Wait, A: Allocator + Copy, J: Naming> DeskHandle<'_, R, A, J> {
-    pub(crate) fn find(&self, session: &Session<A, J>, name: &str) -> Option<ScenarioId> {
+    pub(crate) fn find(&self, session: &mut Session<A, J>, name: &str) -> Option<ScenarioId> {
         session.find(self.rt, self.desk, name)
     }
 
-    pub(crate) fn settle(&self, session: &Session<A, J>) -> Settled {
+    pub(crate) fn settle(&self, session: &mut Session<A, J>) -> Settled {
         session.settle(self.rt, self.desk)
     }
 
     /// Whether all is there that the session settles for.
-    pub(crate) fn is_done(&self, session: &Session<A, J>) -> bool {
+    pub(crate) fn is_done(&self, session: &mut Session<A, J>) -> bool {
         matches!(self.settle(session), Settled::Done)
     }
 
     /// Whether the session waits for nothing, since the desk is stopped.
-    pub(crate) fn is_stopped(&self, session: &Session<A, J>) -> bool {
+    pub(crate) fn is_stopped(&self, session: &mut Session<A, J>) -> bool {
         matches!(self.settle(session), Settled::Stopped)
     }
 
     /// What the session sees of the book and of itself.
-    pub(crate) fn looks(&self, session: &Session<A, J>) -> Looks {
+    pub(crate) fn looks(&self, session: &mut Session<A, J>) -> Looks {
         Looks {
             version: session.version(self.rt, self.desk),
             base: session.find(self.rt, self.desk, "base"),
@@ -70,7 +70,7 @@ impl<R: Wait, A: Allocator + Copy, J: Naming> DeskHandle<'_, R, A, J> {
     }
 
     /// Whether the session reads that the book stands as it looks; None where memory runs out.
-    pub(crate) fn reads(&self, session: &Session<A, J>) -> Option<bool> {
+    pub(crate) fn reads(&self, session: &mut Session<A, J>) -> Option<bool> {
         match session.current(self.rt, self.desk) {
             Ok(current) => Some(is_current(&current, self.looks(session))),
             Err(_) => None,
@@ -78,7 +78,7 @@ impl<R: Wait, A: Allocator + Copy, J: Naming> DeskHandle<'_, R, A, J> {
     }
 
     /// Whether the session reads that the book stands as it looks.
-    pub(crate) fn is_read(&self, session: &Session<A, J>) -> bool {
+    pub(crate) fn is_read(&self, session: &mut Session<A, J>) -> bool {
         matches!(self.reads(session), Some(true))
     }
 

@@ -15,8 +15,8 @@ use std::thread::Threads;
 use version_book::Book;
 use workers::{Desk, Gate, NoGate, Session, Worker, WorkerEnd};
 
-/// What a session plays beside a worker: the edit by which the fifth job joins, how often it was
-/// answered want of memory, whether a run was not there, and how often a ticket was given up. Beside the
+/// What a session plays beside a worker: the edit by which the fifth job joins, how often it ran
+/// out of memory, whether a run was not there, and how often a ticket was given up. Beside the
 /// allocator that refuses there is one that has enough.
 #[derive(Drop)]
 pub(crate) struct Growing<'a, A: Allocator + Copy> {

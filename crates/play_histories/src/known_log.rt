@@ -4,8 +4,7 @@ use checking::{FOUR, entry_of, table_of};
 use job_table::{Edit, JobTable};
 use scenarios::{Scenario, ScenarioId};
 use std::alloc::Allocator;
-use version_book::{Book, Published};
-use workers::Current;
+use version_book::{Book, Published, Reading};
 
 /// A fifth job, of size 2.
 const FIFTH: &[u8] = b"5 4 -1 500 2 -1 -1 2 500 -1 1 8 -1 -1 -1 -1 -1 -1\n";
@@ -111,7 +110,7 @@ pub(crate) struct Looks {
 }
 
 /// Whether this is where the book stands, as a session sees it.
-pub(crate) fn is_current<A: Allocator + Copy>(current: &Current<A>, looks: Looks) -> bool {
+pub(crate) fn is_current<A: Allocator + Copy>(current: &Reading<A>, looks: Looks) -> bool {
     current.version == looks.version
         && has_jobs(&current.table, looks.version)
         && current.scenarios.id_of("base") == looks.base

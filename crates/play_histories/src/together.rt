@@ -41,7 +41,7 @@ impl<R: Wait, J: Naming> DeskHandle<'_, R, Global, J> {
         }
     }
 
-    fn is_second(&self, session: Option<&Session<Global, J>>) -> bool {
+    fn is_second(&self, session: Option<&mut Session<Global, J>>) -> bool {
         match session {
             Some(session) => session.version(self.rt, self.desk) == 2,
             None => false,
@@ -53,7 +53,7 @@ impl<R: Wait, J: Naming> DeskHandle<'_, R, Global, J> {
     fn are_edited(&self, sessions: &mut Vec<Session<Global, J>>, joins: &Edit<Global>) -> bool {
         self.is_edited(sessions.get_mut(0), joins, 1)
             && self.is_edited(sessions.get_mut(1), &Edit::Remove(4), 2)
-            && self.is_second(sessions.get(0))
+            && self.is_second(sessions.get_mut(0))
     }
 }
 

@@ -17,7 +17,8 @@ use Rattle.scripts.specs.declared.views.Beside.{Beside}
 use Rattle.scripts.specs.Analysts.{AnswersBy, AreBeside, CallBy, FoundBy, LineBy, LinesBy, LogBy, NamedBy, NotBeside, SavedBy, SettledBy, SideBy, SideOf, StandsSo, VersionBy, ViewBy}
 use Rattle.scripts.specs.Answers.{edit_says, scenario_says}
 use Rattle.scripts.specs.Lifting.{Leads, Lifts, LinesLift}
-use Rattle.scripts.specs.Rules.{Moment, Rules}
+use Rattle.version_book.specs.Reading.{Moment}
+use Rattle.scripts.specs.Rules.{Rules}
 use Rattle.scripts.specs.Steps.{settle_line}
 
 -- ---- steps

@@ -2,15 +2,16 @@
 use Rattle.std.specs.Prelude.{◌≡◌, ℕ, Option, None, Some, Result, Ok, Err, Bool}
 use Rattle.scenarios.specs.ScenarioList.{Listed, id_of}
 use Rattle.book_machine.specs.Call.{BookCall}
-use Rattle.book_machine.specs.Machine.{Machine, current, settled, version, note_limit}
+use Rattle.book_machine.specs.Machine.{Machine, settled, version, note_limit}
 use Rattle.tasks.specs.Published.{PublishedView}
+use Rattle.version_book.specs.Reading.{Moment, present}
 use Rattle.version_book.specs.Steps.{Answer, full, memory, outcome}
 use Rattle.version_book.specs.declared.faults.ViewFault.{ViewFault}
 use Rattle.version_book.specs.declared.faults.ViewFault.TheVariants as view
 use Rattle.version_book.specs.declared.refusal.Refusal.{Refusal}
 use Rattle.version_book.specs.declared.refusal.Refusal.TheVariants as why
 use Rattle.scripts.specs.Looks.{IsListedAs, IsLooked}
-use Rattle.scripts.specs.Rules.{Moment, Rules}
+use Rattle.scripts.specs.Rules.{Rules}
 use Rattle.scripts.specs.Session.{Session, IsStep}
 use Rattle.scripts.specs.Settling.{Settles}
 
@@ -25,9 +26,6 @@ abbrev pub IsTrueOf : Machine → ℕ → Result PublishedView (Refusal ViewFaul
 IsTrueOf m id (Ok p) = IsLooked m id p
 IsTrueOf m id (Err (why.Fault view.NoSuchScenario)) = (s : Listed) → IsListedAs m id s → ⊥
 IsTrueOf m id (Err refusal) = Unit {0}
-
-abbrev pub present : Machine → Moment
-present m = record { version = version m; log = current m; listing = m.listing }
 
 -- what is read is the present, unless memory is refused
 abbrev pub IsPresent : Machine → Option Moment → Type 0

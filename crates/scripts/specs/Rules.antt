@@ -1,24 +1,13 @@
 -- What the calls of any analyst may return.
 use Rattle.std.specs.Prelude.{ℕ, List, Option, None, Some, Result, Ok, Err}
-use Rattle.std.specs.Arc.{arc_value}
-use Rattle.swf_text.specs.Entry.{LogEntry}
-use Rattle.scenarios.specs.ScenarioList.{Listing}
 use Rattle.book_machine.specs.declared.settle_state.SettleState.{SettleState}
 use Rattle.book_machine.specs.Call.{BookCall}
 use Rattle.tasks.specs.Published.{PublishedView}
 use Rattle.version_book.specs.declared.faults.ViewFault.{ViewFault}
+use Rattle.version_book.specs.declared.reading.Reading.{Reading}
 use Rattle.version_book.specs.declared.refusal.Refusal.{Refusal}
+use Rattle.version_book.specs.Reading.{Moment, moment_of}
 use Rattle.version_book.specs.Steps.{Answer}
-use Rattle.scripts.specs.declared.analyst.Reading.{Reading}
-
--- the version, its log and the scenarios, all of one moment
-pub record Moment : Type 0 where
-  pub version : ℕ
-  pub log : List LogEntry
-  pub listing : Listing
-
-abbrev pub moment_of : {A : Type 0} → Reading A → Moment
-moment_of reading = record { version = reading.version; log = arc_value reading.table; listing = reading.scenarios }
 
 -- what was read; none where memory was refused
 abbrev pub read_of : {A E : Type 0} → Result (Reading A) E → Option Moment

@@ -5,23 +5,13 @@ ghost use Rattle.version_book.specs.Answers.{add_answer, drop_answer, edit_answe
 ghost use Rattle.scripts.specs.Rules.{Rules, read_of};
 
 use book_machine::SettleState;
-use job_table::{Edit, JobTable};
-use scenarios::{Scenario, ScenarioId, ScenarioList};
+use job_table::Edit;
+use scenarios::{Scenario, ScenarioId};
 use std::alloc::Allocator;
-use std::sync::Arc;
 use swf_text::Memory;
-use version_book::{AddRefusal, DropRefusal, EditRefusal, Published, RetryRefusal, ViewRefusal};
-
-/// A log and its scenarios, as read at one moment.
-#[derive(Drop)]
-pub struct Reading<A: Allocator + Copy> {
-    /// The version.
-    pub version: u64,
-    /// The log of this version.
-    pub table: Arc<JobTable<A>, A>,
-    /// The scenarios, in the order in which they were added.
-    pub scenarios: ScenarioList<A>,
-}
+use version_book::{
+    AddRefusal, DropRefusal, EditRefusal, Published, Reading, RetryRefusal, ViewRefusal,
+};
 
 /// Edits a log and views its simulations, as a session of a book or of a desk does. The responses to the
 /// commands of a script are built of these calls alone.

@@ -4,7 +4,7 @@ ghost use Rattle.version_book.specs.Book.{machine_of};
 ghost use Rattle.scripts.specs.Replies.{reply_text};
 ghost use Rattle.scripts.specs.Transcript.{IsLine};
 
-use crate::analyst::{Analyst, Reading};
+use crate::analyst::Analyst;
 use crate::reply::Reply;
 use crate::run;
 use book_machine::SettleState;
@@ -15,7 +15,7 @@ use std::alloc::Allocator;
 use std::marker::Model;
 use swf_text::Memory;
 use version_book::{
-    AddRefusal, Book, DropRefusal, EditRefusal, Published, RetryRefusal, ViewRefusal,
+    AddRefusal, Book, DropRefusal, EditRefusal, Published, Reading, RetryRefusal, ViewRefusal,
 };
 
 /// The number of the session in the book's notes.
@@ -106,11 +106,7 @@ impl<A: Allocator + Copy> Analyst<A> for BookSession<A> {
     }
 
     fn current(&mut self) -> Result<Reading<A>, Memory> {
-        Ok(Reading {
-            version: self.book.version(),
-            table: self.book.current().clone()?,
-            scenarios: self.book.scenarios().copy()?,
-        })
+        self.book.reading()
     }
 
     fn settle(&mut self) -> SettleState {

@@ -20,7 +20,7 @@ mod side;
 mod view_report;
 mod views;
 
-pub use analyst::{Analyst, Reading};
+pub use analyst::Analyst;
 pub use laws::{
     the_first_schedule, transcripts_lift, unrefused_transcripts_are_one, what_is_shown_is_true,
 };

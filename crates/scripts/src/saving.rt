@@ -5,17 +5,18 @@ ghost use Rattle.std.specs.Option.{option_map};
 ghost use Rattle.swf_text.specs.Writing.{text_bytes};
 ghost use Rattle.scenarios.specs.ScenarioList.{named};
 ghost use Rattle.commands.specs.Opening.{saved};
+ghost use Rattle.version_book.specs.Reading.{moment_of};
 ghost use Rattle.scripts.specs.Analysts.{IsLogOf, LogBy, NamedBy, SavedBy};
 ghost use Rattle.scripts.specs.Replies.{reply_text};
-ghost use Rattle.scripts.specs.Rules.{moment_of};
 
-use crate::analyst::{Analyst, Reading};
+use crate::analyst::Analyst;
 use crate::reply::Reply;
 use commands::{ScenarioName, save_text};
 use report::log_text;
 use scenarios::{NoSuchScenario, Scenario, ScenarioList};
 use std::alloc::Allocator;
 use swf_text::{Memory, SwfText, write_swf};
+use version_book::Reading;
 
 fn scenario_of<A: Allocator + Copy>(list: &ScenarioList<A>, name: &str) -> Option<Scenario>
     ensures { result ≡ option_map (λ s. s.scenario) (named name.now list.now.scenarios) }

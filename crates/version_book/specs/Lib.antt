@@ -1,4 +1,5 @@
 pub mod Book
+pub mod Reading
 pub mod Sound
 pub mod Answers
 pub mod Steps

@@ -3,6 +3,7 @@ ghost use Rattle.std.specs.Arc.{arc_value};
 ghost use Rattle.book_machine.specs.Noted.{noted_of};
 ghost use Rattle.checkpoints.specs.Spacing.{IsRefusal, IsSpacing};
 
+use crate::reading::Reading;
 use crate::state::State;
 use book_machine::{Note, SettleState};
 use checkpoints::RunFault;
@@ -11,6 +12,7 @@ use scenarios::{ScenarioId, ScenarioList};
 use std::alloc::Allocator;
 use std::marker::Model;
 use std::sync::Arc;
+use swf_text::Memory;
 
 /// A shared log with all its versions, scenarios with their published runs, tickets for runs that
 /// are to be made, and a journal of every call.
@@ -43,6 +45,7 @@ impl<A: Allocator + Copy> Book<A> {
     ghost use Rattle.scenarios.specs.ScenarioList.{id_of};
     ghost use Rattle.book_machine.specs.Machine.{current, settled};
     ghost use Rattle.version_book.specs.Book.{machine_of};
+    ghost use Rattle.version_book.specs.Reading.{moment_of, present};
     ghost use Rattle.version_book.specs.Sound.{IsBook};
     ghost use Rattle.version_book.specs.Steps.{opening_state};
     ghost use Rattle.version_book.specs.Tasks.{free_due};
@@ -85,6 +88,17 @@ impl<A: Allocator + Copy> Book<A> {
         ensures { result.now ≡ self.now.state.listing }
     {
         self.state.scenarios()
+    }
+
+    /// The version, its log and the scenarios, all of this moment. Memory where a growth is refused.
+    pub fn reading(&self) -> Result<Reading<A>, Memory>
+        ensures { IfOk result (λ r. moment_of r ≡ present (machine_of self.now)) }
+    {
+        Ok(Reading {
+            version: self.version(),
+            table: self.current().clone()?,
+            scenarios: self.scenarios().copy()?,
+        })
     }
 
     /// The id of the scenario with this name.

@@ -8,6 +8,7 @@ mod faults;
 mod journal;
 mod lookups;
 mod named;
+mod reading;
 mod refusal;
 mod replies;
 mod session_steps;
@@ -20,6 +21,7 @@ pub use book_machine::{Call, Caller, Note, Reply, SettleState};
 pub use checkpoints::RunFault as BookFault;
 pub use faults::{FinishFault, TooManyTickets, UnknownTicket, ViewFault};
 pub use named::Named;
+pub use reading::Reading;
 pub use refusal::{
     AddRefusal, ClaimRefusal, DropRefusal, EditRefusal, FinishRefusal, GiveUpRefusal, Refusal,
     RetryRefusal, ViewRefusal,

@@ -1,25 +1,25 @@
 -- Where in the history of a desk the response to a caller stands. The history begins in the machine's state `opening`; what is said of a
 -- front holds where it is kept.
 use Rattle.std.specs.Prelude.{◌≡◌, ◌<◌, ◌⊎◌, ℕ, true, List, [], ◌∷◌, ◌++◌, Result, Err, IfOk}
-use Rattle.std.specs.Arc.{arc_value}
 use mathlib.Core.List.{IsPrefix}
 use Rattle.book_machine.specs.declared.caller.Caller.{Caller}
 use Rattle.book_machine.specs.declared.settle_state.SettleState.TheVariants as state
 use Rattle.book_machine.specs.Call.{BookCall, View}
-use Rattle.book_machine.specs.Machine.{Machine, current, note_limit, reply_to, settled, version}
+use Rattle.book_machine.specs.Machine.{Machine, note_limit, reply_to, settled}
 use Rattle.chronicle.specs.Events.{Happened, Called, Opened, state_after}
 use Rattle.chronicle.specs.Fronts.{Seen}
 use Rattle.tasks.specs.Published.{PublishedView}
 use Rattle.version_book.specs.declared.faults.ViewFault.{ViewFault}
+use Rattle.version_book.specs.declared.reading.Reading.{Reading}
 use Rattle.version_book.specs.declared.refusal.Refusal.{Refusal}
 use Rattle.version_book.specs.declared.refusal.Refusal.TheVariants as why
 use Rattle.version_book.specs.Answers.{view_answer}
 use Rattle.version_book.specs.Book.{BookView, machine_of}
+use Rattle.version_book.specs.Reading.{moment_of, present}
 use Rattle.version_book.specs.Sound.{IsBook}
 use Rattle.version_book.specs.Steps.{Answer, full, memory, outcome, note_of}
 use Rattle.version_book.specs.Tasks.{IsShownFor}
 use Rattle.workers.specs.Settling.{has_stopped}
-use Rattle.workers.specs.declared.current.Current.{Current}
 use Rattle.workers.specs.declared.settled.Settled.{Settled}
 use Rattle.workers.specs.declared.settled.Settled.TheVariants as settled_as
 
@@ -57,11 +57,9 @@ Views opening old who id seen shown new =
 abbrev pub Reads : Machine → Seen → (Machine → Type 0) → Seen → Type 0
 Reads opening old Holds new = new.kept ≡ true → (old.kept ≡ true) × IsPrefix old.events new.events × Holds (state_after opening new.events)
 
--- this is where the machine stands
-pub record IsCurrentAt {A : Type 0} (m : Machine) (c : Current A) : Type 0 where
-  pub version : c.version ≡ version m
-  pub table : arc_value c.table ≡ current m
-  pub scenarios : c.scenarios ≡ m.listing
+-- the machine stands there
+abbrev pub IsCurrentAt : {A : Type 0} → Machine → Reading A → Type 0
+IsCurrentAt m r = moment_of r ≡ present m
 
 -- what the wait of a session for its runs may return at this place: how far the scenarios are; or that one is waited for,
 -- behind a stop

@@ -1,32 +1,26 @@
 -- What is read of the book under the lock. It is a book at every moment at which the lock is got.
 use Rattle.std.specs.Prelude.{◌≡◌, ◌&&◌, ◌⊎◌, ℕ, Bool, List, Option, is_none, length, not}
-use Rattle.std.specs.Arc.{arc_value}
 use Rattle.scenarios.specs.ScenarioList.{id_of}
 use Rattle.book_machine.specs.declared.caller.Caller.{Caller}
 use Rattle.book_machine.specs.declared.caller.Caller.TheVariants as caller
 use Rattle.book_machine.specs.Call.{BookCall}
 use Rattle.book_machine.specs.Machine.{note_limit}
 use Rattle.tasks.specs.Published.{PublishedView}
-use Rattle.version_book.specs.Book.{BookView, StateView}
+use Rattle.version_book.specs.declared.reading.Reading.{Reading}
+use Rattle.version_book.specs.Book.{BookView, StateView, machine_of}
+use Rattle.version_book.specs.Reading.{moment_of, present}
 use Rattle.version_book.specs.Sound.{IsBook}
 use Rattle.version_book.specs.Steps.{Answers, memory}
 use Rattle.version_book.specs.Tasks.{IsShownFor, free_due}
 use Rattle.workers.specs.Callers.{WorkerView}
-use Rattle.workers.specs.declared.current.Current.{Current}
 
 -- a worker has nothing to do and is not to end: the desk isn't stopped, and no ticket is to be had
 abbrev pub is_idle : Bool → StateView → Bool
 is_idle stopped s = not stopped && is_none (free_due s)
 
--- this is where the book stands
-pub record IsCurrentOf {A : Type 0} (b : BookView) (c : Current A) : Type 0 where
-  pub version : c.version ≡ length b.state.edits
-  pub table : arc_value c.table ≡ b.state.current
-  pub scenarios : c.scenarios ≡ b.state.listing
-
 -- At some moment a book stood there.
-abbrev pub IsCurrentOnce : {A : Type 0} → Current A → Type 0
-IsCurrentOnce c = (b : BookView) × IsBook b × IsCurrentOf b c
+abbrev pub IsCurrentOnce : {A : Type 0} → Reading A → Type 0
+IsCurrentOnce r = (b : BookView) × IsBook b × (moment_of r ≡ present (machine_of b))
 
 -- At some moment a book had this many versions.
 abbrev pub IsVersionOnce : ℕ → Type 0

@@ -18,6 +18,9 @@ use std::alloc::Allocator;
 use std::sync::{Condvar, Mutex};
 use version_book::Book;
 
+/// Why a desk is not closed, and what it was to be closed with, which is handed back.
+pub type NotClosed<D, A, J> = (CloseFault, D, Vec<Session<A, J>, A>, Vec<Worker<A>, A>);
+
 fn sessions_begin<A: Allocator + Copy, J: Naming>(
     sessions: &[Session<A, J>],
     whole: &Whole<J>,
@@ -78,15 +81,7 @@ fn closed<A: Allocator + Copy, J: Naming>(
     opening: usize,
     sessions: Vec<Session<A, J>, A>,
     workers: Vec<Worker<A>, A>,
-) -> Result<
-    Book<A>,
-    (
-        CloseFault,
-        Shared<A, J>,
-        Vec<Session<A, J>, A>,
-        Vec<Worker<A>, A>,
-    ),
->
+) -> Result<Book<A>, NotClosed<Shared<A, J>, A, J>>
     requires { opening ≡ J.opening.notes }
     ensures book { IfOk result IsBook }
     ensures all { IfOk result (λ b. AreAll (length sessions.items) (length workers.items) sessions.items workers.items) }
@@ -106,18 +101,8 @@ fn reopened<A: Allocator + Copy, J: Naming>(
     alloc: A,
     opening: usize,
     changed: Condvar,
-    outcome: (
-        CloseFault,
-        Shared<A, J>,
-        Vec<Session<A, J>, A>,
-        Vec<Worker<A>, A>,
-    ),
-) -> (
-    CloseFault,
-    Desk<A, J>,
-    Vec<Session<A, J>, A>,
-    Vec<Worker<A>, A>,
-)
+    outcome: NotClosed<Shared<A, J>, A, J>,
+) -> NotClosed<Desk<A, J>, A, J>
     requires { opening ≡ J.opening.notes }
     ensures fault { result.0 ≡ outcome.0 }
     ensures closed { result.1.closed ≡ Some outcome.1.history }
@@ -147,15 +132,7 @@ pub fn close<A: Allocator + Copy, J: Naming>(
     desk: Desk<A, J>,
     sessions: Vec<Session<A, J>, A>,
     workers: Vec<Worker<A>, A>,
-) -> Result<
-    Book<A>,
-    (
-        CloseFault,
-        Desk<A, J>,
-        Vec<Session<A, J>, A>,
-        Vec<Worker<A>, A>,
-    ),
->
+) -> Result<Book<A>, NotClosed<Desk<A, J>, A, J>>
     ensures book { IfOk result IsBook }
     ensures all { IfOk result (λ b. AreAll (length sessions.items) (length workers.items) sessions.items workers.items) }
     ensures outcome { IfOk result (λ b. IsAnswered sessions.items workers.items (drop desk.opening b.journal)) }

@@ -4,7 +4,6 @@
 
 mod close_fault;
 mod closing;
-mod current;
 mod desk;
 mod gate;
 mod hearing;
@@ -22,8 +21,7 @@ mod worker;
 mod worker_steps;
 
 pub use close_fault::CloseFault;
-pub use closing::close;
-pub use current::Current;
+pub use closing::{NotClosed, close};
 pub use desk::Desk;
 pub use gate::{Gate, NoGate};
 pub use listed_call::ListedCall;

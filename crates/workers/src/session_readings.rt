@@ -1,4 +1,5 @@
-// What a session reads at its desk; none of it is listed.
+// What a session reads at its desk; none of it is listed. Each reading is at a place of the history behind
+// all earlier responses to the session, to which its front then advances.
 ghost use Rattle.std.specs.Prelude.{◌≡◌, IfOk};
 ghost use Rattle.scenarios.specs.ScenarioList.{id_of};
 ghost use Rattle.book_machine.specs.Machine.{version};
@@ -6,7 +7,6 @@ ghost use Rattle.workers.specs.History.{IsCurrentAt, Reads, Settles};
 ghost use Rattle.workers.specs.Readings.{IsCurrentOnce, IsFoundOnce, IsVersionOnce};
 ghost use Rattle.workers.specs.Settling.{IsSettledOnce};
 
-use crate::current::Current;
 use crate::desk::Desk;
 use crate::session::Session;
 use crate::settled::Settled;
@@ -15,81 +15,48 @@ use scenarios::ScenarioId;
 use std::alloc::Allocator;
 use std::sync::Wait;
 use swf_text::Memory;
+use version_book::Reading;
 
 impl<A: Allocator + Copy, J: Naming> Session<A, J> {
-    /// The id of the scenario with this name. It is not listed.
-    pub fn find<R: Wait>(&self, rt: &R, desk: &Desk<A, J>, name: &str) -> Option<ScenarioId>
-        ensures { IsFoundOnce name.now result }
-    {
-        desk.shared.lock(rt).find(name)
-    }
-
-    /// The same, at a place of the history behind all earlier responses to the session, to which its
-    /// front then advances.
-    pub fn find_along<R: Wait>(
-        &mut self,
-        rt: &R,
-        desk: &Desk<A, J>,
-        name: &str,
-    ) -> Option<ScenarioId>
+    /// The id of the scenario with this name, at a place of the history behind all earlier responses to
+    /// the session. It is not listed.
+    pub fn find<R: Wait>(&mut self, rt: &R, desk: &Desk<A, J>, name: &str) -> Option<ScenarioId>
+        ensures found { IsFoundOnce name.now result }
         ensures history { Reads J.opening self.old.front (λ m. result ≡ id_of name.now m.listing) self.new.front }
         ensures same { self.new ≡ record self.old { front = self.new.front } }
     {
-        desk.shared.lock(rt).find_along(name, &mut self.front)
+        desk.shared.lock(rt).find(name, &mut self.front)
     }
 
-    /// The current version. It is not listed.
-    pub fn version<R: Wait>(&self, rt: &R, desk: &Desk<A, J>) -> u64
-        ensures { IsVersionOnce result }
-    {
-        desk.shared.lock(rt).version()
-    }
-
-    /// The same, at a place of the history behind all earlier responses to the session, to which its
-    /// front then advances.
-    pub fn version_along<R: Wait>(&mut self, rt: &R, desk: &Desk<A, J>) -> u64
+    /// The current version, at a place of the history behind all earlier responses to the session. It is
+    /// not listed.
+    pub fn version<R: Wait>(&mut self, rt: &R, desk: &Desk<A, J>) -> u64
+        ensures version { IsVersionOnce result }
         ensures history { Reads J.opening self.old.front (λ m. result ≡ version m) self.new.front }
         ensures same { self.new ≡ record self.old { front = self.new.front } }
     {
-        desk.shared.lock(rt).version_along(&mut self.front)
+        desk.shared.lock(rt).version(&mut self.front)
     }
 
-    /// The current version with its log and the scenarios, all of one moment. It is not listed.
-    /// Memory where a growth is refused.
-    pub fn current<R: Wait>(&self, rt: &R, desk: &Desk<A, J>) -> Result<Current<A>, Memory>
-        ensures { IfOk result IsCurrentOnce }
-    {
-        desk.shared.lock(rt).current()
-    }
-
-    /// The same, at a place of the history behind all earlier responses to the session, to which its
-    /// front then advances.
-    pub fn current_along<R: Wait>(
-        &mut self,
-        rt: &R,
-        desk: &Desk<A, J>,
-    ) -> Result<Current<A>, Memory>
+    /// The current version with its log and the scenarios, all of one moment, at a place of the history
+    /// behind all earlier responses to the session. It is not listed. Memory where a growth is refused.
+    pub fn current<R: Wait>(&mut self, rt: &R, desk: &Desk<A, J>) -> Result<Reading<A>, Memory>
+        ensures current { IfOk result IsCurrentOnce }
         ensures history { Reads J.opening self.old.front (λ m. IfOk result (IsCurrentAt m)) self.new.front }
         ensures same { self.new ≡ record self.old { front = self.new.front } }
     {
-        desk.shared.lock(rt).current_along(&mut self.front)
+        desk.shared.lock(rt).current(&mut self.front)
     }
 
     /// Waits until every scenario shows a version that this session has seen, or a newer one, or is
-    /// given up, or until the desk is stopped, and returns which. It sleeps while it waits.
-    pub fn settle<R: Wait>(&self, rt: &R, desk: &Desk<A, J>) -> Settled
-        ensures { IsSettledOnce self.now.seen result }
-    {
-        desk.when_settled(rt, self.seen).settle(self.seen)
-    }
-
-    /// The same, at a place of the history behind all earlier responses to the session, to which its
-    /// front then advances.
-    pub fn settle_along<R: Wait>(&mut self, rt: &R, desk: &Desk<A, J>) -> Settled
+    /// given up, or until the desk is stopped, and returns which, at a place of the history behind all
+    /// earlier responses to the session. It sleeps while it waits.
+    pub fn settle<R: Wait>(&mut self, rt: &R, desk: &Desk<A, J>) -> Settled
+        ensures settled { IsSettledOnce self.old.seen result }
         ensures history { Settles J.opening self.old.front self.old.seen result self.new.front }
         ensures same { self.new ≡ record self.old { front = self.new.front } }
     {
         desk.when_settled(rt, self.seen)
-            .settle_along(self.seen, &mut self.front)
+            .settle(self.seen, &mut self.front)
     }
 }

@@ -9,11 +9,10 @@ ghost use Rattle.version_book.specs.Book.{machine_of};
 ghost use Rattle.version_book.specs.Sound.{IsBook};
 ghost use Rattle.workers.specs.Callers.{next_caller, opened_after};
 ghost use Rattle.workers.specs.History.{EndsOpened, IsCurrentAt, Reads, Settles};
-ghost use Rattle.workers.specs.Readings.{IsCurrentOf, is_idle};
+ghost use Rattle.workers.specs.Readings.{is_idle};
 ghost use Rattle.workers.specs.Settling.{IsSettledOnce, outcome_settled};
 ghost use Rattle.workers.specs.Tied.{IsTied};
 
-use crate::current::Current;
 use crate::settled::Settled;
 use book_machine::{Caller, SettleState};
 use chronicle::{Front, Naming, Whole};
@@ -21,7 +20,7 @@ use scenarios::ScenarioId;
 use std::alloc::Allocator;
 use std::marker::Model;
 use swf_text::Memory;
-use version_book::Book;
+use version_book::{Book, Reading};
 
 /// The most sessions that a desk opens, and the most workers.
 pub const MAX_CALLERS: u64 = 64;
@@ -151,64 +150,40 @@ impl<A: Allocator + Copy, J: Naming> Shared<A, J> {
         self.whole.is_kept()
     }
 
-    pub(crate) fn version(&self) -> u64
+    pub(crate) fn version(&self, front: &mut Front<J>) -> u64
         ensures version { result ≡ length self.now.book.state.edits }
         ensures book { IsBook self.now.book }
+        ensures history { Reads J.opening front.old (λ m. result ≡ version m) front.new }
     {
+        front.follow(&self.whole);
         self.book.version()
     }
 
-    pub(crate) fn version_along(&self, front: &mut Front<J>) -> u64
-        ensures { Reads J.opening front.old (λ m. result ≡ version m) front.new }
-    {
-        front.follow(&self.whole);
-        self.version()
-    }
-
-    pub(crate) fn find(&self, name: &str) -> Option<ScenarioId>
+    pub(crate) fn find(&self, name: &str, front: &mut Front<J>) -> Option<ScenarioId>
         ensures found { result ≡ id_of name.now self.now.book.state.listing }
         ensures book { IsBook self.now.book }
+        ensures history { Reads J.opening front.old (λ m. result ≡ id_of name.now m.listing) front.new }
     {
+        front.follow(&self.whole);
         let _version = self.book.version();
         self.book.id_of(name)
     }
 
-    pub(crate) fn find_along(&self, name: &str, front: &mut Front<J>) -> Option<ScenarioId>
-        ensures { Reads J.opening front.old (λ m. result ≡ id_of name.now m.listing) front.new }
-    {
-        front.follow(&self.whole);
-        self.find(name)
-    }
-
-    pub(crate) fn current(&self) -> Result<Current<A>, Memory>
-        ensures current { IfOk result (IsCurrentOf self.now.book) }
+    pub(crate) fn current(&self, front: &mut Front<J>) -> Result<Reading<A>, Memory>
+        ensures current { IfOk result (IsCurrentAt (machine_of self.now.book)) }
         ensures book { IsBook self.now.book }
-    {
-        Ok(Current {
-            version: self.book.version(),
-            table: self.book.current().clone()?,
-            scenarios: self.book.scenarios().copy()?,
-        })
-    }
-
-    pub(crate) fn current_along(&self, front: &mut Front<J>) -> Result<Current<A>, Memory>
-        ensures { Reads J.opening front.old (λ m. IfOk result (IsCurrentAt m)) front.new }
+        ensures history { Reads J.opening front.old (λ m. IfOk result (IsCurrentAt m)) front.new }
     {
         front.follow(&self.whole);
-        self.current()
+        let _version = self.book.version();
+        self.book.reading()
     }
 
     // The result for a session that waits no longer.
-    pub(crate) fn settle(&self, seen: u64) -> Settled
+    pub(crate) fn settle(&self, seen: u64, front: &mut Front<J>) -> Settled
         requires { is_none (outcome_settled (settled seen (machine_of self.now.book)) self.now.stopped) ≡ false }
-        ensures { IsSettledOnce seen result }
-    {
-        self.settled_for(seen).unwrap()
-    }
-
-    pub(crate) fn settle_along(&self, seen: u64, front: &mut Front<J>) -> Settled
-        requires { is_none (outcome_settled (settled seen (machine_of self.now.book)) self.now.stopped) ≡ false }
-        ensures { Settles J.opening front.old seen result front.new }
+        ensures settled { IsSettledOnce seen result }
+        ensures history { Settles J.opening front.old seen result front.new }
     {
         front.follow(&self.whole);
         self.settled_for(seen).unwrap()

@@ -1,7 +1,7 @@
 use Rattle.std.proofs.Common.{map, ◌∙◌, ap, inl, inr}
 use Rattle.std.specs.Prelude.{Some}
 use Rattle.report.specs.Side.{side_line, side_text}
-use Rattle.scripts.specs.Rules.{moment_of}
+use Rattle.version_book.specs.Reading.{moment_of}
 use Rattle.scripts.proofs.Sides.{side-text}
 use Rattle.scripts.proofs.side.side.Goals as goal
 

@@ -5,7 +5,7 @@ use std::sync::Arc;
 
 /// The version, the log and the scenarios of a book at one moment.
 #[derive(Drop)]
-pub struct Current<A: Allocator + Copy> {
+pub struct Reading<A: Allocator + Copy> {
     /// The version.
     pub version: u64,
     /// The log of this version.

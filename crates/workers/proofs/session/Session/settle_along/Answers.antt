@@ -1,4 +1,0 @@
-use Rattle.workers.proofs.session.Session.settle_along.Goals as goal
-
-pub returns-clause-history : goal.returns-clause-history
-returns-clause-history g c = rw (← c.self.view_is) c.settle_along.ensures
