@@ -1,7 +1,6 @@
 -- A book after a call: a step more of its history, or as it was.
 use Rattle.std.proofs.Common.{◌≡◌, ℕ, ◌+◌, ◌≤◌, ◌<◌, List, [], ◌∷◌, ◌++◌, length, map, refl, sym, ◌∙◌, ap, ap₂, subst, Bool, true, false, cond, arith}
-use Rattle.std.specs.Prelude.{Option, None, Some, is_some, nat_le}
-use Rattle.std.proofs.lemmas.Bool.{leb-true, leb-false}
+use Rattle.std.specs.Prelude.{Option, None, Some, Err, is_some}
 use Rattle.std.proofs.lemmas.List.{append-nil, length_push, length-map}
 use Rattle.swf_text.specs.Entry.{LogEntry}
 use Rattle.job_table.specs.Edit.{fault_of}
@@ -11,9 +10,13 @@ use Rattle.book_machine.specs.declared.reply.Reply.{Reply}
 use Rattle.book_machine.specs.Call.{BookCall, Edit, AddScenario, DropScenario, Retry, Claim, Finish, GiveUp, View}
 use Rattle.book_machine.specs.Machine.{Machine, Progress, Ticket, version, opened, current, fresh, dropped, due, are_all_out, changed, closed, publish, marked, ticket_of, reply_to, changed_by, after, noted, note_limit}
 use Rattle.book_machine.specs.History.{Noted, IsLegal, after_all}
+use Rattle.version_book.specs.declared.faults.FinishFault.{FinishFault}
+use Rattle.version_book.specs.declared.refusal.Refusal.{Refusal}
+use Rattle.version_book.specs.declared.refusal.Refusal.TheVariants as why
 use Rattle.version_book.specs.Book.{StateView, BookView, machine_at, machine_of}
 use Rattle.version_book.specs.Sound.{IsBook, IsSound}
-use Rattle.version_book.specs.Steps.{Answer, full, memory, outcome, Answers, Does, IsStep, note_of, notes_of, opening_state, reply_in}
+use Rattle.version_book.specs.Answers.{TellsFit, TellsStanding}
+use Rattle.version_book.specs.Steps.{Answer, full, memory, outcome, Answers, Does, IsNoNote, IsStep, note_of, notes_of, opening_state, reply_in}
 
 -- ---- what no call changes
 
@@ -119,16 +122,8 @@ answered {b} {v} new who call a is h capacity does journal = subst (λ (w : Book
 
 -- ---- before it
 
-pub is-full : {b v : BookView} {X : Type 0} (f : X → Noted) (xs : List X) (who : Caller) (call : BookCall) → b ≡ v → IsBook b → b.journal ≡ map f xs → nat_le note_limit (length xs) ≡ true → Answers v v who call full
-is-full {b} {v} f xs who call is h journal test =
-    let le : note_limit ≤ length xs = leb-true note_limit (length xs) test in
-    let count = length-map xs f in
-    let same = ap length journal in
-    subst (λ (w : BookView). Answers w w who call full) is (omega (arith, h.capacity), refl)
-
-pub has-capacity : {X : Type 0} (f : X → Noted) (xs : List X) → nat_le note_limit (length xs) ≡ false → length (map f xs) < note_limit
-has-capacity f xs test =
-    let lt : length xs < note_limit = leb-false note_limit (length xs) test in
+pub has-capacity : {X : Type 0} (f : X → Noted) (xs : List X) → length xs < note_limit → length (map f xs) < note_limit
+has-capacity f xs few =
     let count = length-map xs f in
     omega arith
 
@@ -137,12 +132,35 @@ pub journal-is : {X : Type 0} (f : X → Noted) (xs ys zs : List X) (who : Calle
 journal-is f xs ys zs who c d o p zs_is ys_is c_is o_is = zs_is ∙ (ap (λ ws. map f ws ++ notes_of who c o) ys_is ∙ ap₂ (λ (e : BookCall) (q : Option Reply). map f xs ++ notes_of who e q) c_is o_is)
 
 -- a book that is as it was, but for its capacity
-pub as-it-was : {b v : BookView} {X : Type 0} (f : X → Noted) (xs ys : List X) (who : Caller) (call : BookCall) (a : Answer) → b ≡ v → b.journal ≡ map f xs → ys ≡ xs → nat_le note_limit (length xs) ≡ false → a ≡ memory → Answers v (record { state = b.state; journal = map f ys }) who call a
-as-it-was {b} {v} f xs ys who call a is journal ys_is test a_is =
-    let capacity = has-capacity f xs test in
-    let same : record { state = b.state; journal = map f ys } ≡ b = ap (λ (j : List Noted). let w : BookView = record { state = b.state; journal = j } in w) (ap (map f) ys_is ∙ sym journal) in
+same-book : {b : BookView} {X : Type 0} (f : X → Noted) (xs ys : List X) → b.journal ≡ map f xs → ys ≡ xs → record { state = b.state; journal = map f ys } ≡ b
+same-book {b} f xs ys journal ys_is = ap (λ (j : List Noted). let w : BookView = record { state = b.state; journal = j } in w) (ap (map f) ys_is ∙ sym journal)
+
+pub as-it-was : {b v : BookView} {X : Type 0} (f : X → Noted) (xs ys : List X) (who : Caller) (call : BookCall) (a : Answer) → b ≡ v → b.journal ≡ map f xs → ys ≡ xs → length xs < note_limit → a ≡ memory → Answers v (record { state = b.state; journal = map f ys }) who call a
+as-it-was {b} {v} f xs ys who call a is journal ys_is few a_is =
+    let capacity = has-capacity f xs few in
     let count = ap length journal in
-    subst (λ (q : Answer). Answers v (record { state = b.state; journal = map f ys }) who call q) (sym a_is) (subst (λ (w : BookView). Answers w (record { state = b.state; journal = map f ys }) who call memory) is (omega arith, same))
+    subst (λ (q : Answer). Answers v (record { state = b.state; journal = map f ys }) who call q) (sym a_is) (subst (λ (w : BookView). Answers w (record { state = b.state; journal = map f ys }) who call memory) is (omega arith, same-book f xs ys journal ys_is))
+
+-- a book that takes no note
+pub no-note : {b v : BookView} {X F : Type 0} (f : X → Noted) (xs ys : List X) (who : Caller) (call : BookCall) (a : Answer) (r : Refusal F)
+    → b ≡ v → IsBook b → b.journal ≡ map f xs → ys ≡ xs → IsNoNote (length xs) r → (r ≡ why.JournalFull → a ≡ full) → (r ≡ why.Memory → a ≡ memory)
+    → Answers v (record { state = b.state; journal = map f ys }) who call a
+no-note {b} {v} f xs ys who call a why.JournalFull is h journal ys_is many full_is memory_is =
+    let count = length-map xs f in
+    let same = ap length journal in
+    subst (λ (q : Answer). Answers v (record { state = b.state; journal = map f ys }) who call q) (sym (full_is refl)) (subst (λ (w : BookView). Answers w (record { state = b.state; journal = map f ys }) who call full) is (omega (arith, h.capacity), same-book f xs ys journal ys_is))
+no-note f xs ys who call a (why.Fault fault) is h journal ys_is none full_is memory_is = absurd none
+no-note f xs ys who call a why.Memory is h journal ys_is few full_is memory_is = as-it-was f xs ys who call a is journal ys_is few (memory_is refl)
+
+pub no-note-fits : (fits : Type 0) (notes : ℕ) (r : Refusal FinishFault) → IsNoNote notes r → TellsFit fits (Err r)
+no-note-fits fits notes why.JournalFull is = tt
+no-note-fits fits notes (why.Fault fault) is = absurd is
+no-note-fits fits notes why.Memory is = tt
+
+pub no-note-stands : (stands : Type 0) (notes : ℕ) (r : Refusal FinishFault) → IsNoNote notes r → TellsStanding stands (Some (Err r))
+no-note-stands stands notes why.JournalFull is = tt
+no-note-stands stands notes (why.Fault fault) is = absurd is
+no-note-stands stands notes why.Memory is = tt
 
 -- ---- a log that was just opened
 

@@ -33,7 +33,7 @@ pub record IsTicketOfItsVersion (opening : List LogEntry) (accepted : List LogEd
   pub made : t.version ≤ length accepted
   pub log : t.log ≡ log_at opening accepted t.version
 
--- a ticket under the scenario of its scenario, whose id was given
+-- a ticket whose id was given, under the scenario that has this id
 pub record IsTicketOfItsScenario (shown : List ShownView) (next : ℕ) (t : TicketView) : Type 0 where
   pub scenario : All (λ (x : ShownView). x.id ≡ t.id → x.scenario ≡ t.scenario) shown
   pub given : t.id < next

@@ -1,5 +1,5 @@
 -- What a call does with a book: a step of the machine, or nothing.
-use Rattle.std.specs.Prelude.{◌≡◌, ℕ, ◌<◌, ◌⊎◌, List, [], ◌∷◌, ◌++◌, length, find, Option, None, Some}
+use Rattle.std.specs.Prelude.{◌≡◌, ℕ, ◌<◌, ◌≤◌, ◌⊎◌, List, [], ◌∷◌, ◌++◌, length, find, Option, None, Some}
 use Rattle.swf_text.specs.Entry.{LogEntry}
 use Rattle.scenarios.specs.ScenarioList.{empty}
 use Rattle.book_machine.specs.declared.caller.Caller.{Caller}
@@ -11,6 +11,8 @@ use Rattle.book_machine.specs.History.{Noted}
 use Rattle.checkpoints.specs.RunView.{RunView}
 use Rattle.tasks.specs.Published.{PublishedView}
 use Rattle.tasks.specs.Tickets.{TicketView, has_number}
+use Rattle.version_book.specs.declared.refusal.Refusal.{Refusal}
+use Rattle.version_book.specs.declared.refusal.Refusal.TheVariants as why
 use Rattle.version_book.specs.Book.{StateView, BookView, machine_at, machine_of}
 use Rattle.version_book.specs.Lookups.{published_for, publishing, with_change}
 use Rattle.version_book.specs.Sound.{IsSound}
@@ -20,6 +22,12 @@ pub data Answer : Type 0 where
   full : Answer
   memory : Answer
   outcome : (reply : Reply) → Answer
+
+-- why no note is taken, where there are so many
+abbrev pub IsNoNote : {F : Type 0} → ℕ → Refusal F → Type 0
+IsNoNote notes why.JournalFull = note_limit ≤ notes
+IsNoNote notes (why.Fault fault) = ⊥
+IsNoNote notes why.Memory = notes < note_limit
 
 -- the reply, if the call is noted
 abbrev pub reply_in : Answer → Option Reply

@@ -12,7 +12,8 @@ ghost use Rattle.version_book.specs.Steps.{Answers, Publishes};
 ghost use Rattle.version_book.specs.Tasks.{Fits, IsOut, IsShownFor, PublishesFitting, Stands, due_shown, task_for};
 
 use crate::book::Book;
-use crate::journal::{is_full, note, reserve_note};
+use crate::faults::{FinishFault, TooManyTickets, UnknownTicket, ViewFault};
+use crate::journal::{note, reserve_note};
 use crate::refusal::{
     AddRefusal, ClaimRefusal, DropRefusal, EditRefusal, FinishRefusal, GiveUpRefusal, RetryRefusal,
     ViewRefusal,
@@ -20,8 +21,8 @@ use crate::refusal::{
 use crate::replies;
 use book_machine::{Call, Caller, NotedEdit, NotedName};
 use checkpoints::Run;
-use job_table::Edit;
-use scenarios::{Scenario, ScenarioId};
+use job_table::{Edit, EditFault};
+use scenarios::{AddFault, NoSuchScenario, Scenario, ScenarioId};
 use std::alloc::Allocator;
 use std::sync::Arc;
 use tasks::{Published, Task};
@@ -44,10 +45,7 @@ impl<A: Allocator + Copy> Book<A> {
     pub fn edit(&mut self, session: u64, edit: &Edit<A>) -> Result<u64, EditRefusal>
         ensures { Answers self.old self.new (caller.Session session) (Edits (edit_of edit.now)) (edit_answer result) }
     {
-        if is_full(&self.journal) {
-            return Err(EditRefusal::JournalFull);
-        }
-        reserve_note(&mut self.journal)?;
+        reserve_note::<EditFault, A>(&mut self.journal)?;
         let call = Call::Edit(NotedEdit::new(self.alloc, edit)?);
         let outcome = self.state.edit(edit);
         let reply = replies::edit_reply(&outcome);
@@ -67,10 +65,7 @@ impl<A: Allocator + Copy> Book<A> {
     ) -> Result<ScenarioId, AddRefusal>
         ensures { Answers self.old self.new (caller.Session session) (AddScenario name.now scenario) (add_answer result) }
     {
-        if is_full(&self.journal) {
-            return Err(AddRefusal::JournalFull);
-        }
-        reserve_note(&mut self.journal)?;
+        reserve_note::<AddFault, A>(&mut self.journal)?;
         let call = Call::AddScenario {
             name: NotedName::new(self.alloc, name)?,
             scenario,
@@ -89,10 +84,7 @@ impl<A: Allocator + Copy> Book<A> {
     pub fn drop_scenario(&mut self, session: u64, name: &str) -> Result<ScenarioId, DropRefusal>
         ensures { Answers self.old self.new (caller.Session session) (DropScenario name.now) (drop_answer result) }
     {
-        if is_full(&self.journal) {
-            return Err(DropRefusal::JournalFull);
-        }
-        reserve_note(&mut self.journal)?;
+        reserve_note::<NoSuchScenario, A>(&mut self.journal)?;
         let call = Call::DropScenario {
             name: NotedName::new(self.alloc, name)?,
         };
@@ -109,10 +101,7 @@ impl<A: Allocator + Copy> Book<A> {
     pub fn retry(&mut self, session: u64, id: ScenarioId) -> Result<(), RetryRefusal>
         ensures { Answers self.old self.new (caller.Session session) (Retry id) (retry_answer result) }
     {
-        if is_full(&self.journal) {
-            return Err(RetryRefusal::JournalFull);
-        }
-        reserve_note(&mut self.journal)?;
+        reserve_note::<NoSuchScenario, A>(&mut self.journal)?;
         let outcome = self.state.retry(id);
         let reply = replies::retry_reply(&outcome);
         note(
@@ -140,10 +129,7 @@ impl<A: Allocator + Copy> Book<A> {
         ensures shown { IfOk result (IsShownFor self.old.state id seen) }
         ensures book { IsBook self.old }
     {
-        if is_full(&self.journal) {
-            return Err(ViewRefusal::JournalFull);
-        }
-        reserve_note(&mut self.journal)?;
+        reserve_note::<ViewFault, A>(&mut self.journal)?;
         let outcome = self.state.view(id, seen);
         let reply = replies::view_reply(&outcome);
         note(
@@ -165,10 +151,7 @@ impl<A: Allocator + Copy> Book<A> {
         ensures task { IfOk result (λ task. task ≡ option_map (task_for self.old.state) (due_shown self.old.state)) }
         ensures out { IfOk result (λ task. IfSome task (IsOut self.new.state)) }
     {
-        if is_full(&self.journal) {
-            return Err(ClaimRefusal::JournalFull);
-        }
-        reserve_note(&mut self.journal)?;
+        reserve_note::<TooManyTickets, A>(&mut self.journal)?;
         let outcome = self.state.claim();
         let reply = replies::claim_reply(&outcome);
         note(
@@ -197,10 +180,7 @@ impl<A: Allocator + Copy> Book<A> {
         ensures fits { TellsFit (Fits self.old.state ticket (arc_value run)) result }
         ensures published { IfOk result (λ version. Publishes self.old.state self.new.state ticket version (arc_value run)) }
     {
-        if is_full(&self.journal) {
-            return Err(FinishRefusal::JournalFull);
-        }
-        reserve_note(&mut self.journal)?;
+        reserve_note::<FinishFault, A>(&mut self.journal)?;
         let outcome = self.state.finish(ticket, run);
         let reply = replies::finish_reply(&outcome);
         let fits = replies::fitted(&outcome);
@@ -229,10 +209,7 @@ impl<A: Allocator + Copy> Book<A> {
         ensures stands { TellsStanding (Stands self.old.state ticket) (outcome_of_run result) }
         ensures published { IfOk result (λ version. IfSome version (PublishesFitting self.old.state self.new.state ticket)) }
     {
-        if is_full(&self.journal) {
-            return Err(FinishRefusal::JournalFull);
-        }
-        reserve_note(&mut self.journal)?;
+        reserve_note::<FinishFault, A>(&mut self.journal)?;
         let Some(outcome) = self.state.finish_delivered(ticket) else {
             return Ok(None);
         };
@@ -276,10 +253,7 @@ impl<A: Allocator + Copy> Book<A> {
     pub fn give_up(&mut self, worker: u64, ticket: u64) -> Result<(), GiveUpRefusal>
         ensures { Answers self.old self.new (caller.Worker worker) (GiveUp ticket) (give_up_answer result) }
     {
-        if is_full(&self.journal) {
-            return Err(GiveUpRefusal::JournalFull);
-        }
-        reserve_note(&mut self.journal)?;
+        reserve_note::<UnknownTicket, A>(&mut self.journal)?;
         let outcome = self.state.give_up(ticket);
         let reply = replies::give_up_reply(&outcome);
         note(

@@ -1,27 +1,39 @@
-ghost use Rattle.std.specs.Prelude.{◌≡◌, ◌<◌, ◌++◌, map, length, nat_le, OnOk, vec_len, vec_capacity};
+ghost use Rattle.std.specs.Prelude.{◌≡◌, ◌<◌, ◌++◌, map, length, nat_le, IfErr, OnOk, vec_len, vec_capacity};
 ghost use Rattle.book_machine.specs.Machine.{note_limit};
 ghost use Rattle.book_machine.specs.Noted.{call_of, noted_of};
-ghost use Rattle.version_book.specs.Steps.{notes_of};
+ghost use Rattle.version_book.specs.Steps.{IsNoNote, notes_of};
 
+use crate::refusal::Refusal;
 use book_machine::{Call, Caller, Note, Reply};
 use std::alloc::Allocator;
-use swf_text::Memory;
 
 // The most notes of a journal.
 const NOTE_LIMIT: usize = 1_000_000;
 
 // Whether no further note is allowed.
-pub(crate) fn is_full<A: Allocator + Copy>(journal: &Vec<Note<A>, A>) -> bool
+fn is_full<A: Allocator + Copy>(journal: &Vec<Note<A>, A>) -> bool
     ensures { result ≡ nat_le note_limit (length journal.now.items) }
 {
     journal.len() >= NOTE_LIMIT
 }
 
-pub(crate) fn reserve_note<A: Allocator + Copy>(journal: &mut Vec<Note<A>, A>) -> Result<(), Memory>
+// Reserves capacity for the note of a call that may have faults of this type. JournalFull where no further
+// note is allowed.
+pub(crate) fn reserve_note<F, A: Allocator + Copy>(
+    journal: &mut Vec<Note<A>, A>,
+) -> Result<(), Refusal<F>>
     ensures items { journal.new.items ≡ journal.old.items }
     ensures capacity { OnOk result (vec_len journal.new < vec_capacity journal.new) }
+    ensures few { OnOk result (length journal.old.items < note_limit) }
+    ensures refused { IfErr result (IsNoNote (length journal.old.items)) }
 {
-    Ok(journal.reserve(1)?)
+    if is_full(journal) {
+        return Err(Refusal::JournalFull);
+    }
+    match journal.reserve(1) {
+        Ok(()) => Ok(()),
+        Err(_) => Err(Refusal::Memory),
+    }
 }
 
 pub(crate) fn note<A: Allocator + Copy>(
