@@ -75,7 +75,8 @@ fn base_on<A: Allocator + Copy>(
     let mut list = ScenarioList::new(alloc);
     match list.add("base", base) {
         Ok(_) => Ok(list),
-        Err(_) => Err(OpenTextFault::Memory),
+        Err(AddFault::Memory) => Err(OpenTextFault::Memory),
+        Err(AddFault::BadName | AddFault::NameTaken | AddFault::TooMany) => unreachable!(),
     }
 }
 
