@@ -20,4 +20,4 @@ mod users;
 pub use entries::log_text;
 pub use printing::ScheduleReport;
 pub use side::{SideLine, side_text};
-pub use texts::{days_text, plan_report, schedule_report, schedule_text, table_text, users_text};
+pub use texts::{days_text, plan_report, schedule_text, table_text, users_text};

@@ -34,23 +34,9 @@ pub fn schedule_text<A: Allocator + Copy>(
     Ok(rows_report(alloc, name, version, rows)?)
 }
 
-/// The report on a run's schedule, which is written piece by piece: its text is that of
-/// `schedule_text`, and nothing holds all of it at once. Memory where a growth is refused.
-pub fn schedule_report<'a, A: Allocator + Copy>(
-    alloc: A,
-    name: &str,
-    version: u64,
-    run: &'a Run<A>,
-) -> Result<ScheduleReport<'a, A>, Memory>
-    ensures text { IfOk result (λ text. text ≡ schedule_text name.now version (plan_of run.now.log run.now.scenario)) }
-    ensures lines { IfOk result (λ text. HasALineForEachJob name.now version (plan_of run.now.log run.now.scenario) text) }
-{
-    let rows = run.rows()?;
-    Ok(ScheduleReport::new(alloc, name, version, rows)?)
-}
-
-/// The report on the schedule of a plan, simulated for it alone (`checkpoints::plan_rows`): its text is
-/// that of `schedule_text` for a run of the same table and scenario. Memory where a growth is refused.
+/// The report on the schedule of a plan, simulated for it alone (`checkpoints::plan_rows`), which is
+/// written piece by piece, so that nothing holds all of it at once: its text is that of `schedule_text`
+/// for a run of the same table and scenario. Memory where a growth is refused.
 pub fn plan_report<'a, A: Allocator + Copy>(
     alloc: A,
     name: &str,
