@@ -105,9 +105,9 @@ fn notes_are_judged(rt: HostRuntime) {
 }
 
 /// The capacity of a journal of a million notes, which doubles as it grows, in notes.
-const ROOM: usize = 1_048_576;
+const CAPACITY: usize = 1_048_576;
 
 #[test]
 fn a_full_journal_and_the_half_it_grew_from_are_below_250_megabytes(rt: HostRuntime) {
-    assert!(rt; size_of::<Note<Global>>() * (ROOM + ROOM / 2) <= 250_000_000);
+    assert!(rt; size_of::<Note<Global>>() * (CAPACITY + CAPACITY / 2) <= 250_000_000);
 }

@@ -28,7 +28,7 @@ fn begins_alone<A: Allocator + Copy>(
 }
 
 // Decides second 1, at which the second job comes, and second 2, at which the two last come, behind
-// those that are known to wait; answers what the second job leaves then. The jobs that start in the
+// those that are known to wait; returns what the second job leaves then. The jobs that start in the
 // last of these seconds are left in the list.
 fn decide_two_seconds<A: Allocator + Copy>(
     cluster: &mut Cluster<A>,

@@ -8,12 +8,12 @@ use std::marker::Model;
 use std::str;
 
 /// The most bytes of a name.
-const NAME_ROOM: usize = 16;
+const NAME_CAPACITY: usize = 16;
 
 /// A scenario's name: 1 to 16 bytes of `a` to `z`, `0` to `9`, `-` and `_`.
 #[derive(Drop)]
 pub struct ScenarioName {
-    text: ArrayString<NAME_ROOM>,
+    text: ArrayString<NAME_CAPACITY>,
 }
 
 impl Model for ScenarioName {

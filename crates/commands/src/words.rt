@@ -5,10 +5,10 @@ use arrayvec::ArrayVec;
 use swf_text::next_word;
 
 /// Capacity for a command, the eighteen words of an `insert`, and one word too many.
-const WORD_ROOM: usize = 20;
+const WORD_CAPACITY: usize = 20;
 
 /// The first words of a line.
-pub(crate) type Words<'a> = ArrayVec<&'a [u8], WORD_ROOM>;
+pub(crate) type Words<'a> = ArrayVec<&'a [u8], WORD_CAPACITY>;
 
 pub(crate) fn words_of(bytes: &[u8]) -> Words<'_>
     ensures { map (λ w. w.now) result.items ≡ take 20 (fields bytes.now) }

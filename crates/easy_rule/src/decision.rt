@@ -12,7 +12,7 @@ use scenarios::Job;
 use std::alloc::Allocator;
 use swf_text::Memory;
 
-/// Starts the jobs that start at second `now`, and answers these starts in order.
+/// Starts the jobs that start at second `now`, and returns these starts in order.
 ///
 /// The first waiting job starts while it fits. Otherwise the first later one that fits starts, in
 /// the order of the cluster, if it is expected to end by the shadow time or takes no more than the
@@ -51,7 +51,7 @@ pub fn decide<A: Allocator + Copy>(
 }
 
 /// As `decide`, and leaves the jobs that start, in order, in a lent list; what was in it before is
-/// forgotten. Answers the shadow of the state that it leaves, where it came to know it. It does where
+/// forgotten. Returns the shadow of the state that it leaves, where it came to know it. It does where
 /// there is one and a processor is free.
 ///
 /// It takes memory only where the list or the cluster has no capacity for as many starts as there can be

@@ -46,7 +46,7 @@ pub(crate) fn first_start<A: Allocator + Copy>(cluster: &mut Cluster<A>, now: u6
 }
 
 // Chooses and starts the jobs that start at second `now`, of which this is the first; nobody was
-// chosen before. Answers the shadow of the state that it leaves, where it came to know it.
+// chosen before. Returns the shadow of the state that it leaves, where it came to know it.
 pub(crate) fn start_from<A: Allocator + Copy>(
     cluster: &mut Cluster<A>,
     chosen: &mut Vec<Job, A>,
@@ -71,7 +71,7 @@ pub(crate) fn start_from<A: Allocator + Copy>(
 }
 
 // Chooses and starts later jobs, where the first waiting job does not fit. Whatever decision those chosen
-// before began is complete then. Answers the shadow of the state that it leaves, where it came to know
+// before began is complete then. Returns the shadow of the state that it leaves, where it came to know
 // it.
 fn start_later<A: Allocator + Copy>(
     cluster: &mut Cluster<A>,

@@ -70,7 +70,7 @@ pub(crate) fn start_heads<A: Allocator + Copy>(
     }
 }
 
-// Chooses and starts later jobs in one pass over the candidates from a place on, and answers what the
+// Chooses and starts later jobs in one pass over the candidates from a place on, and returns what the
 // head leaves then. Whatever decision those chosen before began is complete then.
 pub(crate) fn pass_on<A: Allocator + Copy>(
     cluster: &mut Cluster<A>,

@@ -32,7 +32,7 @@ fn may_end(len: usize, last: u64, next: u64) -> bool
 }
 
 // Fills a row with the next jobs, from a second on: those of whole seconds, until there are enough of
-// them. Answers the submit second of the first job behind them.
+// them. Returns the submit second of the first job behind them.
 pub(crate) fn fill<A: Allocator + Copy>(
     row: &mut VecDeque<Job, A>,
     plan: &PlanRef<'_, A>,

@@ -27,7 +27,7 @@ pub(crate) fn standing_at<A: Allocator + Copy>(
 }
 
 // Starts the jobs that start at second `now`, and leaves them, in order, in a lent list; what was in it
-// before is forgotten. Answers the shadow of the state that it leaves, where it came to know it.
+// before is forgotten. Returns the shadow of the state that it leaves, where it came to know it.
 //
 // Where the shadow of the state is known, nobody of the first `settled` waiting jobs may start, and
 // only those behind them are looked at.

@@ -40,7 +40,7 @@ impl<A: Allocator + Copy> Engine<A> {
         Ok(Some(Stepped::new(second, starts)))
     }
 
-    /// Works the next event second, where there is one, as `step` does, and answers it. The jobs that
+    /// Works the next event second, where there is one, as `step` does, and returns it. The jobs that
     /// start at it are left, in order, in a lent list; what was in it before is forgotten, and it is
     /// empty where no second was worked.
     ///
@@ -66,7 +66,7 @@ impl<A: Allocator + Copy> Engine<A> {
         Ok(Some(second))
     }
 
-    /// Works each event second before `second`, and answers the starts in order.
+    /// Works each event second before `second`, and returns the starts in order.
     ///
     /// Failed in an engine that has failed. Memory where a growth was refused; the engine has failed
     /// then, one past the last event second that it worked whole, and never past `second`. A second
@@ -84,7 +84,7 @@ impl<A: Allocator + Copy> Engine<A> {
         Ok(starts)
     }
 
-    /// Works all event seconds that are left, and answers the starts in order.
+    /// Works all event seconds that are left, and returns the starts in order.
     ///
     /// Failed in an engine that has failed. Memory where a growth was refused; the engine has failed
     /// then, as in `advance_to` one past the last event second that it worked whole.

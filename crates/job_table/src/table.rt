@@ -227,7 +227,7 @@ impl<A: Allocator + Copy> JobTable<A> {
         Ok(count)
     }
 
-    // A field of the entry with this number, which there is, gets another value. Answers the count
+    // A field of the entry with this number, which there is, gets another value. Returns the count
     // of `apply_counted`.
     fn change(&mut self, number: u64, field: u8, value: Value) -> Result<u32, Memory>
         requires there { IsTrue (holds number self.old) }
@@ -266,7 +266,7 @@ impl<A: Allocator + Copy> JobTable<A> {
         Ok(())
     }
 
-    /// As `apply`, and answers how many entries and pairs of the index it copies or moves to another
+    /// As `apply`, and returns how many entries and pairs of the index it copies or moves to another
     /// chunk: those of each chunk that it makes anew, and the entry that is new or changed. What is
     /// exchanged in its place is not counted. An edit counts from `fewest` to `most`, which is at
     /// most 898.

@@ -99,7 +99,7 @@ fn next<A: Allocator + Copy>(state: &PlainState<A>, now: u64) -> Option<PlainJob
     }
 }
 
-// Starts the jobs that start at second `now`, and answers these starts in order. After each start
+// Starts the jobs that start at second `now`, and returns these starts in order. After each start
 // the search begins again.
 pub(crate) fn decide<A: Allocator + Copy>(
     alloc: A,

@@ -7,10 +7,10 @@ ghost use Rattle.report.specs.Pieces.{right, cell};
 use itoa::write_digits;
 
 /// Capacity for five numbers, each of up to 20 digits and behind a blank.
-pub(crate) const ROOM: usize = 105;
+pub(crate) const CAPACITY: usize = 105;
 
-// Puts a number, at least so wide, so that it ends here. Answers where it begins.
-pub(crate) fn put_right(line: &mut [u8; ROOM], end: usize, number: u64, width: usize) -> usize
+// Puts a number, at least so wide, so that it ends here. Returns where it begins.
+pub(crate) fn put_right(line: &mut [u8; CAPACITY], end: usize, number: u64, width: usize) -> usize
     requires capacity { 20 ≤ end }
     requires within { end ≤ 105 }
     requires narrow { width ≤ 16 }
@@ -24,8 +24,8 @@ pub(crate) fn put_right(line: &mut [u8; ROOM], end: usize, number: u64, width: u
     start.min(end - width)
 }
 
-// Puts a blank, and a number at least so wide, so that it ends here. Answers where the blank is.
-pub(crate) fn put_cell(line: &mut [u8; ROOM], end: usize, number: u64, width: usize) -> usize
+// Puts a blank, and a number at least so wide, so that it ends here. Returns where the blank is.
+pub(crate) fn put_cell(line: &mut [u8; CAPACITY], end: usize, number: u64, width: usize) -> usize
     requires capacity { 21 ≤ end }
     requires within { end ≤ 105 }
     requires narrow { width ≤ 16 }

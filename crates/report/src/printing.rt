@@ -102,7 +102,7 @@ impl<'a, A: Allocator + Copy> ScheduleReport<'a, A> {
     }
 
     /// Writes the report's text, by several writes one after another; on one processor no thread is
-    /// started. Device where the writer answers an error, or takes no byte; what was written then is a
+    /// started. Device where the writer returns an error, or takes no byte; what was written then is a
     /// beginning of the text.
     pub fn write<R: Threads + Sync, W: Write>(
         self,

@@ -4,7 +4,7 @@ ghost use Rattle.std.specs.Prelude.{◌≡◌, ◌≤◌, ◌++◌, OnOk, IfOk, 
 ghost use Rattle.report.specs.Schedule.{row_numbers, row_line, rows_text};
 
 use crate::heading::push_heading;
-use crate::line::{ROOM, put_cell, put_right};
+use crate::line::{CAPACITY, put_cell, put_right};
 use crate::pieces::verdict;
 use checkpoints::{Row, Rows};
 use std::alloc::{AllocError, Allocator};
@@ -15,7 +15,7 @@ const LINE: usize = 56;
 /// The numbers of a job's line, and where among its blanks they begin.
 #[derive(Drop)]
 pub(crate) struct Numbers {
-    pub(crate) line: [u8; ROOM],
+    pub(crate) line: [u8; CAPACITY],
     pub(crate) begin: usize,
 }
 
@@ -24,8 +24,8 @@ pub(crate) fn row_numbers(row: &Row) -> Numbers
     ensures long { length result.line ≡ 105 }
     ensures numbers { drop result.begin result.line ≡ row_numbers row.now }
 {
-    let mut line = [b' '; ROOM];
-    let size = put_cell(&mut line, ROOM, row.size, 8);
+    let mut line = [b' '; CAPACITY];
+    let size = put_cell(&mut line, CAPACITY, row.size, 8);
     let end = put_cell(&mut line, size, row.end, 10);
     let start = put_cell(&mut line, end, row.start, 10);
     let submit = put_cell(&mut line, start, row.submit, 10);

@@ -114,7 +114,7 @@ impl<A: Allocator + Copy> ScenarioList<A> {
         Ok(id)
     }
 
-    /// Adds a scenario behind the others, and answers its id. A refusal leaves the list as it was,
+    /// Adds a scenario behind the others, and returns its id. A refusal leaves the list as it was,
     /// and is refused with the first of these: BadName for what `is_name` doesn't take, NameTaken for
     /// the name of a scenario that stands, TooMany where 64 stand or the last id is used, Memory.
     pub fn add(&mut self, name: &str, scenario: Scenario) -> Result<ScenarioId, AddFault>
@@ -129,7 +129,7 @@ impl<A: Allocator + Copy> ScenarioList<A> {
         Ok(self.put(name, scenario)?)
     }
 
-    /// Takes the scenario with this name out of the list, and answers its id; the later ones move
+    /// Takes the scenario with this name out of the list, and returns its id; the later ones move
     /// up. Where there is none, the list stays as it was. Takes no memory.
     pub fn drop_named(&mut self, name: &str) -> Result<ScenarioId, NoSuchScenario>
         ensures answer { result ≡ ok_or (id_of name.now self.old) (record {}) }

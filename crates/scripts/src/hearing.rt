@@ -1,4 +1,5 @@
 ghost use Rattle.std.specs.Prelude.{◌≡◌, ◌+◌, ◌≤◌, ◌++◌, [], IfOk, length, vec_capacity, vec_len};
+ghost use Rattle.swf_text.specs.Limits.{line_limit};
 ghost use Rattle.scripts.specs.Hearing.{GrowsBy, Hears, IsFront, Passes};
 ghost use Rattle.scripts.specs.declared.hearing.LineEnd.TheVariants.{Open};
 
@@ -31,8 +32,8 @@ pub(crate) enum LineEnd {
 #[derive(Drop)]
 pub(crate) struct Line<A: Allocator> {
     bytes: Vec<u8, A>,
-    ghost within: { vec_len bytes ≤ 65537 },
-    ghost roomy: { 65537 ≤ vec_capacity bytes },
+    ghost within: { vec_len bytes ≤ line_limit + 1 },
+    ghost capacity: { line_limit + 1 ≤ vec_capacity bytes },
 }
 
 impl<A: Allocator> Line<A> {
@@ -55,13 +56,13 @@ impl<A: Allocator> Line<A> {
     }
 
     fn spare(&self) -> usize
-        ensures { result + length self.now.bytes.items ≡ 65537 }
+        ensures { result + length self.now.bytes.items ≡ line_limit + 1 }
     {
         CAPACITY - self.bytes.len()
     }
 
     fn add(&mut self, part: &[u8])
-        requires { length self.old.bytes.items + length part.now ≤ 65537 }
+        requires { length self.old.bytes.items + length part.now ≤ line_limit + 1 }
         ensures { self.new.bytes.items ≡ self.old.bytes.items ++ part.now }
     {
         match self.bytes.extend_from_slice(part) {
