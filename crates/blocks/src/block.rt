@@ -64,7 +64,6 @@ fn last_of<T: Ranked>(items: &[T]) -> u128
     }
 }
 
-// The first place from one on whose item weighs at most so much.
 fn light_of<T: Ranked>(items: &[T], from: usize, limit: u64) -> Option<usize>
     ensures { IsFirstLight T.weight limit items.now from (length items.now) result }
 {
@@ -103,14 +102,12 @@ impl<T: Ranked, A: Allocator + Copy> Block<T, A> {
         self.weight
     }
 
-    // What none of the items weighs less than, as far as it is known.
     pub(crate) fn least(&self) -> u64
         ensures { All (λ x. result ≤ T.weight x) self.now }
     {
         self.least
     }
 
-    // Whether the last item stands before one with these two numbers.
     #[inline]
     pub(crate) fn ends_before(&self, major: u128, minor: u64) -> bool
         ensures { result ≡ ends_by (stands T.major T.minor major minor) self.now }
@@ -146,7 +143,6 @@ impl<T: Ranked, A: Allocator + Copy> Block<T, A> {
         item
     }
 
-    // Moves the items from the 65th on to an empty block.
     pub(crate) fn cut(&mut self, high: &mut Block<T, A>)
         requires long { 64 ≤ length self.old }
         requires none { high.old ≡ [] }

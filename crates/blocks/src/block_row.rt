@@ -41,7 +41,6 @@ impl<T: Ranked, A: Allocator + Copy> Model for BlockRow<T, A> {
 }
 
 impl<T: Ranked, A: Allocator + Copy> BlockRow<T, A> {
-    // No items, and no empty blocks.
     pub(crate) fn new(alloc: A) -> BlockRow<T, A>
         ensures { result.blocks ≡ [] }
     {
@@ -100,7 +99,6 @@ impl<T: Ranked, A: Allocator + Copy> BlockRow<T, A> {
         Ok(())
     }
 
-    // The wanted place; None where there is none. It groups the blocks that are in no group yet.
     fn look(&mut self, wanted: Wanted) -> Option<usize>
         ensures place { IsFirstLight T.weight wanted.limit (flat self.old.blocks) wanted.from wanted.end result }
         ensures same { self.new ≡ self.old }

@@ -22,7 +22,6 @@ pub(crate) struct Group {
     pub(crate) least: u64,
 }
 
-// What is known of the 64 blocks from one on.
 fn group_from<T: Ranked, A: Allocator + Copy>(blocks: &[Block<T, A>], first: usize) -> Group
     requires there { first + 64 ≤ length blocks.now }
     requires few { length (flat blocks.now) < 2 ^ 64 }

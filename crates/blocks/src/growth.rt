@@ -13,7 +13,6 @@ const BLOCKS_LIMIT: usize = 1 << 40;
 /// By how many items a full block is over.
 pub(crate) const FULL_OVER: usize = BLOCK_LIMIT - BLOCK_HALF - 1;
 
-// By how many items a block of so many is over.
 pub(crate) fn over_of(len: usize) -> usize
     ensures { result ≡ len - 65 }
 {

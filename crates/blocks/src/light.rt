@@ -8,7 +8,6 @@ use crate::groups::{GROUP, Group};
 use crate::ranked::Ranked;
 use std::alloc::Allocator;
 
-// What none of the items of the blocks from one to another weighs less than, as far as the blocks know.
 pub(crate) fn least_of<T: Ranked, A: Allocator + Copy>(
     blocks: &[Block<T, A>],
     first: usize,
@@ -35,7 +34,6 @@ fn least_of_groups(groups: &[Group]) -> u64
     least
 }
 
-// What none of the items of all these blocks weighs less than, as far as groups and blocks know.
 pub(crate) fn least_of_all<T: Ranked, A: Allocator + Copy>(
     blocks: &[Block<T, A>],
     groups: &[Group],
@@ -48,7 +46,6 @@ pub(crate) fn least_of_all<T: Ranked, A: Allocator + Copy>(
     least_of_groups(groups).min(rest)
 }
 
-// A place, where it is before the end.
 fn within(place: usize, end: usize) -> Option<usize>
     ensures { result ≡ if nat_lt place end then Some place else None }
 {

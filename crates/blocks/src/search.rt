@@ -11,7 +11,6 @@ use crate::ranked::Ranked;
 use crate::walk::start_of;
 use std::alloc::Allocator;
 
-// Whether an item stands before one with these two numbers.
 #[inline]
 fn is_before<T: Ranked>(item: &T, major: u128, minor: u64) -> bool
     ensures { result ≡ stands T.major T.minor major minor item.now }
@@ -20,7 +19,6 @@ fn is_before<T: Ranked>(item: &T, major: u128, minor: u64) -> bool
     own < major || (own == major && item.minor() < minor)
 }
 
-// How many blocks end before an item with these two numbers.
 fn block_before<T: Ranked, A: Allocator + Copy>(
     blocks: &[Block<T, A>],
     major: u128,
@@ -44,7 +42,6 @@ fn block_before<T: Ranked, A: Allocator + Copy>(
     low
 }
 
-// How many of these items stand before one with these two numbers.
 fn before<T: Ranked>(items: &[T], major: u128, minor: u64) -> usize
     requires { IsPartitionedBy (stands T.major T.minor major minor) items.now }
     ensures within { result ≤ length items.now }
@@ -82,7 +79,6 @@ pub(crate) fn place_of<T: Ranked, A: Allocator + Copy>(
     Place { block, at }
 }
 
-// How many items stand before one with these two numbers.
 pub(crate) fn count_before<T: Ranked, A: Allocator + Copy>(
     blocks: &[Block<T, A>],
     groups: &[Group],

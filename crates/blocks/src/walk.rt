@@ -36,7 +36,6 @@ fn items_of_groups(groups: &[Group], count: usize) -> usize
     items
 }
 
-// How many items the blocks before one have.
 pub(crate) fn start_of<T: Ranked, A: Allocator + Copy>(
     blocks: &[Block<T, A>],
     groups: &[Group],
@@ -51,7 +50,6 @@ pub(crate) fn start_of<T: Ranked, A: Allocator + Copy>(
     items_of_groups(groups, whole) + items_in(blocks, GROUP * whole, block)
 }
 
-// How many groups end before a place.
 fn groups_before(groups: &[Group], place: usize) -> (usize, usize)
     ensures within { result.0 ≤ length groups.now }
     ensures place { sum_by (λ g. g.items) (take result.0 groups.now) + result.1 ≡ place }

@@ -57,7 +57,6 @@ impl<T: Drop, A: Allocator + Copy> Chunk<T, A> {
         &self.list.as_slice()[self.from..][..self.len]
     }
 
-    // Puts another element at a place, where no other chunk holds the list; otherwise hands it back.
     pub(crate) fn put(&mut self, at: usize, item: T) -> Result<(), T>
         requires { at < length self.old }
         ensures put { OnOk result (self.new ≡ slice_set self.old at item) }

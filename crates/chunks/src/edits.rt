@@ -59,7 +59,6 @@ pub(crate) fn inserted<T: Copied, A: Allocator + Copy>(
     Ok(with_elements(alloc, groups, place, items, count)?)
 }
 
-// The groups without the element at a place of a chunk.
 pub(crate) fn removed<T: Copied, A: Allocator + Copy>(
     alloc: A,
     groups: &[Group<T, A>],

@@ -28,7 +28,6 @@ impl<'a, T: Drop, A: Allocator + Copy> Model for Rest<'a, T, A> {
     ghost invariant = { λ r. AreSized r.later × IsFront r.items.now r.later };
 }
 
-// The elements of the next chunk; none where no chunk is to come.
 fn next_elements<'a, T: Drop, A: Allocator + Copy>(
     later: &mut RowRest<'a, Chunk<T, A>, A>,
 ) -> &'a [T]

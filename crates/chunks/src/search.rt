@@ -10,7 +10,6 @@ use crate::groups::{Group, Place};
 use crate::row::elements;
 use std::alloc::Allocator;
 
-// Whether an element stands before one with these two numbers.
 fn is_before<T: Keyed>(item: &T, major: u64, minor: u64) -> bool
     ensures { result ≡ stands T.major T.minor major minor item.now }
 {
@@ -18,7 +17,6 @@ fn is_before<T: Keyed>(item: &T, major: u64, minor: u64) -> bool
     own < major || (own == major && item.minor() < minor)
 }
 
-// Whether a chunk's last element stands before one with these two numbers.
 fn ends_before<T: Keyed>(items: &[T], major: u64, minor: u64) -> bool
     ensures { result ≡ ends_by (stands T.major T.minor major minor) items.now }
 {
@@ -28,7 +26,6 @@ fn ends_before<T: Keyed>(items: &[T], major: u64, minor: u64) -> bool
     }
 }
 
-// Whether the last element of the last of these chunks stands before one with these two numbers.
 fn last_ends_before<T: Keyed, A: Allocator + Copy>(
     chunks: &[Chunk<T, A>],
     major: u64,
@@ -42,7 +39,6 @@ fn last_ends_before<T: Keyed, A: Allocator + Copy>(
     }
 }
 
-// How many chunks end before an element with these two numbers.
 fn chunk_before<T: Keyed, A: Allocator + Copy>(row: &[Chunk<T, A>], major: u64, minor: u64) -> usize
     requires sized { AreSized row.now }
     requires parted { IsPartitionedBy (stands T.major T.minor major minor) (flat row.now) }
@@ -56,7 +52,6 @@ fn chunk_before<T: Keyed, A: Allocator + Copy>(row: &[Chunk<T, A>], major: u64, 
     )
 }
 
-// How many groups end before an element with these two numbers.
 fn group_before<T: Keyed, A: Allocator + Copy>(
     groups: &[Group<T, A>],
     major: u64,
@@ -74,7 +69,6 @@ fn group_before<T: Keyed, A: Allocator + Copy>(
     )
 }
 
-// How many of these elements stand before one with these two numbers.
 fn before<T: Keyed>(items: &[T], major: u64, minor: u64) -> usize
     requires { IsPartitionedBy (stands T.major T.minor major minor) items.now }
     ensures within { result ≤ length items.now }

@@ -6,14 +6,12 @@ use chunks::Numbered;
 use std::alloc::Allocator;
 use swf_text::{Entry, Memory};
 
-// Whether the job of the one pair stands before the other's in submit order.
 fn comes_before(one: &Numbered, other: &Numbered) -> bool
     ensures { result ≡ pair_before one.now other.now }
 {
     one.submit < other.submit || (one.submit == other.submit && one.number < other.number)
 }
 
-// Whether each of these pairs stands before the next in submit order.
 fn are_in_order(pairs: &[Numbered]) -> bool
     ensures { IsTrue result ↔ AreInOrder pairs.now }
 {

@@ -26,7 +26,6 @@ impl<'a, A: Allocator + Copy> Model for Cursor<'a, A> {
 }
 
 impl<'a, A: Allocator + Copy> Cursor<'a, A> {
-    // A cursor before the first of these entries.
     pub(crate) fn new(rest: Rest<'a, Entry<A>, A>) -> Cursor<'a, A>
         requires { IsTable rest }
         ensures { result ≡ rest.entry }

@@ -99,7 +99,6 @@ pub(crate) fn with_number<A: Allocator + Copy>(
     Ok(index.with(Numbered { number, submit }, count)?)
 }
 
-// The index without a number that it has.
 pub(crate) fn without_number<A: Allocator + Copy>(
     index: &Index<A>,
     number: u64,

@@ -73,7 +73,6 @@ pub(crate) fn with_one<A: Allocator + Copy>(
     Ok(rows.with(entry, count)?)
 }
 
-// The entries without that with a job number, which was submitted in this second.
 pub(crate) fn without_one<A: Allocator + Copy>(
     rows: &Rows<A>,
     submit: u64,

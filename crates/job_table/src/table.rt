@@ -46,7 +46,6 @@ impl<A: Allocator + Copy> Model for JobTable<A> {
     ghost invariant = { λ t. IsStored (flat t.rows) (flat t.index) t.len };
 }
 
-// Why a field may not have a value, if so.
 fn check_field(field: u8, value: &Value) -> Result<(), EditFault>
     ensures ok { OnOk result (change_fault field value.now ≡ None) }
     ensures fault { IfErr result (λ fault. change_fault field value.now ≡ Some fault) }

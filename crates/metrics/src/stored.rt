@@ -85,7 +85,6 @@ impl<A: Allocator + Copy> Stored<A> {
         Ok(Stored { short, others })
     }
 
-    // The entries, as they were stored.
     pub(crate) fn list(&self, alloc: A) -> Result<Users<A>, AllocError>
         ensures { IfOk result (λ users. users.items ≡ self.now) }
     {

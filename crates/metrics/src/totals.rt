@@ -43,7 +43,6 @@ fn later(a: Option<u64>, b: Option<u64>) -> Option<u64>
 }
 
 impl Totals {
-    // The sums over no job.
     pub(crate) fn none() -> Totals
         ensures { result ≡ no_totals }
     {

@@ -1,4 +1,5 @@
 ghost use Rattle.std.specs.Prelude.{◌≡◌, ◌≤◌, IfOk, IfSome, nat_abs};
+ghost use Rattle.swf_text.specs.Limits.{whole_limit};
 ghost use Rattle.swf_text.specs.Number.{whole_of, greatest};
 ghost use Rattle.swf_text.specs.Entry.{field};
 ghost use Rattle.scenarios.specs.Limits.{factor_limit};
@@ -14,7 +15,7 @@ use swf_text::{Entry, Fields};
 fn rounded(millionths: i64) -> i64
     requires { nat_abs millionths ≤ greatest }
     ensures value { result ≡ whole_of millionths }
-    ensures within { nat_abs result ≤ 1000000000000 }
+    ensures within { nat_abs result ≤ whole_limit }
 {
     (millionths + 500_000).div_euclid(1_000_000)
 }
@@ -23,12 +24,11 @@ fn whole_field(line: &Fields, place: usize) -> i64
     requires low { 1 ≤ place }
     requires high { place ≤ 18 }
     ensures value { result ≡ whole_field line.now.0 place }
-    ensures within { nat_abs result ≤ 1000000000000 }
+    ensures within { nat_abs result ≤ whole_limit }
 {
     rounded(line.0[place - 1].millionths())
 }
 
-// The number, where it is above 0.
 fn positive(number: i64) -> Option<u64>
     ensures value { result ≡ positive number }
     ensures within { IfSome result (λ n. n ≤ nat_abs number) }
@@ -50,7 +50,7 @@ fn size_of(line: &Fields) -> Option<u64>
 }
 
 fn estimate_of(base: u64, factor: u64) -> u64
-    requires base { base ≤ 1000000000000 }
+    requires base { base ≤ whole_limit }
     requires factor { factor ≤ factor_limit }
     ensures { result ≡ estimate_of base factor }
 {

@@ -1,14 +1,13 @@
 ghost use Rattle.std.specs.Prelude.{◌≡◌, ℕ, ◌+◌, ◌≤◌, length, sum_by};
-ghost use Rattle.swf_text.specs.Limits.{entry_limit};
+ghost use Rattle.swf_text.specs.Limits.{entry_limit, whole_limit};
 ghost use Rattle.scenarios.specs.Plan.{Plan};
 ghost use Rattle.easy_rule.specs.Simulation.{bound, last_submit};
 
 use crate::job::PlainJob;
 
-// The greatest submit second of these jobs, and 0 where there are none.
 pub(crate) fn last_submit(jobs: &[PlainJob]) -> u64
     ensures value { result ≡ last_submit jobs.now }
-    ensures limit { result ≤ 1000000000000 }
+    ensures limit { result ≤ whole_limit }
 {
     let mut last = 0;
     for job in jobs {

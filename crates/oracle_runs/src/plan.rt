@@ -32,7 +32,6 @@ impl<A: Allocator + Copy> Model for LogPlan<A> {
     ghost invariant = { λ p. IsPlan (record { procs = p.scenario.procs; order = p.scenario.order; jobs = p.jobs.items }) };
 }
 
-// The job of an entry, where it is not skipped.
 fn job_of<A: Allocator + Copy>(entry: &Entry<A>, scenario: &Scenario) -> Option<PlainJob>
     ensures job { result ≡ result_ok (effective entry.now scenario.now) }
     ensures limits { IfSome result IsWithinLimits }
@@ -43,7 +42,6 @@ fn job_of<A: Allocator + Copy>(entry: &Entry<A>, scenario: &Scenario) -> Option<
     Some(job)
 }
 
-// The jobs of these entries that are not skipped, in the order of the entries.
 fn jobs_of<A: Allocator + Copy>(
     alloc: A,
     entries: &[Entry<A>],

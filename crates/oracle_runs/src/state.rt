@@ -19,7 +19,6 @@ fn busy(running: &[PlainRunning]) -> u64
     running.iter().map(|r| r.job().size()).sum()
 }
 
-// The processors that a job has given back by second t, if it runs as long as is expected.
 fn back_by(r: &PlainRunning, t: u64) -> u64
     ensures { result ≡ back_by t r.now }
 {
@@ -132,14 +131,12 @@ impl<A: Allocator + Copy> PlainState<A> {
         self.running.as_slice()
     }
 
-    // Whether no job waits or runs.
     pub(crate) fn is_idle(&self) -> bool
         ensures { IsTrue result ↔ ((self.now.waiting ≡ []) × (self.now.running ≡ [])) }
     {
         self.waiting.is_empty() && self.running.is_empty()
     }
 
-    // The processors that no running job holds.
     pub(crate) fn free(&self) -> u64
         ensures value { result ≡ free self.now }
         ensures sound { IsSound self.now }

@@ -147,7 +147,6 @@ fn add_and_fill<R: Read, A: Allocator + Copy>(
     Ok(Some(ready.fill(reader, tail, is_end)?))
 }
 
-// Reads these portions in so many threads, while a piece is added and filled again.
 fn read_and_add<T: Threads + Sync, R: Read, A: Allocator + Copy>(
     rt: &T,
     readers: usize,

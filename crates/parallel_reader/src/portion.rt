@@ -30,7 +30,6 @@ pub(crate) struct JobLines {
     pub(crate) count: Option<Counts>,
 }
 
-// Cuts bytes behind a line that ends past so many of them: whole lines, and what follows.
 pub(crate) fn split_portion(bytes: &[u8]) -> (&[u8], &[u8])
     ensures lines { lines result.0.now ++ lines result.1.now ≡ lines bytes.now }
     ensures less { 0 < length bytes.now → length result.1.now < length bytes.now }
@@ -97,7 +96,6 @@ fn read_jobs(bytes: &[u8], jobs: &mut [PackedLine]) -> Option<Counts>
 }
 
 impl JobLines {
-    // None yet.
     pub(crate) fn new() -> JobLines {
         JobLines {
             jobs: [PackedLine::UNKNOWN; MOST_JOBS],

@@ -105,7 +105,6 @@ pub(crate) fn add_portions<A: Allocator + Copy>(
     Some(next)
 }
 
-// How many lines were read in portions. None where one was not read.
 pub(crate) fn lines_of(jobs: &[JobLines]) -> Option<u64>
     ensures { IfSome result (λ count. (ls : List (List ℕ)) → AreJobsIn ls jobs.now → count ≡ length ls) }
 {

@@ -6,6 +6,7 @@ use Rattle.std.specs.Result.{result_ok}
 use Rattle.std.proofs.lemmas.Int.{ints}
 use Rattle.std.proofs.lemmas.List.Sums.{sum_by-cons}
 use Rattle.std.proofs.lemmas.Bool.{cond-true, cond-false, cases_Bool, ltb-false, eq-eqb, eqb-true, or_parts, cases_lt}
+use Rattle.swf_text.specs.Limits.{whole_limit}
 use Rattle.swf_text.specs.Number.{greatest, whole_of}
 use Rattle.swf_text.specs.Entry.{LogEntry, IsEntry, field, number_of_entry, submit_of, whole_number, or_zero, has_number}
 use Rattle.job_table.specs.Edit.{entry_of}
@@ -88,7 +89,7 @@ number-is e h = let w = ap whole_number h.numbered ∙ whole h.number in w ∙ s
         let b : (1000000 * m) / 1000000 ≡ m = omega arith in
         rw (a, b) refl
 
-number-small : (e : LogEntry) → IsEntry e → number_of_entry e ≤ 1000000000000
+number-small : (e : LogEntry) → IsEntry e → number_of_entry e ≤ whole_limit
 number-small e h = rw (ap whole_number h.numbered ∙ whole h.number) h.number_limit
   where
     whole : (m : ℕ) → whole_number (pos (1000000 * m)) ≡ Some m
@@ -97,10 +98,10 @@ number-small e h = rw (ap whole_number h.numbered ∙ whole h.number) h.number_l
         let b : (1000000 * m) / 1000000 ≡ m = omega arith in
         rw (a, b) refl
 
-submit-small : (e : LogEntry) → IsEntry e → submit_of e ≤ 1000000000000
+submit-small : (e : LogEntry) → IsEntry e → submit_of e ≤ whole_limit
 submit-small e h = go (field e.main 2) h.submit h.submit_limit
   where
-    go : (z : ℤ) → pos 0 ≤ℤ z → nat_abs z ≤ greatest → or_zero (whole_of z) ≤ 1000000000000
+    go : (z : ℤ) → pos 0 ≤ℤ z → nat_abs z ≤ greatest → or_zero (whole_of z) ≤ whole_limit
     go (pos m) l k = omega arith
     go (negsuc m) l k = absurd (omega (arith, ints))
 

@@ -1,5 +1,6 @@
 -- A job as the simulation sees it.
 use Rattle.std.specs.Prelude.{ℕ, ℤ, Bool, ◌≤◌}
+use Rattle.swf_text.specs.Limits.{whole_limit}
 use Rattle.scenarios.specs.Limits.{procs_limit, estimate_limit}
 
 -- An entry of a log under a scenario. Times are whole seconds, the size is a number of processors.
@@ -20,5 +21,5 @@ pub record IsWithinLimits (job : EffectiveJob) : Type 0 where
   pub lasts : 1 ≤ job.length
   pub within_estimate : job.length ≤ job.estimate
   pub within_limit : job.estimate ≤ estimate_limit
-  pub submitted : job.submit ≤ 1000000000000
-  pub numbered : job.number ≤ 1000000000000
+  pub submitted : job.submit ≤ whole_limit
+  pub numbered : job.number ≤ whole_limit

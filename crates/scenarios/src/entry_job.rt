@@ -1,4 +1,5 @@
 ghost use Rattle.std.specs.Prelude.{◌≡◌, ◌≤◌, ◌^◌, ◌<◌, IfOk, IfSome, nat_abs};
+ghost use Rattle.swf_text.specs.Limits.{whole_limit};
 ghost use Rattle.swf_text.specs.Entry.{field};
 ghost use Rattle.scenarios.specs.Limits.{factor_limit};
 ghost use Rattle.scenarios.specs.Job.{IsWithinLimits};
@@ -17,12 +18,11 @@ fn whole_field<A: Allocator + Copy>(entry: &Entry<A>, place: usize) -> i64
     requires low { 1 ≤ place }
     requires high { place ≤ 18 }
     ensures value { result ≡ whole_field entry.now.main place }
-    ensures within { nat_abs result ≤ 1000000000000 }
+    ensures within { nat_abs result ≤ whole_limit }
 {
     entry.whole(place)
 }
 
-// The number, where it is at least 0.
 fn natural(number: i64) -> Option<u64>
     ensures value { result ≡ natural number }
     ensures within { IfSome result (λ n. n ≤ nat_abs number) }
@@ -30,7 +30,6 @@ fn natural(number: i64) -> Option<u64>
     u64::try_from(number).ok()
 }
 
-// The number, where it is above 0.
 fn positive(number: i64) -> Option<u64>
     ensures value { result ≡ positive number }
     ensures within { IfSome result (λ n. n ≤ nat_abs number) }
@@ -46,15 +45,15 @@ fn size_of<A: Allocator + Copy>(entry: &Entry<A>) -> Option<u64>
 
 fn run_of<A: Allocator + Copy>(entry: &Entry<A>) -> Option<u64>
     ensures value { result ≡ run_of entry.now.main }
-    ensures within { IfSome result (λ n. n ≤ 1000000000000) }
+    ensures within { IfSome result (λ n. n ≤ whole_limit) }
 {
     natural(whole_field(entry, 4))
 }
 
 fn base_of<A: Allocator + Copy>(entry: &Entry<A>, run: u64) -> u64
-    requires { run ≤ 1000000000000 }
+    requires { run ≤ whole_limit }
     ensures value { result ≡ base_of entry.now.main run }
-    ensures within { result ≤ 1000000000000 }
+    ensures within { result ≤ whole_limit }
 {
     match positive(whole_field(entry, 9)) {
         Some(asked) => asked,
@@ -63,7 +62,7 @@ fn base_of<A: Allocator + Copy>(entry: &Entry<A>, run: u64) -> u64
 }
 
 fn estimate_of(base: u64, factor: u64) -> u64
-    requires base { base ≤ 1000000000000 }
+    requires base { base ≤ whole_limit }
     requires factor { factor ≤ factor_limit }
     ensures { result ≡ estimate_of base factor }
 {

@@ -46,7 +46,6 @@ impl<'a, A: Allocator + Copy> Iterator for Jobs<'a, A> {
     }
 }
 
-// The job of the first of these entries that is not skipped.
 fn next_job<A: Allocator + Copy>(entries: &mut Cursor<'_, A>, scenario: &Scenario) -> Option<Job>
     ensures { MatchOption result ((jobs_of entries.old scenario.now ≡ []) × (jobs_of entries.new scenario.now ≡ []))
         (λ job. jobs_of entries.old scenario.now ≡ job ∷ jobs_of entries.new scenario.now) }

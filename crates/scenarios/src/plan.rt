@@ -1,4 +1,4 @@
-ghost use Rattle.std.specs.Prelude.{◌≡◌};
+ghost use Rattle.std.specs.Prelude.{◌≡◌, IfOk};
 ghost use Rattle.std.specs.Arc.{arc_value};
 ghost use Rattle.job_table.specs.Table.{IsTable};
 ghost use Rattle.scenarios.specs.PlanView.{plan_in};
@@ -10,7 +10,7 @@ use job_table::JobTable;
 use std::alloc::Allocator;
 use std::marker::Model;
 use std::sync::Arc;
-use swf_text::ENTRY_LIMIT;
+use swf_text::{ENTRY_LIMIT, Memory};
 
 /// A table under a scenario: what is simulated.
 ///
@@ -41,6 +41,13 @@ impl<A: Allocator + Copy> Plan<A> {
         prove!(table.len() <= ENTRY_LIMIT);
         prove!(scenario.procs() <= MAX_PROCS);
         Plan { table, scenario }
+    }
+
+    /// The same plan once more, of the same table; Memory where 2^63 share that already.
+    pub fn copy(&self) -> Result<Plan<A>, Memory>
+        ensures { IfOk result (λ plan. plan ≡ self.now) }
+    {
+        Ok(Plan::new(self.table.clone()?, self.scenario))
     }
 
     /// The table.

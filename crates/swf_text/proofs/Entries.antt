@@ -7,6 +7,7 @@ use Rattle.std.proofs.lemmas.Bool.{cases_Bool, lt-ltb, eqb-true, eq-eqb, le-leb,
 use Rattle.std.proofs.lemmas.List.{length-append, map-append}
 use Rattle.std.proofs.lemmas.List.Sums.{sum_by-cons}
 use Rattle.std.proofs.lemmas.List.Folds.{list_any-append}
+use Rattle.swf_text.specs.Limits.{whole_limit}
 use Rattle.swf_text.specs.declared.fault.EntryFault.TheVariants as faults
 use Rattle.swf_text.specs.declared.fault.FaultKind.TheVariants as kinds
 use Rattle.swf_text.specs.declared.line.Fields.{Fields}
@@ -32,7 +33,7 @@ all_parts number (part ∷ parts) h =
     )
 
 -- what the tests of a summary line say of its entry
-pub entry_sound : (main : List ℤ) (parts : List (List ℤ)) (number : ℕ) → length main ≡ 18 → whole_number (field main 1) ≡ Some number → number ≤ 1000000000000 → is_below_zero (field main 2) ≡ false → nat_abs (field main 2) ≤ greatest → is_partial (field main 11) ≡ false → list_all (is_part number) parts ≡ true → IsEntry (record { main = main; parts = parts })
+pub entry_sound : (main : List ℤ) (parts : List (List ℤ)) (number : ℕ) → length main ≡ 18 → whole_number (field main 1) ≡ Some number → number ≤ whole_limit → is_below_zero (field main 2) ≡ false → nat_abs (field main 2) ≤ greatest → is_partial (field main 11) ≡ false → list_all (is_part number) parts ≡ true → IsEntry (record { main = main; parts = parts })
 entry_sound main parts number eighteen numbered small submit early summary all = record {
   number = number;
   eighteen = eighteen;

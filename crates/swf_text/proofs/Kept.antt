@@ -3,6 +3,7 @@ use Rattle.std.proofs.Common.{◌≡◌, ℕ, zero, suc, ◌*◌, ◌<◌, ◌�
 use Rattle.std.specs.Prelude.{nat_abs, IfOk}
 use Rattle.std.specs.List.{AllByRecursion, count_by}
 use Rattle.std.proofs.lemmas.List.{length-append}
+use Rattle.swf_text.specs.Limits.{whole_limit}
 use Rattle.swf_text.specs.declared.fault.SwfFault.{SwfFault}
 use Rattle.swf_text.specs.declared.line.LineRead.{LineRead}
 use Rattle.swf_text.specs.declared.line.LineRead.TheVariants as read
@@ -52,7 +53,7 @@ all_at P [] k d h lt = absurd (omega arith)
 all_at P (x ∷ xs) zero d h lt = h.0
 all_at P (x ∷ xs) (suc k) d h lt = all_at P xs k d h.1 (omega arith)
 
-number_small : (v : ℤ) (number : ℕ) → v ≡ pos (1000000 * number) → nat_abs v ≤ greatest → number ≤ 1000000000000
+number_small : (v : ℤ) (number : ℕ) → v ≡ pos (1000000 * number) → nat_abs v ≤ greatest → number ≤ whole_limit
 number_small v number is fits = let size : nat_abs v ≡ 1000000 * number = ap nat_abs is in omega (arith, size, fits)
 
 -- ---- lists that end with one more

@@ -8,6 +8,7 @@ use Rattle.std.proofs.lemmas.Bool.{cases_Bool, lt-ltb}
 use Rattle.std.proofs.Math.ListN.{drop_of_length-le}
 use Rattle.std.proofs.lemmas.List.{append-nil, take-append-drop, take_all, length-take-le, drop_more, nil_from_length}
 use Rattle.std.proofs.lemmas.List.Folds.{list_any-append}
+use Rattle.swf_text.specs.Limits.{whole_limit}
 use Rattle.swf_text.specs.Number.{digits_value, are_digits, begins_negative, unsigned_text, sign_text, signed, greatest, millionths_of}
 use Rattle.swf_text.specs.Line.{is_blank, is_high, fields, from_first, values_from, value_then, job_line, job_of_values}
 use Rattle.swf_text.specs.Packed.{value_of}
@@ -22,7 +23,7 @@ use Rattle.swf_text.proofs.Plains.{is_plain, plain_no_blank, word_fields, spelli
 digits_tests : (ds : List ℕ) → list_all is_ascii_digit ds ≡ true → 0 < length ds → IsTrue (are_digits ds)
 digits_tests ds all some = let t : ltb 0 (length ds) ≡ true = lt-ltb 0 (length ds) some in rw (t, all) refl
 
-module _ (bytes unsigned : List ℕ) (n : Bool) (count whole : ℕ) (sign : n ≡ begins_negative bytes) (body : unsigned ≡ unsigned_text bytes) (within : count ≤ length unsigned) (digits : list_all is_ascii_digit (take count unsigned) ≡ true) (value : whole ≡ digits_value (take count unsigned)) (some : 0 < count) (small : whole ≤ 1000000000000) where
+module _ (bytes unsigned : List ℕ) (n : Bool) (count whole : ℕ) (sign : n ≡ begins_negative bytes) (body : unsigned ≡ unsigned_text bytes) (within : count ≤ length unsigned) (digits : list_all is_ascii_digit (take count unsigned) ≡ true) (value : whole ≡ digits_value (take count unsigned)) (some : 0 < count) (small : whole ≤ whole_limit) where
   exact : digits_value (take count unsigned) ≡ whole
   exact = sym value
 
@@ -75,7 +76,7 @@ digit_first [] (suc n) all some within = absurd (omega arith)
 digit_first (b ∷ bs) (suc n) all some within = digit_sign b (and_first _ _ all)
 
 -- a word of digits
-pub word_digits : (bytes rest : List ℕ) (count whole : ℕ) (v : ℤ) → count ≤ length bytes → list_all is_ascii_digit (take count bytes) ≡ true → whole ≡ digits_value (take count bytes) → 0 < count → whole ≤ 1000000000000 → rest ≡ drop count bytes → ends rest ≡ true → v ≡ signed false (1000000 * whole) → Word bytes v rest
+pub word_digits : (bytes rest : List ℕ) (count whole : ℕ) (v : ℤ) → count ≤ length bytes → list_all is_ascii_digit (take count bytes) ≡ true → whole ≡ digits_value (take count bytes) → 0 < count → whole ≤ whole_limit → rest ≡ drop count bytes → ends rest ≡ true → v ≡ signed false (1000000 * whole) → Word bytes v rest
 word_digits bytes rest count whole v within digits value some small is end v_is =
     let first = digit_first bytes count digits some within in
     let body : bytes ≡ unsigned_text bytes = rw first refl in

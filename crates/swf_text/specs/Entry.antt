@@ -1,6 +1,7 @@
 -- An entry of a log: a job's summary line and its partial lines (Standard Workload Format, version 2).
 use Rattle.std.specs.Prelude.{◌≡◌, ℕ, ◌-◌, ◌*◌, ◌%◌, ◌/◌, ◌≤◌, List, length, Bool, true, false, ◌&&◌, ◌||◌, ◌==◌, nat_lt, if◌then◌else◌, Option, Some, None, Result, Ok, Err, ℤ, pos, negsuc, ◌≤ℤ◌, nat_abs, slice_index_or, unwrap_or}
 use Rattle.std.specs.List.{AllByRecursion, list_all}
+use Rattle.swf_text.specs.Limits.{whole_limit}
 use Rattle.swf_text.specs.declared.line.Fields.{Fields}
 use Rattle.swf_text.specs.declared.fault.EntryFault.{EntryFault}
 use Rattle.swf_text.specs.declared.fault.EntryFault.TheVariants as faults
@@ -69,7 +70,7 @@ pub record IsEntry (entry : LogEntry) : Type 0 where
   pub number : ℕ
   pub eighteen : length entry.main ≡ 18
   pub numbered : HasNumber entry.main number
-  pub number_limit : number ≤ 1000000000000
+  pub number_limit : number ≤ whole_limit
   pub submit : pos 0 ≤ℤ field entry.main 2
   pub submit_limit : nat_abs (field entry.main 2) ≤ greatest
   pub summary : is_partial (field entry.main 11) ≡ false

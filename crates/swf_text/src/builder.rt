@@ -43,7 +43,6 @@ impl<A: Allocator + Copy> Model for Builder<A> {
     ghost invariant = { λ b. record { log : IsLog b.entries.items; index : IsIndex b.numbers.rising.items b.numbers.others b.entries.items } };
 }
 
-// Adds a partial line to the last entry, which must have this number.
 #[tactic(auto, using(crate::proofs::Entries::all_set))]
 fn add_part<A: Allocator + Copy>(
     entries: &mut Vec<Entry<A>, A>,

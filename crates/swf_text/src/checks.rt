@@ -1,15 +1,15 @@
 ghost use Rattle.std.specs.Prelude.{◌≡◌, ◌≤◌, IfSome, nat_abs};
 ghost use Rattle.std.specs.List.{list_all};
+ghost use Rattle.swf_text.specs.Limits.{whole_limit};
 ghost use Rattle.swf_text.specs.Entry.{field, whole_number, is_partial, is_part, values};
 ghost use Rattle.swf_text.specs.Number.{greatest, is_below_zero};
 
 use crate::line::Fields;
 use crate::value::Value;
 
-// The number that a value is, where it is whole and at least 0.
 pub(crate) fn whole_number(value: &Value) -> Option<u64>
     ensures value { result ≡ whole_number value.now }
-    ensures limit { IfSome result (λ n. n ≤ 1000000000000) }
+    ensures limit { IfSome result (λ n. n ≤ whole_limit) }
 {
     let millionths = value.millionths();
     if millionths < 0 {
@@ -23,7 +23,6 @@ pub(crate) fn whole_number(value: &Value) -> Option<u64>
     }
 }
 
-// Whether a value is below 0.
 pub(crate) fn is_below_zero(value: &Value) -> bool
     ensures value { result ≡ is_below_zero value.now }
     ensures limit { nat_abs value.now ≤ greatest }
@@ -33,7 +32,7 @@ pub(crate) fn is_below_zero(value: &Value) -> bool
 
 pub(crate) fn job_number(fields: &Fields) -> Option<u64>
     ensures value { result ≡ whole_number (field fields.now.0 1) }
-    ensures limit { IfSome result (λ n. n ≤ 1000000000000) }
+    ensures limit { IfSome result (λ n. n ≤ whole_limit) }
 {
     whole_number(&fields.0[0])
 }

@@ -1,4 +1,5 @@
 ghost use Rattle.std.specs.Prelude.{◌≡◌, ◌++◌, ◌∷◌, ◌≤◌, ◌<◌, ◌&&◌, [], OnOk, OnErr, IfOk, map, true, nat_abs, nat_le, pos, Some, None, if◌then◌else◌};
+ghost use Rattle.swf_text.specs.Limits.{whole_limit};
 ghost use Rattle.swf_text.specs.Entry.{HasNumber, is_partial, field, values, IsEntry, number_of_entry, submit_of};
 ghost use Rattle.swf_text.specs.Number.{whole_of};
 ghost use Rattle.swf_text.specs.Packed.{unpacked};
@@ -96,7 +97,7 @@ impl<A: Allocator + Copy> Entry<A> {
     pub fn number(&self) -> u64
         ensures exact { HasNumber self.now.main result }
         ensures number { result ≡ number_of_entry self.now }
-        ensures limit { result ≤ 1000000000000 }
+        ensures limit { result ≤ whole_limit }
         ensures entry { IsEntry self.now }
     {
         self.value(1).millionths() as u64 / 1_000_000
@@ -107,7 +108,7 @@ impl<A: Allocator + Copy> Entry<A> {
     pub fn submit(&self) -> u64
         ensures field { pos result ≡ whole_of (field self.now.main 2) }
         ensures second { result ≡ submit_of self.now }
-        ensures limit { result ≤ 1000000000000 }
+        ensures limit { result ≤ whole_limit }
         ensures entry { IsEntry self.now }
     {
         self.whole(2) as u64
@@ -142,7 +143,7 @@ impl<A: Allocator + Copy> Entry<A> {
         requires low { 1 ≤ place }
         requires high { place ≤ 18 }
         ensures value { result ≡ whole_of (field self.now.main place) }
-        ensures within { nat_abs result ≤ 1000000000000 }
+        ensures within { nat_abs result ≤ whole_limit }
         ensures entry { IsEntry self.now }
     {
         match &self.kept {
@@ -181,7 +182,6 @@ impl<A: Allocator + Copy> Entry<A> {
         Ok(EntryLines::of_parts(self.main(), parts))
     }
 
-    // The allocator that it keeps.
     fn allocator(&self) -> A {
         match &self.kept {
             Kept::Packed(_, alloc) => *alloc,

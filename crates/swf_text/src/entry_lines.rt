@@ -1,4 +1,5 @@
 ghost use Rattle.std.specs.Prelude.{◌≡◌, ◌-◌, ◌≤◌, OnOk, OnErr, IfOk, slice_set, map};
+ghost use Rattle.swf_text.specs.Limits.{whole_limit};
 ghost use Rattle.swf_text.specs.Entry.{HasNumber, values, entry_made, IsEntry, number_of_entry, field_change};
 
 use crate::checks::{are_parts, is_before_start, is_below_zero, is_partial_line, job_number};
@@ -60,7 +61,7 @@ impl<A: Allocator + Copy> EntryLines<A> {
     pub fn number(&self) -> u64
         ensures exact { HasNumber self.now.main result }
         ensures number { result ≡ number_of_entry self.now }
-        ensures limit { result ≤ 1000000000000 }
+        ensures limit { result ≤ whole_limit }
         ensures entry { IsEntry self.now }
     {
         self.main.0[0].millionths() as u64 / 1_000_000
@@ -93,7 +94,6 @@ impl<A: Allocator + Copy> EntryLines<A> {
         })
     }
 
-    // The allocator that the lines keep.
     pub(crate) fn allocator(&self) -> A {
         *self.parts.allocator()
     }

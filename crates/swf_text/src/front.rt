@@ -30,7 +30,6 @@ fn short_number(end: u8, bytes: &[u8]) -> Option<(u32, &[u8])>
     None
 }
 
-// What follows the word `-1` and the byte that ends it, where the bytes begin with them.
 #[inline(always)]
 fn after_unknown(end: u8, bytes: &[u8]) -> Option<&[u8]>
     ensures { IfSome result (λ rest. EndedWord bytes.now (value_of 0) end rest.now) }

@@ -57,7 +57,6 @@ fn label_then(label: &[u8], bytes: &[u8]) -> Option<u64>
     }
 }
 
-// The bytes without the blanks that the label doesn't begin with itself.
 fn to_label<'a>(label: &[u8], bytes: &'a [u8]) -> &'a [u8]
     ensures { result.now ≡ to_label label.now bytes.now }
 {

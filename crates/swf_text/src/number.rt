@@ -2,6 +2,7 @@ ghost use Rattle.std.specs.Prelude.{◌≡◌, ◌<◌, ◌≤◌, ◌&&◌, nat
 ghost use Rattle.std.specs.List.{list_all, list_any, before_first, after_first};
 ghost use Rattle.std.specs.Option.{option_copied};
 ghost use Rattle.std.specs.Char.{is_ascii_digit};
+ghost use Rattle.swf_text.specs.Limits.{whole_limit};
 ghost use Rattle.swf_text.specs.Number.{number_of, begins_negative, unsigned_text, is_point, is_fraction, fraction_value, digits_value, are_digits, millionths_of, decimal_at};
 
 use crate::value::{Value, signed_value};
@@ -29,8 +30,8 @@ fn all_digits(bytes: &[u8]) -> bool
 /// The number that the digits spell, where it is at most a trillion; None of other bytes, and of
 /// none. Takes no memory.
 pub fn read_digits(digits: &[u8]) -> Option<u64>
-    ensures value { result ≡ (if are_digits digits.now && nat_le (digits_value digits.now) 1000000000000 then Some (digits_value digits.now) else None) }
-    ensures small { IfSome result (λ n. n ≤ 1000000000000) }
+    ensures value { result ≡ (if are_digits digits.now && nat_le (digits_value digits.now) whole_limit then Some (digits_value digits.now) else None) }
+    ensures small { IfSome result (λ n. n ≤ whole_limit) }
 {
     if !are_digits(digits) {
         return None;
@@ -46,7 +47,6 @@ pub fn read_digits(digits: &[u8]) -> Option<u64>
     }
 }
 
-// The digit at a place behind the point, 0 past the last.
 fn decimal_at(digits: &[u8], place: usize) -> u64
     ensures value { result ≡ decimal_at digits.now place }
     ensures small { result < 256 }
@@ -57,7 +57,6 @@ fn decimal_at(digits: &[u8], place: usize) -> u64
     }
 }
 
-// The first six of the digits behind the point, as millionths.
 pub(crate) fn millionths(digits: &[u8]) -> u64
     ensures value { result ≡ millionths_of digits.now }
     ensures small { result < 100000000 }
@@ -80,7 +79,6 @@ pub(crate) fn split_sign(bytes: &[u8]) -> (bool, &[u8])
     }
 }
 
-// What stands before the first point, and behind it.
 fn split_point(bytes: &[u8]) -> (&[u8], Option<&[u8]>)
     ensures whole { result.0.now ≡ before_first is_point bytes.now }
     ensures fraction { option_copied result.1 ≡ (if list_any is_point bytes.now then Some (after_first is_point bytes.now) else None) }
@@ -91,7 +89,6 @@ fn split_point(bytes: &[u8]) -> (&[u8], Option<&[u8]>)
     }
 }
 
-// The millionths that the digits behind the point are, 0 where there is no point.
 fn fraction_value(digits: Option<&[u8]>) -> Option<u64>
     ensures value { result ≡ (if is_fraction (option_copied digits.entry) then Some (fraction_value (option_copied digits.entry)) else None) }
     ensures small { IfSome result (λ n. n < 100000000) }

@@ -1,4 +1,5 @@
 ghost use Rattle.std.specs.Prelude.{◌≡◌, ◌<◌, ◌≤◌, IfSome, length, nat_abs, pos, slice_index_or};
+ghost use Rattle.swf_text.specs.Limits.{whole_limit};
 ghost use Rattle.swf_text.specs.Entry.{field, is_partial, whole_number};
 ghost use Rattle.swf_text.specs.Number.{greatest, is_below_zero, whole_of};
 ghost use Rattle.swf_text.specs.Packed.{unpacked, value_of};
@@ -14,7 +15,6 @@ pub(crate) const UNKNOWN: u32 = 0;
 /// number.
 pub(crate) const HUNDREDTHS: u64 = 4_000_000_000;
 
-// The code of so many millionths, if there is one.
 fn code_of_size(millionths: u64) -> Option<u32>
     ensures { IfSome result (λ code. value_of code ≡ pos millionths) }
 {
@@ -59,7 +59,7 @@ fn value_of(code: u32) -> Value
 
 fn whole_of(code: u32) -> i64
     ensures value { result ≡ whole_of (value_of code) }
-    ensures within { nat_abs result ≤ 1000000000000 }
+    ensures within { nat_abs result ≤ whole_limit }
 {
     if code == UNKNOWN {
         -1
@@ -72,7 +72,7 @@ fn whole_of(code: u32) -> i64
 
 fn number_of(code: u32) -> Option<u64>
     ensures value { result ≡ whole_number (value_of code) }
-    ensures limit { IfSome result (λ n. n ≤ 1000000000000) }
+    ensures limit { IfSome result (λ n. n ≤ whole_limit) }
 {
     if code == UNKNOWN {
         return None;
@@ -108,7 +108,7 @@ impl PackedLine {
     /// The job number: field 1, where it is whole and at least 0.
     pub fn job_number(&self) -> Option<u64>
         ensures number { result ≡ whole_number (field (unpacked self.now) 1) }
-        ensures limit { IfSome result (λ n. n ≤ 1000000000000) }
+        ensures limit { IfSome result (λ n. n ≤ whole_limit) }
         ensures values { length (unpacked self.now) ≡ 18 }
     {
         number_of(self.0[0])
@@ -141,7 +141,7 @@ impl PackedLine {
     pub(crate) fn whole(&self, index: usize) -> i64
         requires { index < 18 }
         ensures value { result ≡ whole_of (slice_index_or (unpacked self.now) index (pos 0)) }
-        ensures within { nat_abs result ≤ 1000000000000 }
+        ensures within { nat_abs result ≤ whole_limit }
     {
         whole_of(self.0[index])
     }

@@ -30,7 +30,6 @@ pub(crate) fn blank_count(bytes: &[u8]) -> usize
     bytes.len()
 }
 
-// How many bytes stand before the first blank.
 fn word_len(bytes: &[u8]) -> usize
     ensures value { result ≡ position_or_len is_blank bytes.now }
     ensures within { result ≤ length bytes.now }
@@ -61,7 +60,6 @@ pub fn from_first(bytes: &[u8]) -> &[u8]
     &bytes[blank_count(bytes)..]
 }
 
-// Whether a byte is 0x80 or above.
 fn has_high(bytes: &[u8]) -> bool
     ensures { result ≡ list_any is_high bytes.now }
 {
@@ -93,7 +91,6 @@ fn field_count(line: &[u8]) -> usize
     }
 }
 
-// The values of the eighteen words of a line, or the place of the first that is no number.
 fn values_of(line: &[u8]) -> Result<[Value; 18], u8>
     requires { length (fields line.now) ≡ 18 }
     ensures { result ≡ values_from 1 (fields line.now) }

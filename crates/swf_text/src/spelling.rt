@@ -6,7 +6,7 @@ use arrayvec::ArrayVec;
 use itoa::Buffer;
 
 /// Capacity for a spelling: a sign, the digits of any whole number, a point and six decimals.
-pub(crate) const SPELLING_ROOM: usize = 28;
+pub(crate) const SPELLING_CAPACITY: usize = 28;
 
 fn six_digits(millionths: u64) -> [u8; 6]
     requires { millionths < 1000000 }
@@ -27,7 +27,6 @@ fn six_digits(millionths: u64) -> [u8; 6]
     ]
 }
 
-// The digits without the zeros at their end.
 fn without_zeros(digits: &[u8]) -> &[u8]
     ensures value { result.now ≡ without_zeros digits.now }
     ensures within { length result.now ≤ length digits.now }
@@ -48,8 +47,7 @@ pub(crate) fn push_all<const N: usize>(text: &mut ArrayVec<u8, N>, bytes: &[u8])
     }
 }
 
-// The canonical spelling: the sign of a value below 0, the whole part, and the decimals if any.
-pub(crate) fn spell(value: &Value) -> ArrayVec<u8, SPELLING_ROOM>
+pub(crate) fn spell(value: &Value) -> ArrayVec<u8, SPELLING_CAPACITY>
     ensures value { result.items ≡ canonical value.now }
     ensures within { nat_abs value.now ≤ greatest }
 {

@@ -1,5 +1,6 @@
 ghost use Rattle.std.specs.Prelude.{◌≡◌, ◌≤◌, ℤ, IfSome, Some, nat_abs, pos};
 ghost use Rattle.std.specs.Coded.{coded_ℤ};
+ghost use Rattle.swf_text.specs.Limits.{whole_limit};
 ghost use Rattle.swf_text.specs.Entry.{is_partial};
 ghost use Rattle.swf_text.specs.Number.{Spells, whole_of, signed, greatest};
 
@@ -60,7 +61,7 @@ impl Value {
     /// The nearest whole number, halves up, as seconds are taken from a log.
     pub fn whole(&self) -> i64
         ensures value { result ≡ whole_of self.now }
-        ensures within { nat_abs result ≤ 1000000000000 }
+        ensures within { nat_abs result ≤ whole_limit }
     {
         (self.millionths + 500_000).div_euclid(1_000_000)
     }

@@ -7,6 +7,7 @@ ghost use Rattle.swf_text.specs.Scan.{NextWord, Word, ends};
 ghost use Rattle.swf_text.specs.Header.{digit_len};
 ghost use Rattle.swf_text.specs.Line.{from_first, job_line, job_of_values};
 ghost use Rattle.std.specs.Prelude.{Ok};
+ghost use Rattle.swf_text.specs.Limits.{whole_limit};
 
 use crate::front::ended_word;
 use crate::number::{LIMIT, millionths, split_sign};
@@ -21,7 +22,7 @@ fn leading_digits(bytes: &[u8]) -> (u64, usize)
     ensures within { result.1 ≤ length bytes.now }
     ensures digits { list_all is_ascii_digit (take result.1 bytes.now) ≡ true }
     ensures value { result.0 ≡ digits_value (take result.1 bytes.now) }
-    ensures limit { result.0 < 1000000000000 }
+    ensures limit { result.0 < whole_limit }
 {
     let front = &bytes[..bytes.len().min(DIGITS)];
     let mut value = 0u64;
@@ -47,7 +48,6 @@ pub(crate) fn digit_count(bytes: &[u8]) -> usize
     bytes.len()
 }
 
-// Whether a word ends here: nothing or a blank follows.
 pub(crate) fn is_ended(bytes: &[u8]) -> bool
     ensures { result ≡ ends bytes.now }
 {
@@ -66,7 +66,6 @@ fn after_byte(byte: u8, bytes: &[u8]) -> Option<&[u8]>
     Some(&bytes[1..])
 }
 
-// What follows the word `-1`, where the bytes begin with it.
 #[tactic(auto, using(crate::proofs::Walks::word_unknown))]
 fn after_unknown(bytes: &[u8]) -> Option<&[u8]>
     ensures { IfSome result (λ rest. Word bytes.now (signed true 1000000) rest.now) }

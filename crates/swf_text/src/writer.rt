@@ -16,9 +16,9 @@ use std::alloc::Allocator;
 use std::io::Write;
 
 /// Capacity for a line: eighteen spellings, the spaces between and the line feed.
-const LINE_ROOM: usize = 528;
+const LINE_CAPACITY: usize = 528;
 
-fn line_text(fields: &Fields) -> ArrayVec<u8, LINE_ROOM>
+fn line_text(fields: &Fields) -> ArrayVec<u8, LINE_CAPACITY>
     ensures text { result.items ≡ line_text fields.now.0 }
     ensures fields { AreFields fields.now.0 }
 {

@@ -2,6 +2,7 @@
 use Rattle.std.proofs.Common.{◌≡◌, ℕ, ap, ◌+◌, ◌*◌, ◌-◌, ◌^◌, ◌≤◌, ◌<◌, List, [], ◌∷◌, All, length, sum_by, arith}
 use Rattle.std.proofs.lemmas.List.Sums.{sum_by-cons}
 use Rattle.std.proofs.lemmas.List.Elements.{All-head, All-tail}
+use Rattle.swf_text.specs.Limits.{whole_limit}
 use Rattle.scenarios.specs.Job.{EffectiveJob, IsWithinLimits}
 use Rattle.scenarios.specs.Plan.{Plan}
 use Rattle.easy_rule.specs.Simulation.{last_submit, bound}
@@ -17,7 +18,7 @@ lengths-le (j ∷ js) a =
     let y = h.within_limit in
     omega (arith, e, i, x, y)
 
-submits-le : (js : List EffectiveJob) → All IsWithinLimits js → last_submit js ≤ 1000000000000
+submits-le : (js : List EffectiveJob) → All IsWithinLimits js → last_submit js ≤ whole_limit
 submits-le [] a = omega arith
 submits-le (j ∷ js) a =
     let h = (All-head IsWithinLimits j js a).submitted in

@@ -10,7 +10,6 @@ use swf_text::Memory;
 /// So many places are searched one by one, without a tree.
 pub(crate) const LIST: usize = 128;
 
-// The least power of two that is not below this.
 fn power_from(count: usize) -> usize
     requires { count ≤ 2 ^ 40 }
     ensures power { IsWhole (2 * result) }
@@ -24,7 +23,6 @@ fn power_from(count: usize) -> usize
     power
 }
 
-// Nodes of a tree over so many places, which know of nobody; none where the places are few.
 pub(crate) fn nodes_for<A: Allocator + Copy>(
     alloc: A,
     capacity: usize,

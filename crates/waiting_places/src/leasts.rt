@@ -58,7 +58,6 @@ fn lower(estimates: &mut [u32], class: usize, estimate: u32)
     }
 }
 
-// Lowers the estimate of the class of who waits at a place, and of no other.
 fn shorten<T: Waits>(estimates: &mut [u32], place: &Option<T>)
     requires { length estimates.old ≡ 100 }
     ensures kept { (c : ℕ) → slice_index_or estimates.new c 0 ≤ slice_index_or estimates.old c 0 }
@@ -91,7 +90,6 @@ fn size_of_both(size: u64, other: u64, counts: bool) -> u64
 }
 
 impl Sizes {
-    // Of nobody, once it was asked for those who are at most so long.
     fn new(window: u64) -> Sizes {
         Sizes {
             size: u64::MAX,
@@ -100,7 +98,6 @@ impl Sizes {
         }
     }
 
-    // None that is at most so long is smaller.
     fn least_size(&self, window: u64) -> u64
         ensures { result ≡ least_size (sizes_known self.now) window }
     {
@@ -111,7 +108,6 @@ impl Sizes {
         }
     }
 
-    // Whether one may take no more than is extra.
     fn is_small(&self, offer: &Offer) -> bool
         ensures { result ≡ nat_le self.now.size offer.now.extra }
     {
@@ -136,7 +132,6 @@ impl Sizes {
         }
     }
 
-    // Of all who wait at these places, once they were asked for those who are at most so long.
     pub(crate) fn of<T: Waits>(places: &[Option<T>], window: u64) -> Sizes
         ensures { AreBelow T.size T.estimate (sizes_known result) places.now }
     {
@@ -147,7 +142,6 @@ impl Sizes {
         sizes
     }
 
-    // Of those of two nodes, once they were asked for those who are at most so long.
     fn both(a: &Sizes, b: &Sizes, window: u64) -> Sizes
         ensures first { Keeps (sizes_known a.now) (sizes_known result) }
         ensures second { Keeps (sizes_known b.now) (sizes_known result) }
@@ -161,7 +155,6 @@ impl Sizes {
 }
 
 impl Leasts {
-    // Of nobody, once it was asked for those who are at most so long.
     pub(crate) fn new(window: u64) -> Leasts {
         Leasts {
             sizes: Sizes::new(window),
@@ -169,7 +162,6 @@ impl Leasts {
         }
     }
 
-    // Whether one of whom this is known may take no more than is extra.
     pub(crate) fn is_small(&self, offer: &Offer) -> bool
         ensures { result ≡ nat_le self.now.size offer.now.extra }
     {
@@ -195,7 +187,6 @@ impl Leasts {
         lower(&mut self.estimates, class, short(estimate));
     }
 
-    // Of all who wait at these places, once they were asked for those who are at most so long.
     pub(crate) fn of<T: Waits>(places: &[Option<T>], window: u64) -> Leasts
         ensures { AreBelow T.size T.estimate result places.now }
     {
@@ -218,7 +209,6 @@ impl Leasts {
         Sizes::both(&a.sizes, &b.sizes, window)
     }
 
-    // Of those of two nodes, once they were asked for those who are at most so long.
     pub(crate) fn both(a: &Leasts, b: &Leasts, window: u64) -> Leasts
         ensures first { Keeps a.now result }
         ensures second { Keeps b.now result }

@@ -66,7 +66,6 @@ fn head_from<T: Waits>(places: &[Option<T>], from: usize) -> usize
     first_some(places, from).unwrap_or(places.len())
 }
 
-// The place behind which so many wait: it goes from the last place on.
 fn place_before<T: Waits>(places: &[Option<T>], count: usize) -> usize
     requires { count ≤ length (waiting places.now) }
     ensures within { result ≤ length places.now }
@@ -83,7 +82,6 @@ fn place_before<T: Waits>(places: &[Option<T>], count: usize) -> usize
     place
 }
 
-// Those who wait at these places, at the first places of others, of which there are so many at least.
 fn closed_up<T: Waits, A: Allocator + Copy>(
     alloc: A,
     places: &[Option<T>],

@@ -38,7 +38,6 @@ pub(crate) struct Search {
     pub(crate) class: usize,
 }
 
-// Whether one waits at this place, and takes no more than this.
 fn takes_at_most<T: Waits>(place: &Option<T>, most: u64) -> bool
     ensures { result ≡ holds (λ item. nat_le (T.size item) most) place.now }
 {
