@@ -3,7 +3,7 @@ use checking::{FOUR, Written, edit_of, shared_table, table_of};
 use checkpoints::{Run, simulate};
 use refusing::Outcome;
 use rejoin::Work;
-use scenarios::{Scenario, ScenarioId};
+use scenarios::{Plan, Scenario, ScenarioId};
 use std::alloc::Allocator;
 use std::sync::Arc;
 use swf_text::Memory;
@@ -53,12 +53,8 @@ fn of_view<A: Allocator + Copy>(published: &Published<A>) -> Answered {
 }
 
 fn other_run<A: Allocator + Copy>(alloc: A) -> Option<Arc<Run<A>, A>> {
-    let table = shared_table(alloc, FOUR)?;
-    Arc::new(
-        alloc,
-        simulate(alloc, table, Scenario::new(10, 1000)?, 1).ok()?,
-    )
-    .ok()
+    let plan = Plan::new(shared_table(alloc, FOUR)?, Scenario::new(10, 1000)?);
+    Arc::new(alloc, simulate(alloc, plan, 1).ok()?).ok()
 }
 
 impl<A: Allocator + Copy> Player<A> {

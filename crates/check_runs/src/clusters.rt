@@ -5,9 +5,8 @@ use crate::logs::{NOTED, four_jobs, outcome};
 use checking::table_of;
 use cluster_state::{Cluster, Offer, RunningByEnd, RunningNumber, Snapshot, Waiting};
 use easy_rule::{Shadow, decide, shadow, shadow_counted};
-use job_table::JobTable;
 use refusing::Outcome;
-use scenarios::{Job, Scenario};
+use scenarios::{Job, PlanRef, Scenario};
 use std::alloc::Allocator;
 use swf_text::Memory;
 
@@ -83,15 +82,14 @@ fn is_of_one<A: Allocator + Copy>(snapshot: &Snapshot<A>) -> bool {
 fn gives_back<A: Allocator + Copy>(
     alloc: A,
     snapshot: &Snapshot<A>,
-    table: &JobTable<A>,
-    scenario: Scenario,
+    plan: &PlanRef<'_, A>,
 ) -> Result<bool, Memory> {
-    if !is_of_one(snapshot) || !snapshot.fits(table, &scenario) {
+    if !is_of_one(snapshot) || !snapshot.fits(plan) {
         return Ok(false);
     }
-    let again = Cluster::restore(alloc, snapshot, table, &scenario)?;
+    let again = Cluster::restore(alloc, snapshot, plan)?;
     let reads = wait(again.waiting(), &[2, 3, 4]) && run(again.running_by_end(), &[(1, 0)]);
-    Ok(reads && again.order() == scenario.order() && again.snapshot()?.same(snapshot))
+    Ok(reads && again.order() == plan.scenario().order() && again.snapshot()?.same(snapshot))
 }
 
 // A copy of the snapshot of a cluster in which the first of these jobs runs, and the others wait.
@@ -184,11 +182,10 @@ fn log_for(deed: Deed) -> &'static [u8] {
 fn does<A: Allocator + Copy>(
     alloc: A,
     deed: Deed,
-    table: &JobTable<A>,
+    plan: &PlanRef<'_, A>,
     jobs: &[Job; 4],
-    scenario: Scenario,
 ) -> Result<bool, Memory> {
-    let mut cluster = Cluster::for_scenario(alloc, &scenario);
+    let mut cluster = Cluster::for_scenario(alloc, &plan.scenario());
     match deed {
         Deed::DecideBehind => decides_behind(
             &mut cluster,
@@ -197,7 +194,7 @@ fn does<A: Allocator + Copy>(
             jobs,
         ),
         Deed::StartTwo => starts_two(alloc, &mut cluster, jobs),
-        Deed::Restore => { gives_back(alloc, &snapshot_of(&mut cluster, jobs)?, table, scenario) }
+        Deed::Restore => gives_back(alloc, &snapshot_of(&mut cluster, jobs)?, plan),
     }
 }
 
@@ -206,8 +203,9 @@ pub(crate) fn goes<A: Allocator + Copy>(alloc: A, deed: Deed, scenario: Scenario
     let Some(table) = table_of(alloc, log_for(deed)) else {
         return Outcome::Before;
     };
-    match four_jobs(&table, scenario) {
-        Some(jobs) => outcome(does(alloc, deed, &table, &jobs, scenario).map_err(|_| true)),
+    let plan = PlanRef::of(&table, scenario);
+    match four_jobs(&plan) {
+        Some(jobs) => outcome(does(alloc, deed, &plan, &jobs).map_err(|_| true)),
         None => Outcome::Wrong,
     }
 }

@@ -3,11 +3,9 @@ use crate::logs::{NOTED, outcome};
 use checking::shared_table;
 use easy_rule::Start;
 use event_loop::{Engine, EngineFault, Stepped};
-use job_table::JobTable;
 use refusing::Outcome;
-use scenarios::{Job, Scenario};
+use scenarios::{Job, Plan, Scenario};
 use std::alloc::Allocator;
-use std::sync::Arc;
 
 /// How the engine of the log goes on.
 #[derive(Clone, Copy)]
@@ -81,24 +79,18 @@ fn finishes<A: Allocator + Copy>(engine: &mut Engine<A>) -> Result<bool, EngineF
 // An engine that is resumed at second 3, to which another one of the table was advanced.
 fn resumed_at_three<A: Allocator + Copy>(
     alloc: A,
-    table: Arc<JobTable<A>, A>,
-    scenario: Scenario,
+    plan: Plan<A>,
 ) -> Result<Engine<A>, EngineFault> {
-    let mut engine = Engine::new(alloc, table.clone()?, scenario);
+    let mut engine = Engine::new(alloc, plan.copy()?);
     engine.advance_to(3)?;
     let snapshot = engine.snapshot()?;
-    Ok(Engine::resume(alloc, &snapshot, 3, table, scenario)?)
+    Ok(Engine::resume(alloc, &snapshot, 3, plan)?)
 }
 
-fn goes_on<A: Allocator + Copy>(
-    alloc: A,
-    way: Way,
-    table: Arc<JobTable<A>, A>,
-    scenario: Scenario,
-) -> Result<bool, EngineFault> {
+fn goes_on<A: Allocator + Copy>(alloc: A, way: Way, plan: Plan<A>) -> Result<bool, EngineFault> {
     let mut engine = match way {
-        Way::FromThree => resumed_at_three(alloc, table, scenario)?,
-        _ => Engine::new(alloc, table, scenario),
+        Way::FromThree => resumed_at_three(alloc, plan)?,
+        _ => Engine::new(alloc, plan),
     };
     match way {
         Way::Steps => steps(&mut engine),
@@ -110,7 +102,7 @@ fn goes_on<A: Allocator + Copy>(
 /// The engine of the log goes on.
 pub(crate) fn goes<A: Allocator + Copy>(alloc: A, way: Way, scenario: Scenario) -> Outcome {
     match shared_table(alloc, NOTED) {
-        Some(table) => outcome(goes_on(alloc, way, table, scenario).map_err(|fault| fault
+        Some(table) => outcome(goes_on(alloc, way, Plan::new(table, scenario)).map_err(|fault| fault
             == EngineFault::Memory)),
         None => Outcome::Before,
     }

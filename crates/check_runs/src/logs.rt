@@ -1,9 +1,8 @@
 // Logs, and what tests begin with; none where memory is short.
 use checking::shared_table;
 use checkpoints::{Run, simulate};
-use job_table::JobTable;
 use refusing::Outcome;
-use scenarios::{Job, PlanRef, Scenario};
+use scenarios::{Job, Plan, PlanRef, Scenario};
 use std::alloc::Allocator;
 
 /// Four jobs, of two users, with a comment, and a partial line behind a summary line that is not packed.
@@ -48,15 +47,13 @@ pub(crate) fn run_of<A: Allocator + Copy>(
     scenario: Scenario,
     spacing: u32,
 ) -> Option<Run<A>> {
-    simulate(alloc, shared_table(alloc, log)?, scenario, spacing).ok()
+    let plan = Plan::new(shared_table(alloc, log)?, scenario);
+    simulate(alloc, plan, spacing).ok()
 }
 
-/// The first four jobs of a table.
-pub(crate) fn four_jobs<A: Allocator + Copy>(
-    table: &JobTable<A>,
-    scenario: Scenario,
-) -> Option<[Job; 4]> {
-    let mut jobs = PlanRef::of(table, scenario).jobs();
+/// The first four jobs of a plan.
+pub(crate) fn four_jobs<A: Allocator + Copy>(plan: &PlanRef<'_, A>) -> Option<[Job; 4]> {
+    let mut jobs = plan.jobs();
     Some([jobs.next()?, jobs.next()?, jobs.next()?, jobs.next()?])
 }
 

@@ -23,7 +23,6 @@ fn shared<A: Allocator + Copy>(
 /// The run of a run's own segments.
 pub(crate) fn made_again<A: Allocator + Copy>(alloc: A, run: &Run<A>) -> Result<Run<A>, Memory> {
     let segments = shared(alloc, run.segments())?;
-    let table = run.table().clone()?;
-    let again = Run::of_segments(alloc, table, run.scenario(), segments)?;
+    let again = Run::of_segments(alloc, run.plan().copy()?, segments)?;
     Ok(again)
 }

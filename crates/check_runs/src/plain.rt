@@ -4,7 +4,7 @@ use crate::logs::{NOTED, four_jobs, outcome};
 use checking::table_of;
 use oracle_runs::{LogPlan, simulate};
 use refusing::Outcome;
-use scenarios::Scenario;
+use scenarios::{PlanRef, Scenario};
 use std::alloc::{Allocator, Global};
 use std::process::Abort;
 use swf_text::{Memory, SwfText, read_swf};
@@ -45,7 +45,8 @@ pub(crate) fn works<A: Allocator + Copy>(alloc: A, scenario: Scenario) -> Outcom
 
 // The greatest submit second of the four jobs, and the second by which they have ended.
 fn bounds_of_four(alloc: Global) -> Option<(u64, u64)> {
-    let jobs = four_jobs(&table_of(alloc, NOTED)?, Scenario::new(10, 1000)?)?;
+    let table = table_of(alloc, NOTED)?;
+    let jobs = four_jobs(&PlanRef::of(&table, Scenario::new(10, 1000)?))?;
     Some((last_submit(&jobs), bound(&jobs)))
 }
 

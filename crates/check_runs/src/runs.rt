@@ -6,7 +6,7 @@ use checking::shared_table;
 use checkpoints::{Row, Run, RunFault, simulate};
 use metrics::{Part, Skips, Tables};
 use refusing::Outcome;
-use scenarios::Scenario;
+use scenarios::{Plan, Scenario};
 use std::alloc::{Allocator, Global};
 use std::process::Abort;
 use swf_text::Memory;
@@ -58,7 +58,7 @@ pub(crate) fn simulates<A: Allocator + Copy>(alloc: A, scenario: Scenario) -> Ou
     let Some(table) = shared_table(alloc, NOTED) else {
         return Outcome::Before;
     };
-    match simulate(alloc, table, scenario, 2) {
+    match simulate(alloc, Plan::new(table, scenario), 2) {
         Ok(run) => outcome(is_of_four(&run).map_err(|_| true)),
         Err(fault) => Outcome::memory_if(fault == RunFault::Memory),
     }

@@ -1,15 +1,11 @@
 -- The starts of jobs by their numbers.
-use Rattle.std.proofs.Common.{◌≡◌, ℕ, ◌≤◌, ◌<◌, ◌^◌, ◌&&◌, Bool, true, false, cond, eqb, not, nat_eq, List, [], ◌∷◌, ◌++◌, Option, Some, None, All, filter, refl, sym, ap, arith, append_assoc, ◌∙◌, ⊎_elim}
+use Rattle.std.proofs.Common.{◌≡◌, ℕ, ◌≤◌, ◌<◌, ◌^◌, ◌&&◌, Bool, true, false, cond, eqb, not, nat_eq, List, [], ◌∷◌, ◌++◌, Option, Some, None, All, filter, refl, sym, ap, arith, ◌∙◌, ⊎_elim}
 use Rattle.std.specs.Prelude.{IfSome, find}
 use Rattle.std.specs.List.Sorted.{IsStableByKey, ties}
 use Rattle.std.specs.Option.{option_map}
 use Rattle.std.specs.Ordering.{nat_cmp, is_lt}
 use Rattle.std.proofs.lemmas.Bool.{cases_eq, cases_lt, eq-eqb, ne_eqb, lt-ltb, le-ltb}
 use Rattle.std.proofs.lemmas.List.Elements.{All-head, All-tail}
-use Rattle.std.specs.List.{filter_map}
-use Rattle.scenarios.specs.Job.{EffectiveJob}
-use Rattle.checkpoints.specs.declared.row.Row.{Row}
-use Rattle.checkpoints.specs.Schedule.{row_at, row_of}
 use Rattle.easy_rule.specs.declared.start.Start.{Start}
 use Rattle.easy_rule.specs.Simulation.{start_of}
 
@@ -61,13 +57,3 @@ early-first false x xs n other first later = rw other later
 pub found-early : (xs : List Start) (n : ℕ) → All (λ (s : Start). s.at < 2 ^ 49) xs → IfSome (start_of xs n) (λ at. at < 2 ^ 49)
 found-early [] n all = tt
 found-early (x ∷ xs) n all = early-first (eqb x.number n) x xs n refl (All-head (λ (s : Start). s.at < 2 ^ 49) x xs all) (found-early xs n (All-tail (λ (s : Start). s.at < 2 ^ 49) x xs all))
-
-pub front-empty : {X : Type 0} (xs ys zs : List X) → xs ≡ [] → ys ≡ zs → xs ++ ys ≡ zs
-front-empty xs ys zs none same = ap (λ l. l ++ ys) none ∙ same
-
--- the rows so far and those to come
-pub rows-more : (starts : List Start) (coming rest : List EffectiveJob) (job : EffectiveJob) (start : ℕ) (old new all : List Row) → old ++ filter_map (row_of starts) coming ≡ all → coming ≡ job ∷ rest → start_of starts job.number ≡ Some start → new ≡ old ++ row_at job start ∷ []
-    → new ++ filter_map (row_of starts) rest ≡ all
-rows-more starts coming rest job start old new all h is found put =
-    let left : filter_map (row_of starts) coming ≡ row_at job start ∷ filter_map (row_of starts) rest = ap (filter_map (row_of starts)) is ∙ rw found refl in
-    ap (λ l. l ++ filter_map (row_of starts) rest) put ∙ append_assoc old (row_at job start ∷ []) (filter_map (row_of starts) rest) ∙ ap (λ l. old ++ l) (sym left) ∙ h

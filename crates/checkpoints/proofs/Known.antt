@@ -184,10 +184,6 @@ noted-segment f n i xs x starts old new l at is before more =
     ap (λ ys. all_starts (map f ys)) next ∙ ap all_starts (map_push f (take i xs) x) ∙ all-append (map f (take i xs)) (f x ∷ []) ∙ ap (λ (ys : List Start). all_starts (map f (take i xs)) ++ ys) one in
     more ∙ ap (λ (o : Option ℕ). option_or o (start_of starts n)) before ∙ sym (ap (λ (ys : List Start). start_of ys n) all ∙ start-append n (all_starts (map f (take i xs))) starts)
 
--- other starts that give each number the same second
-pub others-same : (least n : ℕ) (places : List (Option ℕ)) (old new : List Start) → start_of new n ≡ start_of old n → start_in least places new n ≡ start_in least places old n
-others-same least n places old new e = ap (second_at (place_in least (length places) n) places) e
-
 -- ---- rows by these starts
 pub rows-same : (known : KnownStarts) (starts : List Start) (jobs : List EffectiveJob) → ((n : ℕ) → known_start known n ≡ start_of starts n) → filter_map (row_by known) jobs ≡ filter_map (row_of starts) jobs
 rows-same known starts [] h = refl

@@ -1,15 +1,13 @@
 -- No job starts before its submit second.
-use Rattle.std.proofs.Common.{◌≡◌, ℕ, suc, ◌+◌, ◌-◌, ◌^◌, ◌≤◌, ◌<◌, Bool, true, false, cond, nat_eq, List, [], ◌∷◌, ◌++◌, length, length-append, take, get_or, Option, Some, None, All, count_by, refl, sym, ◌∙◌, ap, arith, subst, inl, inr, ⊎_elim}
+use Rattle.std.proofs.Common.{◌≡◌, ℕ, suc, ◌+◌, ◌-◌, ◌^◌, ◌≤◌, ◌<◌, Bool, true, false, cond, nat_eq, List, [], ◌∷◌, ◌++◌, length, length-append, get_or, Option, Some, None, All, count_by, refl, sym, ◌∙◌, ap, arith, subst, inl, inr, ⊎_elim}
 use Rattle.std.specs.Prelude.{find, IsSomeAnd}
-use Rattle.std.specs.List.{cons_option}
-use Rattle.std.specs.Option.{option_map, option_or, option_to_list}
+use Rattle.std.specs.Option.{option_map, option_or}
 use Rattle.std.proofs.lemmas.Bool.{eqb-true, eq-eqb, true≢false, cases_Bool, cond-true, cond-false}
 use Rattle.std.proofs.lemmas.List.Sums.{sum_by-cons, sum_by-remove}
 use Rattle.std.specs.List.{remove}
-use Rattle.std.proofs.lemmas.List.{take_more}
 use Rattle.std.proofs.lemmas.List.Edits.{length-remove}
 use Rattle.std.proofs.lemmas.List.Folds.{find-append}
-use Rattle.std.proofs.lemmas.List.Elements.{All-nil, All-cons, All-append, All-head, All-tail, filter_map-append}
+use Rattle.std.proofs.lemmas.List.Elements.{All-nil, All-cons, All-append, All-head, All-tail}
 use Rattle.scenarios.specs.Job.{EffectiveJob}
 use Rattle.scenarios.specs.Plan.{Plan, job_numbered}
 use Rattle.cluster_state.proofs.Lemmas.{All-find, test-find}
@@ -18,9 +16,8 @@ use Rattle.easy_rule.specs.Simulation.{sim, start_of, starts_before, last_submit
 use Rattle.easy_rule.proofs.Lemmas.{cases_option, find-none, none-passes}
 use Rattle.scenarios.specs.SoundPlan.{IsPlan}
 use Rattle.timeline.proofs.Lemmas.{submits-by, starts-below, all-start-early, each-job-starts-once, none-starts-early, later}
-use Rattle.scenarios.specs.declared.placed.Placed.{Placed}
 use Rattle.metrics.specs.Placed.{CanStart, CanSum}
-use Rattle.checkpoints.specs.Cut.{placed_at, placed_of}
+use Rattle.checkpoints.specs.Cut.{placed_of}
 
 -- the starts from a second on
 pub outcome-later : (plan : Plan) (t : ℕ) → t ≤ bound plan + 1 → (ys : List Start) × (sim plan ≡ starts_before plan t ++ ys) × All (λ (x : Start). t ≤ x.at) ys
@@ -120,17 +117,6 @@ placed-each plan (x ∷ xs) h =
           let k = All-head (InTime plan) x xs h job some in
           rw some (All-cons CanStart (record { job = job; start = x.at }) (placed_of plan.jobs xs) (record { after_submit = k.0; in_time = k.1 }) rest)
     ]
-
--- one start more
-pub placed-more : (jobs : List EffectiveJob) (xs : List Start) (i : ℕ) (d x : Start) (o : Option EffectiveJob) → i < length xs → x ≡ get_or xs i d → o ≡ job_numbered jobs x.number
-    → placed_of jobs (take (i + 1) xs) ≡ placed_of jobs (take i xs) ++ option_to_list (option_map (λ (job : EffectiveJob). let p : Placed = record { job = job; start = x.at } in p) o)
-placed-more jobs xs i d x o l is e =
-    ap (placed_of jobs) (take_more xs i d l ∙ ap (λ (y : Start). take i xs ++ y ∷ []) (sym is)) ∙ filter_map-append (placed_at jobs) (take i xs) (x ∷ [])
-    ∙ ap (λ ps. placed_of jobs (take i xs) ++ ps) (ap (λ p. cons_option (option_map (λ (job : EffectiveJob). let q : Placed = record { job = job; start = x.at } in q) p) []) (sym e) ∙ one o)
-  where
-    one : (p : Option EffectiveJob) → cons_option (option_map (λ (job : EffectiveJob). let q : Placed = record { job = job; start = x.at } in q) p) [] ≡ option_to_list (option_map (λ (job : EffectiveJob). let q : Placed = record { job = job; start = x.at } in q) p)
-    one None = refl
-    one (Some j) = refl
 
 pub placed-fewer : (jobs : List EffectiveJob) (xs : List Start) → length (placed_of jobs xs) ≤ length xs
 placed-fewer jobs [] = omega arith

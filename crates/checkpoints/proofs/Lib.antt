@@ -1,7 +1,7 @@
 mod Chains
 mod Late
 mod Merging
-mod Grouping
+mod Levels
 mod Reused
 mod Totals
 mod Lookups

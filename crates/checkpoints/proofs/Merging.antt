@@ -13,7 +13,7 @@ use Rattle.checkpoints.specs.Segment.{SegmentView}
 use Rattle.checkpoints.specs.Cut.{all_starts, placed_of, placed_at}
 use Rattle.checkpoints.specs.Sums.{HasOwnPart}
 use Rattle.checkpoints.specs.Merged.{joined, IsMerged, AreFew}
-use Rattle.checkpoints.specs.Groups.{parts_of}
+use Rattle.checkpoints.specs.Nodes.{parts_of}
 
 joined-both : (xss yss : List (List Placed)) → joined (xss ++ yss) ≡ joined xss ++ joined yss
 joined-both xss yss = flat_map-append (λ (ps : List Placed). ps) xss yss

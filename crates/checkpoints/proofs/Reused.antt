@@ -1,4 +1,4 @@
--- Old groups that are reused, and what stands between them.
+-- Old nodes that are reused, and what stands between them.
 use Rattle.std.proofs.Common.{◌≡◌, ℕ, zero, suc, ◌+◌, ◌-◌, ◌≤◌, ◌<◌, ◌^◌, List, [], ◌∷◌, ◌++◌, map, take, drop, length, length-append, length-drop, Option, Some, None, IfSome, option_map, refl, sym, ◌∙◌, ap, arith, subst, drop_at, drop-drop, take-add, take_all}
 use Rattle.std.specs.List.{AllZip, slice_get, slice_range}
 use Rattle.std.proofs.lemmas.List.{take-map, drop-map, drop_more, length-map, map-append, take-append-drop}
@@ -6,9 +6,9 @@ use Rattle.std.proofs.lemmas.Option.{slice_get_within, slice_get-map, get_or_fro
 use Rattle.metrics.specs.Part.{PartSums}
 use Rattle.checkpoints.specs.Segment.{SegmentView}
 use Rattle.checkpoints.specs.Merged.{AreFew}
-use Rattle.checkpoints.specs.Groups.{GroupView, parts_of, group_parts, AreGroupsOf, AreFrom, ArePartsFrom, AreInRow}
-use Rattle.checkpoints.specs.Regrouping.{IsRegrouping}
-use Rattle.checkpoints.proofs.Grouping.{groups-last}
+use Rattle.checkpoints.specs.Nodes.{NodeView, parts_of, node_parts, AreNodesOf, AreFrom, ArePartsFrom, AreInRow}
+use Rattle.checkpoints.specs.Rebuilding.{IsRebuilding}
+use Rattle.checkpoints.proofs.Levels.{nodes-last}
 use Rattle.checkpoints.proofs.Merging.{halves, front-few, back-few}
 
 abbrev From : List PartSums → PartSums → Option ℕ → Type 0
@@ -33,10 +33,10 @@ zip-last R [] (b ∷ ys) x y z r = absurd z
 zip-last R (a ∷ xs) [] x y z r = absurd z
 zip-last R (a ∷ xs) (b ∷ ys) x y z r = (z.0, zip-last R xs ys x y z.1 r)
 
--- a group more comes from its place
-pub from-last : (olds : List PartSums) (gs : List GroupView) (places : List (Option ℕ)) (g : GroupView) (place : Option ℕ) → ArePartsFrom olds (group_parts gs) places → IfSome place (λ k. slice_get olds k ≡ Some g.part) → ArePartsFrom olds (group_parts (gs ++ g ∷ [])) (places ++ place ∷ [])
+-- a node more comes from its place
+pub from-last : (olds : List PartSums) (gs : List NodeView) (places : List (Option ℕ)) (g : NodeView) (place : Option ℕ) → ArePartsFrom olds (node_parts gs) places → IfSome place (λ k. slice_get olds k ≡ Some g.part) → ArePartsFrom olds (node_parts (gs ++ g ∷ [])) (places ++ place ∷ [])
 from-last olds gs places g place z r =
-    subst (λ vs. ArePartsFrom olds vs (places ++ place ∷ [])) (sym (map-append (λ (g : GroupView). g.part) gs (g ∷ []))) (zip-last (From olds) (group_parts gs) places g.part place z r)
+    subst (λ vs. ArePartsFrom olds vs (places ++ place ∷ [])) (sym (map-append (λ (g : NodeView). g.part) gs (g ∷ []))) (zip-last (From olds) (node_parts gs) places g.part place z r)
 
 -- the part of a segment comes from where the segment does
 part-found : (olds : List SegmentView) (k : ℕ) (s : SegmentView) → slice_get olds k ≡ Some s → slice_get (parts_of olds) k ≡ Some s.part
@@ -71,7 +71,7 @@ row-taken olds news places place k n z row l =
     let d = length-drop place places in
     row-same olds n k (drop place news) (drop place places) (zip-drop (From olds) place news places z) row (omega (arith, d, l))
 
--- the old parts behind a group
+-- the old parts behind a node
 parts-behind : (olds : List PartSums) (first : ℕ) (front back : List PartSums) (c : ℕ) → drop first olds ≡ front ++ back → length front ≡ c → drop (first + c) olds ≡ back
 parts-behind olds first front back c e n = sym (drop-drop c first olds) ∙ ap (drop c) e ∙ drop_at front back c n
 
@@ -81,20 +81,20 @@ parts-within olds first front back c e n l =
     let d = length-drop first olds in
     let b = length-append front back in omega (arith, a, d, b, n, l)
 
--- the old group's parts are few
-pub group-few : (news : List PartSums) (places : List (Option ℕ)) (left gs : List GroupView) (g : GroupView) (count place first : ℕ) → IsRegrouping news places (g ∷ left) gs count place first → first + g.count < 2 ^ 64
-group-few news places left gs g count place first h =
+-- the old node's parts are few
+pub node-few : (news : List PartSums) (places : List (Option ℕ)) (left gs : List NodeView) (g : NodeView) (count place first : ℕ) → IsRebuilding news places (g ∷ left) gs count place first → first + g.count < 2 ^ 64
+node-few news places left gs g count place first h =
     let o = h.old in
     let w = parts-within h.olds first o.0 o.1 g.count o.2 o.3 h.first_within in
     let few = h.few in omega (arith, w, few)
 
-pub place-known : (news : List PartSums) (places : List (Option ℕ)) (left gs : List GroupView) (count place first : ℕ) → IsRegrouping news places left gs count place first → place ≤ length places
+pub place-known : (news : List PartSums) (places : List (Option ℕ)) (left gs : List NodeView) (count place first : ℕ) → IsRebuilding news places left gs count place first → place ≤ length places
 place-known news places left gs count place first h =
     let long = zip-long (From h.olds) news places h.from in
     let w = h.place_within in omega (arith, long, w)
 
 -- it is passed over
-pub passed-over : (news : List PartSums) (places : List (Option ℕ)) (left gs : List GroupView) (g : GroupView) (count place first to : ℕ) → IsRegrouping news places (g ∷ left) gs count place first → place ≤ to → to ≤ length places → IsRegrouping news places left gs count to (first + g.count)
+pub passed-over : (news : List PartSums) (places : List (Option ℕ)) (left gs : List NodeView) (g : NodeView) (count place first to : ℕ) → IsRebuilding news places (g ∷ left) gs count place first → place ≤ to → to ≤ length places → IsRebuilding news places left gs count to (first + g.count)
 passed-over news places left gs g count place first to h l m =
     let o = h.old in
     let long = zip-long (From h.olds) news places h.from in
@@ -102,10 +102,10 @@ passed-over news places left gs g count place first to h l m =
     record {
       olds = h.olds;
       from = h.from;
-      old = subst (λ vs. AreGroupsOf vs left) (sym (parts-behind h.olds first o.0 o.1 g.count o.2 o.3)) o.5;
+      old = subst (λ vs. AreNodesOf vs left) (sym (parts-behind h.olds first o.0 o.1 g.count o.2 o.3)) o.5;
       first_within = parts-within h.olds first o.0 o.1 g.count o.2 o.3 h.first_within;
       few = h.few;
-      groups = h.groups;
+      nodes = h.nodes;
       count_within = omega (arith, c, l);
       place_within = omega (arith, long, m);
     }
@@ -124,12 +124,12 @@ take-front xs ys zs c e n = ap (take c) e ∙ go xs ys c n where
   go (x ∷ xs) ys zero n = absurd (omega (arith, n))
   go (x ∷ xs) ys (suc c) n = ap (λ l. x ∷ l) (go xs ys c (omega (arith, n)))
 
--- it is reused, behind groups of the parts before it
-pub group-reused : (news : List PartSums) (places : List (Option ℕ)) (left gs hs all : List GroupView) (g : GroupView) (count place first to end : ℕ) → IsRegrouping news places (g ∷ left) gs count place first
+-- it is reused, behind nodes of the parts before it
+pub node-reused : (news : List PartSums) (places : List (Option ℕ)) (left gs hs all : List NodeView) (g : NodeView) (count place first to end : ℕ) → IsRebuilding news places (g ∷ left) gs count place first
     → place ≤ to → end ≡ to + g.count → end ≤ length places → AreInRow first (take g.count (drop to places))
-    → ((vs : List PartSums) → AreGroupsOf vs gs → AreGroupsOf (vs ++ slice_range news count to) hs) → all ≡ hs ++ g ∷ []
-    → IsRegrouping news places left all end end (first + g.count)
-group-reused news places left gs hs all g count place first to end h l e m row more is =
+    → ((vs : List PartSums) → AreNodesOf vs gs → AreNodesOf (vs ++ slice_range news count to) hs) → all ≡ hs ++ g ∷ []
+    → IsRebuilding news places left all end end (first + g.count)
+node-reused news places left gs hs all g count place first to end h l e m row more is =
     let o = h.old in
     let passed = passed-over news places left gs g count place first end h (omega (arith, l, e)) m in
     let c = h.count_within in
@@ -138,32 +138,32 @@ group-reused news places left gs hs all g count place first to end h l e m row m
     let front : take g.count (drop to news) ≡ o.0 = same ∙ take-front o.0 o.1 (drop first h.olds) g.count o.2 o.3 in
     let parts : (take count news ++ slice_range news count to) ++ o.0 ≡ take end news =
     ap (λ x. (take count news ++ slice_range news count to) ++ x) (sym front) ∙ parts-between news count to g.count between ∙ ap (λ k. take k news) (sym e) in
-    let grouped : AreGroupsOf ((take count news ++ slice_range news count to) ++ o.0) (hs ++ g ∷ []) = groups-last (take count news ++ slice_range news count to) o.0 hs g (more (take count news) h.groups) o.3 o.4 in
+    let level : AreNodesOf ((take count news ++ slice_range news count to) ++ o.0) (hs ++ g ∷ []) = nodes-last (take count news ++ slice_range news count to) o.0 hs g (more (take count news) h.nodes) o.3 o.4 in
     record {
       olds = passed.olds;
       from = passed.from;
       old = passed.old;
       first_within = passed.first_within;
       few = passed.few;
-      groups = subst (λ vs. AreGroupsOf vs all) parts (subst (λ gs'. AreGroupsOf ((take count news ++ slice_range news count to) ++ o.0) gs') (sym is) grouped);
+      nodes = subst (λ vs. AreNodesOf vs all) parts (subst (λ gs'. AreNodesOf ((take count news ++ slice_range news count to) ++ o.0) gs') (sym is) level);
       count_within = omega arith;
       place_within = passed.place_within;
     }
 
--- what is left when all old groups are passed
-pub rest-grouped : (news : List PartSums) (places : List (Option ℕ)) (left gs hs : List GroupView) (count place first : ℕ) → IsRegrouping news places left gs count place first
-    → ((vs : List PartSums) → AreGroupsOf vs gs → AreGroupsOf (vs ++ drop count news) hs) → AreGroupsOf news hs
-rest-grouped news places left gs hs count place first h more = subst (λ vs. AreGroupsOf vs hs) (take-append-drop count news) (more (take count news) h.groups)
+-- what is left when all old nodes are passed
+pub rest-level : (news : List PartSums) (places : List (Option ℕ)) (left gs hs : List NodeView) (count place first : ℕ) → IsRebuilding news places left gs count place first
+    → ((vs : List PartSums) → AreNodesOf vs gs → AreNodesOf (vs ++ drop count news) hs) → AreNodesOf news hs
+rest-level news places left gs hs count place first h more = subst (λ vs. AreNodesOf vs hs) (take-append-drop count news) (more (take count news) h.nodes)
 
 -- how it begins
-pub regrouping-begins : (olds news : List PartSums) (places : List (Option ℕ)) (gs : List GroupView) → ArePartsFrom olds news places → AreGroupsOf olds gs → length olds < 2 ^ 64 → IsRegrouping news places gs [] 0 0 0
-regrouping-begins olds news places gs from old few = record {
+pub rebuilding-begins : (olds news : List PartSums) (places : List (Option ℕ)) (gs : List NodeView) → ArePartsFrom olds news places → AreNodesOf olds gs → length olds < 2 ^ 64 → IsRebuilding news places gs [] 0 0 0
+rebuilding-begins olds news places gs from old few = record {
   olds = olds;
   from = from;
   old = old;
   first_within = omega arith;
   few = few;
-  groups = refl;
+  nodes = refl;
   count_within = omega arith;
   place_within = omega arith;
 }
@@ -173,7 +173,7 @@ module _ {X : Type 0} (f : X → PartSums) where
   pub between-few : (xs : List X) (a b : ℕ) → AreFew (map f xs) → AreFew (map f (slice_range xs a b))
   between-few xs a b h = front-few f (drop a xs) (take (b - a) (drop a xs)) (drop (b - a) (drop a xs)) (b - a) refl refl (back-few f xs (take a xs) (drop a xs) a refl refl h)
 
-  pub bounds-known : (xs : List X) (places : List (Option ℕ)) (left gs : List GroupView) (count place first to : ℕ) → IsRegrouping (map f xs) places left gs count place first → to ≤ length places → to ≤ length xs
+  pub bounds-known : (xs : List X) (places : List (Option ℕ)) (left gs : List NodeView) (count place first to : ℕ) → IsRebuilding (map f xs) places left gs count place first → to ≤ length places → to ≤ length xs
   bounds-known xs places left gs count place first to h l =
       let long = zip-long (From h.olds) (map f xs) places h.from in
       let m = length-map xs f in omega (arith, long, m, l)

@@ -5,16 +5,14 @@ use Rattle.scenarios.specs.Scenario.{ScenarioView}
 use Rattle.scenarios.specs.Plan.{Plan, plan_of}
 use Rattle.scenarios.specs.SoundPlan.{IsPlan}
 use Rattle.scenarios.specs.declared.skip.Skip.{Skip}
-use Rattle.scenarios.specs.declared.skips.Skips.{Skips}
 use Rattle.scenarios.specs.Skips.{reasons_of, skips_among, skips_of}
 use Rattle.easy_rule.specs.Simulation.{sim}
 use Rattle.metrics.specs.Part.{PartSums, IsPartOf}
-use Rattle.metrics.specs.Tables.{TableRows, tables_of}
 use Rattle.checkpoints.specs.Segment.{SegmentView}
 use Rattle.checkpoints.specs.Cut.{IsCut, placed_of}
-use Rattle.checkpoints.specs.Groups.{parts_of}
+use Rattle.checkpoints.specs.Nodes.{parts_of}
 use Rattle.checkpoints.specs.Merged.{IsMerged, AreFew}
-use Rattle.checkpoints.specs.Sums.{IsTablesOf, HasOwnPart, all_placed}
+use Rattle.checkpoints.specs.Sums.{HasOwnPart, all_placed}
 use Rattle.checkpoints.proofs.Chains.{chain-part, cut-outcome}
 use Rattle.checkpoints.proofs.Counting.{jobs-or-skips}
 use Rattle.checkpoints.proofs.Late.{placed-fewer, sim-few, sim-fewer}
@@ -51,7 +49,3 @@ none-skipped log s v p h e =
     let c = sim-fewer plan p in
     let d = jobs-or-skips s log in
     none-left log s (omega (arith, a, b, c, d, e))
-
--- the tables of these sums
-pub tables-are : (log : List LogEntry) (s : ScenarioView) (v : PartSums) (tables : TableRows) (procs : ℕ) (skips : Skips) → IsPartOf (all_placed (plan_of log s)) v → tables ≡ tables_of procs skips v → procs ≡ s.procs → skips ≡ skips_of log s → IsTablesOf log s tables
-tables-are log s v tables procs skips part is a b = (v, part, is ∙ ap (λ (n : ℕ). tables_of n skips v) a ∙ ap (λ (k : Skips). tables_of s.procs k v) b)

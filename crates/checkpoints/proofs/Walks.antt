@@ -24,10 +24,6 @@ module _ {X Y : Type 0} (stretch : X → Stretch Y) where
   pub put-one : (made new all : List (Stretch Y)) (x : X) (xs : List X) → new ≡ made ++ somewhere (x ∷ []) → made ++ somewhere (x ∷ xs) ≡ all → new ++ somewhere xs ≡ all
   put-one made new all x xs e h = ap (λ l. l ++ somewhere xs) e ∙ append_assoc made (somewhere (x ∷ [])) (somewhere xs) ∙ ap (λ l. made ++ l) (sym (somewhere-append (x ∷ []) xs)) ∙ h
 
-  -- those of two lists were put to nothing
-  pub put-both : (made new : List (Stretch Y)) (xs ys : List X) → made ≡ [] ++ somewhere xs → new ≡ made ++ somewhere ys → new ≡ somewhere (xs ++ ys)
-  put-both made new xs ys a b = b ∙ ap (λ l. l ++ somewhere ys) a ∙ sym (somewhere-append xs ys)
-
 module _ {W X Y : Type 0} (stretch : X → Stretch Y) (pick : W → Option X) where
   -- the stretches of those that are picked
   abbrev pub picked : List W → List (Stretch Y)

@@ -12,5 +12,5 @@ pub mod RunView
 pub mod Names
 pub mod Alike
 pub mod Merged
-pub mod Groups
-pub mod Regrouping
+pub mod Nodes
+pub mod Rebuilding

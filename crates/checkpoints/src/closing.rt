@@ -90,7 +90,6 @@ pub(crate) fn shared_of<A: Allocator + Copy>(
     Ok(shared)
 }
 
-// Adds a piece as a segment, with the numbers that stand at this place.
 fn add_piece<A: Allocator + Copy>(
     alloc: A,
     piece: Piece<A>,
@@ -106,7 +105,6 @@ fn add_piece<A: Allocator + Copy>(
     Ok(())
 }
 
-// Adds pieces as segments, each with the numbers that stand at its place.
 pub(crate) fn add_pieces<A: Allocator + Copy>(
     alloc: A,
     pieces: Vec<Piece<A>, A>,

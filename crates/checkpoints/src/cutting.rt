@@ -1,4 +1,4 @@
-ghost use Rattle.std.specs.Prelude.{◌≡◌, ◌≤◌, ◌↔◌, false, IsTrue, IfOk, IfErr, IfSome, OnOk};
+ghost use Rattle.std.specs.Prelude.{◌≡◌, ◌≤◌, ◌↔◌, false, IsTrue, IfOk, IfSome, OnOk};
 ghost use Rattle.cluster_state.specs.Snapshot.{numbers_of};
 ghost use Rattle.easy_rule.specs.Simulation.{before as before_second};
 ghost use Rattle.event_loop.specs.Going.{IsRunOn};
@@ -8,7 +8,6 @@ ghost use Rattle.checkpoints.specs.Cut.{Spans};
 ghost use Rattle.checkpoints.specs.Pieces.{IsNotedIn, segment_of};
 ghost use Rattle.checkpoints.specs.Worked.{WorksStretch, WorksUpTo};
 
-use crate::fault::RunFault;
 use crate::parts::add_placed;
 use crate::piece::Piece;
 use cluster_state::Snapshot;
@@ -16,6 +15,7 @@ use easy_rule::{Start, add_starts};
 use event_loop::Engine;
 use metrics::{Part, Placed};
 use std::alloc::Allocator;
+use swf_text::Memory;
 
 // The starts of some seconds, and their jobs with these seconds.
 #[derive(Drop)]
@@ -37,21 +37,18 @@ pub fn comes_before<A: Allocator + Copy>(engine: &Engine<A>, end: Option<u64>) -
     }
 }
 
-// Works `spacing` event seconds, or those that come before the end, of which there is one, and answers
-// their starts and jobs.
 fn work<A: Allocator + Copy>(
     alloc: A,
     engine: &mut Engine<A>,
     spacing: u32,
     end: Option<u64>,
-) -> Result<Worked<A>, RunFault>
+) -> Result<Worked<A>, Memory>
     requires spacing { 1 ≤ spacing }
     requires going { engine.old.failed ≡ false }
     requires coming { ComesBefore engine.old end }
     ensures stretch { IfOk result (λ w. WorksStretch engine.old engine.new w.starts.items w.placed.items) }
     ensures events { OnOk result (WorksUpTo engine.old engine.new spacing end) }
     ensures can { IfOk result (λ w. CanSum w.placed.items) }
-    ensures fault { IfErr result (λ f. f ≡ RunFault.Memory) }
 {
     let mut starts = Vec::new(alloc);
     let mut placed = Vec::new(alloc);
@@ -88,10 +85,9 @@ fn noted<A: Allocator + Copy>(
     engine: &Engine<A>,
     spacing: u32,
     started: &mut u64,
-) -> Result<Option<Snapshot<A>>, RunFault>
+) -> Result<Option<Snapshot<A>>, Memory>
     requires { engine.now.failed ≡ false }
     ensures noted { IfOk result (λ before. IfSome before (λ there. there ≡ numbers_of (before_second engine.now.plan engine.now.position))) }
-    ensures fault { IfErr result (λ f. f ≡ RunFault.Memory) }
 {
     let standing = engine.standing();
     if standing > few(spacing) && standing as u64 > *started {
@@ -114,7 +110,7 @@ pub fn next_piece<A: Allocator + Copy>(
     spacing: u32,
     end: Option<u64>,
     started: &mut u64,
-) -> Result<Piece<A>, RunFault>
+) -> Result<Piece<A>, Memory>
     requires spacing { 1 ≤ spacing }
     requires going { engine.old.failed ≡ false }
     requires coming { ComesBefore engine.old end }
@@ -122,7 +118,6 @@ pub fn next_piece<A: Allocator + Copy>(
     ensures spans { IfOk result (λ p. Spans engine.old.plan (segment_of engine.old.plan p) engine.old.position engine.new.position) }
     ensures noted { IfOk result (IsNotedIn engine.old.plan) }
     ensures events { OnOk result (WorksUpTo engine.old engine.new spacing end) }
-    ensures fault { IfErr result (λ f. f ≡ RunFault.Memory) }
 {
     let first = engine.position();
     let before = noted(engine, spacing, started)?;

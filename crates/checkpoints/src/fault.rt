@@ -1,8 +1,6 @@
 ghost use Rattle.std.specs.Prelude.{◌≡◌};
 ghost use Rattle.checkpoints.specs.declared.fault.RunFault.TheVariants as faults;
 
-use event_loop::EngineFault;
-use std::alloc::{AllocError, AllocFailed};
 use std::fmt;
 use swf_text;
 use thiserror::Error;
@@ -46,31 +44,6 @@ impl From<swf_text::Memory> for RunFault {
     ghost from_gives = { λ _ fault. fault ≡ faults.Memory };
 
     fn from(_memory: swf_text::Memory) -> RunFault {
-        RunFault::Memory
-    }
-}
-
-impl From<AllocError> for RunFault {
-    ghost from_gives = { λ _ fault. fault ≡ faults.Memory };
-
-    fn from(_error: AllocError) -> RunFault {
-        RunFault::Memory
-    }
-}
-
-impl<T: Drop> From<AllocFailed<T>> for RunFault {
-    ghost from_gives = { λ _ fault. fault ≡ faults.Memory };
-
-    fn from(_error: AllocFailed<T>) -> RunFault {
-        RunFault::Memory
-    }
-}
-
-// An engine fails only where it runs out of memory.
-impl From<EngineFault> for RunFault {
-    ghost from_gives = { λ _ fault. fault ≡ faults.Memory };
-
-    fn from(_fault: EngineFault) -> RunFault {
         RunFault::Memory
     }
 }

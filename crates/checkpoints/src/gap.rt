@@ -54,7 +54,6 @@ impl<A: Allocator + Copy> Gap<A> {
         self.starts.as_slice()
     }
 
-    // Adds the stretch of seconds before which a job waits.
     pub(crate) fn add_waiting(
         &self,
         job: &Job,
@@ -66,7 +65,6 @@ impl<A: Allocator + Copy> Gap<A> {
         add(made, waiting_places(self.seconds.as_slice(), job, start))
     }
 
-    // Adds the stretch of seconds before which a job of this start runs.
     pub(crate) fn add_running(
         &self,
         job: &Job,

@@ -1,16 +1,16 @@
-//! The merge tree of a run: the parts of its segments in groups, on three levels. An edit lets one
-//! group of each be merged again, and the last ones are few.
+//! The merge tree of a run: its segments' parts, merged node by node on three levels. After an edit one
+//! node of each level is merged again, and the topmost ones are few.
 
 ghost use Rattle.std.specs.Prelude.{◌≡◌, ◌<◌, ◌^◌, List, IfOk, map, length};
 ghost use Rattle.std.specs.Arc.{arc_value};
 ghost use Rattle.metrics.specs.Part.{PartSums};
 ghost use Rattle.checkpoints.specs.Merged.{AreFew, IsMerged};
 ghost use Rattle.checkpoints.specs.Segment.{SegmentView};
-ghost use Rattle.checkpoints.specs.Groups.{parts_of, group_parts, AreGroupsOf, ArePartsFrom, IsMergeTreeOf, AreFrom};
+ghost use Rattle.checkpoints.specs.Nodes.{parts_of, node_parts, AreNodesOf, ArePartsFrom, IsMergeTreeOf, AreFrom};
 
-use crate::groups::{Group, Grouped, groups_of, parts_in};
 use crate::merged::merged;
-use crate::regrouping::regrouped;
+use crate::nodes::{Level, Node, nodes_of, parts_in};
+use crate::rebuilding::rebuilt;
 use crate::segment::Segment;
 use metrics::Part;
 use std::alloc::{AllocError, Allocator};
@@ -18,16 +18,16 @@ use std::marker::Model;
 use std::sync::Arc;
 use swf_text::Memory;
 
-// Groups of segments' parts, groups of those groups' parts, and once more.
+// The levels: nodes over segments' parts, nodes over those nodes' parts, and once more.
 #[derive(Drop)]
 pub(crate) struct MergeTree<A: Allocator + Copy> {
-    small: Vec<Group<A>, A>,
-    middle: Vec<Group<A>, A>,
-    large: Vec<Group<A>, A>,
+    small: Vec<Node<A>, A>,
+    middle: Vec<Node<A>, A>,
+    large: Vec<Node<A>, A>,
 }
 
 impl<A: Allocator + Copy> Model for MergeTree<A> {
-    ghost use Rattle.checkpoints.specs.Groups.{MergeTreeView};
+    ghost use Rattle.checkpoints.specs.Nodes.{MergeTreeView};
 
     ghost Value = { MergeTreeView };
 
@@ -47,29 +47,26 @@ fn segment_parts<A: Allocator + Copy>(
     Ok(parts)
 }
 
-fn groups_above<A: Allocator + Copy>(
-    alloc: A,
-    groups: &[Group<A>],
-) -> Result<Vec<Group<A>, A>, Memory>
-    requires { AreFew (group_parts groups.now) }
-    ensures { IfOk result (λ above. AreGroupsOf (group_parts groups.now) above.items) }
+fn nodes_above<A: Allocator + Copy>(alloc: A, nodes: &[Node<A>]) -> Result<Vec<Node<A>, A>, Memory>
+    requires { AreFew (node_parts nodes.now) }
+    ensures { IfOk result (λ above. AreNodesOf (node_parts nodes.now) above.items) }
 {
-    let parts = parts_in(alloc, groups)?;
-    groups_of(alloc, parts.as_slice())
+    let parts = parts_in(alloc, nodes)?;
+    nodes_of(alloc, parts.as_slice())
 }
 
-fn regrouped_above<A: Allocator + Copy>(
+fn rebuilt_above<A: Allocator + Copy>(
     alloc: A,
-    old: &[Group<A>],
-    below: &Grouped<A>,
-) -> Result<Grouped<A>, Memory>
-    requires few { AreFew (group_parts below.now.groups.items) }
-    requires old { (olds : List PartSums) × (length olds < 2 ^ 64) × AreGroupsOf olds old.now × ArePartsFrom olds (group_parts below.now.groups.items) below.now.places.items }
-    ensures groups { IfOk result (λ above. AreGroupsOf (group_parts below.now.groups.items) above.groups.items) }
-    ensures places { IfOk result (λ above. ArePartsFrom (group_parts old.now) (group_parts above.groups.items) above.places.items) }
+    old: &[Node<A>],
+    below: &Level<A>,
+) -> Result<Level<A>, Memory>
+    requires few { AreFew (node_parts below.now.nodes.items) }
+    requires old { (olds : List PartSums) × (length olds < 2 ^ 64) × AreNodesOf olds old.now × ArePartsFrom olds (node_parts below.now.nodes.items) below.now.places.items }
+    ensures nodes { IfOk result (λ above. AreNodesOf (node_parts below.now.nodes.items) above.nodes.items) }
+    ensures places { IfOk result (λ above. ArePartsFrom (node_parts old.now) (node_parts above.nodes.items) above.places.items) }
 {
-    let parts = parts_in(alloc, below.groups.as_slice())?;
-    regrouped(alloc, old, parts.as_slice(), below.places.as_slice())
+    let parts = parts_in(alloc, below.nodes.as_slice())?;
+    rebuilt(alloc, old, parts.as_slice(), below.places.as_slice())
 }
 
 impl<A: Allocator + Copy> MergeTree<A> {
@@ -78,9 +75,9 @@ impl<A: Allocator + Copy> MergeTree<A> {
         ensures { IfOk result (IsMergeTreeOf (parts_of (map arc_value segments.now))) }
     {
         let parts = segment_parts(alloc, segments)?;
-        let small = groups_of(alloc, parts.as_slice())?;
-        let middle = groups_above(alloc, small.as_slice())?;
-        let large = groups_above(alloc, middle.as_slice())?;
+        let small = nodes_of(alloc, parts.as_slice())?;
+        let middle = nodes_above(alloc, small.as_slice())?;
+        let large = nodes_above(alloc, middle.as_slice())?;
         Ok(MergeTree {
             small,
             middle,
@@ -88,7 +85,7 @@ impl<A: Allocator + Copy> MergeTree<A> {
         })
     }
 
-    // The groups of these segments' parts. A segment with a place is the old one there, and old groups
+    // The nodes of these segments' parts. A segment with a place is the old one there, and old nodes
     // whose parts all were reused, side by side, are reused too.
     pub(crate) fn of_reused(
         alloc: A,
@@ -101,12 +98,12 @@ impl<A: Allocator + Copy> MergeTree<A> {
         ensures { IfOk result (IsMergeTreeOf (parts_of (map arc_value segments.now))) }
     {
         let parts = segment_parts(alloc, segments)?;
-        let small = regrouped(alloc, old.small.as_slice(), parts.as_slice(), places)?;
-        let middle = regrouped_above(alloc, old.middle.as_slice(), &small)?;
-        let large = regrouped_above(alloc, old.large.as_slice(), &middle)?;
-        let Grouped { groups: small, .. } = small;
-        let Grouped { groups: middle, .. } = middle;
-        let Grouped { groups: large, .. } = large;
+        let small = rebuilt(alloc, old.small.as_slice(), parts.as_slice(), places)?;
+        let middle = rebuilt_above(alloc, old.middle.as_slice(), &small)?;
+        let large = rebuilt_above(alloc, old.large.as_slice(), &middle)?;
+        let Level { nodes: small, .. } = small;
+        let Level { nodes: middle, .. } = middle;
+        let Level { nodes: large, .. } = large;
         Ok(MergeTree {
             small,
             middle,

@@ -71,7 +71,6 @@ impl<A: Allocator + Copy> Noting<A> {
         })
     }
 
-    // Notes a start, unless its number has one.
     fn note(&mut self, start: Start) -> Result<(), Memory>
         ensures { OnOk result ((n : ℕ) → known_start self.new n ≡ option_or (known_start self.old n) (start_of (start ∷ []) n)) }
     {
@@ -84,7 +83,6 @@ impl<A: Allocator + Copy> Noting<A> {
         Ok(())
     }
 
-    // Notes starts, each unless its number has one.
     pub(crate) fn note_all(&mut self, starts: &[Start]) -> Result<(), Memory>
         ensures { OnOk result ((n : ℕ) → known_start self.new n ≡ option_or (known_start self.old n) (start_of starts.now n)) }
     {
@@ -94,7 +92,6 @@ impl<A: Allocator + Copy> Noting<A> {
         Ok(())
     }
 
-    // Notes that these jobs start at a second, each unless its number has a start.
     pub(crate) fn note_jobs(&mut self, jobs: &[Job], second: u64) -> Result<(), Memory>
         ensures { OnOk result ((n : ℕ) → known_start self.new n ≡ option_or (known_start self.old n) (start_of (map (start_at second) jobs.now) n)) }
     {

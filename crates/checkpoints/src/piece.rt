@@ -44,7 +44,6 @@ impl<A: Allocator + Copy> Piece<A> {
         }
     }
 
-    // The segment, where its snapshot was noted; otherwise the piece again.
     pub(crate) fn into_segment(self) -> Result<Segment<A>, Piece<A>>
         ensures noted { IfOk result (λ s. self ≡ record { first = s.first; before = Some s.before; starts = s.starts; part = s.part }) }
         ensures other { IfErr result (λ piece. piece ≡ self) }

@@ -10,7 +10,7 @@ ghost use Rattle.checkpoints.specs.Starts.{known_start};
 use crate::noting::{Noting, STEP};
 use crate::rows::Rows;
 use crate::starts::{PLACES, Starts};
-use event_loop::{Engine, EngineFault};
+use event_loop::Engine;
 use scenarios::{Job, Plan};
 use std::alloc::Allocator;
 use swf_text::Memory;
@@ -35,11 +35,7 @@ fn work_next<A: Allocator + Copy>(
     ensures started { IfOk result (λ o. IfSome o (λ t. StartIn engine.old.plan t started.new.items)) }
     ensures plan { IsPlan engine.old.plan }
 {
-    match engine.step_into(started) {
-        Ok(second) => Ok(second),
-        Err(EngineFault::Memory) => Err(Memory),
-        Err(EngineFault::Failed) => unreachable!(),
-    }
+    Ok(engine.step_into(started)?)
 }
 
 // The least number at the head of a plan's jobs. It decides only which starts have places.
@@ -68,7 +64,7 @@ fn starts_of<A: Allocator + Copy>(alloc: A, plan: &Plan<A>) -> Result<Planned<A>
     ensures starts { IfOk result (λ planned. (n : ℕ) → known_start planned.starts n ≡ start_of (sim (plan_in plan.now)) n) }
     ensures count { IfOk result (λ planned. planned.count ≡ length (sim (plan_in plan.now))) }
 {
-    let mut engine = Engine::new(alloc, plan.table().clone()?, plan.scenario());
+    let mut engine = Engine::new(alloc, plan.copy()?);
     let mut noting = none_of(alloc, plan)?;
     let mut started = Vec::new(alloc);
     let mut count = 0usize;

@@ -31,7 +31,6 @@ impl<'a, A: Allocator + Copy> Model for Rows<'a, A> {
 }
 
 impl<'a, A: Allocator + Copy> Rows<'a, A> {
-    // The rows of these jobs that start among these; there are so many.
     pub(crate) fn new(starts: Starts<A>, jobs: Jobs<'a, A>, left: usize) -> Rows<'a, A>
         requires count { left ≡ length (filter_map (row_by starts) jobs) }
         requires early { AreEarly starts }

@@ -33,7 +33,7 @@ impl<A: Allocator + Copy> Model for Run<A> {
     ghost use Rattle.std.specs.Prelude.{map};
     ghost use Rattle.std.specs.Arc.{arc_value};
     ghost use Rattle.checkpoints.specs.RunView.{RunView, IsRun};
-    ghost use Rattle.checkpoints.specs.Groups.{IsMergeTreeOf, parts_of};
+    ghost use Rattle.checkpoints.specs.Nodes.{IsMergeTreeOf, parts_of};
 
     ghost Value = { RunView };
 
@@ -53,51 +53,30 @@ impl<A: Allocator + Copy> Run<A> {
     ghost use Rattle.checkpoints.specs.Sums.{IsTablesOf};
     ghost use Rattle.checkpoints.specs.Schedule.{rows_of};
     ghost use Rattle.checkpoints.specs.RunView.{IsRun};
-    ghost use Rattle.checkpoints.specs.Groups.{AreFrom};
+    ghost use Rattle.checkpoints.specs.Nodes.{AreFrom};
 
-    /// The run of these segments, which are those of the table's simulation under the scenario.
-    /// Its tables and its counts of skipped entries are made anew. Memory where a growth was
-    /// refused.
-    pub fn of_segments(
-        alloc: A,
-        table: Arc<JobTable<A>, A>,
-        scenario: Scenario,
-        segments: Vec<Arc<Segment<A>, A>, A>,
-    ) -> Result<Run<A>, Memory>
-        requires { IsCut (plan_of (arc_value table) scenario) (map arc_value segments.items) }
-        ensures log { IfOk result (λ run. run.log ≡ arc_value table) }
-        ensures scenario { IfOk result (λ run. run.scenario ≡ scenario) }
-        ensures segments { IfOk result (λ run. run.segments ≡ map arc_value segments.items) }
-        ensures sound { IfOk result IsRun }
-    {
-        let run = Run::of_plan(alloc, Plan::new(table, scenario), segments)?;
-        Ok(run)
-    }
-
-    /// The run of these segments, which are those of the table's simulation under an old run's scenario,
-    /// and of these counts of skipped entries, which are the table's. A segment with a place is the old
-    /// run's at that place.
+    /// The run of these segments, which are those of the plan's simulation, and of these counts of its
+    /// skipped entries. A segment with a place is an old run's at that place.
     ///
-    /// It looks at no entry of the table. The old run keeps its segments in groups, each with the sums
-    /// of its segments, and these in groups too: groups whose segments all are reused, side by
-    /// side, are not merged again. Memory where a growth was refused.
+    /// It looks at no entry of the table, and takes those nodes of the old run's merge tree as they are
+    /// whose segments all are reused, side by side. Memory where a growth was refused.
     pub fn of_reused(
         alloc: A,
         old: &Run<A>,
-        table: Arc<JobTable<A>, A>,
+        plan: Plan<A>,
         skips: Skips,
         segments: Vec<Arc<Segment<A>, A>, A>,
         places: &[Option<usize>],
     ) -> Result<Run<A>, Memory>
-        requires cut { IsCut (plan_of (arc_value table) old.now.scenario) (map arc_value segments.items) }
-        requires skips { skips ≡ skips_of (arc_value table) old.now.scenario }
+        requires cut { IsCut (plan_in plan) (map arc_value segments.items) }
+        requires skips { skips ≡ skips_of plan.log plan.scenario }
         requires places { AreFrom old.now.segments (map arc_value segments.items) places.now }
-        ensures log { IfOk result (λ run. run.log ≡ arc_value table) }
-        ensures scenario { IfOk result (λ run. run.scenario ≡ old.now.scenario) }
+        ensures log { IfOk result (λ run. run.log ≡ plan.log) }
+        ensures scenario { IfOk result (λ run. run.scenario ≡ plan.scenario) }
         ensures segments { IfOk result (λ run. run.segments ≡ map arc_value segments.items) }
         ensures sound { IfOk result IsRun }
     {
-        let plan = Plan::new(table, old.plan.scenario());
+        prove!(plan.scenario().procs() >= 1);
         let merge_tree = MergeTree::of_reused(alloc, &old.merge_tree, segments.as_slice(), places)?;
         let tables = tables_of(alloc, &plan, skips, &merge_tree)?;
         Ok(Run {
@@ -109,7 +88,9 @@ impl<A: Allocator + Copy> Run<A> {
         })
     }
 
-    pub(crate) fn of_plan(
+    /// The run of these segments, which are those of the plan's simulation. Its tables and its counts
+    /// of skipped entries are made anew. Memory where a growth was refused.
+    pub fn of_segments(
         alloc: A,
         plan: Plan<A>,
         segments: Vec<Arc<Segment<A>, A>, A>,
@@ -215,7 +196,6 @@ impl<A: Allocator + Copy> Run<A> {
     }
 }
 
-// How many of so many entries are left when these are skipped.
 fn kept_of(count: usize, skips: &Skips) -> usize
     requires { skips.now.size + skips.now.run + skips.now.large + skips.now.long ≤ count }
     ensures { skips.now.size + skips.now.run + skips.now.large + skips.now.long + result ≡ count }

@@ -32,7 +32,6 @@ fn add_numbers<A: Allocator + Copy>(
     Ok(())
 }
 
-// Adds the stretches of those who run before the first second of a segment.
 fn add_base<A: Allocator + Copy>(
     plan: &PlanRef<'_, A>,
     gap: &Gap<A>,
@@ -63,8 +62,6 @@ fn add_started<A: Allocator + Copy>(
     Ok(())
 }
 
-// The frame of those who run before the seconds of a gap behind a segment, by number: of those who ran
-// before the segment, and of those who start from then on.
 pub(crate) fn running_frame<A: Allocator + Copy>(
     alloc: A,
     plan: &PlanRef<'_, A>,

@@ -32,7 +32,6 @@ pub(crate) fn start_in<A: Allocator + Copy>(
     None
 }
 
-// All these rows, as a list.
 pub(crate) fn listed<A: Allocator + Copy>(
     alloc: A,
     mut rows: Rows<'_, A>,

@@ -69,9 +69,8 @@ impl<A: Allocator + Copy> Segments<A> {
         }
     }
 
-    /// One segment more: one that is kept already, and is shared from now on. Memory where a growth was
-    /// refused.
-    pub fn take_over(
+    /// One segment more: one of an old run, which is shared from now on. Memory where a growth was refused.
+    pub fn reuse(
         &mut self,
         plan: &PlanRef<'_, A>,
         segment: &Arc<Segment<A>, A>,

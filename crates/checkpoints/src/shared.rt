@@ -32,7 +32,6 @@ impl<A: Allocator + Copy> Model for Shared<A> {
 }
 
 impl<A: Allocator + Copy> Shared<A> {
-    // The frames of those who stand before the seconds of a gap behind a segment.
     pub(crate) fn of(
         alloc: A,
         plan: &PlanRef<'_, A>,

@@ -1,6 +1,5 @@
 ghost use Rattle.std.specs.Prelude.{◌≡◌, ◌≤◌, None, map, IfOk, IfErr, OnOk};
 ghost use Rattle.std.specs.Arc.{arc_value};
-ghost use Rattle.scenarios.specs.Plan.{plan_of};
 ghost use Rattle.scenarios.specs.PlanView.{plan_in};
 ghost use Rattle.checkpoints.specs.Coming.{ComesBefore};
 ghost use Rattle.checkpoints.specs.Cut.{IsShortCut};
@@ -15,15 +14,14 @@ use crate::run::Run;
 use crate::segment::Segment;
 use crate::segments::Segments;
 use event_loop::Engine;
-use job_table::JobTable;
-use scenarios::{Plan, PlanRef, Scenario};
+use scenarios::{Plan, PlanRef};
 use std::alloc::Allocator;
 use std::sync::Arc;
+use swf_text::Memory;
 
 /// The most event seconds that a segment may be asked to hold.
 pub const MAX_SPACING: u32 = 65_536;
 
-// Works the next piece of a plan's simulation, and adds it to the segments before it.
 fn add_next<A: Allocator + Copy>(
     alloc: A,
     plan: &PlanRef<'_, A>,
@@ -31,13 +29,12 @@ fn add_next<A: Allocator + Copy>(
     segments: &mut Segments<A>,
     spacing: u32,
     started: &mut u64,
-) -> Result<(), RunFault>
+) -> Result<(), Memory>
     requires spacing { 1 ≤ spacing }
     requires cut { Cutting (plan_in plan.now) spacing engine.old (all_in (plan_in plan.now) segments.old) }
     requires coming { ComesBefore engine.old None }
     ensures cut { OnOk result (Cutting (plan_in plan.now) spacing engine.new (all_in (plan_in plan.now) segments.new)) }
     ensures nearer { OnOk result (IsNearer (plan_in plan.now) engine.old.position engine.new.position) }
-    ensures fault { IfErr result (λ f. f ≡ RunFault.Memory) }
 {
     prove!(plan.scenario().procs() >= 1);
     let piece = next_piece(alloc, engine, spacing, None, started)?;
@@ -45,18 +42,15 @@ fn add_next<A: Allocator + Copy>(
     Ok(())
 }
 
-// The segments of a plan's simulation, of `spacing` event seconds each, but the last, of which some are
-// pending.
 fn worked<A: Allocator + Copy>(
     alloc: A,
     plan: &Plan<A>,
     spacing: u32,
-) -> Result<Segments<A>, RunFault>
+) -> Result<Segments<A>, Memory>
     requires { 1 ≤ spacing }
     ensures cut { IfOk result (λ segments. IsShortCut (plan_in plan.now) spacing (all_in (plan_in plan.now) segments)) }
-    ensures fault { IfErr result (λ f. f ≡ RunFault.Memory) }
 {
-    let mut engine = Engine::new(alloc, plan.table().clone()?, plan.scenario());
+    let mut engine = Engine::new(alloc, plan.copy()?);
     let view = plan.view();
     let mut started = 0;
     let mut segments = Segments::new(alloc);
@@ -77,10 +71,9 @@ fn segments_of<A: Allocator + Copy>(
     alloc: A,
     plan: &Plan<A>,
     spacing: u32,
-) -> Result<Vec<Arc<Segment<A>, A>, A>, RunFault>
+) -> Result<Vec<Arc<Segment<A>, A>, A>, Memory>
     requires { 1 ≤ spacing }
     ensures cut { IfOk result (λ segments. IsShortCut (plan_in plan.now) spacing (map arc_value segments.items)) }
-    ensures fault { IfErr result (λ f. f ≡ RunFault.Memory) }
 {
     let segments = worked(alloc, plan, spacing)?;
     let view = plan.view();
@@ -88,29 +81,27 @@ fn segments_of<A: Allocator + Copy>(
     Ok(done)
 }
 
-/// Simulates a table under a scenario, and cuts the simulation into segments, each of which holds
-/// `spacing` event seconds, but the last one, which may hold fewer, and at least one. An event second
-/// is one at which a job is submitted or ends.
+/// Simulates a plan, and cuts the simulation into segments, each of which holds `spacing` event seconds,
+/// but the last one, which may hold fewer, and at least one. An event second is one at which a job is
+/// submitted or ends.
 ///
 /// BadSpacing where `spacing` is not within 1 to 65,536; Memory where a growth was refused.
 pub fn simulate<A: Allocator + Copy>(
     alloc: A,
-    table: Arc<JobTable<A>, A>,
-    scenario: Scenario,
+    plan: Plan<A>,
     spacing: u32,
 ) -> Result<Run<A>, RunFault>
     ensures spacing { OnOk result (IsSpacing spacing) }
-    ensures log { IfOk result (λ run. run.log ≡ arc_value table) }
-    ensures scenario { IfOk result (λ run. run.scenario ≡ scenario) }
-    ensures cut { IfOk result (λ run. IsShortCut (plan_of (arc_value table) scenario) spacing run.segments) }
+    ensures log { IfOk result (λ run. run.log ≡ plan.log) }
+    ensures scenario { IfOk result (λ run. run.scenario ≡ plan.scenario) }
+    ensures cut { IfOk result (λ run. IsShortCut (plan_in plan) spacing run.segments) }
     ensures sound { IfOk result IsRun }
     ensures fault { IfErr result (λ f. IsRefusal spacing f) }
 {
     if spacing < 1 || spacing > MAX_SPACING {
         return Err(RunFault::BadSpacing);
     }
-    let plan = Plan::new(table, scenario);
     let segments = segments_of(alloc, &plan, spacing)?;
-    let run = Run::of_plan(alloc, plan, segments)?;
+    let run = Run::of_segments(alloc, plan, segments)?;
     Ok(run)
 }

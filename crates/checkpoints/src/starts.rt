@@ -84,7 +84,6 @@ struct Numbers {
 }
 
 impl Numbers {
-    // Those of no starts.
     fn none() -> Numbers {
         Numbers {
             least: u64::MAX,
@@ -93,7 +92,6 @@ impl Numbers {
         }
     }
 
-    // Those of the starts of these segments.
     fn of<A: Allocator + Copy>(segments: &[Arc<Segment<A>, A>]) -> Numbers {
         let mut numbers = Numbers::none();
         for segment in segments {
@@ -102,7 +100,6 @@ impl Numbers {
         numbers
     }
 
-    // Takes more starts in.
     fn add(&mut self, starts: &[Start]) {
         for start in starts {
             self.least = self.least.min(start.number);
@@ -111,7 +108,6 @@ impl Numbers {
         self.count = self.count.saturating_add(starts.len());
     }
 
-    // How many places the numbers have: one for each from the least to the greatest, or none.
     fn places(&self) -> usize {
         let span = self.greatest.saturating_sub(self.least);
         if span / (PLACES as u64) < self.count as u64 {
@@ -121,7 +117,6 @@ impl Numbers {
     }
 }
 
-// The place of a number among so many, of which the first is that of the least.
 pub(crate) fn place_of(least: u64, len: usize, number: u64) -> Option<usize>
     ensures { result ≡ place_in least len number }
 {
@@ -129,7 +124,6 @@ pub(crate) fn place_of(least: u64, len: usize, number: u64) -> Option<usize>
     if place < len { Some(place) } else { None }
 }
 
-// Puts starts in order of their numbers; those of one number stay as they stand.
 pub(crate) fn sort_by_number<A: Allocator + Copy>(
     starts: &mut Vec<Start, A>,
 ) -> Result<(), AllocError>

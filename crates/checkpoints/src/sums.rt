@@ -5,7 +5,7 @@ ghost use Rattle.scenarios.specs.Skips.{skips_of};
 ghost use Rattle.metrics.specs.Part.{IsPartOf};
 ghost use Rattle.checkpoints.specs.Segment.{SegmentView};
 ghost use Rattle.checkpoints.specs.Cut.{IsCut};
-ghost use Rattle.checkpoints.specs.Groups.{IsMergeTreeOf, parts_of};
+ghost use Rattle.checkpoints.specs.Nodes.{IsMergeTreeOf, parts_of};
 ghost use Rattle.checkpoints.specs.Sums.{IsTablesOf, all_placed};
 
 use crate::merge_tree::MergeTree;

@@ -30,7 +30,6 @@ fn add_numbers<A: Allocator + Copy>(
     Ok(())
 }
 
-// Adds the stretches of those who wait before the first second of a segment.
 fn add_base<A: Allocator + Copy>(
     plan: &PlanRef<'_, A>,
     gap: &Gap<A>,
@@ -45,7 +44,6 @@ fn add_base<A: Allocator + Copy>(
     }
 }
 
-// Adds the stretches of the jobs that are submitted from one second on and before another.
 fn add_coming<A: Allocator + Copy>(
     plan: &PlanRef<'_, A>,
     gap: &Gap<A>,
@@ -64,7 +62,6 @@ fn add_coming<A: Allocator + Copy>(
     Ok(())
 }
 
-// The first second of a segment; without one 0.
 fn second_of<A: Allocator + Copy>(base: Option<&Segment<A>>) -> u64
     ensures { result ≡ (base_of (option_copied base.entry)).second }
 {
@@ -74,8 +71,6 @@ fn second_of<A: Allocator + Copy>(base: Option<&Segment<A>>) -> u64
     }
 }
 
-// The frame of those who wait before the seconds of a gap behind a segment: of those who waited before
-// the segment, and of those who come from then on and before the last second.
 pub(crate) fn waiting_frame<A: Allocator + Copy>(
     alloc: A,
     plan: &PlanRef<'_, A>,

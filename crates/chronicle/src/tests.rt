@@ -54,7 +54,6 @@ fn added_by_two<J: Naming + Send + Sync, R: Threads + Wait + Abort + Sync>(rt: &
     assert!(rt; one.count() != two.count() && whole.is_kept() && whole.front().count() == 2);
 }
 
-// The history after this caller was opened in it.
 fn opened_in<J: Naming, R: Wait>(rt: &R, shared: &Mutex<Whole<J>>, who: Caller) -> Front<J> {
     let mut whole = shared.lock(rt);
     whole.open(who);

@@ -1,5 +1,5 @@
 -- A job that arrives and starts at once.
-use Rattle.std.proofs.Common.{◌≡◌, ℕ, ◌+◌, ◌^◌, ◌≤◌, ◌<◌, true, false, cond, nat_eq, count_by, find, List, [], ◌∷◌, ◌++◌, Some, sym, ◌∙◌, ap, arith, subst, refl, ⊎_elim}
+use Rattle.std.proofs.Common.{◌≡◌, ℕ, ◌+◌, ◌^◌, ◌≤◌, ◌<◌, true, false, cond, nat_eq, count_by, find, List, [], ◌∷◌, ◌++◌, Some, ◌∙◌, ap, arith, subst, refl, ⊎_elim}
 use Rattle.std.proofs.lemmas.Bool.{cond-true, cond-false, cases_Bool, eq-eqb}
 use Rattle.std.proofs.lemmas.List.Sums.{sum_by-cons}
 use Rattle.scenarios.specs.Job.{EffectiveJob, IsWithinLimits}

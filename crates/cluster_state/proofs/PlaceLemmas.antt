@@ -1,8 +1,8 @@
 -- Waiting jobs at places of their own, and the places of the row.
-use Rattle.std.proofs.Common.{◌≡◌, ℕ, zero, suc, ◌+◌, ◌≤◌, ◌<◌, Bool, true, false, cond, nat_eq, List, [], ◌∷◌, ◌++◌, length, drop, set, map, remove, find, count_by, slice_get, get_or, Option, Some, None, IfSome, IsSome, All, refl, sym, ◌∙◌, ap, arith, subst, ⊎_elim}
+use Rattle.std.proofs.Common.{◌≡◌, ℕ, zero, suc, ◌+◌, ◌≤◌, ◌<◌, Bool, true, false, cond, nat_eq, List, [], ◌∷◌, ◌++◌, length, drop, set, map, remove, find, count_by, slice_get, get_or, Option, Some, None, IfSome, All, refl, sym, ◌∙◌, ap, arith, subst, ⊎_elim}
 use Rattle.std.proofs.lemmas.Bool.{cond-true, cond-false, cases_Bool, cases_lt, eq-eqb, eqb-true, true≢false}
 use Rattle.std.proofs.lemmas.Option.{slice_get-get_or}
-use Rattle.std.proofs.lemmas.List.{drop-map, drop-set-lt}
+use Rattle.std.proofs.lemmas.List.{drop-map}
 use Rattle.std.proofs.lemmas.List.Sums.{sum_by-cons}
 use Rattle.std.proofs.lemmas.List.Elements.{All-cons, All-head, All-tail, All-nil, All-weaker, filter_map-append}
 use Rattle.scenarios.specs.Job.{EffectiveJob}
@@ -43,10 +43,6 @@ pub at_map : (js : List EffectiveJob) (k : ℕ) → at_place (map (λ job. Some 
 at_map [] k = refl
 at_map (j ∷ js) zero = refl
 at_map (j ∷ js) (suc k) = at_map js k
-
-pub no_places : (o : Order) → candidates_places o [] [] ≡ []
-no_places Arrival = refl
-no_places Shortest = refl
 
 -- the row has the waiting jobs in the order in which they are looked at
 pub candidates_is : (o : Order) (places : List (Option EffectiveJob)) (candidates : List EffectiveJob) → candidates ≡ candidates_of o (waiting places) → waiting (candidates_places o places candidates) ≡ in_order o (waiting places)
@@ -159,10 +155,6 @@ candidates-leaves js left candidates k once is l h = go (slice_get candidates k)
         remove-is candidates k x (subst Once (sym is) (once-by_estimate js once)) e
         ∙ ap (without x.number) is ∙ without-by_estimate x.number js (once x.number) ∙ ap by_estimate (sym g)
 
--- those behind who leaves
-pub rest-set : (xs : List (Option EffectiveJob)) (k : ℕ) → waiting (drop (k + 1) (set xs k None)) ≡ waiting (drop (k + 1) xs)
-rest-set xs k = ap waiting (drop-set-lt (k + 1) xs k None (omega arith))
-
 drop-remove : (k : ℕ) (js : List EffectiveJob) → drop k (remove js k) ≡ drop (suc k) js
 drop-remove zero [] = refl
 drop-remove zero (j ∷ js) = refl
@@ -186,12 +178,6 @@ none_more test js from k x l is fails none p low high =
     let at : at_place (map (λ job. Some job) js) k ≡ Some x = at_map js k ∙ slice_get-get_or js k x l ∙ ap (λ (j : EffectiveJob). Some j) (sym is) in
     subst (λ (i : ℕ). holds test (at_place (map (λ job. Some job) js) i) ≡ false) same (ap (holds test) at ∙ fails))
     (cases_lt p k)
-
--- a job stands at this place of the row
-pub there_candidates : (js : List EffectiveJob) (k : ℕ) → IsSome (at_place (map (λ job. Some job) js) k) → k < length js
-there_candidates [] k h = absurd (true≢false (sym h))
-there_candidates (j ∷ js) zero h = omega arith
-there_candidates (j ∷ js) (suc k) h = omega (arith, there_candidates js k h)
 
 -- ---- who stands at a place is found by its number
 abbrev IsFound : List EffectiveJob → EffectiveJob → Type 0

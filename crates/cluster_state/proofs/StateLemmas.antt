@@ -1,8 +1,7 @@
 -- What the steps of a state keep.
-use Rattle.std.proofs.Common.{◌≡◌, ℕ, ◌+◌, ◌^◌, ◌≤◌, ◌<◌, Bool, true, false, cond, nat_eq, nat_lt, List, [], ◌∷◌, Some, None, All, IsSomeAnd, count_by, find, sum_by, filter, remove, insert, not, position, unwrap_or, length, get_or, one-add, refl, sym, ◌∙◌, ap, arith, subst, ⊎_elim}
+use Rattle.std.proofs.Common.{◌≡◌, ℕ, ◌+◌, ◌^◌, ◌≤◌, ◌<◌, Bool, true, false, cond, nat_eq, nat_lt, List, [], ◌∷◌, Some, None, All, IsSomeAnd, count_by, find, sum_by, filter, remove, insert, not, position, unwrap_or, length, one-add, refl, sym, ◌∙◌, ap, arith, subst, ⊎_elim}
 use Rattle.std.specs.List.{position_or_len}
-use Rattle.std.specs.List.Sorted.{IsPartitionPoint}
-use Rattle.std.proofs.lemmas.List.Sums.{sum_by-cons, sum_by_push, prefix_len-le-length, position_or_len_is}
+use Rattle.std.proofs.lemmas.List.Sums.{sum_by-cons, sum_by_push, prefix_len-le-length}
 use Rattle.std.proofs.lemmas.List.Elements.{All-cons, All-head, All-nil, All-tail, All-push, All-filter}
 use Rattle.std.proofs.lemmas.Bool.{cond_both, ltb-false, eqb-true, cases_Bool, cases_eq, eq-eqb, ne_eqb}
 use Rattle.scenarios.specs.Job.{EffectiveJob, IsWithinLimits}
@@ -171,13 +170,6 @@ position-is p xs =
     cond_both (nat_lt (position_or_len p xs) (length xs)) (Some (position_or_len p xs)) None (λ o. unwrap_or o (length xs) ≡ position_or_len p xs)
     (λ _. refl)
     (λ h. omega (arith, ltb-false (position_or_len p xs) (length xs) h, prefix_len-le-length (λ x. not (p x)) xs))
-
--- where the test q parts a list, its first place without q is the first that passes the test p
-pub place-parted : {X : Type 0} (p q : X → Bool) → ((x : X) → q x ≡ true → p x ≡ false) → ((x : X) → q x ≡ false → p x ≡ true) → (xs : List X) (i : ℕ) → i ≤ length xs
-    → IsPartitionPoint (λ x. q x ≡ true) (λ x. q x ≡ false) xs i → i ≡ position_or_len p xs
-place-parted p q f g [] i l h = omega (arith, l)
-place-parted p q f g (x ∷ xs) i l h =
-    sym (position_or_len_is p (x ∷ xs) i x l (λ k lt. f (get_or (x ∷ xs) k x) (h.0 k x (omega arith) lt)) (λ lt. g (get_or (x ∷ xs) i x) (h.1 i x (omega arith) lt)))
 
 pub without-none : (n : ℕ) (js : List EffectiveJob) → position (λ (j : EffectiveJob). nat_eq j.number n) js ≡ None → without n js ≡ js
 without-none n js e =

@@ -24,7 +24,6 @@ impl<'a, A: Allocator + Copy> Model for RunningByEnd<'a, A> {
 }
 
 impl<'a, A: Allocator + Copy> RunningByEnd<'a, A> {
-    // These, as they stand in the row.
     pub(crate) fn of(runners: Items<'a, Runner, A>) -> RunningByEnd<'a, A>
         ensures { result ≡ runners.entry }
     {

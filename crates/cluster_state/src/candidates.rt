@@ -10,7 +10,7 @@ ghost use Rattle.cluster_state.specs.Candidates.{IsKept, fits_offer, jobs_of};
 
 use crate::ticket::Ticket;
 use crate::waiter::Waiter;
-use blocks::Blocks;
+use blocks::{Blocks, Ranked};
 use scenarios::{Job, Order};
 use std::alloc::Allocator;
 use swf_text::Memory;
@@ -107,7 +107,11 @@ pub(crate) fn leave_at<A: Allocator + Copy>(
     match order {
         Order::Arrival => {}
         Order::Shortest => {
-            candidates.remove(u128::from(waiter.job.estimate()), place as u64);
+            let ticket = Ticket {
+                job: waiter.job,
+                place,
+            };
+            candidates.remove(ticket.major(), ticket.minor());
         }
     }
 }

@@ -189,7 +189,6 @@ fn waits(waiting: Waiting<'_>, number: u64) -> bool
     false
 }
 
-// Whether no job of this number waits or runs.
 fn is_absent<A: Allocator + Copy>(
     waiting: Waiting<'_>,
     running: RunningByEnd<'_, A>,

@@ -12,7 +12,6 @@ use crate::runner::held;
 use crate::running_set::RunningSet;
 use crate::snapshot::{Snapshot, starts_of};
 use crate::waiting::Waiting;
-use job_table::JobTable;
 use scenarios::{Job, Order, Placed, PlanRef, Scenario};
 use std::alloc::Allocator;
 use std::marker::Model;
@@ -47,7 +46,7 @@ impl<A: Allocator + Copy> Cluster<A> {
     ghost use Rattle.cluster_state.specs.State.{empty, free, IsSound, RisesByNumber, busy};
     ghost use Rattle.cluster_state.specs.Candidates.{fits_offer, AreCandidates};
     ghost use Rattle.cluster_state.specs.Ends.{by_end, IsPast, RisesByEnd, block_limit};
-    ghost use Rattle.scenarios.specs.Plan.{plan_of};
+    ghost use Rattle.scenarios.specs.PlanView.{plan_in};
     ghost use Rattle.cluster_state.specs.Snapshot.{numbers_of, restored, Fits};
 
     /// An empty machine of `procs` processors, with backfills in order of arrival.
@@ -98,21 +97,20 @@ impl<A: Allocator + Copy> Cluster<A> {
         })
     }
 
-    /// The cluster of a snapshot: each number stands for the job of its entry in the table under the
-    /// scenario, whose machine and order of backfills the cluster has.
+    /// The cluster of a snapshot: each number stands for its job in the plan, whose machine and order of
+    /// backfills the cluster has.
     ///
     /// Memory where a growth was refused.
     pub fn restore(
         alloc: A,
         snapshot: &Snapshot<A>,
-        table: &JobTable<A>,
-        scenario: &Scenario,
+        plan: &PlanRef<'_, A>,
     ) -> Result<Cluster<A>, Memory>
-        requires { Fits snapshot.now (plan_of table.now scenario.now) }
-        ensures { IfOk result (λ c. c.state ≡ restored snapshot.now (plan_of table.now scenario.now)) }
+        requires { Fits snapshot.now (plan_in plan.now) }
+        ensures { IfOk result (λ c. c.state ≡ restored snapshot.now (plan_in plan.now)) }
     {
-        let plan = PlanRef::of(table, *scenario);
-        let running = running_in(alloc, snapshot.running(), &plan)?;
+        let running = running_in(alloc, snapshot.running(), plan)?;
+        let scenario = plan.scenario();
         let mut cluster = Cluster::with_running(
             alloc,
             scenario.procs(),

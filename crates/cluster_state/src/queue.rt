@@ -75,7 +75,6 @@ impl<A: Allocator + Copy> Queue<A> {
         Waiting::of(self.jobs.iter_behind(count))
     }
 
-    // The waiting job at this place in order of arrival; it goes over those before it.
     pub(crate) fn at(&self, place: usize) -> Option<&Job>
         ensures { option_copied result ≡ slice_get self.now.jobs place }
     {
@@ -192,7 +191,6 @@ impl<A: Allocator + Copy> Queue<A> {
         }
     }
 
-    // The allocator that the queue is kept on.
     pub(crate) fn allocator(&self) -> A {
         self.jobs.allocator()
     }

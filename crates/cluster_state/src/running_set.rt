@@ -45,7 +45,6 @@ impl<A: Allocator + Copy> RunningSet<A> {
         }
     }
 
-    // These jobs run, no two of one number.
     pub(crate) fn of(alloc: A, running: &[Placed]) -> Result<RunningSet<A>, Memory>
         requires starts { All (λ r. r.start < seconds_end) running.now }
         requires rises { RisesByNumber running.now }

@@ -9,8 +9,7 @@ use crate::lookup::{can_run, have_jobs};
 use crate::queue::Queue;
 use crate::running_set::RunningSet;
 use frames::{Frame, Keyed, Same, Standing};
-use job_table::JobTable;
-use scenarios::{PlanRef, Scenario};
+use scenarios::PlanRef;
 use std::alloc::Allocator;
 use std::marker::Model;
 use std::sync::Arc;
@@ -64,7 +63,7 @@ impl<A: Allocator + Copy> Model for Snapshot<A> {
 
 impl<A: Allocator + Copy> Snapshot<A> {
     ghost use Rattle.std.specs.Arc.{arc_value};
-    ghost use Rattle.scenarios.specs.Plan.{plan_of};
+    ghost use Rattle.scenarios.specs.PlanView.{plan_in};
     ghost use Rattle.cluster_state.specs.Snapshot.{Fits, IsSnapshot, standing, standing_there};
 
     /// The numbers that stand at a place of two frames, those of the waiting jobs and those of the
@@ -135,13 +134,11 @@ impl<A: Allocator + Copy> Snapshot<A> {
         self.waiting.holds(self.place, number) || self.running.holds(self.place, number)
     }
 
-    /// Whether each number has a job in this table under the scenario, and the running ones together
-    /// are within the machine.
-    pub fn fits(&self, table: &JobTable<A>, scenario: &Scenario) -> bool
-        ensures { IsTrue result ↔ Fits self.now (plan_of table.now scenario.now) }
+    /// Whether each number has a job in this plan, and the running ones together are within its machine.
+    pub fn fits(&self, plan: &PlanRef<'_, A>) -> bool
+        ensures { IsTrue result ↔ Fits self.now (plan_in plan.now) }
     {
-        let plan = PlanRef::of(table, *scenario);
-        have_jobs(self.waiting(), &plan) && can_run(self.running(), &plan)
+        have_jobs(self.waiting(), plan) && can_run(self.running(), plan)
     }
 
     /// The same numbers once more, in the same frames; Memory where 2^63 share one already.

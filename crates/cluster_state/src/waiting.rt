@@ -21,7 +21,6 @@ impl<'a> Model for Waiting<'a> {
 }
 
 impl<'a> Waiting<'a> {
-    // These, as they stand at their places.
     pub(crate) fn of(waiters: waiting_places::Waiting<'a, Waiter>) -> Waiting<'a>
         ensures { result ≡ waiters.entry }
     {

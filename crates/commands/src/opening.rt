@@ -95,7 +95,6 @@ fn opened<A: Allocator + Copy>(
     base_on(alloc, machine_of(text, procs))
 }
 
-// The comments that tell of no scenario.
 fn kept<A: Allocator + Copy>(
     alloc: A,
     comments: &[Vec<u8, A>],

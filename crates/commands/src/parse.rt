@@ -94,7 +94,6 @@ fn only_name(words: &[&[u8]]) -> Result<ScenarioName, CommandFault>
     ScenarioName::new(words[0]).ok_or(CommandFault::BadWord(1))
 }
 
-// That there are no words.
 fn no_words(words: &[&[u8]]) -> Result<(), CommandFault>
     ensures { result ≡ no_words (map (λ w. w.now) words.now) }
 {

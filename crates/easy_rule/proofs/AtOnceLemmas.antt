@@ -1,13 +1,12 @@
 -- A job that arrives alone, starts at once, and leaves nobody who may start.
-use Rattle.std.proofs.Common.{◌≡◌, ℕ, ◌+◌, ◌≤◌, ◌<◌, Bool, true, false, cond, nat_eq, List, [], ◌∷◌, ◌++◌, length, take, Option, Some, None, IfSome, All, find, count_by, slice_get, refl, sym, ◌∙◌, ap, arith, subst, inl, inr, ⊎_elim, ◌⊎◌}
+use Rattle.std.proofs.Common.{◌≡◌, ℕ, ◌+◌, ◌≤◌, ◌<◌, Bool, true, false, cond, nat_eq, List, [], ◌∷◌, ◌++◌, length, take, Option, Some, None, IfSome, All, find, slice_get, refl, sym, ◌∙◌, ap, arith, subst, ⊎_elim, ◌⊎◌}
 use Rattle.std.specs.Option.{option_map}
 use Rattle.std.proofs.lemmas.List.Sums.{sum_by-cons, sum_by-append}
 use Rattle.std.proofs.lemmas.List.Elements.{All-head, All-tail, All-nil, All-cons, All-weaker}
 use Rattle.std.proofs.lemmas.Bool.{cases_Bool, cond-true, cond-false, eq-eqb, true≢false}
 use Rattle.scenarios.specs.Job.{EffectiveJob}
 use Rattle.scenarios.specs.declared.placed.Placed.{Placed}
-use Rattle.cluster_state.specs.State.{State, ClusterView, IsSound, arrived, started, free, holders, without}
-use Rattle.cluster_state.specs.Candidates.{in_order}
+use Rattle.cluster_state.specs.State.{State, ClusterView, IsSound, arrived, started, free, holders}
 use Rattle.cluster_state.proofs.Lemmas.{in_order-All, sum_by-placed, without-last}
 use Rattle.easy_rule.specs.declared.shadow_time.Shadow.{Shadow}
 use Rattle.easy_rule.specs.Rule.{next, may_backfill, shadow_of}

@@ -33,14 +33,6 @@ next-shorter s t now job h e is =
     let here = ap (λ (z : State). length z.waiting) is in
     omega (arith, less, here)
 
--- there is capacity for it, and then for all that can follow
-pub capacity-now : (c : ClusterView) (now len capacity : ℕ) (job : EffectiveJob) → IsSound c.state → next c.state now ≡ Some job → HasCapacity c len capacity → (1 ≤ c.spare) × (len + 1 ≤ capacity)
-capacity-now c now len capacity job h e enough =
-    let some = next-some c.state now job h e in
-    let spare = enough.spare in
-    let list = enough.list in
-    (omega (arith, some, spare), omega (arith, some, list))
-
 pub capacity-then : (c d : ClusterView) (now len capacity len' capacity' : ℕ) (job : EffectiveJob) → IsSound c.state → next c.state now ≡ Some job → HasCapacity c len capacity → d.state ≡ started c.state job now → c.spare ≤ d.spare + 1 → len' ≡ len + 1 → capacity ≤ capacity' → HasCapacity d len' capacity'
 capacity-then c d now len capacity len' capacity' job h e enough is spare longer wide =
     let some = next-some c.state now job h e in

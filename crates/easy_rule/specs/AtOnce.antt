@@ -1,5 +1,5 @@
 -- A job that arrives while no other does, and starts at once.
-use Rattle.std.specs.Prelude.{◌≡◌, ℕ, ◌≤◌, true, List, [], Option, Some, None}
+use Rattle.std.specs.Prelude.{◌≡◌, ℕ, ◌≤◌, true, [], Option, Some, None}
 use Rattle.scenarios.specs.Job.{EffectiveJob}
 use Rattle.cluster_state.specs.State.{State, ClusterView, arrived, free}
 use Rattle.easy_rule.specs.declared.shadow_time.Shadow.{Shadow}

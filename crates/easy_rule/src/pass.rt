@@ -47,7 +47,6 @@ fn head_fits<A: Allocator + Copy>(cluster: &Cluster<A>) -> bool
     }
 }
 
-// Chooses and starts the first waiting jobs, while they fit; nobody was chosen before.
 pub(crate) fn start_heads<A: Allocator + Copy>(
     cluster: &mut Cluster<A>,
     chosen: &mut Vec<Job, A>,

@@ -39,7 +39,6 @@ fn walk<A: Allocator + Copy>(cluster: &Cluster<A>, need: u64) -> (Shadow, u64)
     (Shadow { time, extra }, reads)
 }
 
-// The least second at which so much is available, and what is over then.
 pub(crate) fn shadow_for<A: Allocator + Copy>(cluster: &Cluster<A>, need: u64) -> Shadow
     requires wants { free cluster.now.state < need }
     requires within { need ≤ cluster.now.state.procs }

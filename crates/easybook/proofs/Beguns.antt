@@ -1,5 +1,5 @@
 -- An input of which the front of its log was read.
-use Rattle.std.proofs.Common.{rules, ◌≡◌, ℕ, ◌<◌, ◌≤◌, false, List, [], ◌∷◌, ◌++◌, length, take, Option, Some, None, IfSome, IfErr, IfOk, Result, Ok, Err, refl, sym, ap, subst, ◌∙◌, append_assoc, inl, inr, ◌+◌, arith}
+use Rattle.std.proofs.Common.{◌≡◌, ℕ, ◌<◌, ◌≤◌, false, List, [], ◌∷◌, ◌++◌, length, take, Option, Some, None, IfSome, IfErr, IfOk, Result, Ok, Err, sym, ap, subst, ◌∙◌, append_assoc, inl, inr, ◌+◌, arith}
 use Rattle.std.specs.Prelude.{IsErrAnd}
 use Rattle.std.specs.List.{list_any}
 use Rattle.std.specs.Option.{option_map}
@@ -11,7 +11,6 @@ use Rattle.swf_text.specs.declared.fault.FaultKind.{FaultKind}
 use Rattle.swf_text.specs.declared.fault.FaultKind.TheVariants as kinds
 use Rattle.swf_text.specs.Text.{LogText, lines}
 use Rattle.swf_text.specs.Grammar.{FirstFault, IsText}
-use Rattle.swf_text.specs.Reading.{text_of}
 use Rattle.swf_text.proofs.Lemmas.{gives_text}
 use Rattle.parallel_reader.specs.Fronts.{IsFront, IsReadBehind, Progress}
 use Rattle.parallel_reader.proofs.Lemmas.{lines_whole}

@@ -13,11 +13,11 @@ use Rattle.book_machine.specs.Machine.{Machine}
 use Rattle.chronicle.specs.Events.{Happened, Called, note_in, notes_of}
 use Rattle.version_book.specs.Steps.{Answer, full, memory, outcome, note_of}
 use Rattle.workers.specs.History.{CalledAt}
-use Rattle.workers.specs.Lists.{Exchanged, Gains, exchanged, exchanged_by, part_of, same_caller}
+use Rattle.workers.specs.Lists.{ListedView, Gains, listed_view, listed_by, part_of, same_caller}
 use Rattle.easybook.specs.Along.{Goes}
 
 -- the session's calls among these events
-abbrev pub own : ℕ → List Happened → List Exchanged
+abbrev pub own : ℕ → List Happened → List ListedView
 own who events = part_of (caller.Session who) (notes_of events)
 
 abbrev made_by : ℕ → Noted → Bool
@@ -25,9 +25,9 @@ made_by who n = same_caller n.caller (caller.Session who)
 
 pub own_append : (who : ℕ) (xs ys : List Happened) → own who (xs ++ ys) ≡ own who xs ++ own who ys
 own_append who xs ys =
-    ap (λ (ns : List Noted). map exchanged_by (filter (made_by who) ns)) (filter_map-append note_in xs ys)
-    ∙ (ap (map exchanged_by) (filter-append (made_by who) (notes_of xs) (notes_of ys))
-    ∙ map-append exchanged_by (filter (made_by who) (notes_of xs)) (filter (made_by who) (notes_of ys)))
+    ap (λ (ns : List Noted). map listed_by (filter (made_by who) ns)) (filter_map-append note_in xs ys)
+    ∙ (ap (map listed_by) (filter-append (made_by who) (notes_of xs) (notes_of ys))
+    ∙ map-append listed_by (filter (made_by who) (notes_of xs)) (filter (made_by who) (notes_of ys)))
 
 own_length : (who : ℕ) (xs ys : List Happened) → length (own who (xs ++ ys)) ≡ length (own who xs) + length (own who ys)
 own_length who xs ys = ap length (own_append who xs ys) ∙ length-append (own who xs) (own who ys)
@@ -44,10 +44,10 @@ noted full = 0
 noted memory = 0
 noted (outcome reply) = 1
 
-pub list_noted : (old new : List Exchanged) (call : BookCall) (answer : Answer) → Gains old new call answer → length new ≡ length old + noted answer
+pub list_noted : (old new : List ListedView) (call : BookCall) (answer : Answer) → Gains old new call answer → length new ≡ length old + noted answer
 list_noted old new call full g = omega (arith, ap length g)
 list_noted old new call memory g = omega (arith, ap length g)
-list_noted old new call (outcome reply) g = ap length g ∙ length-append old (exchanged call reply ∷ [])
+list_noted old new call (outcome reply) g = ap length g ∙ length-append old (listed_view call reply ∷ [])
 
 pub own_noted : (opening : Machine) (who : ℕ) (before : List Happened) (call : BookCall) (answer : Answer) (after : List Happened) → CalledAt opening before (caller.Session who) call answer after → length (own who after) ≡ length (own who before) + noted answer
 own_noted opening who before call full after h = omega (arith, ap (λ (es : List Happened). length (own who es)) h.1)

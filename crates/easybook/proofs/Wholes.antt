@@ -1,8 +1,7 @@
 -- No line of a log is a mark.
-use Rattle.std.proofs.Common.{◌≡◌, ℕ, Bool, true, false, ◌||◌, List, [], ◌∷◌, length, Option, Some, None, Result, Ok, Err, IfOk, IfSome, refl, sym, subst, ◌∙◌, inl, inr, ◌⊎◌, arith}
+use Rattle.std.proofs.Common.{◌≡◌, ℕ, Bool, true, false, ◌||◌, List, [], ◌∷◌, length, Some, refl, sym, subst, ◌∙◌, inl, inr, ◌⊎◌, arith}
 use Rattle.std.specs.Prelude.{slice_get}
 use Rattle.std.specs.List.{list_all, list_any}
-use Rattle.std.specs.Result.{result_ok}
 use Rattle.std.specs.Str.{bytes_eq}
 use Rattle.std.proofs.lemmas.Bool.{false_from_ne_true, true≢false}
 use Rattle.std.proofs.lemmas.Slice.Eq.{bytes_eq-Decides}
@@ -11,7 +10,7 @@ use Rattle.swf_text.specs.declared.line.LineRead.TheVariants as read
 use Rattle.swf_text.specs.Line.{IsReadAs, fields, from_first, is_blank, without_returns}
 use Rattle.swf_text.specs.Text.{LogText, empty, lines}
 use Rattle.swf_text.specs.Grammar.{AddsLine, AddsRead, IsText, IsTextFrom}
-use Rattle.easybook.specs.Split.{IsCut, is_mark}
+use Rattle.easybook.specs.Split.{is_mark}
 use Rattle.easybook.proofs.Unmarked.{both}
 
 or-else : (a b : Bool) → a ≡ false → a || b ≡ true → b ≡ true

@@ -29,7 +29,6 @@ pub(crate) struct OpenedBook<A: Allocator + Copy> {
     pub(crate) comments: Vec<Vec<u8, A>, A>,
 }
 
-// A book without scenarios over a log.
 fn new_book<A: Allocator + Copy>(
     alloc: A,
     table: JobTable<A>,
@@ -46,7 +45,6 @@ fn new_book<A: Allocator + Copy>(
     }
 }
 
-// Adds a scenario as the opening's caller, session 0.
 fn add<A: Allocator + Copy>(
     book: &mut Book<A>,
     name: &str,

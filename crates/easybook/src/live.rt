@@ -15,7 +15,6 @@ use std::marker::Sync;
 use std::thread::Threads;
 use swf_text::Memory;
 
-// A reader with a buffer, which passes its bytes on as they come.
 fn buffered<R: Read + Drop, A: Allocator + Copy>(
     alloc: A,
     reader: R,

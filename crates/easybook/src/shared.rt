@@ -23,7 +23,6 @@ use std::thread::Threads;
 use swf_text::{WriteFault, write_bytes};
 use workers::{Gate, NoGate};
 
-// Whether a script has at most 16,777,216 bytes.
 fn is_within<A: Allocator + Copy>(script: &Vec<u8, A>) -> bool
     ensures { result ≡ nat_le (length script.now.items) script_limit }
 {
@@ -36,7 +35,6 @@ fn are_within<A: Allocator + Copy>(scripts: &[Vec<u8, A>]) -> bool
     scripts.iter().all(|script| is_within(script))
 }
 
-// Writes the line before the text of the script with this number.
 fn write_head<W: Write>(writer: &mut W, number: u64) -> Result<(), WriteFault>
     ensures { Writes result (W.contents writer.old) (W.contents writer.new) (head_line number) }
 {

@@ -4,7 +4,6 @@ ghost use Rattle.easybook.specs.Split.{IsCut, is_mark};
 
 use memchr::memchr;
 
-// Whether a line, without its line feed, is the one between a log and a script.
 fn is_mark(line: &[u8]) -> bool
     ensures { result ≡ is_mark line.now }
 {

@@ -4,8 +4,8 @@ ghost use Rattle.version_book.specs.Book.{machine_of};
 ghost use Rattle.easybook.specs.Along.{AreAnsweredAlong};
 ghost use Rattle.easybook.specs.DeskRules.{AreAtDesk};
 
-use crate::part::{Part, Place};
 use crate::script_list::ScriptList;
+use crate::script_thread::{Place, ScriptThread};
 use crate::shared_fault::SharedFault;
 use crate::works::Works;
 use chronicle::{Naming, Unnamed};
@@ -17,22 +17,22 @@ use swf_text::Memory;
 use version_book::Book;
 use workers::{CloseFault, Desk, Gate, Session, Worker, close};
 
-fn parts_of<A: Allocator + Copy, J: Naming + Works, R: Wait>(
+fn threads_of<A: Allocator + Copy, J: Naming + Works, R: Wait>(
     rt: &R,
     alloc: A,
     desk: &Desk<A, J>,
     count: usize,
-) -> Result<Vec<Part<A, J>, A>, Memory>
-    ensures { IfOk result (λ parts. vec_len parts ≡ count) }
+) -> Result<Vec<ScriptThread<A, J>, A>, Memory>
+    ensures { IfOk result (λ threads. vec_len threads ≡ count) }
 {
-    let mut parts = Vec::with_capacity(alloc, count)?;
+    let mut threads = Vec::with_capacity(alloc, count)?;
     for _ in 0..count {
         let Some(session) = desk.open_session(rt) else {
             return Err(Memory);
         };
-        parts.push(Part::new(session))?;
+        threads.push(ScriptThread::new(session))?;
     }
-    Ok(parts)
+    Ok(threads)
 }
 
 // This many workers. Memory also where the desk opens no further one.
@@ -54,9 +54,9 @@ fn workers_of<A: Allocator + Copy, J: Naming, R: Wait>(
     Ok(workers)
 }
 
-// Works all parts and runs the workers, each on a thread of its own; once all parts have ended the desk
-// is stopped, and the workers end. False where a thread could not be started, or memory ran out for
-// that: the desk is then stopped at once.
+// Runs all scripts' threads and one for each worker; once the scripts' have ended the desk is stopped, and
+// the workers end. False where a thread could not be started, or memory ran out for that: the desk is then
+// stopped at once.
 fn run_threads<
     A: Allocator + Copy + Send + Sync,
     J: Naming + Works + Send + Sync,
@@ -66,7 +66,7 @@ fn run_threads<
     rt: &R,
     alloc: A,
     place: &Place<'_, A, J, R>,
-    parts: &mut Vec<Part<A, J>, A>,
+    threads: &mut Vec<ScriptThread<A, J>, A>,
     workers: &mut Vec<Worker<A>, A>,
     gate: &G,
 ) -> bool {
@@ -78,8 +78,8 @@ fn run_threads<
             }
         }
         let mut handles = Vec::new(alloc);
-        for part in parts.iter_mut() {
-            match scope.spawn(move || part.work(place)) {
+        for thread in threads.iter_mut() {
+            match scope.spawn(move || thread.work(place)) {
                 Ok(handle) => {
                     if handles.push(handle).is_err() {
                         all = false;
@@ -99,17 +99,17 @@ fn run_threads<
     })
 }
 
-// Takes the session and the text of the next part. Memory where it has none, or a list cannot grow;
+// Takes the session and the text of the next thread. Memory where it has none, or a list cannot grow;
 // Mismatch where the session does not have the number of its place, which does not happen.
-fn take_part<A: Allocator + Copy, J: Naming + Works>(
+fn take_output<A: Allocator + Copy, J: Naming + Works>(
     sessions: &mut Vec<Session<A, J>, A>,
     texts: &mut Vec<Vec<u8, A>, A>,
-    part: Part<A, J>,
+    thread: ScriptThread<A, J>,
 ) -> Result<(), SharedFault>
     requires { AreAtDesk A J.opening J.comments J.scripts sessions.old.items (map (λ t. t.items) texts.old.items) }
     ensures { OnOk result (AreAtDesk A J.opening J.comments J.scripts sessions.new.items (map (λ t. t.items) texts.new.items)) }
 {
-    let Some(answered) = part.into_answered() else {
+    let Some(answered) = thread.into_answered() else {
         return Err(SharedFault::Memory);
     };
     let (session, text) = answered.into_both();
@@ -130,14 +130,14 @@ struct Outputs<A: Allocator + Copy, J: Naming> {
 
 fn outputs_of<A: Allocator + Copy, J: Naming + Works>(
     alloc: A,
-    parts: Vec<Part<A, J>, A>,
+    threads: Vec<ScriptThread<A, J>, A>,
 ) -> Result<Outputs<A, J>, SharedFault>
     ensures { IfOk result (λ outputs. AreAtDesk A J.opening J.comments J.scripts outputs.sessions.items (map (λ t. t.items) outputs.texts.items)) }
 {
-    let mut sessions = Vec::with_capacity(alloc, parts.len())?;
-    let mut texts = Vec::with_capacity(alloc, parts.len())?;
-    for part in parts {
-        take_part(&mut sessions, &mut texts, part)?;
+    let mut sessions = Vec::with_capacity(alloc, threads.len())?;
+    let mut texts = Vec::with_capacity(alloc, threads.len())?;
+    for thread in threads {
+        take_output(&mut sessions, &mut texts, thread)?;
     }
     Ok(Outputs { sessions, texts })
 }
@@ -174,7 +174,7 @@ pub(crate) fn run_scripts<
 {
     let desk = Desk::<A, J>::new(alloc, book, unnamed);
     let list = ScriptList::<A, J>::new(comments, scripts);
-    let mut parts = parts_of(rt, alloc, &desk, list.count())?;
+    let mut threads = threads_of(rt, alloc, &desk, list.count())?;
     let mut pool = workers_of(rt, alloc, &desk, workers)?;
     let place = Place {
         rt,
@@ -182,8 +182,8 @@ pub(crate) fn run_scripts<
         desk: &desk,
         scripts: &list,
     };
-    let are_started = run_threads(rt, alloc, &place, &mut parts, &mut pool, gate);
-    let Outputs { sessions, texts } = outputs_of(alloc, parts)?;
+    let are_started = run_threads(rt, alloc, &place, &mut threads, &mut pool, gate);
+    let Outputs { sessions, texts } = outputs_of(alloc, threads)?;
     if !are_started || texts.len() != list.count() {
         return Err(SharedFault::Memory);
     }

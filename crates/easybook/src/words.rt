@@ -144,7 +144,6 @@ fn matched<'a>(alloc: Global, words: &'a [&'a str]) -> Result<ArgMatches<'a>, Wo
     }
 }
 
-// The number that digits spell, from 1 to a greatest one.
 fn number(text: &str, most: u64) -> Option<u64>
     requires { most ≤ 1000000000000 }
     ensures value { result ≡ number_between 1 most text.now }
@@ -211,7 +210,6 @@ fn is_live(matches: &ArgMatches<'_>) -> bool
     }
 }
 
-// Whether a conversation may be asked for: on a log in a file, with no script beside it.
 fn is_allowed(live: bool, log: Option<&str>, scripts: usize) -> bool
     ensures { result ≡ is_allowed live (option_map (λ t. t.now) log.entry) scripts }
 {

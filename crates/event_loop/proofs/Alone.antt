@@ -1,6 +1,5 @@
 -- A job that arrives alone.
 use Rattle.std.proofs.Common.{◌≡◌, ◌≢◌, ℕ, ◌+◌, ◌≤◌, ◌<◌, List, [], ◌∷◌, drop, slice_get, Option, Some, None, IfSome, All, refl, sym, ◌∙◌, ap, arith, subst, ⊎_elim}
-use Rattle.std.specs.Option.{option_map}
 use Rattle.std.proofs.lemmas.List.Elements.{All-nil, All-head, All-tail, All-weaker}
 use Rattle.std.proofs.lemmas.Bool.{cases_lt}
 use Rattle.scenarios.specs.Job.{EffectiveJob}
@@ -9,12 +8,6 @@ use Rattle.scenarios.proofs.Lemmas.{from-out}
 use Rattle.event_loop.specs.Upcoming.{NonFalling, NextJobs, IsUpcoming, first_submit, without_first}
 use Rattle.event_loop.proofs.ToCome.{at_second, at-in, at-none, from-same, later-all}
 use Rattle.event_loop.proofs.Rows.{row-falling, row-from, row-has, upcoming-after}
-
--- the submit second of the second job
-pub second-first : (js : List EffectiveJob) → first_submit (drop 1 js) ≡ option_map (λ (j : EffectiveJob). j.submit) (slice_get js 1)
-second-first [] = refl
-second-first (x ∷ []) = refl
-second-first (x ∷ y ∷ ys) = refl
 
 first-of : (js : List EffectiveJob) (job : EffectiveJob) → slice_get js 0 ≡ Some job → js ≡ job ∷ drop 1 js
 first-of [] job e = cc

@@ -1,5 +1,5 @@
 -- An engine that goes on.
-use Rattle.std.proofs.Common.{◌≡◌, ◌≢◌, ℕ, zero, suc, ◌+◌, ◌-◌, ◌≤◌, ◌<◌, Bool, true, false, cond, nat_eq, List, [], ◌∷◌, ◌++◌, add-one, add-zero, append-nil, append_assoc, length, get_or, Option, Some, None, count_by, refl, sym, ◌∙◌, ap, arith, subst, inl, inr, ⊎_elim, ◌⊎◌}
+use Rattle.std.proofs.Common.{◌≡◌, ◌≢◌, ℕ, zero, suc, ◌+◌, ◌-◌, ◌≤◌, ◌<◌, Bool, true, false, cond, nat_eq, List, [], ◌∷◌, ◌++◌, add-one, add-zero, append_assoc, length, get_or, Option, Some, None, count_by, refl, sym, ◌∙◌, ap, arith, subst, inl, inr, ⊎_elim, ◌⊎◌}
 use Rattle.std.proofs.lemmas.List.{get_or_default}
 use Rattle.std.proofs.lemmas.List.Sums.{sum_by-cons}
 use Rattle.std.proofs.lemmas.Bool.{true≢false, cases_lt, cond-true, cond-false, lt-ltb, le-ltb, eq-eqb, eqb-true}
@@ -93,14 +93,6 @@ quiet-between plan a b l quiet =
     let quiet' : IsQuiet plan a (a + n) = subst (IsQuiet plan a) (sym whole) quiet in
     let k = quiet-seconds-change-nothing plan a b l quiet in
     (k.0, k.1, ap (events_before plan) (sym whole) ∙ events-quiet plan a n quiet')
-
-pub run-on-first : (old : Progress) → old.failed ≡ false → IsRunOn old old []
-run-on-first old f = record {
-  was = f;
-  going = f;
-  further = record { plan = refl; first = omega arith; counted = refl };
-  outcome = append-nil (starts_before old.plan old.position);
-}
 
 -- one event second more
 pub run-on-step : (old now new : Progress) (xs ys : List Start) (t : ℕ) → IsRunOn old now xs → IsNextEvent now.plan now.position (Some t) → ys ≡ starts_in now.plan t → new ≡ record now { position = t + 1; handled = now.handled + 1 }

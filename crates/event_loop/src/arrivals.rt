@@ -75,7 +75,6 @@ fn is_behind_at<A: Allocator + Copy>(row: &VecDeque<Job, A>, second: u64) -> boo
     }
 }
 
-// The first job of a row, where it is submitted at this second and the one behind it is not.
 pub(crate) fn only_at<A: Allocator + Copy>(row: &VecDeque<Job, A>, second: u64) -> Option<Job>
     ensures job { IfSome result (λ job. (job.submit ≡ second) × (slice_get row.now.items 0 ≡ Some job)) }
     ensures only { IfSome result (λ _. first_submit (drop 1 row.now.items) ≢ Some second) }

@@ -5,14 +5,12 @@ use crate::fault::EngineFault;
 use crate::upcoming::Upcoming;
 use cluster_state::{Cluster, RunningByEnd, Snapshot};
 use easy_rule::Shadow;
-use job_table::JobTable;
-use scenarios::{Plan, Scenario};
+use scenarios::Plan;
 use std::alloc::Allocator;
 use std::marker::Model;
-use std::sync::Arc;
 use swf_text::Memory;
 
-/// Simulates a table of jobs under a scenario, one event second after another.
+/// Simulates a plan, one event second after another.
 ///
 /// An event second is one at which a job ends or is submitted. An engine stands at a position: its
 /// jobs are those that wait and run before that second, and each earlier second is done with.
@@ -40,22 +38,21 @@ impl<A: Allocator + Copy> Model for Engine<A> {
 }
 
 impl<A: Allocator + Copy> Engine<A> {
-    ghost use Rattle.std.specs.Arc.{arc_value};
-    ghost use Rattle.scenarios.specs.Plan.{plan_of};
+    ghost use Rattle.scenarios.specs.PlanView.{plan_in};
     ghost use Rattle.cluster_state.specs.Snapshot.{numbers_of};
     ghost use Rattle.easy_rule.specs.Simulation.{before};
     ghost use Rattle.event_loop.specs.Events.{Progress, IsNextEvent, begun};
 
-    /// An engine before second 0.
-    pub fn new(alloc: A, table: Arc<JobTable<A>, A>, scenario: Scenario) -> Engine<A>
-        ensures { result ≡ begun (plan_of (arc_value table) scenario) 0 }
+    /// An engine of a plan before second 0.
+    pub fn new(alloc: A, plan: Plan<A>) -> Engine<A>
+        ensures { result ≡ begun (plan_in plan) 0 }
     {
-        let plan = Plan::new(table, scenario);
         let upcoming = Upcoming::at(alloc, &plan.view(), 0);
+        let cluster = Cluster::for_scenario(alloc, &plan.scenario());
         Engine {
             alloc,
             plan,
-            cluster: Cluster::for_scenario(alloc, &scenario),
+            cluster,
             upcoming,
             last_shadow: None,
             position: 0,
@@ -64,21 +61,19 @@ impl<A: Allocator + Copy> Engine<A> {
         }
     }
 
-    /// An engine before a second, at which the jobs of a snapshot wait and run. It has worked no
-    /// event second yet. Memory where a growth was refused.
+    /// An engine of a plan before a second, at which the jobs of a snapshot wait and run. It has worked
+    /// no event second yet. Memory where a growth was refused.
     pub fn resume(
         alloc: A,
         snapshot: &Snapshot<A>,
         second: u64,
-        table: Arc<JobTable<A>, A>,
-        scenario: Scenario,
+        plan: Plan<A>,
     ) -> Result<Engine<A>, Memory>
-        requires { snapshot.now ≡ numbers_of (before (plan_of (arc_value table) scenario) second) }
-        ensures { IfOk result (λ e. e ≡ begun (plan_of (arc_value table) scenario) second) }
+        requires { snapshot.now ≡ numbers_of (before (plan_in plan) second) }
+        ensures { IfOk result (λ e. e ≡ begun (plan_in plan) second) }
     {
-        let plan = Plan::new(table, scenario);
         let upcoming = Upcoming::at(alloc, &plan.view(), second);
-        let cluster = Cluster::restore(alloc, snapshot, plan.table(), &scenario)?;
+        let cluster = Cluster::restore(alloc, snapshot, &plan.view())?;
         Ok(Engine {
             alloc,
             plan,

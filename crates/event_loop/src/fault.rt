@@ -1,7 +1,6 @@
 ghost use Rattle.std.specs.Prelude.{◌≡◌};
 ghost use Rattle.event_loop.specs.declared.fault.EngineFault.TheVariants as faults;
 
-use std::alloc::{AllocError, AllocFailed};
 use std::fmt;
 use swf_text;
 use thiserror::Error;
@@ -49,18 +48,11 @@ impl From<swf_text::Memory> for EngineFault {
     }
 }
 
-impl From<AllocError> for EngineFault {
-    ghost from_gives = { λ _ fault. fault ≡ faults.Memory };
+// Either fault is that memory ran out, now or before.
+impl From<EngineFault> for swf_text::Memory {
+    ghost from_gives = { λ _ memory. memory ≡ record {} };
 
-    fn from(_error: AllocError) -> EngineFault {
-        EngineFault::Memory
-    }
-}
-
-impl<T: Drop> From<AllocFailed<T>> for EngineFault {
-    ghost from_gives = { λ _ fault. fault ≡ faults.Memory };
-
-    fn from(_error: AllocFailed<T>) -> EngineFault {
-        EngineFault::Memory
+    fn from(_fault: EngineFault) -> swf_text::Memory {
+        swf_text::Memory
     }
 }

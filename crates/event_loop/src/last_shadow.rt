@@ -10,7 +10,6 @@ use scenarios::Job;
 use std::alloc::Allocator;
 use swf_text::Memory;
 
-// The shadow that is known, where it still stands at a second: no job ends by then.
 pub(crate) fn standing_at<A: Allocator + Copy>(
     cluster: &Cluster<A>,
     last_shadow: Option<Shadow>,

@@ -9,6 +9,7 @@ use crate::stepped::Stepped;
 use easy_rule::{Start, add_starts};
 use scenarios::Job;
 use std::alloc::Allocator;
+use swf_text::Memory;
 
 impl<A: Allocator + Copy> Engine<A> {
     ghost use Rattle.easy_rule.specs.Simulation.{starts_before, starts_in, sim};
@@ -100,7 +101,6 @@ impl<A: Allocator + Copy> Engine<A> {
         Ok(starts)
     }
 
-    // Works the event seconds before `end`.
     fn work_until(&mut self, end: u64) -> Result<Vec<Start, A>, EngineFault>
         requires { self.old.position ≤ end }
         ensures plan { IsPlan self.old.plan }
@@ -125,7 +125,6 @@ impl<A: Allocator + Copy> Engine<A> {
         Ok(all)
     }
 
-    // The next event second, where it comes before `end`.
     fn event_before(&self, end: u64) -> Option<u64>
         requires { self.now.failed ≡ false }
         ensures none { IfNone result (IsQuiet self.now.plan self.now.position end) }
@@ -142,14 +141,13 @@ impl<A: Allocator + Copy> Engine<A> {
 
     // Works the event second that comes next, and leaves the jobs that start at it in a lent list; what
     // was in it before is forgotten.
-    fn work(&mut self, second: u64, started: &mut Vec<Job, A>) -> Result<(), EngineFault>
+    fn work(&mut self, second: u64, started: &mut Vec<Job, A>) -> Result<(), Memory>
         requires going { self.old.failed ≡ false }
         requires next { IsNextEvent self.old.plan self.old.position (Some second) }
         ensures started { OnOk result (StartIn self.old.plan second started.new.items) }
         ensures ok { OnOk result (self.new ≡ record self.old { position = second + 1; handled = self.old.handled + 1 }) }
         ensures err { OnErr result (self.new ≡ record self.old { failed = true }) }
         ensures empty { OnErr result (started.old.items ≡ [] → started.new.items ≡ []) }
-        ensures memory { IfErr result (λ f. f ≡ EngineFault.Memory) }
     {
         self.failed = true;
         let last_shadow = standing_at(&self.cluster, self.last_shadow, second);

@@ -82,7 +82,6 @@ impl<A: Allocator + Copy> Upcoming<A> {
         Ok(only_at(&self.row, second))
     }
 
-    // The first job comes no more.
     pub(crate) fn pass(&mut self)
         ensures { self.new ≡ without_first self.old }
     {

@@ -146,7 +146,7 @@ fn is_right_after<R: Threads + Wait + Sync>(
     let mut was_answered = false;
     for nth in 1..MANY {
         match met_at(rt, alloc, nth, first)? {
-            Met::Nothing => return right_if(was_answered, Wrong::Untold),
+            Met::Nothing => return right_if(was_answered, Wrong::Unreported),
             Met::Before => {}
             Met::Once { by_first } => was_answered = was_answered || by_first,
         }

@@ -83,7 +83,7 @@ impl Part {
             Part::Callers => "64 sessions and 64 workers, and no more",
             Part::History => "eight sessions and four workers, 10000 calls: one legal history",
             Part::Growths => {
-                "a session and a worker, each growth refused in turn: told once, and nothing lost"
+                "a session and a worker, each growth refused in turn: reported once, and nothing lost"
             }
             Part::Full => "a full journal: each call refused, and nothing changed",
         }

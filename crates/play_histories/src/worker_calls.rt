@@ -7,7 +7,7 @@ use book_machine::{Call, Caller, Reply};
 use checking::Chance;
 use checkpoints::{Run, simulate};
 use job_table::JobTable;
-use scenarios::{Scenario, ScenarioId};
+use scenarios::{Plan, Scenario, ScenarioId};
 use std::alloc::Global;
 use std::sync::Arc;
 use version_book::Task;
@@ -40,8 +40,8 @@ pub(crate) fn run_of(
     scenario: Scenario,
     spacing: u32,
 ) -> Option<Arc<Run<Global>, Global>> {
-    let table = table.clone().ok()?;
-    Arc::new(alloc, simulate(alloc, table, scenario, spacing).ok()?).ok()
+    let plan = Plan::new(table.clone().ok()?, scenario);
+    Arc::new(alloc, simulate(alloc, plan, spacing).ok()?).ok()
 }
 
 pub(crate) fn worked(task: &Task<Global>) -> Option<Arc<Run<Global>, Global>> {

@@ -5,7 +5,7 @@ use Rattle.scenarios.specs.Plan.{Plan}
 use Rattle.cluster_state.specs.Snapshot.{Numbers, numbers_of}
 use Rattle.easy_rule.specs.Simulation.{before}
 use Rattle.checkpoints.specs.Segment.{SegmentView}
-use Rattle.rejoin.specs.Kept.{next_first, InStretch}
+use Rattle.rejoin.specs.Reused.{next_first, InStretch}
 use Rattle.rejoin.specs.Tested.{NoneWithin}
 use Rattle.rejoin.specs.Touched.{IsTouchedSubmit}
 use Rattle.rejoin.specs.Rejoining.{ChangeView, IsChange, IsClear}

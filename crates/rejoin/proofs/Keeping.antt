@@ -16,9 +16,6 @@ use Rattle.timeline.specs.Ledger.{Ledger, NotesKeepTheLedger, LedgersSwap, all_a
 use Rattle.rejoin.specs.Noted.{AreStarts, Keeps}
 use Rattle.rejoin.proofs.Noting.{start-cons, start-push, start-without, start-among, no-count}
 
-abbrev map_of : Type 0
-map_of = BTreeMap ℕ ℕ
-
 -- what an exchange does to both maps
 abbrev Exchanged : Start → Option ℕ → BTreeMap ℕ ℕ → BTreeMap ℕ ℕ → BTreeMap ℕ ℕ → BTreeMap ℕ ℕ → Type 0
 Exchanged x o here there here' there' =

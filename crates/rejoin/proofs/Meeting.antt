@@ -22,7 +22,7 @@ use Rattle.event_loop.specs.Events.{Progress, begun}
 use Rattle.checkpoints.specs.Cut.{Spans, Chain}
 use Rattle.checkpoints.proofs.Lemmas.{span-bounded}
 use Rattle.rejoin.specs.Touched.{IsTouched}
-use Rattle.rejoin.specs.Kept.{next_first, MayBegin, IsEnd, IsKept}
+use Rattle.rejoin.specs.Reused.{next_first, MayBegin, IsEnd, IsReused}
 use Rattle.rejoin.specs.Rejoining.{ChangeView, IsChange, IsClear, Stands}
 use Rattle.rejoin.specs.Noted.{AreNotes, AreStarts, Follows, HasNone, Keeps, IsNoted, ledger_at}
 use Rattle.rejoin.specs.declared.ledger.Ledger.{Ledger as Notes}
@@ -76,13 +76,13 @@ agree-but c ok = record {
 touched-is : (c : ChangeView) → IsChange c → (n : ℕ) → among c.touched n ≡ true → IsTouched c.was c.is n
 touched-is c ok n e = All-contains (IsTouched c.was c.is) c.touched n ok.touched.each (true-among c.touched n e)
 
-pub met-of-kept : (c : ChangeView) → IsChange c → (a : ℕ) (next : Option ℕ) → IsKept c.was c.is a next
+pub met-of-reused : (c : ChangeView) → IsChange c → (a : ℕ) (next : Option ℕ) → IsReused c.was c.is a next
     → HaveMet (among c.touched) c.was c.is a × NoneOf (among c.touched) (numbers_of (before c.was a)) × NoneOf (among c.touched) (numbers_of (before c.is a))
-met-of-kept c ok a next k = (snapshots-meet (among c.touched) c.was c.is a (agree-but c ok)).0 (k.same, λ n e l. k.untouched n (touched-is c ok n e) l)
+met-of-reused c ok a next k = (snapshots-meet (among c.touched) c.was c.is a (agree-but c ok)).0 (k.same, λ n e l. k.untouched n (touched-is c ok n e) l)
 
-pub kept-of-met : (c : ChangeView) → IsChange c → (a : ℕ) (next : Option ℕ) → MayBegin c.is a → HaveMet (among c.touched) c.was c.is a
-    → NoneOf (among c.touched) (numbers_of (before c.was a)) × NoneOf (among c.touched) (numbers_of (before c.is a)) → IsClear c.was c.is a next → IsKept c.was c.is a next
-kept-of-met c ok a next begins met none clear =
+pub reused-of-met : (c : ChangeView) → IsChange c → (a : ℕ) (next : Option ℕ) → MayBegin c.is a → HaveMet (among c.touched) c.was c.is a
+    → NoneOf (among c.touched) (numbers_of (before c.was a)) × NoneOf (among c.touched) (numbers_of (before c.is a)) → IsClear c.was c.is a next → IsReused c.was c.is a next
+reused-of-met c ok a next begins met none clear =
     let both = (snapshots-meet (among c.touched) c.was c.is a (agree-but c ok)).1 (met, none.0, none.1) in
     record { begins = begins; same = both.0; untouched = λ n d l. both.1 n (among-true c.touched n (ok.touched.whole n d)) l; submits = clear }
 
@@ -349,14 +349,14 @@ module _ {A : Type 0} (c : ChangeView) (ok : IsChange c) (at position : ℕ) (s 
 
   -- the tests decide
   pub decided : MayBegin c.is position → (submitted : ℕ) → submitted ≡ count_before position c.submits → submitted < 2 ^ 64 → (met ended clear : Bool) → IsTrue met ↔ (HasNone notes.was × HasNone notes.is × (notes.until ≤ position))
-      → IsTrue ended ↔ ((submitted ≤ notes.started) × (notes.ended ≤ position)) → IsTrue clear ↔ IsClear c.was c.is s.first (next_first rest) → (IsTrue met × IsTrue ended × IsTrue clear) ↔ IsKept c.was c.is s.first (next_first rest)
+      → IsTrue ended ↔ ((submitted ≤ notes.started) × (notes.ended ≤ position)) → IsTrue clear ↔ IsClear c.was c.is s.first (next_first rest) → (IsTrue met × IsTrue ended × IsTrue clear) ↔ IsReused c.was c.is s.first (next_first rest)
   decided begins submitted is small met ended clear met-is ended-is clear-is =
       let none = noted-none begins submitted is small in (
-        (λ (m, e, f). kept-of-met c ok s.first (next_first rest) (subst (MayBegin c.is) stands begins) (noted-met.0 (met-is.0 m)) (none.0 (ended-is.0 e)) (clear-is.0 f)),
-        (λ k. let all = met-of-kept c ok s.first (next_first rest) k in (met-is.1 (noted-met.1 all.0), ended-is.1 (none.1 (all.1, all.2)), clear-is.1 k.submits)),
+        (λ (m, e, f). reused-of-met c ok s.first (next_first rest) (subst (MayBegin c.is) stands begins) (noted-met.0 (met-is.0 m)) (none.0 (ended-is.0 e)) (clear-is.0 f)),
+        (λ k. let all = met-of-reused c ok s.first (next_first rest) k in (met-is.1 (noted-met.1 all.0), ended-is.1 (none.1 (all.1, all.2)), clear-is.1 k.submits)),
       )
 
--- ---- before the first old segment, and behind a kept one
+-- ---- before the first old segment, and behind a reused one
 first-begins : (p : Plan) (ss : List SegmentView) (e : ℕ) → Chain p 0 ss e → IfSome (next_first ss) (λ a. 0 ≡ a)
 first-begins p [] e chain = tt
 first-begins p (s ∷ ss) e (m, sp, rest) = sym sp.first

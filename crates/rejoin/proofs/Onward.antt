@@ -6,11 +6,11 @@ use Rattle.std.proofs.lemmas.List.{length-append, length-drop}
 use Rattle.scenarios.specs.Plan.{Plan}
 use Rattle.event_loop.specs.Events.{Progress, begun}
 use Rattle.checkpoints.specs.Coming.{NoneComes}
-use Rattle.checkpoints.specs.Groups.{AreFrom}
+use Rattle.checkpoints.specs.Nodes.{AreFrom}
 use Rattle.checkpoints.specs.Pieces.{all_in}
 use Rattle.checkpoints.specs.Segment.{SegmentView}
-use Rattle.rejoin.specs.Kept.{next_first, MayBegin, IsKept}
-use Rattle.rejoin.specs.Patch.{AreKept}
+use Rattle.rejoin.specs.Reused.{next_first, MayBegin, IsReused}
+use Rattle.rejoin.specs.Patch.{AreReused}
 use Rattle.rejoin.specs.Rejoining.{ChangeView, IsChange, IsClear, AreTaken, Stands}
 use Rattle.rejoin.specs.Noted.{IsNoted}
 use Rattle.rejoin.specs.Joining.{IsWorking, IsBehindReused, IsUpTo}
@@ -30,14 +30,14 @@ behind-of c n at patch (inl working) e = absurd (false≢true (sym working.worki
 behind-of c n at patch (inr behind) e = behind
 
 -- ---- no more old segments are reused than stand before the place
-kept-few : (p q : Plan) (front rest us : List SegmentView) → AreKept p q front rest us → length us ≤ length front
-kept-few p q [] rest us e = let l = ap length e in omega (arith, l)
-kept-few p q (s ∷ front) rest us (inl (k, (vs, e, more))) = let l = ap length e in let m = kept-few p q front rest vs more in omega (arith, l, m)
-kept-few p q (s ∷ front) rest us (inr (never, more)) = let m = kept-few p q front rest us more in omega (arith, m)
+reused-few : (p q : Plan) (front rest us : List SegmentView) → AreReused p q front rest us → length us ≤ length front
+reused-few p q [] rest us e = let l = ap length e in omega (arith, l)
+reused-few p q (s ∷ front) rest us (inl (k, (vs, e, more))) = let l = ap length e in let m = reused-few p q front rest vs more in omega (arith, l, m)
+reused-few p q (s ∷ front) rest us (inr (never, more)) = let m = reused-few p q front rest us more in omega (arith, m)
 
 taken-few : (c : ChangeView) (at : ℕ) (us : List SegmentView) → AreTaken c (drop at c.old) us → length us ≤ at
 taken-few c at us (front, e, kept) =
-    let few = kept-few c.was c.is front (drop at c.old) us kept in
+    let few = reused-few c.was c.is front (drop at c.old) us kept in
     let whole = ap length e ∙ length-append front (drop at c.old) in
     let left = length-drop at c.old in
     omega (arith, few, whole, left)
@@ -70,7 +70,7 @@ module _ {A : Type 0} (c : ChangeView) (ok : IsChange c) (n at : ℕ) (s : Segme
   missed-on patch ledger w passes none other =
       passed-on patch ledger w passes (pass-missed c ok n at s here patch.engine (all_in c.is patch.segments) patch.handled patch.reused w.stands none other)
 
-  pub refused-on : (patch : Patch A) (ledger : Ledger A) → IsWorking c n at patch → Passes c at patch.ledger ledger → (IsKept c.was c.is s.first (next_first (drop (at + 1) c.old)) → ⊥) → IsUpTo c n (at + 1) (record patch { ledger = ledger })
+  pub refused-on : (patch : Patch A) (ledger : Ledger A) → IsWorking c n at patch → Passes c at patch.ledger ledger → (IsReused c.was c.is s.first (next_first (drop (at + 1) c.old)) → ⊥) → IsUpTo c n (at + 1) (record patch { ledger = ledger })
   refused-on patch ledger w passes never =
       passed-on patch ledger w passes (pass-refused c ok n at s here patch.engine (all_in c.is patch.segments) patch.handled patch.reused w.stands never)
 
@@ -83,7 +83,7 @@ module _ {A : Type 0} (c : ChangeView) (ok : IsChange c) (n at : ℕ) (s : Segme
     places = from-taken c.old (all_in c.is patch.segments) (all_in c.is new.segments) patch.places.items new.places.items s at (drop (at + 1) c.old) places here added placed;
   })
 
-  pub reached-on : (patch new : Patch A) → IsWorking c n at patch → patch.engine.position ≡ s.first → IsKept c.was c.is s.first (next_first (drop (at + 1) c.old))
+  pub reached-on : (patch new : Patch A) → IsWorking c n at patch → patch.engine.position ≡ s.first → IsReused c.was c.is s.first (next_first (drop (at + 1) c.old))
       → all_in c.is new.segments ≡ all_in c.is patch.segments ++ s ∷ [] → new.places.items ≡ patch.places.items ++ Some at ∷ [] → new.reused ≡ patch.reused + 1 → new.handled ≡ patch.handled + patch.engine.handled → new.last_reused ≡ true → IsUpTo c n (at + 1) new
   reached-on patch new w reached kept =
       reused-on patch new (patch.handled + patch.engine.handled) w.places (keep-reached c ok n at s here patch.engine new.engine (all_in c.is patch.segments) patch.handled patch.reused w.stands reached kept)

@@ -4,8 +4,8 @@ use Rattle.scenarios.specs.Plan.{Plan}
 use Rattle.event_loop.specs.Events.{events_before}
 use Rattle.checkpoints.specs.Segment.{SegmentView}
 use Rattle.checkpoints.specs.Cut.{Spans, Chain}
-use Rattle.rejoin.specs.Kept.{next_first, MayBegin, IsKept}
-use Rattle.rejoin.specs.Patch.{AreKept, IsPiece, Patched}
+use Rattle.rejoin.specs.Reused.{next_first, MayBegin, IsReused}
+use Rattle.rejoin.specs.Patch.{AreReused, IsPiece, Patched}
 
 -- a worked one
 pub patched-worked : (q : Plan) (old : List SegmentView) (n a m b k : ℕ) (new us : List SegmentView) (s : SegmentView) (h : ℕ) → Patched q old n a new us h m → Spans q s m b → events_before q b ≡ events_before q m + k → IsPiece q old n k b → Patched q old n a (new ++ s ∷ []) us (h + k) b
@@ -33,26 +33,26 @@ pub chain-begins : (q : Plan) (a b : ℕ) (ss : List SegmentView) → MayBegin q
 chain-begins q a b [] may e = subst (MayBegin q) e may
 chain-begins q a b (s ∷ ss) may (m, sp, rest) = chain-begins q m b ss (inr (sp.ends.0, sp.ends.2, sp.ends.3)) rest
 
--- the next one is kept, or is not
-pub keep-last : (p q : Plan) (front rest us : List SegmentView) (s : SegmentView) → AreKept p q front (s ∷ rest) us → IsKept p q s.first (next_first rest) → AreKept p q (front ++ s ∷ []) rest (us ++ s ∷ [])
+-- the next one is reused, or is not
+pub keep-last : (p q : Plan) (front rest us : List SegmentView) (s : SegmentView) → AreReused p q front (s ∷ rest) us → IsReused p q s.first (next_first rest) → AreReused p q (front ++ s ∷ []) rest (us ++ s ∷ [])
 keep-last p q [] rest us s e k = inl (k, ([], ap (λ l. l ++ s ∷ []) e, refl))
 keep-last p q (z ∷ zs) rest us s (inl (here, (vs, e, h))) k =
     inl (
-      subst (λ l. IsKept p q z.first (next_first l)) (sym (append_assoc zs (s ∷ []) rest)) here,
+      subst (λ l. IsReused p q z.first (next_first l)) (sym (append_assoc zs (s ∷ []) rest)) here,
       (vs ++ s ∷ [], ap (λ l. l ++ s ∷ []) e, keep-last p q zs rest vs s h k),
     )
 keep-last p q (z ∷ zs) rest us s (inr (never, h)) k =
-    inr ((λ here. never (subst (λ l. IsKept p q z.first (next_first l)) (append_assoc zs (s ∷ []) rest) here)), keep-last p q zs rest us s h k)
+    inr ((λ here. never (subst (λ l. IsReused p q z.first (next_first l)) (append_assoc zs (s ∷ []) rest) here)), keep-last p q zs rest us s h k)
 
-pub pass-last : (p q : Plan) (front rest us : List SegmentView) (s : SegmentView) → AreKept p q front (s ∷ rest) us → (IsKept p q s.first (next_first rest) → ⊥) → AreKept p q (front ++ s ∷ []) rest us
+pub pass-last : (p q : Plan) (front rest us : List SegmentView) (s : SegmentView) → AreReused p q front (s ∷ rest) us → (IsReused p q s.first (next_first rest) → ⊥) → AreReused p q (front ++ s ∷ []) rest us
 pass-last p q [] rest us s e no' = inr (no', e)
 pass-last p q (z ∷ zs) rest us s (inl (here, (vs, e, h))) no' =
     inl (
-      subst (λ l. IsKept p q z.first (next_first l)) (sym (append_assoc zs (s ∷ []) rest)) here,
+      subst (λ l. IsReused p q z.first (next_first l)) (sym (append_assoc zs (s ∷ []) rest)) here,
       (vs, e, pass-last p q zs rest vs s h no'),
     )
 pass-last p q (z ∷ zs) rest us s (inr (never, h)) no' =
-    inr ((λ here. never (subst (λ l. IsKept p q z.first (next_first l)) (append_assoc zs (s ∷ []) rest) here)), pass-last p q zs rest us s h no')
+    inr ((λ here. never (subst (λ l. IsReused p q z.first (next_first l)) (append_assoc zs (s ∷ []) rest) here)), pass-last p q zs rest us s h no')
 
-pub all-kept : (p q : Plan) (old front us : List SegmentView) → old ≡ front ++ [] → AreKept p q front [] us → AreKept p q old [] us
-all-kept p q old front us e kept = subst (λ l. AreKept p q l [] us) (sym (e ∙ append-nil front)) kept
+pub all-are-reused : (p q : Plan) (old front us : List SegmentView) → old ≡ front ++ [] → AreReused p q front [] us → AreReused p q old [] us
+all-are-reused p q old front us e kept = subst (λ l. AreReused p q l [] us) (sym (e ∙ append-nil front)) kept

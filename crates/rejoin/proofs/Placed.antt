@@ -2,7 +2,7 @@
 use Rattle.std.proofs.Common.{◌≡◌, ℕ, zero, suc, List, [], ◌∷◌, ◌++◌, drop, length, Option, Some, None, IfSome, ap, arith, subst₂, sym}
 use Rattle.std.specs.List.{slice_get}
 use Rattle.checkpoints.specs.Segment.{SegmentView}
-use Rattle.checkpoints.specs.Groups.{AreFrom}
+use Rattle.checkpoints.specs.Nodes.{AreFrom}
 
 -- one segment more
 from-push : (old ss : List SegmentView) (places : List (Option ℕ)) (s : SegmentView) (place : Option ℕ) → AreFrom old ss places → IfSome place (λ k. slice_get old k ≡ Some s) → AreFrom old (ss ++ s ∷ []) (places ++ place ∷ [])

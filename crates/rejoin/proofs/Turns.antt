@@ -16,13 +16,13 @@ use Rattle.checkpoints.specs.Worked.{WorksUpTo}
 use Rattle.checkpoints.specs.Segment.{SegmentView}
 use Rattle.checkpoints.specs.Cut.{Spans, IsCut, Over}
 use Rattle.checkpoints.proofs.Lemmas.{span-bounded}
-use Rattle.rejoin.specs.Kept.{next_first, MayBegin, IsKept}
+use Rattle.rejoin.specs.Reused.{next_first, MayBegin, IsReused}
 use Rattle.rejoin.specs.Older.{IsFirstOf}
-use Rattle.rejoin.specs.Patch.{AreKept, EndsPiece, IsPiece, IsRejoined}
+use Rattle.rejoin.specs.Patch.{AreReused, EndsPiece, IsPiece, IsRejoined}
 use Rattle.rejoin.specs.Rejoining.{ChangeView, IsChange, IsClear, AreTaken, IsSpent, IsOn, IsAfter, Stands}
 use Rattle.rejoin.proofs.Marks.{marks-grow}
-use Rattle.rejoin.proofs.Patching.{all-kept, patched-chain}
-use Rattle.rejoin.proofs.Rejoining.{on-begins, on-worked, on-passed, on-missed, on-kept, after-kept, after-snapshot, after-resumed, on-begun, on-few}
+use Rattle.rejoin.proofs.Patching.{all-are-reused, patched-chain}
+use Rattle.rejoin.proofs.Rejoining.{on-begins, on-worked, on-passed, on-missed, on-reused, after-reused, after-snapshot, after-resumed, on-begun, on-few}
 
 -- event seconds only grow
 grow-for : (q : Plan) (a n : ℕ) → events_before q a ≤ events_before q (a + n)
@@ -132,17 +132,17 @@ module _ (c : ChangeView) (ok : IsChange c) (n at : ℕ) (s : SegmentView) (here
       let l : now.position ≤ s.first = on'.within in
       (us, count, going, plan, on-missed c ok n s (drop (at + 1) c.old) ss us now.position (handled + now.handled) on' (omega (arith, l, ne)) (λ t x y ev. quiet t x y (subst (λ (q : Plan). IsEvent q t) (sym plan) ev)))
 
-  pub pass-refused : (now : Progress) (ss : List SegmentView) (handled reused : ℕ) → Stands c n at false now ss handled reused → (IsKept c.was c.is s.first (next_first (drop (at + 1) c.old)) → ⊥) → Stands c n (at + 1) false now ss handled reused
-  pass-refused now ss handled reused (us, count, going, plan, on) not-kept =
-      (us, count, going, plan, on-passed c ok n s (drop (at + 1) c.old) ss us now.position (handled + now.handled) (on-here ss us now.position (handled + now.handled) on) not-kept)
+  pub pass-refused : (now : Progress) (ss : List SegmentView) (handled reused : ℕ) → Stands c n at false now ss handled reused → (IsReused c.was c.is s.first (next_first (drop (at + 1) c.old)) → ⊥) → Stands c n (at + 1) false now ss handled reused
+  pass-refused now ss handled reused (us, count, going, plan, on) not-reused =
+      (us, count, going, plan, on-passed c ok n s (drop (at + 1) c.old) ss us now.position (handled + now.handled) (on-here ss us now.position (handled + now.handled) on) not-reused)
 
-  pub keep-reached : (now new : Progress) (ss : List SegmentView) (handled reused : ℕ) → Stands c n at false now ss handled reused → now.position ≡ s.first → IsKept c.was c.is s.first (next_first (drop (at + 1) c.old)) → Stands c n (at + 1) true new (ss ++ s ∷ []) (handled + now.handled) (reused + 1)
+  pub keep-reached : (now new : Progress) (ss : List SegmentView) (handled reused : ℕ) → Stands c n at false now ss handled reused → now.position ≡ s.first → IsReused c.was c.is s.first (next_first (drop (at + 1) c.old)) → Stands c n (at + 1) true new (ss ++ s ∷ []) (handled + now.handled) (reused + 1)
   keep-reached now new ss handled reused (us, count, going, plan, on) e k =
-      (us ++ s ∷ [], one-more us reused count, on-kept c ok n s (drop (at + 1) c.old) ss us now.position (handled + now.handled) (on-here ss us now.position (handled + now.handled) on) e k)
+      (us ++ s ∷ [], one-more us reused count, on-reused c ok n s (drop (at + 1) c.old) ss us now.position (handled + now.handled) (on-here ss us now.position (handled + now.handled) on) e k)
 
   pub keep-behind : (now new : Progress) (ss : List SegmentView) (handled reused : ℕ) → Stands c n at true now ss handled reused → IsClear c.was c.is s.first (next_first (drop (at + 1) c.old)) → Stands c n (at + 1) true new (ss ++ s ∷ []) handled (reused + 1)
   keep-behind now new ss handled reused (us, count, (b, af)) clear =
-      (us ++ s ∷ [], one-more us reused count, after-kept c ok n s (drop (at + 1) c.old) ss us b handled (after-here ss us b handled af) clear)
+      (us ++ s ∷ [], one-more us reused count, after-reused c ok n s (drop (at + 1) c.old) ss us b handled (after-here ss us b handled af) clear)
 
   pub behind-snapshot : (now : Progress) (ss : List SegmentView) (handled reused : ℕ) → Stands c n at true now ss handled reused → s.before ≡ numbers_of (before c.is s.first)
   behind-snapshot now ss handled reused (us, count, (b, af)) = after-snapshot c ok n s (drop (at + 1) c.old) ss us b handled (after-here ss us b handled af)
@@ -162,18 +162,18 @@ module _ (c : ChangeView) (ok : IsChange c) (n at : ℕ) (s : SegmentView) (here
 spent-all : (c : ChangeView) → IsChange c → (h b : ℕ) → IsSpent c h b → MayBegin c.is b → IsSpent c h (bound c.is + 1)
 spent-all c ok h b spent may marks all = let x = spent marks all in let y = marks-grow marks b (bound c.is + 1) (bounded c.is b ok.alike.right may) in omega (arith, x, y)
 
-taken-all : (c : ChangeView) (at : ℕ) (us : List SegmentView) → length c.old ≤ at → AreTaken c (drop at c.old) us → AreKept c.was c.is c.old [] us
+taken-all : (c : ChangeView) (at : ℕ) (us : List SegmentView) → length c.old ≤ at → AreTaken c (drop at c.old) us → AreReused c.was c.is c.old [] us
 taken-all c at us l taken =
     let none : drop at c.old ≡ [] = drop_all at c.old l in
     let t : AreTaken c [] us = subst (λ (zs : List SegmentView). AreTaken c zs us) none taken in
-    all-kept c.was c.is c.old t.0 us t.1 t.2
+    all-are-reused c.was c.is c.old t.0 us t.1 t.2
 
-pub done-kept : (c : ChangeView) → IsChange c → (n at : ℕ) (now : Progress) (ss : List SegmentView) (handled reused : ℕ) → length c.old ≤ at → Stands c n at true now ss handled reused → IsRejoined c.was c.is c.old n ss handled reused
-done-kept c ok n at now ss handled reused l (us, count, (b, af)) =
+pub done-reused : (c : ChangeView) → IsChange c → (n at : ℕ) (now : Progress) (ss : List SegmentView) (handled reused : ℕ) → length c.old ≤ at → Stands c n at true now ss handled reused → IsRejoined c.was c.is c.old n ss handled reused
+done-reused c ok n at now ss handled reused l (us, count, (b, af)) =
     let none : drop at c.old ≡ [] = drop_all at c.old l in
     record {
       taken = us;
-      kept = taken-all c at us l af.taken;
+      all = taken-all c at us l af.taken;
       count = count;
       patched = (b, af.patched, (let last : IsAfter c n [] ss us b handled = subst (λ (zs : List SegmentView). IsAfter c n zs ss us b handled) none af in last.ends));
       spent = spent-all c ok handled b af.spent (inr af.event);
@@ -185,7 +185,7 @@ done-worked c ok n at now ss handled reused l (us, count, going, plan, on) none 
     let over' : NoneComes now None = subst (λ (zs : List SegmentView). NoneComes now (next_first zs)) nothing none in
     record {
       taken = us;
-      kept = taken-all c at us l on.taken;
+      all = taken-all c at us l on.taken;
       count = count;
       patched = (now.position, on.patched, (λ t x ev. over' t x (subst (λ (q : Plan). IsEvent q t) (sym plan) ev)));
       spent = spent-all c ok (handled + now.handled) now.position on.spent (on-begun c n (drop at c.old) ss us now.position (handled + now.handled) on);

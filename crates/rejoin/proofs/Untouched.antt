@@ -8,13 +8,13 @@ use Rattle.event_loop.proofs.Lemmas.{events_before-more, has-event}
 use Rattle.checkpoints.specs.Segment.{SegmentView}
 use Rattle.checkpoints.specs.Cut.{Spans, IsCut}
 use Rattle.rejoin.specs.Touched.{IsTouched, NothingTouched}
-use Rattle.rejoin.specs.Kept.{next_first, IsKept}
+use Rattle.rejoin.specs.Reused.{next_first, IsReused}
 use Rattle.rejoin.specs.Laws.{AreAlike}
 use Rattle.rejoin.specs.Bound.{marked}
 use Rattle.rejoin.specs.Rejoining.{ChangeView, IsChange}
-use Rattle.rejoin.specs.Patch.{AreKept, Patched, IsRejoined, AreReused}
+use Rattle.rejoin.specs.Patch.{AreReused, Patched, IsRejoined, AllReused}
 use Rattle.rejoin.proofs.Turns.{events-grow}
-use Rattle.rejoin.proofs.Walk.{work-is-older-work, older-kept-is-kept}
+use Rattle.rejoin.proofs.Walk.{work-is-older-work, older-reused-is-reused}
 
 -- none of the seconds is marked
 marked-none : (n : ℕ) → marked (λ t. false) n ≡ 0
@@ -22,15 +22,15 @@ unfolding marked
 marked-none zero = refl
 marked-none (suc n) = let i = marked-none n in omega (arith, i)
 
--- each segment is kept
-each-kept : (p q : Plan) (old : List SegmentView) → AreAlike p q → IsCut p old → NothingTouched p q → (front : List SegmentView) (s : SegmentView) (rest : List SegmentView) → old ≡ front ++ s ∷ rest → IsKept p q s.first (next_first rest)
-each-kept p q old alike cut none front s rest e = older-kept-is-kept p q front s rest alike (subst (IsCut p) e cut) (inl none)
+-- each segment is reused
+each-reused : (p q : Plan) (old : List SegmentView) → AreAlike p q → IsCut p old → NothingTouched p q → (front : List SegmentView) (s : SegmentView) (rest : List SegmentView) → old ≡ front ++ s ∷ rest → IsReused p q s.first (next_first rest)
+each-reused p q old alike cut none front s rest e = older-reused-is-reused p q front s rest alike (subst (IsCut p) e cut) (inl none)
 
--- those that are kept are all
-all-taken : (p q : Plan) (ss us : List SegmentView) → ((front : List SegmentView) (s : SegmentView) (rest : List SegmentView) → ss ≡ front ++ s ∷ rest → IsKept p q s.first (next_first rest)) → AreKept p q ss [] us → us ≡ ss
+-- those that are reused are all
+all-taken : (p q : Plan) (ss us : List SegmentView) → ((front : List SegmentView) (s : SegmentView) (rest : List SegmentView) → ss ≡ front ++ s ∷ rest → IsReused p q s.first (next_first rest)) → AreReused p q ss [] us → us ≡ ss
 all-taken p q [] us all e = e
 all-taken p q (s ∷ ss) us all (inl (k, (vs, e, rest))) = e ∙ ap (λ (l : List SegmentView). s ∷ l) (all-taken p q ss vs (λ front t left f. all (s ∷ front) t left (ap (λ (l : List SegmentView). s ∷ l) f)) rest)
-all-taken p q (s ∷ ss) us all (inr (never, rest)) = absurd (never (subst (λ (l : List SegmentView). IsKept p q s.first (next_first l)) (sym (append-nil ss)) (all [] s ss refl)))
+all-taken p q (s ∷ ss) us all (inr (never, rest)) = absurd (never (subst (λ (l : List SegmentView). IsReused p q s.first (next_first l)) (sym (append-nil ss)) (all [] s ss refl)))
 
 -- a segment holds an event second
 span-counts : (q : Plan) (s : SegmentView) (a b : ℕ) → Spans q s a b → events_before q a + 1 ≤ events_before q b
@@ -48,11 +48,11 @@ none-worked q old n a b h (s ∷ ss) us z (m, sp, inl (vs, e, rest)) = ap (λ (l
 none-worked q old n a b h (s ∷ ss) us z (m, sp, inr (k, held, few, (g, e, rest))) =
     absurd (let more = span-counts q s a m sp in omega (arith, more, held, e, z))
 
-segments-reused : (c : ChangeView) → IsChange c → (new : List SegmentView) (n handled reused : ℕ) → IsRejoined c.was c.is c.old n new handled reused → NothingTouched c.was c.is → AreReused c.old new handled reused
+segments-reused : (c : ChangeView) → IsChange c → (new : List SegmentView) (n handled reused : ℕ) → IsRejoined c.was c.is c.old n new handled reused → NothingTouched c.was c.is → AllReused c.old new handled reused
 segments-reused c ok new n handled reused done none =
     let spent = done.spent (λ t. false) (λ t work. absurd ((work-is-older-work c.was c.is c.old t ok.alike ok.cut work).touched none)) in
     let zero' : handled ≡ 0 = let m = marked-none (bound c.is + 1) in omega (arith, spent, m) in
-    let all : done.taken ≡ c.old = all-taken c.was c.is c.old done.taken (each-kept c.was c.is c.old ok.alike ok.cut none) done.kept in
+    let all : done.taken ≡ c.old = all-taken c.was c.is c.old done.taken (each-reused c.was c.is c.old ok.alike ok.cut none) done.all in
     record {
       same = none-worked c.is c.old n 0 done.patched.0 handled new done.taken zero' done.patched.1 ∙ all;
       none = zero';
@@ -60,7 +60,7 @@ segments-reused c ok new n handled reused done none =
     }
 
 -- the same, as callers see it
-pub all-reused : (c : ChangeView) (p q : Plan) (old seen new : List SegmentView) (n handled reused : ℕ) → IsChange c → c.was ≡ p → c.is ≡ q → c.old ≡ old → new ≡ seen → IsRejoined c.was c.is c.old n seen handled reused → NothingTouched p q → AreReused old new handled reused
+pub all-reused : (c : ChangeView) (p q : Plan) (old seen new : List SegmentView) (n handled reused : ℕ) → IsChange c → c.was ≡ p → c.is ≡ q → c.old ≡ old → new ≡ seen → IsRejoined c.was c.is c.old n seen handled reused → NothingTouched p q → AllReused old new handled reused
 all-reused c p q old seen new n handled reused ok was is same put done none =
     let untouched : NothingTouched c.was c.is = λ m t. none m (subst (λ (x : Plan). IsTouched x q m) was (subst (λ (x : Plan). IsTouched c.was x m) is t)) in
     let all = segments-reused c ok seen n handled reused done untouched in

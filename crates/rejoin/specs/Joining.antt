@@ -1,6 +1,6 @@
 -- How far the new segments have come.
 use Rattle.std.specs.Prelude.{◌≡◌, ℕ, ◌⊎◌, true, false}
-use Rattle.checkpoints.specs.Groups.{AreFrom}
+use Rattle.checkpoints.specs.Nodes.{AreFrom}
 use Rattle.checkpoints.specs.Pieces.{all_in}
 use Rattle.rejoin.specs.Rejoining.{ChangeView, Stands}
 use Rattle.rejoin.specs.Noted.{IsNoted}

@@ -7,7 +7,7 @@ use Rattle.scenarios.specs.Plan.{job_numbered}
 use Rattle.easy_rule.specs.declared.start.Start.{Start}
 use Rattle.easy_rule.specs.Simulation.{start_of, starts_before}
 use Rattle.timeline.specs.Ledger.{Ledger as Differences, ledger_of}
-use Rattle.rejoin.specs.Kept.{next_first}
+use Rattle.rejoin.specs.Reused.{next_first}
 use Rattle.rejoin.specs.Rejoining.{ChangeView}
 use Rattle.rejoin.specs.Started.{among, HaveEnded, starts_of}
 use Rattle.rejoin.specs.declared.ledger.Ledger.{Ledger}

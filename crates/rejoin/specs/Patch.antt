@@ -6,16 +6,16 @@ use Rattle.event_loop.specs.Events.{events_before}
 use Rattle.checkpoints.specs.Segment.{SegmentView}
 use Rattle.timeline.specs.Laws.{IsQuiet}
 use Rattle.checkpoints.specs.Cut.{Spans, Over}
-use Rattle.rejoin.specs.Kept.{next_first, IsKept}
+use Rattle.rejoin.specs.Reused.{next_first, IsReused}
 use Rattle.rejoin.specs.Bound.{marked, MarksWork}
 use Rattle.rejoin.specs.Older.{IsFirstOf}
 
--- of the old segments before the rest, these are the kept ones, in order
-abbrev pub AreKept : Plan → Plan → List SegmentView → List SegmentView → List SegmentView → Type 0
-AreKept p q [] rest us = us ≡ []
-AreKept p q (s ∷ front) rest us =
-    (IsKept p q s.first (next_first (front ++ rest)) × ((vs : List SegmentView) × (us ≡ s ∷ vs) × AreKept p q front rest vs))
-    ⊎ ((IsKept p q s.first (next_first (front ++ rest)) → ⊥) × AreKept p q front rest us)
+-- of the old segments before the rest, these are the reused ones, in order
+abbrev pub AreReused : Plan → Plan → List SegmentView → List SegmentView → List SegmentView → Type 0
+AreReused p q [] rest us = us ≡ []
+AreReused p q (s ∷ front) rest us =
+    (IsReused p q s.first (next_first (front ++ rest)) × ((vs : List SegmentView) × (us ≡ s ∷ vs) × AreReused p q front rest vs))
+    ⊎ ((IsReused p q s.first (next_first (front ++ rest)) → ⊥) × AreReused p q front rest us)
 
 -- from the second on no event second comes before the first second of one of the old segments, or none comes at all
 abbrev pub EndsPiece : Plan → List SegmentView → ℕ → Type 0
@@ -36,17 +36,17 @@ Patched plan old n a (s ∷ ss) us h b =
     × (((vs : List SegmentView) × (us ≡ s ∷ vs) × Patched plan old n m ss vs h b)
     ⊎ ((k : ℕ) × (events_before plan m ≡ events_before plan a + k) × IsPiece plan old n k m × ((g : ℕ) × (h ≡ k + g) × Patched plan old n m ss us g b)))
 
--- The new segments are a cut of the new plan. Of the old ones exactly those that are kept were reused, so many; the
+-- The new segments are a cut of the new plan. Of the old ones exactly those are among them that are reused, so many; the
 -- others were worked, and hold so many event seconds: no more than there are in the work set.
 pub record IsRejoined (p q : Plan) (old : List SegmentView) (n : ℕ) (new : List SegmentView) (handled reused : ℕ) : Type 0 where
   pub taken : List SegmentView
-  pub kept : AreKept p q old [] taken
+  pub all : AreReused p q old [] taken
   pub count : reused ≡ length taken
   pub patched : (e : ℕ) × Patched q old n 0 new taken handled e × Over q e
   pub spent : (marks : ℕ → Bool) → MarksWork p q old marks → handled ≤ marked marks (bound q + 1)
 
 -- all old segments were reused, no other one stands beside them, and no event second was worked
-pub record AreReused (old new : List SegmentView) (handled reused : ℕ) : Type 0 where
+pub record AllReused (old new : List SegmentView) (handled reused : ℕ) : Type 0 where
   pub same : new ≡ old
   pub none : handled ≡ 0
   pub all : reused ≡ length old

@@ -1,4 +1,4 @@
-ghost use Rattle.std.specs.Prelude.{◌≡◌, ◌≤◌, ◌<◌, ◌+◌, ◌^◌, ◌↔◌, ◌∷◌, List, false, length, drop, map, IsTrue, IfOk, IfErr};
+ghost use Rattle.std.specs.Prelude.{◌≡◌, ◌≤◌, ◌<◌, ◌+◌, ◌^◌, ◌↔◌, ◌∷◌, List, false, length, drop, map, IsTrue, IfOk};
 ghost use Rattle.std.specs.Arc.{arc_value};
 ghost use Rattle.job_table.specs.Accepted.{AreAccepted};
 ghost use Rattle.job_table.specs.Edit.{edit_of, log_after};
@@ -10,30 +10,30 @@ ghost use Rattle.easy_rule.specs.Simulation.{before};
 ghost use Rattle.event_loop.specs.Events.{begun};
 ghost use Rattle.timeline.specs.Ledger.{apart_until};
 ghost use Rattle.checkpoints.specs.Segment.{SegmentView};
-ghost use Rattle.rejoin.specs.Kept.{next_first, IsKept, MayBegin};
+ghost use Rattle.rejoin.specs.Reused.{next_first, IsReused, MayBegin};
 ghost use Rattle.rejoin.specs.Noted.{IsNoted};
 ghost use Rattle.rejoin.specs.Started.{among, count_before};
 ghost use Rattle.rejoin.specs.Rejoining.{IsChange, IsClear};
 
-use crate::kept::none_within;
 use crate::ledger::Ledger;
 use crate::search::{count_below, is_among};
+use crate::stretch::none_within;
 use crate::touched::{touched_numbers, touched_submits};
-use checkpoints::{Run, RunFault, Segment};
+use checkpoints::{Run, Segment};
 use event_loop::Engine;
-use job_table::{Edit, JobTable};
-use scenarios::PlanRef;
+use job_table::Edit;
+use scenarios::{Plan, PlanRef};
 use std::alloc::Allocator;
 use std::marker::Model;
 use std::sync::Arc;
 use swf_text::Memory;
 
-// An old run, a new table, and the numbers in which they differ with their submit seconds.
+// An old run, a new plan, and the numbers in which they differ with their submit seconds.
 #[derive(Drop)]
 pub(crate) struct Change<'a, A: Allocator + Copy> {
     run: &'a Run<A>,
     segments: &'a [Arc<Segment<A>, A>],
-    table: &'a Arc<JobTable<A>, A>,
+    plan: &'a Plan<A>,
     touched: Vec<u64, A>,
     submits: Vec<u64, A>,
 }
@@ -42,13 +42,14 @@ impl<'a, A: Allocator + Copy> Model for Change<'a, A> {
     ghost use Rattle.std.specs.Prelude.{map};
     ghost use Rattle.std.specs.Arc.{arc_value};
     ghost use Rattle.scenarios.specs.Plan.{plan_of};
+    ghost use Rattle.scenarios.specs.PlanView.{plan_in};
     ghost use Rattle.rejoin.specs.Rejoining.{ChangeView, IsChange};
 
     ghost Value = { ChangeView };
 
-    ghost view = { λ c. record { was = plan_of c.run.now.log c.run.now.scenario; is = plan_of (arc_value c.table.now) c.run.now.scenario; old = map arc_value c.segments.now; touched = c.touched.items; submits = c.submits.items } };
+    ghost view = { λ c. record { was = plan_of c.run.now.log c.run.now.scenario; is = plan_in c.plan.now; old = map arc_value c.segments.now; touched = c.touched.items; submits = c.submits.items } };
 
-    ghost invariant = { λ c. IsChange (record { was = plan_of c.run.now.log c.run.now.scenario; is = plan_of (arc_value c.table.now) c.run.now.scenario; old = map arc_value c.segments.now; touched = c.touched.items; submits = c.submits.items }) };
+    ghost invariant = { λ c. IsChange (record { was = plan_of c.run.now.log c.run.now.scenario; is = plan_in c.plan.now; old = map arc_value c.segments.now; touched = c.touched.items; submits = c.submits.items }) };
 }
 
 fn are_all(first: bool, second: bool, third: bool) -> bool
@@ -62,23 +63,24 @@ impl<'a, A: Allocator + Copy> Change<'a, A> {
         alloc: A,
         run: &'a Run<A>,
         edits: &[Edit<A>],
-        table: &'a Arc<JobTable<A>, A>,
+        plan: &'a Plan<A>,
     ) -> Result<Change<'a, A>, Memory>
         requires accepted { AreAccepted run.now.log (map edit_of edits.now) }
-        requires table { arc_value table.now ≡ log_after run.now.log (map edit_of edits.now) }
+        requires table { plan.now.log ≡ log_after run.now.log (map edit_of edits.now) }
+        requires scenario { plan.now.scenario ≡ run.now.scenario }
         ensures was { IfOk result (λ c. c.was ≡ plan_of run.now.log run.now.scenario) }
-        ensures is { IfOk result (λ c. c.is ≡ plan_of (arc_value table.now) run.now.scenario) }
+        ensures is { IfOk result (λ c. c.is ≡ plan_in plan.now) }
         ensures old { IfOk result (λ c. c.old ≡ run.now.segments) }
         ensures sound { IfOk result IsChange }
     {
         let old_plan = run.plan().view();
-        let new_plan = PlanRef::of(table, run.scenario());
+        let new_plan = plan.view();
         let touched = touched_numbers(alloc, &old_plan, edits, &new_plan)?;
         let submits = touched_submits(alloc, &old_plan, &new_plan, touched.as_slice())?;
         Ok(Change {
             run,
             segments: run.segments(),
-            table,
+            plan,
             touched,
             submits,
         })
@@ -93,7 +95,7 @@ impl<'a, A: Allocator + Copy> Change<'a, A> {
     pub(crate) fn plan(&self) -> PlanRef<'_, A>
         ensures plan { plan_in result ≡ self.now.is }
     {
-        PlanRef::of(self.table, self.run.scenario())
+        self.plan.view()
     }
 
     pub(crate) fn len(&self) -> usize
@@ -123,7 +125,6 @@ impl<'a, A: Allocator + Copy> Change<'a, A> {
         &segments[at]
     }
 
-    // Whether no touched number is submitted in the stretch of the old segment at this place.
     pub(crate) fn is_clear(&self, at: usize) -> bool
         requires { at < length self.now.old }
         ensures { (s : SegmentView) (rest : List SegmentView) → drop at self.now.old ≡ s ∷ rest → IsTrue result ↔ IsClear self.now.was self.now.is s.first (next_first rest) }
@@ -138,8 +139,6 @@ impl<'a, A: Allocator + Copy> Change<'a, A> {
         is_among(self.touched.as_slice(), number)
     }
 
-    // Of two seconds at which the new plan's job of this number starts: one second past the later of
-    // its ends, where they differ; or 0.
     pub(crate) fn apart_until(&self, number: u64, at: u64, other: u64) -> u64
         ensures { (job : EffectiveJob) → job_numbered self.now.is.jobs number ≡ Some job → at < 2 ^ 49 → other < 2 ^ 49 → result ≡ apart_until job (Some at) (Some other) }
     {
@@ -152,7 +151,6 @@ impl<'a, A: Allocator + Copy> Change<'a, A> {
         }
     }
 
-    // How many touched numbers are submitted before the second, in the one plan and in the other.
     pub(crate) fn submitted_before(&self, second: u64) -> usize
         ensures count { result ≡ count_before second self.now.submits }
         ensures small { result < 2 ^ 64 }
@@ -161,15 +159,15 @@ impl<'a, A: Allocator + Copy> Change<'a, A> {
         count_below(self.submits.as_slice(), second)
     }
 
-    // Whether the old segment at this place is kept, where the new simulation stands before its first
+    // Whether the old segment at this place is reused, where the new simulation stands before its first
     // second, by a ledger of the starts before it. No touched number waits or runs there where each that
     // is submitted before it has started and ended.
-    pub(crate) fn keeps(&self, at: usize, position: u64, ledger: &Ledger<A>) -> bool
+    pub(crate) fn reuses(&self, at: usize, position: u64, ledger: &Ledger<A>) -> bool
         requires within { at < length self.now.old }
         requires begins { MayBegin self.now.is position }
         requires here { (s : SegmentView) (rest : List SegmentView) → drop at self.now.old ≡ s ∷ rest → position ≡ s.first }
         requires noted { IsNoted self.now at position ledger.now }
-        ensures kept { (s : SegmentView) (rest : List SegmentView) → drop at self.now.old ≡ s ∷ rest → IsTrue result ↔ IsKept self.now.was self.now.is s.first (next_first rest) }
+        ensures reused { (s : SegmentView) (rest : List SegmentView) → drop at self.now.old ≡ s ∷ rest → IsTrue result ↔ IsReused self.now.was self.now.is s.first (next_first rest) }
     {
         let submitted = self.submitted_before(position);
         let met = ledger.has_met(position);
@@ -178,26 +176,21 @@ impl<'a, A: Allocator + Copy> Change<'a, A> {
         are_all(met, ended, clear)
     }
 
-    // An engine of the new plan before second 0.
-    pub(crate) fn begin(&self, alloc: A) -> Result<Engine<A>, RunFault>
+    pub(crate) fn begin(&self, alloc: A) -> Result<Engine<A>, Memory>
         ensures sound { IsChange self.now }
         ensures ok { IfOk result (λ e. e ≡ begun self.now.is 0) }
-        ensures fault { IfErr result (λ f. f ≡ RunFault.Memory) }
     {
-        Ok(Engine::new(alloc, self.table.clone()?, self.run.scenario()))
+        Ok(Engine::new(alloc, self.plan.copy()?))
     }
 
-    // An engine of the new plan before the first second of the old segment at this place, from its
-    // snapshot.
-    pub(crate) fn resume(&self, alloc: A, at: usize) -> Result<Engine<A>, RunFault>
+    pub(crate) fn resume(&self, alloc: A, at: usize) -> Result<Engine<A>, Memory>
         requires within { at < length self.now.old }
         requires snapshot { (s : SegmentView) (rest : List SegmentView) → drop at self.now.old ≡ s ∷ rest → s.before ≡ numbers_of (before self.now.is s.first) }
         ensures ok { IfOk result (λ e. (s : SegmentView) (rest : List SegmentView) → drop at self.now.old ≡ s ∷ rest → e ≡ begun self.now.is s.first) }
-        ensures fault { IfErr result (λ f. f ≡ RunFault.Memory) }
     {
         let old = self.segment(at);
-        let table = self.table.clone()?;
-        let engine = Engine::resume(alloc, old.before(), old.first(), table, self.run.scenario())?;
+        let plan = self.plan.copy()?;
+        let engine = Engine::resume(alloc, old.before(), old.first(), plan)?;
         Ok(engine)
     }
 }

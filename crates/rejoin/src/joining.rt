@@ -1,8 +1,8 @@
 // A re-simulation: from one old segment to the next, and the new segments that come of it.
-ghost use Rattle.std.specs.Prelude.{◌≡◌, ℕ, ◌≤◌, ◌<◌, ◌+◌, map, length, IfOk, IfErr, OnOk};
+ghost use Rattle.std.specs.Prelude.{◌≡◌, ℕ, ◌≤◌, ◌<◌, ◌+◌, map, length, IfOk, OnOk};
 ghost use Rattle.std.specs.Arc.{arc_value};
 ghost use Rattle.checkpoints.specs.Cut.{Chain};
-ghost use Rattle.checkpoints.specs.Groups.{AreFrom};
+ghost use Rattle.checkpoints.specs.Nodes.{AreFrom};
 ghost use Rattle.checkpoints.specs.Pieces.{all_in};
 ghost use Rattle.rejoin.specs.Joining.{IsBehindReused, IsUpTo, IsWorking};
 ghost use Rattle.rejoin.specs.Patch.{IsRejoined};
@@ -11,9 +11,10 @@ use crate::change::Change;
 use crate::ledger::Ledger;
 use crate::notes::pass;
 use crate::patch::{Patch, reuse, work_to};
-use checkpoints::{RunFault, Segment, Segments};
+use checkpoints::{Segment, Segments};
 use std::alloc::Allocator;
 use std::sync::Arc;
+use swf_text::Memory;
 
 // The new segments, where they come from, and what they took.
 #[derive(Drop)]
@@ -32,12 +33,11 @@ fn reach<A: Allocator + Copy>(
     at: usize,
     spacing: u32,
     patch: &mut Patch<A>,
-) -> Result<(), RunFault>
+) -> Result<(), Memory>
     requires spacing { 1 ≤ spacing }
     requires within { at < length change.now.old }
     requires working { IsWorking change.now spacing at patch.old }
     ensures next { OnOk result (IsUpTo change.now spacing (at + 1) patch.new) }
-    ensures fault { IfErr result (λ f. f ≡ RunFault.Memory) }
 {
     work_to(alloc, change, at, spacing, patch)?;
     let segment = change.segment(at);
@@ -45,7 +45,7 @@ fn reach<A: Allocator + Copy>(
         pass(change, at, &mut patch.ledger)?;
         return Ok(());
     }
-    if !change.keeps(at, patch.engine.position(), &patch.ledger) {
+    if !change.reuses(at, patch.engine.position(), &patch.ledger) {
         pass(change, at, &mut patch.ledger)?;
         return Ok(());
     }
@@ -61,11 +61,10 @@ fn follow<A: Allocator + Copy>(
     change: &Change<'_, A>,
     at: usize,
     patch: &mut Patch<A>,
-) -> Result<(), RunFault>
+) -> Result<(), Memory>
     requires within { at < length change.now.old }
     requires behind { (n : ℕ) × IsBehindReused change.now n at patch.old }
     ensures next { OnOk result ((n : ℕ) → IsBehindReused change.now n at patch.old → IsUpTo change.now n (at + 1) patch.new) }
-    ensures fault { IfErr result (λ f. f ≡ RunFault.Memory) }
 {
     let segment = change.segment(at);
     if change.is_clear(at) {
@@ -85,12 +84,11 @@ fn finish<A: Allocator + Copy>(
     change: &Change<'_, A>,
     spacing: u32,
     patch: &mut Patch<A>,
-) -> Result<(), RunFault>
+) -> Result<(), Memory>
     requires spacing { 1 ≤ spacing }
     requires last { IsUpTo change.now spacing (length change.now.old) patch.old }
     ensures places { OnOk result (AreFrom change.now.old (all_in change.now.is patch.new.segments) patch.new.places.items) }
     ensures done { OnOk result (IsRejoined change.now.was change.now.is change.now.old spacing (all_in change.now.is patch.new.segments) patch.new.handled patch.new.reused) }
-    ensures fault { IfErr result (λ f. f ≡ RunFault.Memory) }
 {
     let len = change.len();
     if patch.last_reused {
@@ -109,12 +107,11 @@ fn turn<A: Allocator + Copy>(
     at: usize,
     spacing: u32,
     patch: &mut Patch<A>,
-) -> Result<(), RunFault>
+) -> Result<(), Memory>
     requires spacing { 1 ≤ spacing }
     requires within { at < length change.now.old }
     requires here { IsUpTo change.now spacing at patch.old }
     ensures next { OnOk result (IsUpTo change.now spacing (at + 1) patch.new) }
-    ensures fault { IfErr result (λ f. f ≡ RunFault.Memory) }
 {
     if patch.last_reused {
         follow(alloc, change, at, patch)
@@ -128,12 +125,11 @@ fn go_over<A: Allocator + Copy>(
     change: &Change<'_, A>,
     spacing: u32,
     patch: &mut Patch<A>,
-) -> Result<(), RunFault>
+) -> Result<(), Memory>
     requires spacing { 1 ≤ spacing }
     requires first { IsUpTo change.now spacing 0 patch.old }
     ensures places { OnOk result (AreFrom change.now.old (all_in change.now.is patch.new.segments) patch.new.places.items) }
     ensures done { OnOk result (IsRejoined change.now.was change.now.is change.now.old spacing (all_in change.now.is patch.new.segments) patch.new.handled patch.new.reused) }
-    ensures fault { IfErr result (λ f. f ≡ RunFault.Memory) }
 {
     for at in 0..change.len() {
         turn(alloc, change, at, spacing, patch)?;
@@ -147,13 +143,12 @@ fn settled<A: Allocator + Copy>(
     places: Vec<Option<usize>, A>,
     handled: u64,
     reused: u64,
-) -> Result<Patched<A>, RunFault>
+) -> Result<Patched<A>, Memory>
     requires { (b : ℕ) × Chain change.now.is 0 (all_in change.now.is segments) b }
     ensures segments { IfOk result (λ p. map arc_value p.segments.items ≡ all_in change.now.is segments) }
     ensures places { IfOk result (λ p. p.places.items ≡ places.items) }
     ensures handled { IfOk result (λ p. p.handled ≡ handled) }
     ensures reused { IfOk result (λ p. p.reused ≡ reused) }
-    ensures fault { IfErr result (λ f. f ≡ RunFault.Memory) }
 {
     let segments = segments.finish(&change.plan())?;
     Ok(Patched {
@@ -164,17 +159,14 @@ fn settled<A: Allocator + Copy>(
     })
 }
 
-// The segments of the new plan's simulation: the kept ones of the old segments, and between them
-// worked ones of `spacing` event seconds, or those up to the next old first second or the end.
 pub(crate) fn rejoined<A: Allocator + Copy>(
     alloc: A,
     change: &Change<'_, A>,
     spacing: u32,
-) -> Result<Patched<A>, RunFault>
+) -> Result<Patched<A>, Memory>
     requires { 1 ≤ spacing }
     ensures places { IfOk result (λ p. AreFrom change.now.old (map arc_value p.segments.items) p.places.items) }
     ensures rejoined { IfOk result (λ p. IsRejoined change.now.was change.now.is change.now.old spacing (map arc_value p.segments.items) p.handled p.reused) }
-    ensures fault { IfErr result (λ f. f ≡ RunFault.Memory) }
 {
     let mut patch = Patch {
         engine: change.begin(alloc)?,

@@ -52,7 +52,6 @@ fn exchange<A: Allocator + Copy>(
     }
 }
 
-// Whether it has no start.
 fn has_none<A: Allocator + Copy>(seconds: &Seconds<A>) -> bool
     ensures { IsTrue result ↔ HasNone seconds.now }
 {

@@ -1,23 +1,23 @@
 // What the ledger notes while a re-simulation goes on.
-ghost use Rattle.std.specs.Prelude.{◌≡◌, ℕ, ◌<◌, ◌+◌, length, IfErr, OnOk};
+ghost use Rattle.std.specs.Prelude.{◌≡◌, ℕ, ◌<◌, ◌+◌, length, OnOk};
 ghost use Rattle.checkpoints.specs.Cut.{Spans};
 ghost use Rattle.checkpoints.specs.Pieces.{segment_of};
-ghost use Rattle.rejoin.specs.Kept.{MayBegin};
+ghost use Rattle.rejoin.specs.Reused.{MayBegin};
 ghost use Rattle.rejoin.specs.Noted.{IsNoted};
 
 use crate::change::Change;
 use crate::ledger::Ledger;
-use checkpoints::{Piece, RunFault};
+use checkpoints::Piece;
 use std::alloc::Allocator;
+use swf_text::Memory;
 
 pub(crate) fn note_worked<A: Allocator + Copy>(
     change: &Change<'_, A>,
     at: usize,
     piece: &Piece<A>,
     ledger: &mut Ledger<A>,
-) -> Result<(), RunFault>
+) -> Result<(), Memory>
     ensures noted { OnOk result ((a b : ℕ) → Spans change.now.is (segment_of change.now.is piece.now) a b → IsNoted change.now at a ledger.old → IsNoted change.now at b ledger.new) }
-    ensures fault { IfErr result (λ f. f ≡ RunFault.Memory) }
 {
     if change.first(at).is_none() {
         return Ok(());
@@ -30,11 +30,10 @@ pub(crate) fn pass<A: Allocator + Copy>(
     change: &Change<'_, A>,
     at: usize,
     ledger: &mut Ledger<A>,
-) -> Result<(), RunFault>
+) -> Result<(), Memory>
     requires within { at < length change.now.old }
     ensures noted { OnOk result ((position : ℕ) → MayBegin change.now.is position → IsNoted change.now at position ledger.old
         → IsNoted change.now (at + 1) position ledger.new) }
-    ensures fault { IfErr result (λ f. f ≡ RunFault.Memory) }
 {
     ledger.note_old(change, change.segment(at).starts())?;
     Ok(())

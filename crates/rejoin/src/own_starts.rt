@@ -9,7 +9,6 @@ use easy_rule::Start;
 use scenarios::PlanRef;
 use std::alloc::Allocator;
 
-// One second past the end of the plan's job that starts so; 0 where it has none of this number.
 fn end_of<A: Allocator + Copy>(plan: &PlanRef<'_, A>, start: Start) -> u64
     ensures { start.at < 2 ^ 49 → (t : ℕ) → (result ≤ t) ↔ IfSome (job_numbered (plan_in plan.now).jobs start.number) (λ job. start.at + job.length < t) }
 {

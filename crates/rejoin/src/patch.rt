@@ -1,18 +1,19 @@
-ghost use Rattle.std.specs.Prelude.{◌≡◌, ℕ, ◌≤◌, ◌<◌, ◌+◌, ◌^◌, ◌∷◌, ◌++◌, [], Some, true, drop, IfErr, OnOk};
+ghost use Rattle.std.specs.Prelude.{◌≡◌, ℕ, ◌≤◌, ◌<◌, ◌+◌, ◌^◌, ◌∷◌, ◌++◌, [], Some, true, drop, OnOk};
 ghost use Rattle.std.specs.Arc.{arc_value};
 ghost use Rattle.checkpoints.specs.Coming.{NoneComes};
 ghost use Rattle.checkpoints.specs.Cut.{Chain};
 ghost use Rattle.checkpoints.specs.Pieces.{all_in};
 ghost use Rattle.rejoin.specs.Joining.{IsWorking};
-ghost use Rattle.rejoin.specs.Kept.{next_first};
+ghost use Rattle.rejoin.specs.Reused.{next_first};
 
 use crate::change::Change;
 use crate::ledger::Ledger;
 use crate::notes::note_worked;
-use checkpoints::{RunFault, Segment, Segments, comes_before, next_piece};
+use checkpoints::{Segment, Segments, comes_before, next_piece};
 use event_loop::Engine;
 use std::alloc::Allocator;
 use std::sync::Arc;
+use swf_text::Memory;
 
 // The new segments so far, and the engine that works those that are not old ones.
 #[derive(Drop)]
@@ -38,12 +39,11 @@ pub(crate) fn work_to<A: Allocator + Copy>(
     at: usize,
     spacing: u32,
     patch: &mut Patch<A>,
-) -> Result<(), RunFault>
+) -> Result<(), Memory>
     requires spacing { 1 ≤ spacing }
     requires working { IsWorking change.now spacing at patch.old }
     ensures working { OnOk result (IsWorking change.now spacing at patch.new) }
     ensures reached { OnOk result (NoneComes patch.new.engine (next_first (drop at change.now.old))) }
-    ensures fault { IfErr result (λ f. f ≡ RunFault.Memory) }
 {
     let end = change.first(at);
     'segments: while comes_before(&patch.engine, end) {
@@ -55,13 +55,12 @@ pub(crate) fn work_to<A: Allocator + Copy>(
     Ok(())
 }
 
-// Reuses the old segment at this place, as the next new one.
 pub(crate) fn reuse<A: Allocator + Copy>(
     change: &Change<'_, A>,
     segment: &Arc<Segment<A>, A>,
     at: usize,
     patch: &mut Patch<A>,
-) -> Result<(), RunFault>
+) -> Result<(), Memory>
     requires chain { (b : ℕ) × Chain change.now.is 0 (all_in change.now.is patch.old.segments) b }
     requires few { patch.old.reused + 1 < 2 ^ 64 }
     ensures segments { OnOk result (all_in change.now.is patch.new.segments ≡ all_in change.now.is patch.old.segments ++ arc_value segment.now ∷ []) }
@@ -69,9 +68,8 @@ pub(crate) fn reuse<A: Allocator + Copy>(
     ensures reused { OnOk result (patch.new.reused ≡ patch.old.reused + 1) }
     ensures handled { OnOk result (patch.new.handled ≡ patch.old.handled) }
     ensures last { OnOk result (patch.new.last_reused ≡ true) }
-    ensures fault { IfErr result (λ f. f ≡ RunFault.Memory) }
 {
-    patch.segments.take_over(&change.plan(), segment)?;
+    patch.segments.reuse(&change.plan(), segment)?;
     patch.places.push(Some(at))?;
     patch.reused += 1;
     patch.last_reused = true;

@@ -26,7 +26,6 @@ pub(crate) fn distinct<A: Allocator + Copy>(numbers: Vec<u64, A>) -> Vec<u64, A>
     sorted
 }
 
-// The least of these rising numbers that is not below the bound, where there is one.
 pub(crate) fn least_from(numbers: &[u64], bound: u64) -> Option<u64>
     requires { IsNonDecreasing numbers.now }
     ensures { IsLeastFrom numbers.now bound result }

@@ -5,7 +5,7 @@ ghost use Rattle.job_table.specs.Edit.{edit_of, log_after};
 ghost use Rattle.scenarios.specs.Plan.{plan_of};
 ghost use Rattle.checkpoints.specs.RunView.{IsRun};
 ghost use Rattle.checkpoints.specs.Spacing.{IsSpacing, IsRefusal};
-ghost use Rattle.rejoin.specs.Patch.{IsRejoined, AreReused};
+ghost use Rattle.rejoin.specs.Patch.{IsRejoined, AllReused};
 ghost use Rattle.rejoin.specs.Touched.{NothingTouched};
 
 use crate::change::Change;
@@ -13,6 +13,7 @@ use crate::joining::rejoined;
 use crate::skips::skips_after;
 use checkpoints::{MAX_SPACING, Run, RunFault};
 use job_table::{Edit, JobTable};
+use scenarios::Plan;
 use std::alloc::Allocator;
 use std::sync::Arc;
 
@@ -26,8 +27,8 @@ pub struct Work {
 }
 
 /// Simulates a table after edits, of which an old run is the simulation before them, under the old
-/// scenario: only the event seconds that lie in no kept old segment's stretch are worked, and each
-/// kept segment is reused. The other segments hold `spacing` event seconds each, or fewer, and at
+/// scenario: each old segment that the new plan has too is reused, and only the event seconds that lie in
+/// no such segment's stretch are worked. The other segments hold `spacing` event seconds each, or fewer, and at
 /// least one, where no more of them come before an old segment's first second, or at all. Where the
 /// edits touch no job, all old segments are reused and no event second is worked.
 ///
@@ -47,13 +48,14 @@ pub fn rerun<A: Allocator + Copy>(
     ensures of { IfOk result (λ (again, work). (again.log ≡ arc_value table) × (again.scenario ≡ run.now.scenario)) }
     ensures sound { IfOk result (λ (again, work). IsRun again) }
     ensures rejoined { IfOk result (λ (again, work). IsRejoined (plan_of run.now.log run.now.scenario) (plan_of (arc_value table) run.now.scenario) run.now.segments spacing again.segments work.handled work.reused) }
-    ensures untouched { NothingTouched (plan_of run.now.log run.now.scenario) (plan_of (arc_value table) run.now.scenario) → IfOk result (λ (again, work). AreReused run.now.segments again.segments work.handled work.reused) }
+    ensures untouched { NothingTouched (plan_of run.now.log run.now.scenario) (plan_of (arc_value table) run.now.scenario) → IfOk result (λ (again, work). AllReused run.now.segments again.segments work.handled work.reused) }
     ensures fault { IfErr result (λ f. IsRefusal spacing f) }
 {
     if spacing < 1 || spacing > MAX_SPACING {
         return Err(RunFault::BadSpacing);
     }
-    let change = Change::new(alloc, run, edits, &table)?;
+    let plan = Plan::new(table, run.scenario());
+    let change = Change::new(alloc, run, edits, &plan)?;
     let patch = rejoined(alloc, &change, spacing)?;
     let work = Work {
         handled: patch.handled,
@@ -64,13 +66,13 @@ pub fn rerun<A: Allocator + Copy>(
         run.tables().overall().skips,
         run.table(),
         edits,
-        &table,
-        &run.scenario(),
+        plan.table(),
+        &plan.scenario(),
     )?;
     let again = Run::of_reused(
         alloc,
         run,
-        table.clone()?,
+        plan.copy()?,
         skips,
         patch.segments,
         patch.places.as_slice(),

@@ -105,8 +105,6 @@ fn numbers_of<A: Allocator + Copy>(alloc: A, edits: &[Edit<A>]) -> Result<BTreeS
     Ok(numbers)
 }
 
-// How many entries of the table after the edits are skipped, by reason, from the counts of the table
-// before. It looks at the entries of the edits' numbers alone.
 pub(crate) fn skips_after<A: Allocator + Copy>(
     alloc: A,
     skips: Skips,

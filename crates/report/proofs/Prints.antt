@@ -26,13 +26,6 @@ pub row-taken : (taken : List Row) (k : ℕ) (row : Row) (rest rows all : List R
 row-taken taken k row rest rows all lt before is =
     ap (λ l. l ++ rest) (take-set_at taken k (k + 1) row refl lt) ∙ append_assoc (take k taken) (row ∷ []) rest ∙ ap (λ l. take k taken ++ l) (sym is) ∙ before
 
--- one page more took rows
-pub page-taken : (pages : List Page) (k : ℕ) (page : Page) (rows rest all : List Row) → k < length pages → all_rows (take k pages) ++ rows ≡ all → rows_in page ++ rest ≡ rows → all_rows (take (k + 1) (set pages k page)) ++ rest ≡ all
-page-taken pages k page rows rest all lt before is =
-    let one : all_rows (take (k + 1) (set pages k page)) ≡ all_rows (take k pages) ++ rows_in page =
-    ap all_rows (take-set_at pages k (k + 1) page refl lt) ∙ flat_map-append rows_in (take k pages) (page ∷ []) ∙ ap (λ l. all_rows (take k pages) ++ l) (append-nil (rows_in page)) in
-    ap (λ l. l ++ rest) one ∙ append_assoc (all_rows (take k pages)) (rows_in page) rest ∙ ap (λ l. all_rows (take k pages) ++ l) is ∙ before
-
 -- ---- all pages were printed
 
 -- the rows are the same, and their lines stand in them
@@ -57,11 +50,6 @@ pub print-lines : (old new : List Page) → ArePrints old new → AreLines old n
 print-lines old new p = are-lines old new p.count p.each
 
 -- ---- what was written of pages
-
--- the lines of one page more were written
-pub page-written : (a b c : Option (List ℕ)) (pages : List Page) (k : ℕ) (d : Page) (bytes : List ℕ) → k < length pages → bytes ≡ lines_in (get_or pages k d) → Appends a b (all_lines (take k pages)) → Appends b c bytes → Appends a c (all_lines (take (k + 1) pages))
-page-written a b c pages k d bytes lt is before more =
-    subst (Appends a c) (sym (flat-next lines_in pages k d lt)) (Appends-trans a b c (all_lines (take k pages)) (lines_in (get_or pages k d)) before (subst (Appends b c) is more))
 
 -- the writer failed at a page
 pub page-failed : (a b c : Option (List ℕ)) (pages : List Page) (k : ℕ) (d : Page) (bytes : List ℕ) → k < length pages → bytes ≡ lines_in (get_or pages k d) → Appends a b (all_lines (take k pages)) → (n : ℕ) × Appends b c (take n bytes) → (n : ℕ) × Appends a c (take n (all_lines pages))

@@ -83,7 +83,6 @@ fn print_beside<R: Threads + Sync, W: Write, S: Source>(
 }
 
 impl<A: Allocator + Copy> Batch<A> {
-    // So many pages without rows.
     pub(crate) fn new(alloc: A, count: usize) -> Result<Batch<A>, AllocError>
         requires { 0 < count }
         ensures { IfOk result (λ batch. 0 < length batch.pages.items) }

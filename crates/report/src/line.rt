@@ -24,7 +24,6 @@ pub(crate) fn put_right(line: &mut [u8; CAPACITY], end: usize, number: u64, widt
     start.min(end - width)
 }
 
-// Puts a blank, and a number at least so wide, so that it ends here. Returns where the blank is.
 pub(crate) fn put_cell(line: &mut [u8; CAPACITY], end: usize, number: u64, width: usize) -> usize
     requires capacity { 21 ≤ end }
     requires within { end ≤ 105 }

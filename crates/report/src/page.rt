@@ -85,7 +85,6 @@ fn take_rows<S: Source>(taken: &mut [Row], rows: &mut S) -> usize
 }
 
 impl Page {
-    // No rows, and no lines.
     pub(crate) fn new() -> Page {
         Page {
             rows: [NO_ROW; MOST_ROWS],

@@ -27,7 +27,6 @@ fn zeros(count: usize) -> &'static [u8]
     &ZEROS[..count]
 }
 
-// The text, at least so wide, after blanks.
 fn push_right<A: Allocator + Copy>(
     text: &mut Vec<u8, A>,
     piece: &[u8],
@@ -65,7 +64,6 @@ pub(crate) fn push_number<N: Integer, A: Allocator + Copy>(
     text.extend_from_slice(Buffer::new().format(number).as_bytes())
 }
 
-// A number, at least so wide.
 pub(crate) fn push_aligned<N: Integer, A: Allocator + Copy>(
     text: &mut Vec<u8, A>,
     number: N,
@@ -77,7 +75,6 @@ pub(crate) fn push_aligned<N: Integer, A: Allocator + Copy>(
     push_right(text, Buffer::new().format(number).as_bytes(), width)
 }
 
-// A blank, and a number at least so wide.
 pub(crate) fn push_cell<N: Integer, A: Allocator + Copy>(
     text: &mut Vec<u8, A>,
     number: N,

@@ -57,7 +57,6 @@ fn push_shown<A: Allocator + Copy>(
     Ok(())
 }
 
-// The line of a scenario without numbers.
 fn push_without<A: Allocator + Copy>(
     text: &mut Vec<u8, A>,
     name: &str,

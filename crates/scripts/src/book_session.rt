@@ -40,7 +40,6 @@ impl<A: Allocator + Copy> Model for BookSession<A> {
 }
 
 impl<A: Allocator + Copy> BookSession<A> {
-    // A session that has seen nothing.
     pub(crate) fn new(alloc: A, book: Book<A>) -> BookSession<A>
         ensures { result ≡ record { machine = machine_of book; seen = 0 } }
     {

@@ -37,7 +37,6 @@ pub(crate) struct Line<A: Allocator> {
 }
 
 impl<A: Allocator> Line<A> {
-    // A line without bytes.
     pub(crate) fn new(alloc: A) -> Result<Line<A>, AllocError> {
         let bytes = Vec::with_capacity(alloc, CAPACITY)?;
         Ok(Line { bytes })
@@ -96,7 +95,6 @@ fn unless_interrupted(error: io::Error) -> Result<LineEnd, ReadFault>
     }
 }
 
-// Reads a part of the line: what the reader shows of it, as far as it is stored.
 fn read_part<R: BufRead, A: Allocator>(
     reader: &mut R,
     line: &mut Line<A>,

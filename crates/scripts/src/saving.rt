@@ -77,7 +77,6 @@ pub(crate) fn log<S: Analyst<A>, A: Allocator + Copy>(
     }
 }
 
-// A log with its scenarios and these comments, as text.
 fn saved<A: Allocator + Copy>(
     alloc: A,
     comments: &[Vec<u8, A>],

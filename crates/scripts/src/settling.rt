@@ -32,8 +32,6 @@ pub(crate) enum Turn {
     Short,
 }
 
-// Ends a claimed task: publishes the run that was made for it, or gives it up where memory was
-// refused for that.
 fn end_task<A: Allocator + Copy>(
     book: &mut Book<A>,
     ticket: u64,

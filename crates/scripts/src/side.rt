@@ -13,7 +13,6 @@ use std::alloc::Allocator;
 use swf_text::Memory;
 use version_book::{Published, Refusal, ViewFault, ViewRefusal};
 
-// What stands beside others, by the result of its view; None where the scenario was dropped since.
 fn beside_of<A: Allocator + Copy>(
     outcome: Result<Published<A>, ViewRefusal>,
 ) -> Result<Option<Beside<A>>, ViewRefusal>
@@ -44,7 +43,6 @@ fn add_line<'l, A: Allocator + Copy>(
     }
 }
 
-// What is shown for the scenario with this id beside others; None where it was dropped since.
 fn beside<S: Analyst<A>, A: Allocator + Copy>(
     analyst: &mut S,
     id: ScenarioId,

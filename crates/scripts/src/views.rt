@@ -45,7 +45,6 @@ impl<A: Allocator + Copy> Beside<A> {
     }
 }
 
-// The line of a view that shows nothing.
 fn unseen(refusal: ViewRefusal) -> Answer
     ensures { answer_line result ≡ unseen_line refusal }
 {

@@ -5,7 +5,6 @@ use Rattle.swf_text.specs.Entry.{LogEntry}
 use Rattle.job_table.specs.Edit.{LogEdit}
 use Rattle.scenarios.specs.Plan.{plan_of}
 use Rattle.scenarios.specs.PlanView.{PlanView, plan_in}
-use Rattle.scenarios.specs.Scenario.{ScenarioView}
 use Rattle.checkpoints.specs.Cut.{IsShortCut}
 use Rattle.checkpoints.specs.RunView.{RunView}
 use Rattle.rejoin.specs.Patch.{IsRejoined}
@@ -15,12 +14,10 @@ use Rattle.tasks.specs.Tasks.{BaseView, TaskView, IsMade, base_since}
 pub base-is : (p : PublishedView) (es : List LogEdit) (v : ℕ) (run : RunView) (fs : List LogEdit) → v ≡ p.version → run ≡ p.run → fs ≡ drop p.version es → record { version = v; run = run; edits = fs } ≡ base_since es p
 base-is p es v run fs v_is run_is fs_is = cc
 
--- a run that is cut as the plan of this log under this scenario is one of that plan
-pub cut-of : (plan : PlanView) (log : List LogEntry) (scenario : ScenarioView) (spacing : ℕ) (run seen : RunView) → log ≡ plan.log → scenario ≡ plan.scenario → run ≡ seen → IsShortCut (plan_of log scenario) spacing seen.segments → IsShortCut (plan_in plan) spacing run.segments
-cut-of plan log scenario spacing run seen log_is scenario_is is cut =
-    let here : IsShortCut (plan_of log scenario) spacing run.segments = subst (λ (r : RunView). IsShortCut (plan_of log scenario) spacing r.segments) (sym is) cut in
-    let under : IsShortCut (plan_of log plan.scenario) spacing run.segments = subst (λ (s : ScenarioView). IsShortCut (plan_of log s) spacing run.segments) scenario_is here in
-    subst (λ (l : List LogEntry). IsShortCut (plan_of l plan.scenario) spacing run.segments) log_is under
+-- a run that is cut as an equal plan is cut as this one
+pub cut-of : (plan same : PlanView) (spacing : ℕ) (run seen : RunView) → same ≡ plan → run ≡ seen → IsShortCut (plan_in same) spacing seen.segments → IsShortCut (plan_in plan) spacing run.segments
+cut-of plan same spacing run seen plan_is is cut =
+    subst (λ (p : PlanView). IsShortCut (plan_in p) spacing run.segments) plan_is (subst (λ (r : RunView). IsShortCut (plan_in same) spacing r.segments) (sym is) cut)
 
 -- a run that was made out of a base's run for this log is one for that log
 pub rejoined-of : (base old : RunView) (wanted log : List LogEntry) (spacing : ℕ) (run seen : RunView) (handled reused : ℕ) → old ≡ base → log ≡ wanted → run ≡ seen → IsRejoined (plan_of old.log old.scenario) (plan_of log old.scenario) old.segments spacing seen.segments handled reused → IsRejoined (plan_of base.log base.scenario) (plan_of wanted base.scenario) base.segments spacing run.segments handled reused

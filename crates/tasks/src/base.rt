@@ -40,7 +40,6 @@ fn copies<A: Allocator + Copy>(alloc: A, edits: &[Edit<A>]) -> Result<Vec<Edit<A
     Ok(copies)
 }
 
-// The base that a published run makes, with the edits since its version.
 fn base_since<A: Allocator + Copy>(
     alloc: A,
     published: &Published<A>,

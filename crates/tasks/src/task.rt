@@ -42,7 +42,6 @@ fn made_again<A: Allocator + Copy>(
     Ok((Arc::new(alloc, run)?, work))
 }
 
-// The run of a plan, made from nothing.
 fn made_anew<A: Allocator + Copy>(
     alloc: A,
     plan: &Plan<A>,
@@ -53,8 +52,7 @@ fn made_anew<A: Allocator + Copy>(
     ensures sound { IfOk result (λ run. IsRun (arc_value run)) }
     ensures cut { IfOk result (λ run. IsShortCut (plan_in plan.now) spacing (arc_value run).segments) }
 {
-    let table = plan.table().clone()?;
-    let Ok(run) = simulate(alloc, table, plan.scenario(), spacing) else {
+    let Ok(run) = simulate(alloc, plan.copy()?, spacing) else {
         return Err(Memory);
     };
     Ok(Arc::new(alloc, run)?)
@@ -118,8 +116,7 @@ impl<A: Allocator + Copy> Task<A> {
         ensures task { self.new ≡ self.old }
         ensures ticket { IfOk result (λ ticket. ticket ≡ ticket_for self.old) }
     {
-        let plan = Plan::new(self.plan.table().clone()?, self.plan.scenario());
-        let (sender, receiver) = open(self.alloc, plan)?;
+        let (sender, receiver) = open(self.alloc, self.plan.copy()?)?;
         self.sender = Some(sender);
         Ok(Ticket::new(self.ticket, self.id, self.version, receiver))
     }

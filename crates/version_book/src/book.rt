@@ -6,7 +6,7 @@ ghost use Rattle.checkpoints.specs.Spacing.{IsRefusal, IsSpacing};
 use crate::reading::Reading;
 use crate::state::State;
 use book_machine::{Note, SettleState};
-use checkpoints::RunFault;
+use checkpoints::{MAX_SPACING, RunFault};
 use job_table::JobTable;
 use scenarios::{ScenarioId, ScenarioList};
 use std::alloc::Allocator;
@@ -58,6 +58,9 @@ impl<A: Allocator + Copy> Book<A> {
         ensures spacing { OnOk result (IsSpacing spacing) }
         ensures fault { IfErr result (IsRefusal spacing) }
     {
+        if spacing < 1 || spacing > MAX_SPACING {
+            return Err(RunFault::BadSpacing);
+        }
         let state = State::new(alloc, table, spacing)?;
         Ok(Book {
             alloc,

@@ -10,7 +10,6 @@ use std::alloc::Allocator;
 // The most notes of a journal.
 const NOTE_LIMIT: usize = 1_000_000;
 
-// Whether no further note is allowed.
 fn is_full<A: Allocator + Copy>(journal: &Vec<Note<A>, A>) -> bool
     ensures { result ≡ nat_le note_limit (length journal.now.items) }
 {

@@ -38,7 +38,6 @@ fn is_any_awaited<A: Allocator + Copy>(shown: &[Shown<A>], seen: u64, version: u
     shown.iter().any(move |x| x.is_awaited(seen, version))
 }
 
-// How many scenarios show no run that is new enough.
 fn count_behind<A: Allocator + Copy>(shown: &[Shown<A>], seen: u64) -> usize
     ensures { result ≡ count_by (is_behind seen) shown.now }
 {

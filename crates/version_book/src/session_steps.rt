@@ -112,7 +112,6 @@ impl<A: Allocator + Copy> State<A> {
         Ok(())
     }
 
-    // What is published for a scenario, unless it is older than what was seen.
     pub(crate) fn view(&self, id: ScenarioId, seen: u64) -> Result<Published<A>, ViewRefusal>
         ensures answer { Does self.now self.now (View id seen) (view_answer result) }
         ensures shown { IfOk result (IsShownFor self.now id seen) }

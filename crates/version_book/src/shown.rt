@@ -44,7 +44,6 @@ fn is_mark(mark: Option<u64>, version: u64) -> bool
 }
 
 impl<A: Allocator + Copy> Shown<A> {
-    // A scenario for which nothing is published.
     pub(crate) fn new(id: ScenarioId, scenario: Scenario) -> Shown<A>
         ensures { result ≡ record { id = id; scenario = scenario; published = None; mark = None } }
     {
@@ -95,14 +94,12 @@ impl<A: Allocator + Copy> Shown<A> {
         is_mark(self.mark, version)
     }
 
-    // Whether nothing is published, or a version older than the one seen.
     pub(crate) fn is_behind(&self, seen: u64) -> bool
         ensures { result ≡ is_behind seen self.now }
     {
         is_below(self.published_version(), seen)
     }
 
-    // Whether a version that is not older than the one seen is still to come, at the current version.
     pub(crate) fn is_awaited(&self, seen: u64, version: u64) -> bool
         ensures { result ≡ is_awaited seen version self.now }
     {

@@ -1,20 +1,19 @@
-ghost use Rattle.std.specs.Prelude.{◌≡◌, ◌≤◌, length, map, IfOk, IfErr, OnOk};
+ghost use Rattle.std.specs.Prelude.{◌≡◌, ◌≤◌, length, map, IfOk};
 ghost use Rattle.std.specs.Arc.{arc_value};
 ghost use Rattle.job_table.specs.Edit.{edit_of};
-ghost use Rattle.checkpoints.specs.Spacing.{IsSpacing, IsRefusal};
+ghost use Rattle.checkpoints.specs.Spacing.{IsSpacing};
 ghost use Rattle.version_book.specs.Book.{StateView, machine_at};
 ghost use Rattle.version_book.specs.Sound.{IsSound};
 
 use crate::lookups::{first_due, settled};
 use crate::shown::Shown;
 use book_machine::SettleState;
-use checkpoints::{MAX_SPACING, RunFault};
 use job_table::{Edit, JobTable};
 use scenarios::{MAX_SCENARIOS, ScenarioId, ScenarioList};
 use std::alloc::Allocator;
 use std::marker::Model;
 use std::sync::Arc;
-use swf_text::ENTRY_LIMIT;
+use swf_text::{ENTRY_LIMIT, Memory};
 use tasks::Ticket;
 
 /// The most tickets that stand at once.
@@ -53,15 +52,11 @@ impl<A: Allocator + Copy> Model for State<A> {
 impl<A: Allocator + Copy> State<A> {
     ghost use Rattle.version_book.specs.Steps.{opening_state};
 
-    pub(crate) fn new(alloc: A, table: JobTable<A>, spacing: u32) -> Result<State<A>, RunFault>
+    pub(crate) fn new(alloc: A, table: JobTable<A>, spacing: u32) -> Result<State<A>, Memory>
+        requires { IsSpacing spacing }
         ensures state { IfOk result (λ s. s ≡ opening_state table spacing) }
         ensures sound { IfOk result IsSound }
-        ensures spacing { OnOk result (IsSpacing spacing) }
-        ensures fault { IfErr result (IsRefusal spacing) }
     {
-        if spacing < 1 || spacing > MAX_SPACING {
-            return Err(RunFault::BadSpacing);
-        }
         prove!(table.len() <= ENTRY_LIMIT);
         let opening = Arc::new(alloc, table)?;
         let current = opening.clone()?;

@@ -40,7 +40,6 @@ impl<A: Allocator + Copy> State<A> {
         ))
     }
 
-    // The task of the first scenario that is due, unless 256 tickets stand.
     fn next_task(&self) -> Result<Option<Task<A>>, ClaimRefusal>
         ensures { IsNext self.now result }
     {

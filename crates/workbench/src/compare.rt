@@ -42,8 +42,8 @@ struct Plan {
     /// How many logs there are.
     logs: u64,
     /// What is surely counted in all of these together: the jobs that start, but of edited logs the
-    /// reruns that took over old segments, that worked a part of the event seconds, and that took over
-    /// the last old segment but not all of them.
+    /// reruns that reused old segments, that worked a part of the event seconds, and that reused the last
+    /// old segment but not all of them.
     fewest: [u64; 3],
 }
 

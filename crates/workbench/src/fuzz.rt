@@ -59,7 +59,8 @@ fn text_of(part: Part) -> &'static str {
         Part::Readers => "a reader of one byte a call, each call failing in turn: nothing written",
         Part::Writers =>
             "a writer of few bytes a call, each call failing in turn: nothing invented",
-        Part::Growths => "a run and three scripts, each growth refused in turn: told in its place",
+        Part::Growths =>
+            "a run and three scripts, each growth refused in turn: reported in its place",
         Part::GrowthsBeside => "two scripts side by side, each growth refused in turn: all ends",
         Part::Crossed => "two workers whose tasks cross: they work beside each other",
         Part::Held => "a conversation: each answer is flushed, once",

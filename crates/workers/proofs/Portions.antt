@@ -11,7 +11,7 @@ use Rattle.book_machine.specs.declared.note.Note.{Note}
 use Rattle.book_machine.specs.History.{Noted}
 use Rattle.book_machine.specs.Noted.{noted_of}
 use Rattle.workers.specs.declared.listed_call.ListedCall.{ListedCall}
-use Rattle.workers.specs.Lists.{Exchanged, exchanged_by, exchanged_of, part_of, same_caller}
+use Rattle.workers.specs.Lists.{ListedView, listed_by, listed_of, part_of, same_caller}
 
 -- ---- tests that fail
 
@@ -46,37 +46,37 @@ later js ns o journal is same = ap (map noted_of) is ∙ (sym (drop-map noted_of
 
 -- ---- a caller's part of the notes
 
-mine : (who : Caller) (n : Noted) (ns : List Noted) → same_caller n.caller who ≡ true → part_of who (n ∷ ns) ≡ exchanged_by n ∷ part_of who ns
+mine : (who : Caller) (n : Noted) (ns : List Noted) → same_caller n.caller who ≡ true → part_of who (n ∷ ns) ≡ listed_by n ∷ part_of who ns
 mine who n ns is =
     let rest = filter (λ (m : Noted). same_caller m.caller who) ns in
-    ap (λ (b : Bool). map exchanged_by (cond b (n ∷ rest) rest)) is
+    ap (λ (b : Bool). map listed_by (cond b (n ∷ rest) rest)) is
 
 others : (who : Caller) (n : Noted) (ns : List Noted) → same_caller n.caller who ≡ false → part_of who (n ∷ ns) ≡ part_of who ns
 others who n ns is =
     let rest = filter (λ (m : Noted). same_caller m.caller who) ns in
-    ap (λ (b : Bool). map exchanged_by (cond b (n ∷ rest) rest)) is
+    ap (λ (b : Bool). map listed_by (cond b (n ∷ rest) rest)) is
 
 -- the list is the caller's part of these notes
 abbrev pub IsPart : {A : Type 0} → Caller → List (ListedCall A) → List (Note A) → Type 0
-IsPart who list notes = map exchanged_of list ≡ part_of who (map noted_of notes)
+IsPart who list notes = map listed_of list ≡ part_of who (map noted_of notes)
 
 from-here : {A : Type 0} (who : Caller) (notes : List (Note A)) (i : ℕ) (x : Note A) → i < length notes → x ≡ get_or notes i x
     → part_of who (map noted_of (drop i notes)) ≡ part_of who (noted_of x ∷ map noted_of (drop (i + 1) notes))
 from-here who notes i x lt is = ap (λ (ns : List (Note _)). part_of who (map noted_of ns)) (drop_more notes i x lt ∙ ap (λ (n : Note _). n ∷ drop (i + 1) notes) (sym is))
 
 from-mine : {A : Type 0} (who : Caller) (notes : List (Note A)) (i : ℕ) (x : Note A) → i < length notes → x ≡ get_or notes i x → same_caller x.caller who ≡ true
-    → part_of who (map noted_of (drop i notes)) ≡ exchanged_by (noted_of x) ∷ part_of who (map noted_of (drop (i + 1) notes))
+    → part_of who (map noted_of (drop i notes)) ≡ listed_by (noted_of x) ∷ part_of who (map noted_of (drop (i + 1) notes))
 from-mine who notes i x lt is by = from-here who notes i x lt is ∙ mine who (noted_of x) (map noted_of (drop (i + 1) notes)) by
 
 -- the note's call is listed next, and both go on
 pub goes-on : {A : Type 0} (P : Type 0) (who : Caller) (left : List (ListedCall A)) (first : ListedCall A) (rest : List (ListedCall A)) (notes : List (Note A)) (i : ℕ) (x : Note A)
-    → (P ↔ IsPart who left (drop i notes)) → i < length notes → x ≡ get_or notes i x → same_caller x.caller who ≡ true → left ≡ first ∷ rest → exchanged_of first ≡ exchanged_by (noted_of x)
+    → (P ↔ IsPart who left (drop i notes)) → i < length notes → x ≡ get_or notes i x → same_caller x.caller who ≡ true → left ≡ first ∷ rest → listed_of first ≡ listed_by (noted_of x)
     → P ↔ IsPart who rest (drop (i + 1) notes)
 goes-on P who left first rest notes i x inv lt is by split same =
     let e = from-mine who notes i x lt is by in
-    let l : map exchanged_of left ≡ exchanged_of first ∷ map exchanged_of rest = ap (map exchanged_of) split in (
-      (λ p. let heads : exchanged_of first ∷ map exchanged_of rest ≡ exchanged_by (noted_of x) ∷ part_of who (map noted_of (drop (i + 1) notes)) = sym l ∙ (inv.0 p ∙ e) in cc),
-      (λ q. inv.1 (l ∙ (ap₂ (λ (h : Exchanged) t. h ∷ t) same q ∙ sym e))),
+    let l : map listed_of left ≡ listed_of first ∷ map listed_of rest = ap (map listed_of) split in (
+      (λ p. let heads : listed_of first ∷ map listed_of rest ≡ listed_by (noted_of x) ∷ part_of who (map noted_of (drop (i + 1) notes)) = sym l ∙ (inv.0 p ∙ e) in cc),
+      (λ q. inv.1 (l ∙ (ap₂ (λ (h : ListedView) t. h ∷ t) same q ∙ sym e))),
     )
 
 -- the note is someone else's
@@ -92,23 +92,23 @@ pub runs-out : {A : Type 0} (P : Type 0) (who : Caller) (left : List (ListedCall
     → (P ↔ IsPart who left (drop i notes)) → i < length notes → x ≡ get_or notes i x → same_caller x.caller who ≡ true → length left ≡ 0 → IsTrue false ↔ P
 runs-out P who left notes i x inv lt is by empty =
     let e = from-mine who notes i x lt is by in
-    ((λ f. cc), (λ p. let heads : [] ≡ exchanged_by (noted_of x) ∷ part_of who (map noted_of (drop (i + 1) notes)) = sym (ap (map exchanged_of) (nil_from_length left empty)) ∙ (inv.0 p ∙ e) in cc))
+    ((λ f. cc), (λ p. let heads : [] ≡ listed_by (noted_of x) ∷ part_of who (map noted_of (drop (i + 1) notes)) = sym (ap (map listed_of) (nil_from_length left empty)) ∙ (inv.0 p ∙ e) in cc))
 
 -- another call is listed next
 pub differs : {A : Type 0} (P : Type 0) (who : Caller) (left : List (ListedCall A)) (first : ListedCall A) (rest : List (ListedCall A)) (notes : List (Note A)) (i : ℕ) (x : Note A) (b : Bool)
-    → (P ↔ IsPart who left (drop i notes)) → i < length notes → x ≡ get_or notes i x → same_caller x.caller who ≡ true → left ≡ first ∷ rest → (IsTrue b ↔ (exchanged_of first ≡ exchanged_by (noted_of x))) → b ≡ false
+    → (P ↔ IsPart who left (drop i notes)) → i < length notes → x ≡ get_or notes i x → same_caller x.caller who ≡ true → left ≡ first ∷ rest → (IsTrue b ↔ (listed_of first ≡ listed_by (noted_of x))) → b ≡ false
     → IsTrue false ↔ P
 differs P who left first rest notes i x b inv lt is by split decides fails =
     let e = from-mine who notes i x lt is by in
-    let l : map exchanged_of left ≡ exchanged_of first ∷ map exchanged_of rest = ap (map exchanged_of) split in
-    refuses b (exchanged_of first ≡ exchanged_by (noted_of x)) P decides fails (λ p. let heads : exchanged_of first ∷ map exchanged_of rest ≡ exchanged_by (noted_of x) ∷ part_of who (map noted_of (drop (i + 1) notes)) = sym l ∙ (inv.0 p ∙ e) in cc)
+    let l : map listed_of left ≡ listed_of first ∷ map listed_of rest = ap (map listed_of) split in
+    refuses b (listed_of first ≡ listed_by (noted_of x)) P decides fails (λ p. let heads : listed_of first ∷ map listed_of rest ≡ listed_by (noted_of x) ∷ part_of who (map noted_of (drop (i + 1) notes)) = sym l ∙ (inv.0 p ∙ e) in cc)
 
 -- no note is left
 empty-part : {A : Type 0} (P : Type 0) (who : Caller) (left : List (ListedCall A)) (notes : List (Note A)) (i : ℕ) (b : Bool)
     → (P ↔ IsPart who left (drop i notes)) → drop i notes ≡ [] → (IsTrue b ↔ (left ≡ [])) → IsTrue b ↔ P
 empty-part P who [] notes i b inv none decides = ((λ t. inv.1 (sym (ap (λ (ns : List (Note _)). part_of who (map noted_of ns)) none))), (λ p. decides.1 refl))
 empty-part P who (e ∷ left) notes i b inv none decides =
-    ((λ t. let h : e ∷ left ≡ [] = decides.0 t in cc), (λ p. let h : exchanged_of e ∷ map exchanged_of left ≡ [] = inv.0 p ∙ ap (λ (ns : List (Note _)). part_of who (map noted_of ns)) none in cc))
+    ((λ t. let h : e ∷ left ≡ [] = decides.0 t in cc), (λ p. let h : listed_of e ∷ map listed_of left ≡ [] = inv.0 p ∙ ap (λ (ns : List (Note _)). part_of who (map noted_of ns)) none in cc))
 
 is-nil : {X : Type 0} (xs : List X) (b : Bool) → b ≡ (length xs == 0) → IsTrue b ↔ (xs ≡ [])
 is-nil xs b is =

@@ -1,20 +1,20 @@
 -- Sessions and workers, as those who use them see them.
 use Rattle.std.specs.Prelude.{ℕ, ◌+◌, ◌≡◌, ◌<◌, nat_lt, if◌then◌else◌, max, List, [], Option, None, Some, Result, Ok, Err}
 use Rattle.chronicle.specs.Fronts.{Seen}
-use Rattle.workers.specs.Lists.{Exchanged}
+use Rattle.workers.specs.Lists.{ListedView}
 
 -- a session: its number, the calls that it made with their replies, the greatest version that an edit or a view returned, and
 -- the history of the desk up to its last response
 pub record SessionView : Type 0 where
   pub number : ℕ
-  pub list : List Exchanged
+  pub list : List ListedView
   pub seen : ℕ
   pub front : Seen
 
 -- a worker: its number, the calls that it made with their replies, and for how many more its list has capacity
 pub record WorkerView : Type 0 where
   pub number : ℕ
-  pub list : List Exchanged
+  pub list : List ListedView
   pub capacity : ℕ
 
 -- the most sessions that a desk opens, and the most workers

@@ -12,20 +12,20 @@ use Rattle.version_book.specs.Steps.{Answer, full, memory, outcome}
 use Rattle.workers.specs.declared.listed_call.ListedCall.{ListedCall}
 
 -- a call that its caller made, and the reply that it got
-pub record Exchanged : Type 0 where
+pub record ListedView : Type 0 where
   pub call : BookCall
   pub reply : Reply
 
-abbrev pub exchanged : BookCall → Reply → Exchanged
-exchanged call reply = record { call = call; reply = reply }
+abbrev pub listed_view : BookCall → Reply → ListedView
+listed_view call reply = record { call = call; reply = reply }
 
 -- the same, without the memory that holds its arguments
-abbrev pub exchanged_of : {A : Type 0} → ListedCall A → Exchanged
-exchanged_of e = exchanged (call_of e.call) e.reply
+abbrev pub listed_of : {A : Type 0} → ListedCall A → ListedView
+listed_of e = listed_view (call_of e.call) e.reply
 
 -- what a note says, but for the caller
-abbrev pub exchanged_by : Noted → Exchanged
-exchanged_by note = exchanged note.call note.reply
+abbrev pub listed_by : Noted → ListedView
+listed_by note = listed_view note.call note.reply
 
 -- session k and worker k are two callers
 abbrev pub same_caller : Caller → Caller → Bool
@@ -35,20 +35,20 @@ same_caller (caller.Worker k) (caller.Session m) = false
 same_caller (caller.Worker k) (caller.Worker m) = k == m
 
 -- the part of the notes with a caller's name, in order
-abbrev pub part_of : Caller → List Noted → List Exchanged
-part_of who notes = map exchanged_by (filter (λ (n : Noted). same_caller n.caller who) notes)
+abbrev pub part_of : Caller → List Noted → List ListedView
+part_of who notes = map listed_by (filter (λ (n : Noted). same_caller n.caller who) notes)
 
 -- what a list gains by a call: the call with its reply, if there is one
-abbrev pub gained : BookCall → Option Reply → List Exchanged
+abbrev pub gained : BookCall → Option Reply → List ListedView
 gained call None = []
-gained call (Some reply) = exchanged call reply ∷ []
+gained call (Some reply) = listed_view call reply ∷ []
 
 -- the reply of the note behind this many notes, if there is one
 abbrev pub reply_behind : ℕ → List Noted → Option Reply
 reply_behind n notes = option_map (λ (note : Noted). note.reply) (slice_get notes n)
 
 -- The list gained exactly this call with its reply. At JournalFull and Memory it stays.
-abbrev pub Gains : List Exchanged → List Exchanged → BookCall → Answer → Type 0
+abbrev pub Gains : List ListedView → List ListedView → BookCall → Answer → Type 0
 Gains old new call full = new ≡ old
 Gains old new call memory = new ≡ old
-Gains old new call (outcome reply) = new ≡ old ++ exchanged call reply ∷ []
+Gains old new call (outcome reply) = new ≡ old ++ listed_view call reply ∷ []

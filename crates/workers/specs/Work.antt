@@ -15,7 +15,7 @@ use Rattle.version_book.specs.declared.faults.FinishFault.{FinishFault}
 use Rattle.version_book.specs.declared.faults.UnknownTicket.{UnknownTicket}
 use Rattle.version_book.specs.declared.refusal.Refusal.{Refusal}
 use Rattle.version_book.specs.declared.refusal.Refusal.TheVariants as why
-use Rattle.workers.specs.Lists.{Exchanged, Gains}
+use Rattle.workers.specs.Lists.{ListedView, Gains}
 use Rattle.workers.specs.declared.worker.WorkerEnd.{WorkerEnd}
 use Rattle.workers.specs.declared.worker.WorkerEnd.TheVariants as ends
 
@@ -36,17 +36,17 @@ held_after_call (Some held) (GiveUp ticket) r = if ticket == held then Some None
 held_after_call held call r = None
 
 -- the ticket held after all calls of a list, where they may follow one another
-abbrev pub held_after : Option ℕ → List Exchanged → Option (Option ℕ)
+abbrev pub held_after : Option ℕ → List ListedView → Option (Option ℕ)
 held_after held [] = Some held
 held_after held (e ∷ es) = elim (held_after_call held e.call e.reply) [ None ↦ None | Some now ↦ held_after now es ]
 
 -- the list goes on with claims, each of a ticket followed by a finish or a give-up of this ticket, the last one perhaps not
-abbrev pub WorksOn : List Exchanged → List Exchanged → Type 0
-WorksOn old new = (added : List Exchanged) × (held : Option ℕ) × (new ≡ old ++ added) × (held_after None added ≡ Some held)
+abbrev pub WorksOn : List ListedView → List ListedView → Type 0
+WorksOn old new = (added : List ListedView) × (held : Option ℕ) × (new ≡ old ++ added) × (held_after None added ≡ Some held)
 
 -- the same, and no ticket is left
-abbrev pub WorksThrough : List Exchanged → List Exchanged → Type 0
-WorksThrough old new = (added : List Exchanged) × (new ≡ old ++ added) × (held_after None added ≡ Some None)
+abbrev pub WorksThrough : List ListedView → List ListedView → Type 0
+WorksThrough old new = (added : List ListedView) × (new ≡ old ++ added) × (held_after None added ≡ Some None)
 
 -- ---- how a ticket is had
 
@@ -61,7 +61,7 @@ Finds (Err ends.Full) stopped who old new = (stopped ≡ false) × (is_some (fre
 Finds (Err ends.Memory) stopped who old new = (stopped ≡ false) × (is_some (free_due old.state) ≡ true) × Answers old new who Claim memory
 
 -- the list gains the claim of a task, and nothing otherwise
-abbrev pub GainsClaim : Result TaskView WorkerEnd → List Exchanged → List Exchanged → Type 0
+abbrev pub GainsClaim : Result TaskView WorkerEnd → List ListedView → List ListedView → Type 0
 GainsClaim (Ok task) old new = Gains old new Claim (claim_answer (Ok (Some task)))
 GainsClaim (Err end) old new = new ≡ old
 
@@ -75,12 +75,12 @@ end_of (Err (why.Fault fault)) = None
 end_of (Err why.Memory) = Some ends.Memory
 
 -- the run for the ticket was handed in, the list has the reply, and the worker ends by it
-abbrev pub Finishes : ℕ → List Exchanged → List Exchanged → Option WorkerEnd → Type 0
+abbrev pub Finishes : ℕ → List ListedView → List ListedView → Option WorkerEnd → Type 0
 Finishes ticket old new end =
     (answer : Result ℕ (Refusal FinishFault)) × Gains old new (Finish ticket (fitted answer)) (finish_answer answer) × (end ≡ end_of answer)
 
 -- the ticket was given up, the list has the reply, and the worker ends by it
-abbrev pub GivesUp : ℕ → List Exchanged → List Exchanged → Option WorkerEnd → Type 0
+abbrev pub GivesUp : ℕ → List ListedView → List ListedView → Option WorkerEnd → Type 0
 GivesUp ticket old new end =
     (answer : Result (Unit {0}) (Refusal UnknownTicket)) × Gains old new (GiveUp ticket) (give_up_answer answer) × (end ≡ end_of answer)
 
@@ -89,14 +89,14 @@ abbrev pub IsWanted : TaskView → Option RunView → Type 0
 IsWanted task made = IfSome made (λ (run : RunView). (run.log ≡ task.log) × (run.scenario ≡ task.scenario))
 
 -- a run that was made is handed in, and where none was the ticket is given up
-abbrev pub HandsIn : ℕ → Option RunView → List Exchanged → List Exchanged → Option WorkerEnd → Type 0
+abbrev pub HandsIn : ℕ → Option RunView → List ListedView → List ListedView → Option WorkerEnd → Type 0
 HandsIn ticket (Some run) old new end = Finishes ticket old new end
 HandsIn ticket None old new end = GivesUp ticket old new end
 
 -- what came of the work is what may come of it, and is handed in
-abbrev pub HandsInWhat : (Option RunView → Type 0) → ℕ → List Exchanged → List Exchanged → Option WorkerEnd → Type 0
+abbrev pub HandsInWhat : (Option RunView → Type 0) → ℕ → List ListedView → List ListedView → Option WorkerEnd → Type 0
 HandsInWhat gives ticket old new end = (made : Option RunView) × gives made × HandsIn ticket made old new end
 
 -- one of the two
-abbrev pub HandsInOnce : ℕ → List Exchanged → List Exchanged → Option WorkerEnd → Type 0
+abbrev pub HandsInOnce : ℕ → List ListedView → List ListedView → Option WorkerEnd → Type 0
 HandsInOnce ticket old new end = Finishes ticket old new end ⊎ GivesUp ticket old new end

@@ -1,6 +1,6 @@
 ghost use Rattle.std.specs.Prelude.{◌≡◌, ◌<◌, ◌≤◌, ◌++◌, map, OnErr, OnOk, vec_len, vec_capacity};
 ghost use Rattle.book_machine.specs.Noted.{call_of};
-ghost use Rattle.workers.specs.Lists.{exchanged_of, gained};
+ghost use Rattle.workers.specs.Lists.{listed_of, gained};
 
 use book_machine::{Call, Reply};
 use std::alloc::Allocator;
@@ -30,7 +30,7 @@ pub(crate) fn keep<A: Allocator + Copy>(
     reply: Option<Reply>,
 )
     requires capacity { vec_len list.old < vec_capacity list.old }
-    ensures { map exchanged_of list.new.items ≡ map exchanged_of list.old.items ++ gained (call_of call) reply }
+    ensures { map listed_of list.new.items ≡ map listed_of list.old.items ++ gained (call_of call) reply }
 {
     if let Some(reply) = reply {
         list.push_reserved(ListedCall { call, reply });

@@ -77,7 +77,6 @@ fn are_known<A: Allocator + Copy, J: Naming>(
     true
 }
 
-// Whether the callers' lists are the notes, and no note is anyone else's.
 pub(crate) fn is_answered<A: Allocator + Copy, J: Naming>(
     sessions: &[Session<A, J>],
     workers: &[Worker<A>],

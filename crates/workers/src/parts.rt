@@ -1,7 +1,7 @@
 // Whether a caller's list is its part of the notes.
 ghost use Rattle.std.specs.Prelude.{◌≡◌, ◌↔◌, IsTrue, drop, map};
 ghost use Rattle.book_machine.specs.Noted.{noted_of};
-ghost use Rattle.workers.specs.Lists.{exchanged_by, exchanged_of, part_of, same_caller};
+ghost use Rattle.workers.specs.Lists.{listed_by, listed_of, part_of, same_caller};
 
 use crate::listed_call::ListedCall;
 use book_machine::{Caller, Note};
@@ -18,7 +18,7 @@ pub(crate) fn is_same_caller(one: Caller, two: Caller) -> bool
 }
 
 fn is_noted<A: Allocator + Copy>(listed: &ListedCall<A>, note: &Note<A>) -> bool
-    ensures { IsTrue result ↔ (exchanged_of listed.now ≡ exchanged_by (noted_of note.now)) }
+    ensures { IsTrue result ↔ (listed_of listed.now ≡ listed_by (noted_of note.now)) }
 {
     listed.call.same(&note.call) && listed.reply == note.reply
 }
@@ -28,7 +28,7 @@ pub(crate) fn is_part<A: Allocator + Copy>(
     list: &[ListedCall<A>],
     notes: &[Note<A>],
 ) -> bool
-    ensures { IsTrue result ↔ (map exchanged_of list.now ≡ part_of who (map noted_of notes.now)) }
+    ensures { IsTrue result ↔ (map listed_of list.now ≡ part_of who (map noted_of notes.now)) }
 {
     let mut left = list;
     for note in notes {

@@ -39,18 +39,17 @@ pub struct Session<A: Allocator + Copy, J: Naming> {
 impl<A: Allocator + Copy, J: Naming> Model for Session<A, J> {
     ghost use Rattle.std.specs.Prelude.{map};
     ghost use Rattle.workers.specs.Callers.{SessionView};
-    ghost use Rattle.workers.specs.Lists.{exchanged_of};
+    ghost use Rattle.workers.specs.Lists.{listed_of};
 
     ghost Value = { SessionView };
 
-    ghost view = { λ s. record { number = s.number; list = map exchanged_of s.list.items; seen = s.seen; front = s.front } };
+    ghost view = { λ s. record { number = s.number; list = map listed_of s.list.items; seen = s.seen; front = s.front } };
 }
 
 impl<A: Allocator + Copy, J: Naming> Session<A, J> {
     ghost use Rattle.std.specs.Prelude.{map};
-    ghost use Rattle.workers.specs.Lists.{exchanged_of};
+    ghost use Rattle.workers.specs.Lists.{listed_of};
 
-    // A session that has made no call.
     pub(crate) fn new(alloc: A, number: u64, front: Front<J>) -> Session<A, J>
         ensures { result ≡ new_session number front }
     {
@@ -72,7 +71,7 @@ impl<A: Allocator + Copy, J: Naming> Session<A, J> {
 
     /// Its own calls and their replies, in their order.
     pub fn list(&self) -> &[ListedCall<A>]
-        ensures { map exchanged_of result.now ≡ self.now.list }
+        ensures { map listed_of result.now ≡ self.now.list }
     {
         self.list.as_slice()
     }

@@ -9,7 +9,7 @@ ghost use Rattle.version_book.specs.Sound.{IsBook};
 ghost use Rattle.version_book.specs.Steps.{Answers};
 ghost use Rattle.version_book.specs.Tasks.{IsShownFor};
 ghost use Rattle.workers.specs.History.{Calls, Views};
-ghost use Rattle.workers.specs.Lists.{Gains, exchanged_of};
+ghost use Rattle.workers.specs.Lists.{Gains, listed_of};
 
 use crate::hearing::{followed, notes_in};
 use crate::listed_call::{ListedCall, keep};
@@ -33,7 +33,7 @@ impl<A: Allocator + Copy, J: Naming> Shared<A, J> {
         requires capacity { vec_len list.old < vec_capacity list.old }
         requires call { call_of call ≡ Edits (edit_of edit.now) }
         ensures book { Answers self.old.book self.new.book (caller.Session session) (Edits (edit_of edit.now)) (edit_answer result) }
-        ensures list { Gains (map exchanged_of list.old.items) (map exchanged_of list.new.items) (Edits (edit_of edit.now)) (edit_answer result) }
+        ensures list { Gains (map listed_of list.old.items) (map listed_of list.new.items) (Edits (edit_of edit.now)) (edit_answer result) }
         ensures history { Calls J.opening front.old (caller.Session session) (Edits (edit_of edit.now)) (edit_answer result) front.new }
     {
         let notes = notes_in(&self.book);
@@ -56,7 +56,7 @@ impl<A: Allocator + Copy, J: Naming> Shared<A, J> {
         requires capacity { vec_len list.old < vec_capacity list.old }
         requires call { call_of call ≡ AddScenario name.now scenario }
         ensures book { Answers self.old.book self.new.book (caller.Session session) (AddScenario name.now scenario) (add_answer result) }
-        ensures list { Gains (map exchanged_of list.old.items) (map exchanged_of list.new.items) (AddScenario name.now scenario) (add_answer result) }
+        ensures list { Gains (map listed_of list.old.items) (map listed_of list.new.items) (AddScenario name.now scenario) (add_answer result) }
         ensures history { Calls J.opening front.old (caller.Session session) (AddScenario name.now scenario) (add_answer result) front.new }
     {
         let notes = notes_in(&self.book);
@@ -78,7 +78,7 @@ impl<A: Allocator + Copy, J: Naming> Shared<A, J> {
         requires capacity { vec_len list.old < vec_capacity list.old }
         requires call { call_of call ≡ DropScenario name.now }
         ensures book { Answers self.old.book self.new.book (caller.Session session) (DropScenario name.now) (drop_answer result) }
-        ensures list { Gains (map exchanged_of list.old.items) (map exchanged_of list.new.items) (DropScenario name.now) (drop_answer result) }
+        ensures list { Gains (map listed_of list.old.items) (map listed_of list.new.items) (DropScenario name.now) (drop_answer result) }
         ensures history { Calls J.opening front.old (caller.Session session) (DropScenario name.now) (drop_answer result) front.new }
     {
         let notes = notes_in(&self.book);
@@ -98,7 +98,7 @@ impl<A: Allocator + Copy, J: Naming> Shared<A, J> {
     ) -> Result<(), RetryRefusal>
         requires capacity { vec_len list.old < vec_capacity list.old }
         ensures book { Answers self.old.book self.new.book (caller.Session session) (Retry id) (retry_answer result) }
-        ensures list { Gains (map exchanged_of list.old.items) (map exchanged_of list.new.items) (Retry id) (retry_answer result) }
+        ensures list { Gains (map listed_of list.old.items) (map listed_of list.new.items) (Retry id) (retry_answer result) }
         ensures history { Calls J.opening front.old (caller.Session session) (Retry id) (retry_answer result) front.new }
     {
         let notes = notes_in(&self.book);
@@ -109,7 +109,6 @@ impl<A: Allocator + Copy, J: Naming> Shared<A, J> {
         outcome
     }
 
-    // What is published for a scenario, unless the session has seen a newer version.
     pub(crate) fn view_for(
         &mut self,
         session: u64,
@@ -120,7 +119,7 @@ impl<A: Allocator + Copy, J: Naming> Shared<A, J> {
     ) -> Result<Published<A>, ViewRefusal>
         requires capacity { vec_len list.old < vec_capacity list.old }
         ensures book { Answers self.old.book self.new.book (caller.Session session) (View id seen) (view_answer result) }
-        ensures list { Gains (map exchanged_of list.old.items) (map exchanged_of list.new.items) (View id seen) (view_answer result) }
+        ensures list { Gains (map listed_of list.old.items) (map listed_of list.new.items) (View id seen) (view_answer result) }
         ensures history { Views J.opening front.old (caller.Session session) id seen result front.new }
         ensures shown { IfOk result (IsShownFor self.old.book.state id seen) }
         ensures sound { IsBook self.old.book }

@@ -47,7 +47,6 @@ impl<A: Allocator + Copy, J: Naming> Model for Shared<A, J> {
     ghost invariant = { λ s. IsTied J.opening (record { book = s.book; history = s.whole; sessions = s.sessions; workers = s.workers; stopped = s.stopped }) };
 }
 
-// The number of the next session or worker, where this many were opened; none after 64.
 fn next_caller(opened: u64) -> Option<u64>
     ensures { result ≡ next_caller opened }
 {
@@ -59,7 +58,6 @@ fn next_caller(opened: u64) -> Option<u64>
 }
 
 impl<A: Allocator + Copy, J: Naming> Shared<A, J> {
-    // A book without callers, and a history that begins there.
     pub(crate) fn new(book: Book<A>, whole: Whole<J>) -> Shared<A, J>
         requires opening { J.opening ≡ machine_of book }
         requires whole { whole ≡ nothing_yet }
@@ -99,7 +97,6 @@ impl<A: Allocator + Copy, J: Naming> Shared<A, J> {
         }
     }
 
-    // Whether a worker has nothing to do and should not end.
     pub(crate) fn is_idle(&self) -> bool
         ensures { result ≡ is_idle self.now.stopped self.now.book.state }
     {
@@ -179,7 +176,6 @@ impl<A: Allocator + Copy, J: Naming> Shared<A, J> {
         self.book.reading()
     }
 
-    // The result for a session that waits no longer.
     pub(crate) fn settle(&self, seen: u64, front: &mut Front<J>) -> Settled
         requires { is_none (outcome_settled (settled seen (machine_of self.now.book)) self.now.stopped) ≡ false }
         ensures settled { IsSettledOnce seen result }

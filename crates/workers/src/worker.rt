@@ -45,11 +45,11 @@ pub struct Worker<A: Allocator + Copy> {
 impl<A: Allocator + Copy> Model for Worker<A> {
     ghost use Rattle.std.specs.Prelude.{◌-◌, map, vec_capacity, vec_len};
     ghost use Rattle.workers.specs.Callers.{WorkerView};
-    ghost use Rattle.workers.specs.Lists.{exchanged_of};
+    ghost use Rattle.workers.specs.Lists.{listed_of};
 
     ghost Value = { WorkerView };
 
-    ghost view = { λ w. record { number = w.number; list = map exchanged_of w.list.items; capacity = vec_capacity w.list - vec_len w.list } };
+    ghost view = { λ w. record { number = w.number; list = map listed_of w.list.items; capacity = vec_capacity w.list - vec_len w.list } };
 }
 
 fn end_of<T: Copy, F: Copy>(outcome: Result<T, Refusal<F>>) -> Option<WorkerEnd>
@@ -64,9 +64,8 @@ fn end_of<T: Copy, F: Copy>(outcome: Result<T, Refusal<F>>) -> Option<WorkerEnd>
 
 impl<A: Allocator + Copy> Worker<A> {
     ghost use Rattle.std.specs.Prelude.{map};
-    ghost use Rattle.workers.specs.Lists.{exchanged_of};
+    ghost use Rattle.workers.specs.Lists.{listed_of};
 
-    // A worker that has made no call.
     pub(crate) fn new(alloc: A, number: u64) -> Worker<A>
         ensures { result ≡ new_worker number }
     {
@@ -85,7 +84,7 @@ impl<A: Allocator + Copy> Worker<A> {
 
     /// Its own calls and their replies, in their order.
     pub fn list(&self) -> &[ListedCall<A>]
-        ensures { map exchanged_of result.now ≡ self.now.list }
+        ensures { map listed_of result.now ≡ self.now.list }
     {
         self.list.as_slice()
     }

@@ -8,7 +8,7 @@ ghost use Rattle.version_book.specs.Answers.{TakesWhatFits, claim_answer, finish
 ghost use Rattle.version_book.specs.Steps.{Answers};
 ghost use Rattle.version_book.specs.Tasks.{Fits, due_shown, task_for};
 ghost use Rattle.version_book.specs.Sound.{IsBook};
-ghost use Rattle.workers.specs.Lists.{Gains, exchanged_of};
+ghost use Rattle.workers.specs.Lists.{Gains, listed_of};
 ghost use Rattle.workers.specs.Readings.{WasFull, WasRefused, is_idle};
 ghost use Rattle.workers.specs.Work.{Finds, GainsClaim, end_of};
 ghost use Rattle.workers.specs.declared.worker.WorkerEnd.TheVariants as ends;
@@ -41,7 +41,7 @@ impl<A: Allocator + Copy, J: Naming> Shared<A, J> {
     ) -> Result<Option<Task<A>>, ClaimRefusal>
         requires capacity { vec_len list.old < vec_capacity list.old }
         ensures book { Answers self.old.book self.new.book (caller.Worker worker) Claim (claim_answer result) }
-        ensures list { Gains (map exchanged_of list.old.items) (map exchanged_of list.new.items) Claim (claim_answer result) }
+        ensures list { Gains (map listed_of list.old.items) (map listed_of list.new.items) Claim (claim_answer result) }
         ensures task { IfOk result (λ task. task ≡ option_map (task_for self.old.book.state) (due_shown self.old.book.state)) }
         ensures is_book { IsBook self.old.book }
     {
@@ -52,7 +52,6 @@ impl<A: Allocator + Copy, J: Naming> Shared<A, J> {
         outcome
     }
 
-    // The next task of a worker that was woken, claimed unless the desk is stopped; or why it ends.
     pub(crate) fn next_for(
         &mut self,
         worker: u64,
@@ -61,7 +60,7 @@ impl<A: Allocator + Copy, J: Naming> Shared<A, J> {
         requires capacity { vec_len list.old < vec_capacity list.old }
         requires busy { is_idle self.old.stopped self.old.book.state ≡ false }
         ensures book { Finds result self.old.stopped (caller.Worker worker) self.old.book self.new.book }
-        ensures list { GainsClaim result (map exchanged_of list.old.items) (map exchanged_of list.new.items) }
+        ensures list { GainsClaim result (map listed_of list.old.items) (map listed_of list.new.items) }
         ensures full { result ≡ Err ends.Full → WasFull }
         ensures memory { result ≡ Err ends.Memory → WasRefused (caller.Worker worker) }
     {
@@ -86,7 +85,7 @@ impl<A: Allocator + Copy, J: Naming> Shared<A, J> {
     ) -> Result<u64, FinishRefusal>
         requires capacity { vec_len list.old < vec_capacity list.old }
         ensures book { Answers self.old.book self.new.book (caller.Worker worker) (Finish ticket (fitted result)) (finish_answer result) }
-        ensures list { Gains (map exchanged_of list.old.items) (map exchanged_of list.new.items) (Finish ticket (fitted result)) (finish_answer result) }
+        ensures list { Gains (map listed_of list.old.items) (map listed_of list.new.items) (Finish ticket (fitted result)) (finish_answer result) }
         ensures fits { TakesWhatFits (Fits self.old.book.state ticket (arc_value run)) result }
         ensures full { end_of result ≡ Some ends.Full → WasFull }
         ensures memory { end_of result ≡ Some ends.Memory → WasRefused (caller.Worker worker) }
@@ -107,7 +106,7 @@ impl<A: Allocator + Copy, J: Naming> Shared<A, J> {
     ) -> Result<(), GiveUpRefusal>
         requires capacity { vec_len list.old < vec_capacity list.old }
         ensures book { Answers self.old.book self.new.book (caller.Worker worker) (GiveUp ticket) (give_up_answer result) }
-        ensures list { Gains (map exchanged_of list.old.items) (map exchanged_of list.new.items) (GiveUp ticket) (give_up_answer result) }
+        ensures list { Gains (map listed_of list.old.items) (map listed_of list.new.items) (GiveUp ticket) (give_up_answer result) }
         ensures full { end_of result ≡ Some ends.Full → WasFull }
         ensures memory { end_of result ≡ Some ends.Memory → WasRefused (caller.Worker worker) }
     {

@@ -4,7 +4,7 @@ use easy_rule::Start;
 use event_loop::Engine;
 use job_table::JobTable;
 use oracle_runs::{LogPlan, PlainJob};
-use scenarios::Scenario;
+use scenarios::{Plan, Scenario};
 use std::alloc::Global;
 use std::sync::Arc;
 use swf_text::{SwfText, read_swf};
@@ -12,13 +12,14 @@ use swf_text::{SwfText, read_swf};
 /// A job and the second at which it starts.
 pub(crate) type Placed = (PlainJob, u64);
 
-fn table_of(alloc: Global, text: &SwfText<Global>) -> Option<Arc<JobTable<Global>, Global>> {
-    Arc::new(alloc, JobTable::from_text(alloc, text).ok()?).ok()
+fn plan_of(alloc: Global, text: &SwfText<Global>, scenario: &Scenario) -> Option<Plan<Global>> {
+    let table = JobTable::from_text(alloc, text).ok()?;
+    Some(Plan::new(Arc::new(alloc, table).ok()?, *scenario))
 }
 
 fn engine_starts(alloc: Global, text: &SwfText<Global>, scenario: &Scenario) -> Option<Vec<Start>> {
-    let table = table_of(alloc, text)?;
-    Engine::new(alloc, table, *scenario).finish().ok()
+    let plan = plan_of(alloc, text, scenario)?;
+    Engine::new(alloc, plan).finish().ok()
 }
 
 // The run of a log, in segments of up to so many event seconds.
@@ -28,8 +29,8 @@ fn run_of(
     scenario: &Scenario,
     spacing: u32,
 ) -> Option<Run<Global>> {
-    let table = table_of(alloc, text)?;
-    simulate(alloc, table, *scenario, spacing).ok()
+    let plan = plan_of(alloc, text, scenario)?;
+    simulate(alloc, plan, spacing).ok()
 }
 
 // Adds the jobs of a plan, with their starts; none where one does not start.

@@ -6,7 +6,7 @@ use checkpoints::{Row, Run, simulate};
 use easy_rule::Start;
 use job_table::{Edit, JobTable};
 use rejoin::{Work, edited, rerun};
-use scenarios::{Order, Scenario};
+use scenarios::{Order, Plan, Scenario};
 use std::alloc::Global;
 use std::sync::Arc;
 
@@ -68,17 +68,17 @@ fn same_starts(alloc: Global, a: &Run<Global>, b: &Run<Global>) -> Option<bool> 
 
 // Whether a run is that of its table from nothing; none where memory is short.
 fn is_from_nothing(alloc: Global, run: &Run<Global>, spacing: u32) -> Option<bool> {
-    let plain = simulate(alloc, run.table().clone().ok()?, run.scenario(), spacing).ok()?;
+    let plain = simulate(alloc, run.plan().copy().ok()?, spacing).ok()?;
     Some(
         same_schedules(&plain, run) && same_tables(&plain, run) && same_starts(alloc, &plain, run)?,
     )
 }
 
-// Whether a rerun that took this work took over old segments, worked a part of the event seconds, and
-// took over the last old segment but not all of them; none where it worked more than there was, or took
-// over other than the kept segments.
+// Whether a rerun that took this work reused old segments, worked a part of the event seconds, and
+// reused the last old segment but not all of them; none where it worked more than there was, or reused
+// others than those to be reused.
 fn counted(work: Work, counts: Counts) -> Option<[u64; 3]> {
-    if work.handled > counts.work || work.reused != counts.kept {
+    if work.handled > counts.work || work.reused != counts.reused {
         return None;
     }
     let is_part = work.handled > 0 && work.handled < counts.events;
@@ -111,7 +111,7 @@ fn counted_of(
     scenario: Scenario,
     spacing: u32,
 ) -> Option<[u64; 3]> {
-    let was = simulate(alloc, table.clone().ok()?, scenario, spacing).ok()?;
+    let was = simulate(alloc, Plan::new(table.clone().ok()?, scenario), spacing).ok()?;
     counted_after(alloc, &was, edits, spacing)
 }
 

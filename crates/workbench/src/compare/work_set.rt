@@ -24,16 +24,16 @@ struct Plan<'a> {
     touched: &'a [Job],
 }
 
-/// What there is to be worked and to be kept.
+/// What there is to be worked and to be reused.
 #[derive(Clone, Copy)]
 pub(crate) struct Counts {
     /// The event seconds of the new plan.
     pub(crate) events: u64,
-    /// Those of them that lie in no kept stretch.
+    /// Those of them that lie in no reused stretch.
     pub(crate) work: u64,
-    /// The kept segments of the old run.
-    pub(crate) kept: u64,
-    /// Whether the last old segment is kept, but not all of them.
+    /// The reused segments of the old run.
+    pub(crate) reused: u64,
+    /// Whether the last old segment is reused, but not all of them.
     pub(crate) rejoins: bool,
 }
 
@@ -109,7 +109,7 @@ fn is_touched(old: &Segment<Global>, stretch: Stretch, touched: &[Job]) -> bool 
     false
 }
 
-fn is_kept(old: &Segment<Global>, stretch: Stretch, plan: &Plan<'_>) -> bool {
+fn is_reused(old: &Segment<Global>, stretch: Stretch, plan: &Plan<'_>) -> bool {
     may_begin(plan.events, stretch.first)
         && is_before(plan.rows, old.before(), stretch.first)
         && !is_touched(old, stretch, plan.touched)
@@ -128,15 +128,15 @@ fn stretch_at(segments: &[Arc<Segment<Global>, Global>], place: usize) -> Stretc
     }
 }
 
-fn add_kept(
-    kept: &mut Vec<Stretch>,
+fn add_reused(
+    reused: &mut Vec<Stretch>,
     segments: &[Arc<Segment<Global>, Global>],
     plan: &Plan<'_>,
 ) -> Option<()> {
     for place in 0..segments.len() {
         let stretch = stretch_at(segments, place);
-        if is_kept(&segments[place], stretch, plan) {
-            kept.push(stretch).ok()?;
+        if is_reused(&segments[place], stretch, plan) {
+            reused.push(stretch).ok()?;
         }
     }
     Some(())
@@ -151,10 +151,10 @@ fn is_within(stretches: &[Stretch], second: u64) -> bool {
     false
 }
 
-fn count_outside(seconds: &[u64], kept: &[Stretch]) -> u64 {
+fn count_outside(seconds: &[u64], reused: &[Stretch]) -> u64 {
     let mut count = 0u64;
     for second in seconds {
-        count = count.wrapping_add(u64::from(!is_within(kept, *second)));
+        count = count.wrapping_add(u64::from(!is_within(reused, *second)));
     }
     count
 }
@@ -167,13 +167,13 @@ fn is_open(stretches: &[Stretch]) -> bool {
 }
 
 fn counts_by(alloc: Global, was: &Run<Global>, plan: &Plan<'_>) -> Option<Counts> {
-    let mut kept = Vec::new(alloc);
-    add_kept(&mut kept, was.segments(), plan)?;
+    let mut reused = Vec::new(alloc);
+    add_reused(&mut reused, was.segments(), plan)?;
     Some(Counts {
         events: plan.events.len() as u64,
-        work: count_outside(plan.events, kept.as_slice()),
-        kept: kept.len() as u64,
-        rejoins: kept.len() < was.segments().len() && is_open(kept.as_slice()),
+        work: count_outside(plan.events, reused.as_slice()),
+        reused: reused.len() as u64,
+        rejoins: reused.len() < was.segments().len() && is_open(reused.as_slice()),
     })
 }
 
@@ -204,7 +204,7 @@ fn is_cut(segments: &[Arc<Segment<Global>, Global>], plan: &Plan<'_>) -> bool {
     }
 }
 
-// What there is to be worked and to be kept of an old run, by a new one with these rows and event
+// What there is to be worked and to be reused of an old run, by a new one with these rows and event
 // seconds; none where its segments are no cut.
 fn counts_at(
     alloc: Global,
@@ -232,7 +232,7 @@ fn counts_with(alloc: Global, was: &Run<Global>, is: &Run<Global>, rows: &[Row])
     counts_at(alloc, was, is, rows, events.as_slice())
 }
 
-// What there is to be worked and to be kept of an old run, by a new one; none where the new one's
+// What there is to be worked and to be reused of an old run, by a new one; none where the new one's
 // segments are no cut.
 pub(crate) fn counts_of(alloc: Global, was: &Run<Global>, is: &Run<Global>) -> Option<Counts> {
     let rows = is.schedule().ok()?;

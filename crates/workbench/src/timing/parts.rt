@@ -6,7 +6,7 @@ use commands::open_text;
 use job_table::{Edit, JobTable};
 use parallel_reader::read_parallel;
 use report::schedule_text;
-use scenarios::Scenario;
+use scenarios::{Plan, Scenario};
 use std::alloc::{Allocator, Global};
 use std::rt::Clock;
 use std::sync::Arc;
@@ -139,7 +139,7 @@ fn time_run<R: AllocGlobal + Clock + Print>(
         return Err(Fault::Run);
     };
     timer.begin();
-    match simulate(alloc, table, scenario, SPACING) {
+    match simulate(alloc, Plan::new(table, scenario), SPACING) {
         Ok(run) => {
             tell(timer, "simulate", entries);
             print(timer, &run)

@@ -1,6 +1,6 @@
 use Rattle.std.proofs.Common.{◌≡◌, map, take}
 use Rattle.std.specs.Arc.{arc_value}
-use Rattle.checkpoints.specs.Groups.{parts_of}
+use Rattle.checkpoints.specs.Nodes.{parts_of}
 use Rattle.checkpoints.proofs.merge_tree.segment_parts.Given as goal
 
 abbrev pub invariant-loop-segment : goal.invariant-loop-segment

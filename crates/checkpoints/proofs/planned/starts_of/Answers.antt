@@ -1,10 +1,6 @@
 use Rattle.std.proofs.Common.{◌∙◌, ap, List, map, arith}
-use Rattle.std.specs.Arc.{arc_value}
 use Rattle.std.specs.Option.{option_or}
-use Rattle.swf_text.specs.Entry.{LogEntry}
 use Rattle.scenarios.specs.Job.{EffectiveJob}
-use Rattle.scenarios.specs.Scenario.{ScenarioView}
-use Rattle.scenarios.specs.Plan.{plan_of}
 use Rattle.scenarios.specs.PlanView.{plan_in}
 use Rattle.easy_rule.specs.Pass.{start_at}
 use Rattle.easy_rule.specs.Simulation.{start_of}
@@ -14,8 +10,7 @@ use Rattle.checkpoints.proofs.planned.starts_of.Goals as goal
 
 pub events-init : goal.events-init
 events-init g c =
-    noted-first (plan_in c.args.plan.now) (plan_of (arc_value c.in_ok-clone.field-0) c.scenario.result) c.new-engine.result c.in_ok-noting.noting c.new-engine.ensures
-    (ap (λ (log : List LogEntry). plan_of log c.scenario.result) (c.in_ok-clone.ensures.cases ∙ c.table.ensures.table) ∙ ap (λ (s : ScenarioView). plan_of c.args.plan.now.log s) c.scenario.ensures.scenario)
+    noted-first (plan_in c.args.plan.now) (plan_in c.in_ok-copy.field-0) c.new-engine.result c.in_ok-noting.noting c.new-engine.ensures (ap plan_in c.in_ok-copy.ensures)
     c.in_ok-noting.ensures
 
 pub events-smaller : goal.events-smaller

@@ -12,7 +12,9 @@ finish-requires g c =
     let cut = short-cut plan c.args.spacing (all_in plan c.in_ok-segments.segments) c.in_ok-segments.ensures.cut in
     rw c.view-view.ensures.same (cut.0, cut.1)
 
-pub returns-clause-cut : goal.returns-clause-cut
-returns-clause-cut g c =
-    subst (IsShortCut (plan_in c.args.plan.now) c.args.spacing)
-    (sym (c.in_ok-done.ensures ∙ ap (λ (v : PlanView). all_in (plan_in v) c.in_ok-segments.segments) c.view-view.ensures.same)) c.in_ok-segments.ensures.cut
+pub returns : goal.returns
+returns g c = record {
+  cut =
+      subst (IsShortCut (plan_in c.args.plan.now) c.args.spacing)
+      (sym (c.in_ok-done.ensures ∙ ap (λ (v : PlanView). all_in (plan_in v) c.in_ok-segments.segments) c.view-view.ensures.same)) c.in_ok-segments.ensures.cut;
+}

@@ -1,8 +1,5 @@
-use Rattle.std.proofs.Common.{◌∙◌, ap, sym, subst, List}
-use Rattle.std.specs.Arc.{arc_value}
-use Rattle.swf_text.specs.Entry.{LogEntry}
-use Rattle.scenarios.specs.Scenario.{ScenarioView}
-use Rattle.scenarios.specs.Plan.{Plan, plan_of}
+use Rattle.std.proofs.Common.{◌∙◌, ap, sym, subst}
+use Rattle.scenarios.specs.Plan.{Plan}
 use Rattle.scenarios.specs.PlanView.{PlanView, plan_in}
 use Rattle.checkpoints.specs.Cut.{IsShortCut}
 use Rattle.checkpoints.specs.Pieces.{all_in}
@@ -12,8 +9,8 @@ use Rattle.checkpoints.proofs.simulation.worked.Goals as goal
 pub segments-init : goal.segments-init
 segments-init g c =
     let plan : Plan = plan_in c.view-view.result in
-    cutting-first plan (plan_of (arc_value c.in_ok-clone.field-0) c.scenario.result) c.args.spacing c.new-engine.result _ c.new-engine.ensures
-    (ap (λ (log : List LogEntry). plan_of log c.scenario.result) (c.in_ok-clone.ensures.cases ∙ c.table.ensures.table) ∙ ap (λ (s : ScenarioView). plan_of c.args.plan.now.log s) c.scenario.ensures.scenario ∙ ap plan_in (sym c.view-view.ensures.same))
+    cutting-first plan (plan_in c.in_ok-copy.field-0) c.args.spacing c.new-engine.result _ c.new-engine.ensures
+    (ap plan_in (c.in_ok-copy.ensures ∙ sym c.view-view.ensures.same))
     (ap (all_in plan) c.new-segments.ensures)
 
 pub add_next-requires-clause-cut : goal.add_next-requires-clause-cut
@@ -28,7 +25,9 @@ segments-preserved g c = c.in_ok-add_next.ensures.cut
 pub segments-smaller : goal.segments-smaller
 segments-smaller g c = c.in_ok-add_next.ensures.nearer
 
-pub returns-clause-cut : goal.returns-clause-cut
-returns-clause-cut g c =
-    let done = cut-done (plan_in c.view-view.result) c.args.spacing c.segments.engine (all_in (plan_in c.view-view.result) c.segments.segments) c.segments.invariant (c.comes_before.ensures.none c.segments-test.false) in
-    subst (λ (v : PlanView). IsShortCut (plan_in v) c.args.spacing (all_in (plan_in v) c.segments.segments)) c.view-view.ensures.same done
+pub returns : goal.returns
+returns g c = record {
+  cut =
+      let done = cut-done (plan_in c.view-view.result) c.args.spacing c.segments.engine (all_in (plan_in c.view-view.result) c.segments.segments) c.segments.invariant (c.comes_before.ensures.none c.segments-test.false) in
+      subst (λ (v : PlanView). IsShortCut (plan_in v) c.args.spacing (all_in (plan_in v) c.segments.segments)) c.view-view.ensures.same done;
+}

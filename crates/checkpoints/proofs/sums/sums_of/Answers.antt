@@ -1,6 +1,6 @@
 use Rattle.std.proofs.lemmas.Result.{IfOk-weaker}
 use Rattle.scenarios.specs.PlanView.{plan_in}
-use Rattle.checkpoints.specs.Groups.{parts_of}
+use Rattle.checkpoints.specs.Nodes.{parts_of}
 use Rattle.checkpoints.proofs.Totals.{cut-few, total-is}
 use Rattle.checkpoints.proofs.sums.sums_of.Goals as goal
 

@@ -15,7 +15,8 @@ returns-in-Shortest-clause-kept g c =
     let x = c.in-Some.waiter in
     let at = sym c.in-Some.ensures.item in
     let once = subst (λ (o : Option EffectiveJob). IfSome o (λ (j : EffectiveJob). Having j.number (waiting places) ≤ 1)) at c.requires.once in
-    let long = c.from.ensures ∙ c.estimate.ensures.value ∙ ap (λ (j : EffectiveJob). j.estimate) c.waiter.view_is in
-    let gone = c.remove.ensures.left ∙ ap (λ (n : ℕ). without_first (is_at estimate place n c.args.place) candidates) long in
+    let long = c.major.ensures ∙ ap (λ (j : EffectiveJob). j.estimate) c.waiter.view_is in
+    let there = ap (λ (n : ℕ). without_first (is_at estimate place c.major.result n) candidates) c.minor.ensures in
+    let gone = c.remove.ensures.left ∙ there ∙ ap (λ (n : ℕ). without_first (is_at estimate place n c.args.place) candidates) long in
     subst (λ (ps : List (Option EffectiveJob)). IsKept c.args.order ps left) (sym c.in-Some.ensures.places)
     (kept-left places c.args.place x at c.args.order candidates left c.requires.kept once gone)

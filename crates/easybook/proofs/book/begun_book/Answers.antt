@@ -1,4 +1,4 @@
-use Rattle.std.proofs.Common.{◌++◌, ℕ, List, map, sym, subst}
+use Rattle.std.proofs.Common.{◌++◌, ℕ, List, map, subst}
 use Rattle.easybook.specs.Opened.{IsOpened}
 use Rattle.easybook.specs.Plain.{IsFaultOf}
 use Rattle.easybook.proofs.Beguns.{err-is, outcome-so}

@@ -1,10 +1,7 @@
-use Rattle.std.proofs.Common.{rules, arith, ◌≡◌, ◌≤◌, ◌++◌, ℕ, List, Result, length, Err, IfErr, subst, sym}
+use Rattle.std.proofs.Common.{rules, arith, ◌≡◌, ◌≤◌, ◌++◌, ℕ, length, Err}
 use Rattle.std.proofs.lemmas.List.{length-append}
-use Rattle.parallel_reader.specs.Fronts.{IsFront}
-use Rattle.commands.specs.declared.opening.Opening.{Opening}
 use Rattle.easybook.specs.Fault.{fault_of, fault_of_opening}
-use Rattle.easybook.specs.Plain.{IsFaultOf, log_limit}
-use Rattle.easybook.specs.declared.fault.ProgramFault.{ProgramFault}
+use Rattle.easybook.specs.Plain.{log_limit}
 use Rattle.easybook.proofs.Beguns.{err-is, fault-opened, fault-read, outcome-so}
 use Rattle.easybook.proofs.Openings.{opened-some}
 use Rattle.easybook.proofs.opened.opening_behind.Goals as goal

@@ -3,7 +3,7 @@ use Rattle.checkpoints.specs.Pieces.{all_in}
 use Rattle.rejoin.specs.Joining.{IsUpTo}
 use Rattle.rejoin.specs.Patch.{IsRejoined}
 use Rattle.rejoin.proofs.Onward.{behind-of, working-of}
-use Rattle.rejoin.proofs.Turns.{done-kept, done-worked, stands-short}
+use Rattle.rejoin.proofs.Turns.{done-reused, done-worked, stands-short}
 use Rattle.rejoin.proofs.joining.finish.Goals as goal
 
 pub work_to-requires-clause-working : goal.work_to-requires-clause-working
@@ -21,7 +21,7 @@ returns-then-patch-clause-done g c =
     let change = c.args.change.now in
     let p = c.args.patch.now in
     let behind = behind-of change c.args.spacing (length change.old) p c.requires.last c.if-patch.true in
-    done-kept change c.len-len.ensures.sound c.args.spacing (length change.old) p.engine (all_in change.is p.segments) p.handled p.reused (omega arith) behind.stands
+    done-reused change c.len-len.ensures.sound c.args.spacing (length change.old) p.engine (all_in change.is p.segments) p.handled p.reused (omega arith) behind.stands
 
 pub overflow_add-patch : goal.overflow_add-patch
 overflow_add-patch g c =

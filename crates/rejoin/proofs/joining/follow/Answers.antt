@@ -24,13 +24,15 @@ reuse-requires-clause-few g c =
     let next = c.segment-segment.ensures.next in
     omega (arith, few, next)
 
-pub returns-then-is_clear-clause-next : goal.returns-then-is_clear-clause-next
-returns-then-is_clear-clause-next g c n behind =
-    let s = arc_value c.segment-segment.result.now in
-    let here = c.segment-segment.ensures.here in
-    followed-on c.args.change.now c.segment-segment.ensures.sound n c.args.at s here c.args.patch.now c.reuse.new.patch
-    behind ((c.is_clear.ensures s (drop (c.args.at + 1) c.args.change.now.old) here).0 c.if-is_clear.true)
-    c.in_ok-reuse.ensures.segments c.in_ok-reuse.ensures.places c.in_ok-reuse.ensures.reused c.in_ok-reuse.ensures.handled c.in_ok-reuse.ensures.last
+pub returns-then-is_clear : goal.returns-then-is_clear
+returns-then-is_clear g c = record {
+  next = λ n behind.
+      let s = arc_value c.segment-segment.result.now in
+      let here = c.segment-segment.ensures.here in
+      followed-on c.args.change.now c.segment-segment.ensures.sound n c.args.at s here c.args.patch.now c.reuse.new.patch
+      behind ((c.is_clear.ensures s (drop (c.args.at + 1) c.args.change.now.old) here).0 c.if-is_clear.true)
+      c.in_ok-reuse.ensures.segments c.in_ok-reuse.ensures.places c.in_ok-reuse.ensures.reused c.in_ok-reuse.ensures.handled c.in_ok-reuse.ensures.last;
+}
 
 pub resume-requires-clause-snapshot : goal.resume-requires-clause-snapshot
 resume-requires-clause-snapshot g c s rest e =
@@ -41,13 +43,15 @@ resume-requires-clause-snapshot g c s rest e =
     subst (λ (x : SegmentView). x.before ≡ numbers_of (before change.is x.first)) same
     (behind-snapshot change c.segment-segment.ensures.sound c.requires.behind.0 c.args.at seg here c.args.patch.now.engine (all_in c.args.change.now.is c.args.patch.now.segments) c.args.patch.now.handled c.args.patch.now.reused c.requires.behind.1.stands)
 
-pub returns-clause-next : goal.returns-clause-next
-returns-clause-next g c n behind =
-    let change = c.args.change.now in
-    let s = arc_value c.segment-segment.result.now in
-    let rest = drop (c.args.at + 1) change.old in
-    let here = c.segment-segment.ensures.here in
-    resumed-on change c.segment-segment.ensures.sound n c.args.at s here c.args.patch.now c.in_ok-patch.field-0 0 c.new.result c.pass.new.ledger
-    behind (λ clear. false≢true (sym c.if-is_clear.false ∙ (c.is_clear.ensures s rest here).1 clear)) (c.in_ok-patch.ensures.ok s rest here)
-    (new-notes change s.first c.first.result c.submitted_before.result _ (search rules) c.submitted_before.ensures.count c.submitted_before.ensures.small c.new.ensures.was c.new.ensures.is c.new.ensures.until c.new.ensures.started c.new.ensures.ended)
-    c.in_ok-pass.ensures.noted
+pub returns : goal.returns
+returns g c = record {
+  next = λ n behind.
+      let change = c.args.change.now in
+      let s = arc_value c.segment-segment.result.now in
+      let rest = drop (c.args.at + 1) change.old in
+      let here = c.segment-segment.ensures.here in
+      resumed-on change c.segment-segment.ensures.sound n c.args.at s here c.args.patch.now c.in_ok-patch.field-0 0 c.new.result c.pass.new.ledger
+      behind (λ clear. false≢true (sym c.if-is_clear.false ∙ (c.is_clear.ensures s rest here).1 clear)) (c.in_ok-patch.ensures.ok s rest here)
+      (new-notes change s.first c.first.result c.submitted_before.result _ (search rules) c.submitted_before.ensures.count c.submitted_before.ensures.small c.new.ensures.was c.new.ensures.is c.new.ensures.until c.new.ensures.started c.new.ensures.ended)
+      c.in_ok-pass.ensures.noted;
+}

@@ -1,6 +1,6 @@
 use Rattle.std.proofs.Common.{map, refl, ap, inl}
 use Rattle.std.specs.Arc.{arc_value}
-use Rattle.checkpoints.specs.Groups.{AreFrom}
+use Rattle.checkpoints.specs.Nodes.{AreFrom}
 use Rattle.checkpoints.specs.Pieces.{all_in}
 use Rattle.rejoin.specs.Patch.{IsRejoined}
 use Rattle.rejoin.proofs.Meeting.{begun-noted, new-notes}

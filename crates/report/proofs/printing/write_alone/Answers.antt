@@ -1,10 +1,8 @@
-use Rattle.std.proofs.Common.{◌≡◌, length, arith, ◌∙◌, ap}
-use Rattle.std.specs.List.{flat_map}
+use Rattle.std.proofs.Common.{◌≡◌, length, arith, ◌∙◌}
 use Rattle.std.proofs.KnownBytes.{Appends-nil}
 use Rattle.std.proofs.lemmas.List.{nil_from_length}
 use Rattle.std.proofs.lemmas.Result.{err_from_is_err_and}
 use Rattle.report.specs.Pages.{rows_in}
-use Rattle.report.specs.Schedule.{row_line}
 use Rattle.report.proofs.Prints.{all-done, more-done, none-done, not-done}
 use Rattle.report.proofs.printing.write_alone.Goals as goal
 

@@ -1,19 +1,15 @@
-use Rattle.std.proofs.Common.{◌≡◌, ◌∙◌, List, arith, sym, subst, ap, map}
+use Rattle.std.proofs.Common.{◌≡◌, List, arith, sym, subst, ap, map}
 use Rattle.std.proofs.lemmas.List.{length-map}
 use Rattle.std.specs.Arc.{arc_value}
 use Rattle.scenarios.specs.PlanView.{plan_in}
-use Rattle.checkpoints.specs.Cut.{IsCut}
-use Rattle.checkpoints.specs.Groups.{parts_of, IsMergeTreeOf, AreFrom}
+use Rattle.checkpoints.specs.Nodes.{parts_of, IsMergeTreeOf, AreFrom}
 use Rattle.checkpoints.specs.Segment.{SegmentView}
 use Rattle.checkpoints.specs.RunView.{RunView}
 use Rattle.checkpoints.proofs.Totals.{cut-few}
 use Rattle.checkpoints.proofs.run.Run.of_reused.Goals as goal
 
 pub of_reused-requires-clause-few : goal.of_reused-requires-clause-few
-of_reused-requires-clause-few g c =
-    let scenario : c.scenario.result ≡ c.args.old.now.scenario = c.scenario.ensures.scenario ∙ ap (λ (r : RunView). r.scenario) c.old.view_is in
-    let cut : IsCut (plan_in c.new-plan.result) (map arc_value c.args.segments.items) = rw (c.new-plan.ensures.view, scenario) c.requires.cut in
-    rw c.as_slice.ensures.value (cut-few (plan_in c.new-plan.result) (map arc_value c.args.segments.items) c.new-plan.ensures.sound cut)
+of_reused-requires-clause-few g c = rw c.as_slice.ensures.value (cut-few (plan_in c.args.plan) (map arc_value c.args.segments.items) c.scenario.ensures.sound c.requires.cut)
 
 pub of_reused-requires-clause-old : goal.of_reused-requires-clause-old
 of_reused-requires-clause-old g c =
@@ -25,20 +21,11 @@ of_reused-requires-clause-old g c =
 
 pub tables_of-requires-clause-cut : goal.tables_of-requires-clause-cut
 tables_of-requires-clause-cut g c =
-    let scenario : c.scenario.result ≡ c.args.old.now.scenario = c.scenario.ensures.scenario ∙ ap (λ (r : RunView). r.scenario) c.old.view_is in
-    let cut : IsCut (plan_in c.new-plan.result) (map arc_value c.args.segments.items) = rw (c.new-plan.ensures.view, scenario) c.requires.cut in
     let merge_tree : IsMergeTreeOf (parts_of (map arc_value c.args.segments.items)) c.in_ok-merge_tree.merge_tree = rw c.as_slice.ensures.value at c.in_ok-merge_tree.ensures in
-    (map arc_value c.args.segments.items, cut, merge_tree)
+    (map arc_value c.args.segments.items, c.requires.cut, merge_tree)
 
 pub invariant_of-result : goal.invariant_of-result
-invariant_of-result g c =
-    let scenario : c.scenario.result ≡ c.args.old.now.scenario = c.scenario.ensures.scenario ∙ ap (λ (r : RunView). r.scenario) c.old.view_is in
-    let cut : IsCut (plan_in c.new-plan.result) (map arc_value c.args.segments.items) = rw (c.new-plan.ensures.view, scenario) c.requires.cut in
-    let merge_tree : IsMergeTreeOf (parts_of (map arc_value c.args.segments.items)) c.in_ok-merge_tree.merge_tree = rw c.as_slice.ensures.value at c.in_ok-merge_tree.ensures in
-    (record { cut = cut; tables = c.in_ok-tables.ensures }, merge_tree)
+invariant_of-result g c = (record { cut = c.requires.cut; tables = c.in_ok-tables.ensures }, rw c.as_slice.ensures.value at c.in_ok-merge_tree.ensures)
 
 pub returns-clause-sound : goal.returns-clause-sound
-returns-clause-sound g c =
-    let scenario : c.scenario.result ≡ c.args.old.now.scenario = c.scenario.ensures.scenario ∙ ap (λ (r : RunView). r.scenario) c.old.view_is in
-    let cut : IsCut (plan_in c.new-plan.result) (map arc_value c.args.segments.items) = rw (c.new-plan.ensures.view, scenario) c.requires.cut in
-    record { cut = cut; tables = c.in_ok-tables.ensures }
+returns-clause-sound g c = record { cut = c.requires.cut; tables = c.in_ok-tables.ensures }

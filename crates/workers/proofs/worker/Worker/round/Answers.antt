@@ -2,26 +2,26 @@ use Rattle.std.proofs.Common.{rules, ◌≡◌, ◌++◌, ◌∷◌, []}
 use Rattle.std.specs.Option.{option_map}
 use Rattle.book_machine.specs.Call.{Claim}
 use Rattle.book_machine.specs.declared.reply.Reply.TheVariants as reply
-use Rattle.workers.specs.Lists.{exchanged}
+use Rattle.workers.specs.Lists.{listed_view}
 use Rattle.workers.proofs.Works.{goes_on, on_stays, through_stays}
 use Rattle.workers.proofs.worker.Worker.round.Goals as goal
 
 pub returns-in-Ok-clause-on : goal.returns-in-Ok-clause-on
 returns-in-Ok-clause-on g c =
     let t = c.in-Ok.task in
-    let is : c.claim.new.self.list ≡ c.args.self.now.list ++ exchanged Claim (reply.Claimed t.ticket t.id t.version (option_map (λ b. b.version) t.base)) ∷ [] = search rules in
+    let is : c.claim.new.self.list ≡ c.args.self.now.list ++ listed_view Claim (reply.Claimed t.ticket t.id t.version (option_map (λ b. b.version) t.base)) ∷ [] = search rules in
     (goes_on _ _ _ t.ticket t.id t.version _ _ is c.work.ensures.list).0
 
 pub returns-in-Ok-clause-through : goal.returns-in-Ok-clause-through
 returns-in-Ok-clause-through g c =
     let t = c.in-Ok.task in
-    let is : c.claim.new.self.list ≡ c.args.self.now.list ++ exchanged Claim (reply.Claimed t.ticket t.id t.version (option_map (λ b. b.version) t.base)) ∷ [] = search rules in
+    let is : c.claim.new.self.list ≡ c.args.self.now.list ++ listed_view Claim (reply.Claimed t.ticket t.id t.version (option_map (λ b. b.version) t.base)) ∷ [] = search rules in
     (goes_on _ _ _ t.ticket t.id t.version _ _ is c.work.ensures.list).1
 
 pub returns-in-Ok-clause-stopped : goal.returns-in-Ok-clause-stopped
 returns-in-Ok-clause-stopped g c =
     let t = c.in-Ok.task in
-    let is : c.claim.new.self.list ≡ c.args.self.now.list ++ exchanged Claim (reply.Claimed t.ticket t.id t.version (option_map (λ b. b.version) t.base)) ∷ [] = search rules in
+    let is : c.claim.new.self.list ≡ c.args.self.now.list ++ listed_view Claim (reply.Claimed t.ticket t.id t.version (option_map (λ b. b.version) t.base)) ∷ [] = search rules in
     (goes_on _ _ _ t.ticket t.id t.version _ _ is c.work.ensures.list).2
 
 pub returns-in-Err-clause-on : goal.returns-in-Err-clause-on
