@@ -1,3 +1,6 @@
+// All items may weigh more than `least`: an insertion lowers it at once, a removal leaves it, and a search
+// that found nothing raises it. `last` is the first number of the last item, so that a search over blocks
+// reads hardly any items.
 ghost use Rattle.std.specs.Prelude.{◌≡◌, ◌≤◌, ◌<◌, ◌+◌, ◌++◌, ◌^◌, [], All, IfOk, length, sum_by, take, drop, slice_index_or, vec_capacity};
 ghost use Rattle.std.specs.List.{insert, remove};
 ghost use Rattle.blocks.specs.Light.{IsFirstLight};
@@ -18,11 +21,8 @@ pub(crate) const BLOCK_HALF: usize = 64;
 #[derive(Drop)]
 pub(crate) struct Block<T: Ranked, A: Allocator + Copy> {
     items: Vec<T, A>,
-    // None of the items weighs less than this; all may weigh more. An insertion lowers it at once, a
-    // removal leaves it, and only a search that found nothing raises it.
     least: u64,
     weight: u128,
-    // The first number of the last item, so that a search over blocks reads hardly any items.
     last: u128,
 }
 
@@ -76,7 +76,6 @@ fn light_of<T: Ranked>(items: &[T], from: usize, limit: u64) -> Option<usize>
 }
 
 impl<T: Ranked, A: Allocator + Copy> Block<T, A> {
-    // No items, with capacity for 128.
     pub(crate) fn new(alloc: A) -> Result<Block<T, A>, Memory>
         ensures { IfOk result (λ block. block ≡ []) }
     {
@@ -184,8 +183,6 @@ impl<T: Ranked, A: Allocator + Copy> Block<T, A> {
         self.least = u64::MAX;
     }
 
-    // The first place from one on whose item weighs at most so much; None where there is none. Where
-    // all items were looked at for nothing, it is known from then on what they weigh at least.
     pub(crate) fn first_light(&mut self, from: usize, limit: u64) -> Option<usize>
         ensures first { IsFirstLight T.weight limit self.old from (length self.old) result }
         ensures same { self.new ≡ self.old }

@@ -1,3 +1,7 @@
+// `groups` tells of the first 64 blocks in use, of the next 64, and so on; blocks behind them need not be in
+// a group until a search asks for it. `over` counts the items of blocks in use above 65 each: a cut takes an
+// empty block and lowers `over` by 63, so that each insertion costs at most one of 64 for an empty block.
+// `least` is kept as each block keeps its own bound.
 ghost use Rattle.std.specs.Prelude.{◌≡◌, ◌≤◌, ◌<◌, ◌^◌, [], IsOk, OnOk, length};
 ghost use Rattle.blocks.specs.Groups.{AreGroups};
 ghost use Rattle.blocks.specs.Light.{IsFirstLight};
@@ -17,14 +21,9 @@ use swf_text::Memory;
 pub(crate) struct BlockRow<T: Ranked, A: Allocator + Copy> {
     pub(crate) used: Vec<Block<T, A>, A>,
     pub(crate) empty: Vec<Block<T, A>, A>,
-    // What is known of the first 64 blocks in use, of the next 64, and so on; blocks behind them need not
-    // be in a group until a search asks for it.
     pub(crate) groups: Vec<Group, A>,
-    // How many items blocks in use have above 65 each: a cut takes one empty block and reserves capacity
-    // for 63 of them, so that each insertion costs at most one of 64 for an empty block.
     pub(crate) over: usize,
     pub(crate) len: usize,
-    // None of the items weighs less than this; kept as each block keeps its own bound.
     pub(crate) least: u64,
 }
 
@@ -84,8 +83,6 @@ impl<T: Ranked, A: Allocator + Copy> BlockRow<T, A> {
         capacity.saturating_sub(self.over)
     }
 
-    // Reserves capacity for so many insertions. Memory where a growth was refused; the capacity may then
-    // be greater than it was, too.
     pub(crate) fn reserve(&mut self, count: usize) -> Result<(), Memory>
         ensures blocks { self.new.blocks ≡ self.old.blocks }
         ensures ok { OnOk result (count ≤ self.new.spare) }
@@ -107,8 +104,6 @@ impl<T: Ranked, A: Allocator + Copy> BlockRow<T, A> {
         first_light(self.used.as_mut_slice(), self.groups.as_mut_slice(), wanted)
     }
 
-    // The first place from one to another whose item weighs at most so much. A search up to the end that
-    // found nothing learns from the blocks what all items weigh at least.
     pub(crate) fn first_light(&mut self, from: usize, end: usize, limit: u64) -> Option<usize>
         ensures place { IsFirstLight T.weight limit (flat self.old.blocks) from end result }
         ensures same { self.new ≡ self.old }

@@ -1,7 +1,8 @@
-ghost use Rattle.std.specs.Prelude.{◌≡◌, ◌≤◌, ◌<◌, ◌+◌, ◌*◌, ◌-◌, ◌/◌, ◌^◌, All, length, slice_index_or, slice_set, sum_by, take, vec_capacity};
+// `least` is kept as each block keeps its own bound.
+ghost use Rattle.std.specs.Prelude.{◌≡◌, ◌≤◌, ◌<◌, ◌+◌, ◌*◌, ◌-◌, ◌/◌, ◌^◌, length, slice_index_or, slice_set, vec_capacity};
 ghost use Rattle.std.specs.List.{insert, remove};
 ghost use Rattle.blocks.specs.Groups.{AreGroups, IsGroup};
-ghost use Rattle.blocks.specs.Rows.{block_of, flat, start};
+ghost use Rattle.blocks.specs.Rows.{block_of, flat};
 
 use crate::block::Block;
 use crate::light::least_of;
@@ -16,9 +17,7 @@ pub(crate) const GROUP: usize = 64;
 /// What is known of 64 blocks that follow each other.
 #[derive(Clone, Copy)]
 pub(crate) struct Group {
-    // How many items they have together.
     pub(crate) items: usize,
-    // None of these weighs less than this; kept as each block keeps its own bound.
     pub(crate) least: u64,
 }
 

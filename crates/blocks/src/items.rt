@@ -10,7 +10,6 @@ use std::marker::Model;
 /// The items of a row in blocks from a place on, in order.
 #[derive(Drop)]
 pub struct Items<'a, T: Ranked, A: Allocator + Copy> {
-    // The items to come of one block; where there are none, no block is to come.
     items: &'a [T],
     later: &'a [Block<T, A>],
 }

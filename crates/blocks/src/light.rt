@@ -1,3 +1,5 @@
+// A search passes over each block that is known not to have the wanted place. Where all of a group was looked
+// at for nothing, it is known from then on what its items weigh at least.
 ghost use Rattle.std.specs.Prelude.{◌≡◌, ℕ, ◌≤◌, ◌<◌, ◌+◌, ◌*◌, ◌^◌, All, None, Some, if◌then◌else◌, length, nat_lt};
 ghost use Rattle.blocks.specs.Groups.{AreGrouped, AreGroups};
 ghost use Rattle.blocks.specs.Light.{IsFirstLight, IsFirstUntil, NoneWithin};
@@ -60,8 +62,6 @@ pub(crate) struct Wanted {
     pub(crate) limit: u64,
 }
 
-// The wanted place within the blocks from one to another, the first of which begins here; None where
-// there is none. It passes over each block that is known to have none.
 fn light_within<T: Ranked, A: Allocator + Copy>(
     blocks: &mut [Block<T, A>],
     first: usize,
@@ -92,8 +92,6 @@ fn light_within<T: Ranked, A: Allocator + Copy>(
     None
 }
 
-// The wanted place within a group, which begins here; None where there is none. Where all of the group
-// was looked at for nothing, it is known from then on what its items weigh at least.
 fn light_in_group<T: Ranked, A: Allocator + Copy>(
     blocks: &mut [Block<T, A>],
     groups: &mut [Group],

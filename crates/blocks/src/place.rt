@@ -58,8 +58,7 @@ pub(crate) fn halved(place: Place) -> Place
     }
 }
 
-// The first of two neighbours to be joined, one of which is this block: it is at most a quarter full,
-// and both together fill at most half a block.
+// The first of two neighbours to be joined, one of which is this block: it is at most a quarter full.
 pub(crate) fn mate<T: Ranked, A: Allocator + Copy>(
     blocks: &[Block<T, A>],
     block: usize,

@@ -90,7 +90,6 @@ impl<T: Ranked, A: Allocator + Copy> BlockRow<T, A> {
         self.enter(place, item);
     }
 
-    // Takes the only item of a block out; the block is empty then.
     fn retire(&mut self, block: usize) -> T
         requires block { block < length self.old.blocks }
         requires one { length (block_of self.old.blocks block) ≡ 1 }
@@ -133,8 +132,7 @@ impl<T: Ranked, A: Allocator + Copy> BlockRow<T, A> {
         self.groups.truncate(block / GROUP);
     }
 
-    // Takes the item at a place out; a block that is short then joins a neighbour, where both together
-    // fill at most half a block.
+    // A block that is short then joins a neighbour, where both together fill at most half a block.
     pub(crate) fn remove(&mut self, place: Place) -> T
         requires block { place.block < length self.old.blocks }
         requires at { place.at < length (block_of self.old.blocks place.block) }

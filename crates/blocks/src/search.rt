@@ -1,4 +1,4 @@
-ghost use Rattle.std.specs.Prelude.{◌≡◌, ◌≤◌, ◌<◌, ◌+◌, ◌^◌, IfSome, MatchOption, None, find, length, not, option_copied, slice_get};
+ghost use Rattle.std.specs.Prelude.{◌≡◌, ◌≤◌, ◌<◌, ◌+◌, ◌^◌, IfSome, MatchOption, None, find, length, not, slice_get};
 ghost use Rattle.std.specs.List.{position_or_len, remove};
 ghost use Rattle.std.specs.List.Sorted.{IsPartitionedBy};
 ghost use Rattle.blocks.specs.Groups.{AreGroups};
@@ -60,8 +60,6 @@ fn before<T: Ranked>(items: &[T], major: u128, minor: u64) -> usize
     low
 }
 
-// The place of the first item that doesn't stand before one with these two numbers; behind the last
-// block where there is none.
 pub(crate) fn place_of<T: Ranked, A: Allocator + Copy>(
     blocks: &[Block<T, A>],
     major: u128,

@@ -85,20 +85,6 @@ impl<T: Ranked, A: Allocator + Copy> Blocks<T, A> {
         self.row.insert(place, item);
     }
 
-    /// As `insert`, and reserves the capacity. Where there is capacity it takes no memory.
-    ///
-    /// Memory where a growth was refused; then the items stay.
-    pub fn insert_growing(&mut self, item: T) -> Result<(), Memory>
-        ensures items { OnOk result (flat self.new.blocks ≡ entered T.major T.minor item (flat self.old.blocks)) }
-        ensures kept { OnErr result (self.new.blocks ≡ self.old.blocks) }
-        ensures capacity { 1 ≤ self.old.spare → IsOk result }
-        ensures spare { self.old.spare ≤ self.new.spare + 1 }
-    {
-        self.reserve(1)?;
-        self.insert(item);
-        Ok(())
-    }
-
     /// Takes the first item with these two numbers out; None where there is none. It takes no memory.
     pub fn remove(&mut self, major: u128, minor: u64) -> Option<T>
         ensures item { result ≡ find (is_at T.major T.minor major minor) (flat self.old.blocks) }

@@ -100,9 +100,10 @@ pub(crate) fn inserts<A: Allocator + Copy>(alloc: A) -> Outcome {
     let mut row = Blocks::new(alloc);
     for major in 0..130 {
         let before = row.len();
-        if row.insert_growing(mark_at(major, 0, 1)).is_err() {
+        if row.reserve(1).is_err() {
             return Outcome::memory_if(row.len() == before);
         }
+        row.insert(mark_at(major, 0, 1));
     }
     Outcome::right_if(row.len() == 130)
 }

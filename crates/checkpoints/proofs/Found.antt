@@ -1,5 +1,5 @@
 -- The starts of jobs by their numbers.
-use Rattle.std.proofs.Common.{◌≡◌, ℕ, ◌≤◌, ◌<◌, ◌^◌, ◌&&◌, Bool, true, false, cond, eqb, not, nat_eq, List, [], ◌∷◌, ◌++◌, Option, Some, None, All, filter, refl, sym, ap, arith, ◌∙◌, ⊎_elim}
+use Rattle.std.proofs.Common.{◌≡◌, ℕ, ◌≤◌, ◌<◌, ◌^◌, ◌&&◌, Bool, true, false, cond, eqb, not, nat_eq, List, [], ◌∷◌, Option, Some, None, All, filter, refl, sym, ap, arith, ◌∙◌, ⊎_elim}
 use Rattle.std.specs.Prelude.{IfSome, find}
 use Rattle.std.specs.List.Sorted.{IsStableByKey, ties}
 use Rattle.std.specs.Option.{option_map}

@@ -1,5 +1,5 @@
 -- The sums and the tables of a plan, from the segments of its simulation.
-use Rattle.std.proofs.Common.{◌≡◌, ℕ, List, [], ◌∷◌, length, All, refl, ◌∙◌, ap, arith, subst}
+use Rattle.std.proofs.Common.{◌≡◌, List, [], ◌∷◌, length, All, refl, ap, arith, subst}
 use Rattle.swf_text.specs.Entry.{LogEntry}
 use Rattle.scenarios.specs.Scenario.{ScenarioView}
 use Rattle.scenarios.specs.Plan.{Plan, plan_of}

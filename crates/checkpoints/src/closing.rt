@@ -67,8 +67,6 @@ fn add_starts_of<A: Allocator + Copy>(
     }
 }
 
-// The frames of those who stand before the first seconds of these pieces and of the last one, behind
-// segments that are done.
 pub(crate) fn shared_of<A: Allocator + Copy>(
     alloc: A,
     plan: &PlanRef<'_, A>,

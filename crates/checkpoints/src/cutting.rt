@@ -1,3 +1,5 @@
+// The numbers before a piece are noted at once where they are few beside its work, or no more than the starts
+// since the last that were noted: then noting them all costs little. It decides only what is noted at once.
 ghost use Rattle.std.specs.Prelude.{◌≡◌, ◌≤◌, ◌↔◌, false, IsTrue, IfOk, IfSome, OnOk};
 ghost use Rattle.cluster_state.specs.Snapshot.{numbers_of};
 ghost use Rattle.easy_rule.specs.Simulation.{before as before_second};
@@ -17,7 +19,6 @@ use metrics::{Part, Placed};
 use std::alloc::Allocator;
 use swf_text::Memory;
 
-// The starts of some seconds, and their jobs with these seconds.
 #[derive(Drop)]
 struct Worked<A: Allocator + Copy> {
     starts: Vec<Start, A>,
@@ -72,15 +73,11 @@ const FEW: usize = 256;
 /// For each event second of a piece past so many, that many more are.
 const EACH: usize = 4;
 
-// How many who wait and run are few beside the work of a piece of so many event seconds: then noting them
-// costs little. It decides only what is noted at once.
 fn few(spacing: u32) -> usize {
     let beyond = (spacing as usize).saturating_sub(FEW);
     beyond.saturating_mul(EACH).saturating_add(FEW)
 }
 
-// The numbers before the position of an engine, where these are few, or no more than the starts since the
-// last that were noted: then noting them all costs little beside what changed.
 fn noted<A: Allocator + Copy>(
     engine: &Engine<A>,
     spacing: u32,

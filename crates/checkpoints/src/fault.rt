@@ -14,21 +14,6 @@ pub enum RunFault {
     Memory,
 }
 
-impl RunFault {
-    ghost use Rattle.std.specs.Prelude.{◌≡◌};
-    ghost use Rattle.checkpoints.specs.Names.{run_fault_name};
-
-    /// The fault's name, which is the variant's own.
-    pub fn name(&self) -> &'static str
-        ensures { result.now ≡ run_fault_name self.now }
-    {
-        match self {
-            RunFault::BadSpacing => "BadSpacing",
-            RunFault::Memory => "Memory",
-        }
-    }
-}
-
 impl fmt::Display for RunFault {
     ghost use Rattle.std.specs.Prelude.{Some};
     ghost use Rattle.checkpoints.specs.Names.{run_fault_name};
@@ -36,7 +21,10 @@ impl fmt::Display for RunFault {
     ghost output = { λ fault. Some (run_fault_name fault) };
 
     fn fmt<W: fmt::Write>(&self, f: &mut fmt::Formatter<W>) -> fmt::Result {
-        f.write_str(self.name())
+        f.write_str(match self {
+            RunFault::BadSpacing => "BadSpacing",
+            RunFault::Memory => "Memory",
+        })
     }
 }
 

@@ -77,7 +77,6 @@ impl<A: Allocator + Copy> Gap<A> {
     }
 }
 
-// Adds a stretch, unless it stands nowhere.
 fn add<T: Copy, A: Allocator + Copy>(
     made: &mut Vec<Stretch<T>, A>,
     stretch: Stretch<T>,

@@ -18,7 +18,6 @@ use std::marker::Model;
 use std::sync::Arc;
 use swf_text::Memory;
 
-// The levels: nodes over segments' parts, nodes over those nodes' parts, and once more.
 #[derive(Drop)]
 pub(crate) struct MergeTree<A: Allocator + Copy> {
     small: Vec<Node<A>, A>,
@@ -85,8 +84,7 @@ impl<A: Allocator + Copy> MergeTree<A> {
         })
     }
 
-    // The nodes of these segments' parts. A segment with a place is the old one there, and old nodes
-    // whose parts all were reused, side by side, are reused too.
+    // Old nodes whose parts all were reused, side by side, are reused too.
     pub(crate) fn of_reused(
         alloc: A,
         old: &MergeTree<A>,

@@ -1,12 +1,11 @@
-ghost use Rattle.std.specs.Prelude.{◌≡◌, map, IfOk};
+ghost use Rattle.std.specs.Prelude.{map, IfOk};
 ghost use Rattle.checkpoints.specs.Merged.{AreFew, IsMerged};
 
 use metrics::Part;
 use std::alloc::Allocator;
 use swf_text::Memory;
 
-// These parts merged into one. Each half is merged by itself, so that an entry is copied as often as
-// the parts can be halved.
+// Each half is merged by itself, so that an entry is copied as often as the parts can be halved.
 pub(crate) fn merged<A: Allocator + Copy>(alloc: A, parts: &[&Part<A>]) -> Result<Part<A>, Memory>
     requires { AreFew (map (λ part. part.now) parts.now) }
     ensures { IfOk result (IsMerged (map (λ part. part.now) parts.now)) }

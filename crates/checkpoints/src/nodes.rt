@@ -1,7 +1,7 @@
 //! Nodes of the merge tree: parts that stand side by side, merged into one, so that after an edit only
 //! the nodes over a new part are merged again.
 
-ghost use Rattle.std.specs.Prelude.{◌≡◌, ◌++◌, ℕ, List, Option, IfOk, OnOk, map, length};
+ghost use Rattle.std.specs.Prelude.{◌≡◌, ◌++◌, List, Option, IfOk, OnOk, map, length};
 ghost use Rattle.metrics.specs.Part.{PartSums};
 ghost use Rattle.checkpoints.specs.Merged.{AreFew, IsMerged};
 ghost use Rattle.checkpoints.specs.Nodes.{AreNodesOf, ArePartsFrom, node_parts};
@@ -16,7 +16,6 @@ use swf_text::Memory;
 /// The most parts of a new node.
 const FULL: usize = 8;
 
-// Parts that stand side by side: how many they are, and all of them merged.
 #[derive(Drop)]
 pub(crate) struct Node<A: Allocator + Copy> {
     count: usize,

@@ -36,7 +36,6 @@ impl<A: Allocator + Copy> Model for Noting<A> {
     ghost invariant = { λ s. (length s.places.items ≤ s.most) × AreApart s.least s.most s.others.items };
 }
 
-// Makes places, so that one of those that there may be is there.
 fn reach<A: Allocator + Copy>(
     places: &mut Vec<Option<u64>, A>,
     place: usize,
@@ -57,8 +56,7 @@ fn reach<A: Allocator + Copy>(
 }
 
 impl<A: Allocator + Copy> Noting<A> {
-    // None yet. Of the numbers from the least on, so many may have places; there is capacity for `first`
-    // places.
+    // There is capacity for `first` places.
     pub(crate) fn new(alloc: A, least: u64, most: usize, first: usize) -> Result<Noting<A>, Memory>
         ensures { IfOk result (λ noting. (n : ℕ) → known_start noting n ≡ None) }
     {

@@ -1,3 +1,4 @@
+// The least number at the head of a plan's jobs decides only which starts have places.
 ghost use Rattle.std.specs.Prelude.{◌≡◌, ℕ, ◌+◌, map, length, false, None, Some, IfOk, IfNone, IfSome};
 ghost use Rattle.scenarios.specs.PlanView.{plan_in};
 ghost use Rattle.scenarios.specs.SoundPlan.{IsPlan};
@@ -18,7 +19,6 @@ use swf_text::Memory;
 /// The jobs at the head of the log of which the least number has the first place.
 const HEAD: usize = 1_024;
 
-// When each job of a plan starts, and how many of them there are.
 #[derive(Drop)]
 struct Planned<A: Allocator + Copy> {
     starts: Starts<A>,
@@ -38,7 +38,6 @@ fn work_next<A: Allocator + Copy>(
     Ok(engine.step_into(started)?)
 }
 
-// The least number at the head of a plan's jobs. It decides only which starts have places.
 fn least_number<A: Allocator + Copy>(plan: &Plan<A>) -> u64 {
     let mut jobs = plan.view().jobs();
     let mut least = u64::MAX;
@@ -51,7 +50,6 @@ fn least_number<A: Allocator + Copy>(plan: &Plan<A>) -> u64 {
     least
 }
 
-// No starts yet of a plan, with capacity for as many as its table has entries.
 fn none_of<A: Allocator + Copy>(alloc: A, plan: &Plan<A>) -> Result<Noting<A>, Memory>
     ensures { IfOk result (λ noting. (n : ℕ) → known_start noting n ≡ None) }
 {

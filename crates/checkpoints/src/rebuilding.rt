@@ -1,5 +1,9 @@
 //! A level of the merge tree made anew, in which old nodes are reused.
 
+// Old nodes whose parts all were reused side by side are reused, behind new nodes of the parts before them.
+// Of the `NewNodes` so far, `count` is how many of the new parts they have, `place` the new place from which
+// on the next old parts are looked for, and `first` the place of the next old node's first part among the
+// old ones.
 ghost use Rattle.std.specs.Prelude.{◌≡◌, ◌+◌, ◌≤◌, ◌<◌, ◌^◌, [], ◌∷◌, ◌↔◌, List, Some, IsTrue, IfSome, IfOk, OnOk, map, take, drop, length, slice_get};
 ghost use Rattle.metrics.specs.Part.{PartSums};
 ghost use Rattle.checkpoints.specs.Merged.{AreFew};
@@ -11,20 +15,14 @@ use metrics::Part;
 use std::alloc::Allocator;
 use swf_text::Memory;
 
-// The new nodes so far.
 #[derive(Drop)]
 struct NewNodes<A: Allocator + Copy> {
     level: Level<A>,
-    // How many of the new parts they have.
     count: usize,
-    // The new place from which on the next old parts are looked for.
     place: usize,
-    // The place of the next old node's first part among the old ones.
     first: usize,
 }
 
-// The next place, from one on, at which a part stands that comes from the old one at `first` or from one
-// behind it; the end where there is none.
 fn next_place(places: &[Option<usize>], from: usize, first: usize) -> usize
     requires { from ≤ length places.now }
     ensures from { from ≤ result }
@@ -63,8 +61,6 @@ fn end_of_node(places: &[Option<usize>], place: usize, first: usize, count: usiz
     Some(end)
 }
 
-// Goes past the next old node, the one at `at`. Where all its parts were reused side by side it is
-// reused too, behind new nodes of the parts before them.
 fn pass_node<A: Allocator + Copy>(
     alloc: A,
     at: usize,
@@ -96,8 +92,6 @@ fn pass_node<A: Allocator + Copy>(
     Ok(())
 }
 
-// The nodes of some parts, each of which is new or has its place among old ones: the old nodes whose
-// parts all were reused side by side, each with its place, and new ones of the parts between them.
 pub(crate) fn rebuilt<A: Allocator + Copy>(
     alloc: A,
     old: &[Node<A>],

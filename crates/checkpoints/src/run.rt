@@ -45,9 +45,7 @@ impl<A: Allocator + Copy> Model for Run<A> {
 impl<A: Allocator + Copy> Run<A> {
     ghost use Rattle.scenarios.specs.Plan.{jobs_of, plan_of};
     ghost use Rattle.scenarios.specs.PlanView.{plan_in};
-    ghost use Rattle.scenarios.specs.Scenario.{IsScenario};
     ghost use Rattle.scenarios.specs.Skips.{skips_of};
-    ghost use Rattle.job_table.specs.Table.{IsTable};
     ghost use Rattle.easy_rule.specs.Simulation.{sim, start_of};
     ghost use Rattle.checkpoints.specs.Cut.{IsCut};
     ghost use Rattle.checkpoints.specs.Sums.{IsTablesOf};

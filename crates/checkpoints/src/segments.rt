@@ -1,6 +1,6 @@
 //! The segments of a simulation while it is worked.
 
-ghost use Rattle.std.specs.Prelude.{◌≡◌, ◌<◌, ◌++◌, ◌∷◌, [], ℕ, length, map, IfOk, IfErr, OnOk, None, Some};
+ghost use Rattle.std.specs.Prelude.{◌≡◌, ◌<◌, ◌++◌, ◌∷◌, [], ℕ, length, map, IfOk, OnOk, Some};
 ghost use Rattle.std.specs.Arc.{arc_value};
 ghost use Rattle.scenarios.specs.PlanView.{plan_in};
 ghost use Rattle.checkpoints.specs.Cut.{Chain, Spans};

@@ -74,8 +74,7 @@ impl<A: Allocator + Copy> Starts<A> {
     }
 }
 
-// Of the numbers of some starts the least and the greatest, and how many starts there are. It
-// decides only how these are kept.
+// It decides only how starts are kept.
 #[derive(Clone, Copy)]
 struct Numbers {
     least: u64,

@@ -1,5 +1,4 @@
-ghost use Rattle.std.specs.Prelude.{◌≡◌, ◌≤◌, List, IfOk};
-ghost use Rattle.scenarios.specs.Plan.{plan_of};
+ghost use Rattle.std.specs.Prelude.{◌≡◌, List, IfOk};
 ghost use Rattle.scenarios.specs.PlanView.{plan_in};
 ghost use Rattle.scenarios.specs.Skips.{skips_of};
 ghost use Rattle.metrics.specs.Part.{IsPartOf};
@@ -41,8 +40,7 @@ pub(crate) fn tables_of<A: Allocator + Copy>(
     Ok(tables)
 }
 
-// The counts of a plan's skipped entries, of whose jobs these are the sums. Where each entry is a job,
-// none is looked at again.
+// Where each entry is a job, none is looked at again.
 fn skips_beside<A: Allocator + Copy>(plan: &Plan<A>, total: &Part<A>) -> Skips
     requires { IsPartOf (all_placed (plan_in plan.now)) total.now }
     ensures { result ≡ skips_of plan.now.log plan.now.scenario }

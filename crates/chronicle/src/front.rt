@@ -89,7 +89,7 @@ impl<J: Naming> Front<J> {
         }
     }
 
-    // Adds the event that this value tells to all that was seen; where that is not all, it is not kept.
+    // Adds to all of the history; a front that is not all of it is not kept.
     pub(crate) fn add<X, M: Plain<X, Event, u64>>(
         &mut self,
         head: &Word<Event, u64, Law>,

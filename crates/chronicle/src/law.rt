@@ -1,9 +1,10 @@
+// The rule of the log, by which its word is its length; callers trade nothing. A step adds an event: the one
+// that a note tells, that a caller was opened, or that the desk was stopped.
 use crate::event::Event;
 use book_machine::{Caller, Note};
 use logbook::{Gain, Plain, Play, Rule};
 use std::alloc::Allocator;
 
-// The rule of the log: the word is its length.
 pub struct Law;
 
 impl Rule<Event, u64> for Law {
@@ -24,7 +25,6 @@ impl Rule<Event, u64> for Law {
     ghost moves = { λ ask before after answer. Unit {0} };
 }
 
-// Callers trade nothing.
 pub struct Nothing;
 
 impl Gain<Event, u64> for Nothing {
@@ -33,7 +33,6 @@ impl Gain<Event, u64> for Nothing {
     ghost after = { λ names about answer. ftrue };
 }
 
-// A step that adds an event.
 pub struct Add;
 
 impl Play<Event, u64> for Add {
@@ -42,7 +41,6 @@ impl Play<Event, u64> for Add {
     ghost then = { Adds };
 }
 
-// The event that a note tells.
 impl<A: Allocator + Copy> Plain<Note<A>, Event, u64> for Add {
     ghost use Rattle.std.specs.Prelude.{None};
     ghost use Rattle.book_machine.specs.Noted.{noted_of};
@@ -53,7 +51,6 @@ impl<A: Allocator + Copy> Plain<Note<A>, Event, u64> for Add {
     ghost state = { λ note. None };
 }
 
-// That this caller was opened.
 impl Plain<Caller, Event, u64> for Add {
     ghost use Rattle.std.specs.Prelude.{None};
     ghost use Rattle.chronicle.specs.Events.{Opened};
@@ -63,7 +60,6 @@ impl Plain<Caller, Event, u64> for Add {
     ghost state = { λ who. None };
 }
 
-// That the desk was stopped.
 impl Plain<(), Event, u64> for Add {
     ghost use Rattle.std.specs.Prelude.{None};
     ghost use Rattle.chronicle.specs.Events.{Stopped};

@@ -1,3 +1,6 @@
+// An edit shares all groups except that of its chunk, and the other chunks of this group. `exchange` puts an
+// element where it stands, or, where another list has its chunk, into a copy of the chunk. Chunks that
+// move to another group are not counted.
 ghost use Rattle.std.specs.Prelude.{◌≡◌, ◌≤◌, ◌+◌, ◌++◌, IfOk, OnErr, OnOk, length, slice_set, take, drop, vec_len};
 ghost use Rattle.std.specs.List.{insert, remove};
 ghost use Rattle.chunks.specs.Chunks.{CountsNoneOr, flat, moved};
@@ -10,8 +13,6 @@ use crate::row::{elements, with_chunk};
 use std::alloc::Allocator;
 use swf_text::Memory;
 
-// The groups with these elements in place of a chunk's; all other groups, and the other chunks of
-// its group, are shared. Chunks that move to another group are not counted.
 fn with_elements<T: Drop, A: Allocator + Copy>(
     alloc: A,
     groups: &[Group<T, A>],
@@ -98,8 +99,6 @@ fn with_another<T: Copied, A: Allocator + Copy>(
     Ok(with_elements(alloc, groups, place, items, count)?)
 }
 
-// Puts another element at a place of a chunk: where it stands, or where another list has that chunk,
-// into a copy of it. Counts the elements of that chunk where they are copied, and otherwise nothing.
 pub(crate) fn exchange<T: Copied, A: Allocator + Copy>(
     groups: &mut Vec<Group<T, A>, A>,
     place: Place,

@@ -31,8 +31,7 @@ pub(crate) fn elements_at<T: Drop, A: Allocator + Copy>(
     elements(chunks, place.chunk)
 }
 
-// Puts another element at a place of a chunk, where no other list has that chunk; otherwise hands
-// it back.
+// It is put there where no other list has that chunk.
 pub(crate) fn put<T: Drop, A: Allocator + Copy>(
     groups: &mut [Group<T, A>],
     place: Place,

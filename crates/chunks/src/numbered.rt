@@ -1,4 +1,3 @@
-ghost use Rattle.std.specs.Prelude.{◌≡◌, ◌≤◌, IfOk};
 ghost use Rattle.swf_text.specs.Entry.{number_of_entry, submit_of};
 
 use crate::copied::{Copied, Keyed};

@@ -1,3 +1,5 @@
+// What `chunks_of` returns are ranges of its list, whose elements stay where they are. `pieces_of` counts
+// each element that moves to a second chunk.
 ghost use Rattle.std.specs.Prelude.{◌≡◌, ◌≤◌, ◌<◌, ◌+◌, ◌++◌, IfOk, OnOk, length, vec_len};
 ghost use Rattle.chunks.specs.Chunks.{AreFull, AreSized, flat, moved};
 
@@ -31,8 +33,6 @@ pub(crate) fn copy_of<T: Copied, A: Allocator + Copy>(
     Ok(copy)
 }
 
-// The chunks of these elements: none where there are none, and two where they are more than a
-// chunk may have; each that moves to the second is counted.
 pub(crate) fn pieces_of<T: Drop, A: Allocator + Copy>(
     alloc: A,
     mut items: Vec<T, A>,
@@ -91,8 +91,6 @@ pub(crate) fn joined<T: Drop, A: Allocator + Copy>(
     Ok(row)
 }
 
-// The chunks of a list, each but the last of them full: ranges of that list, whose elements stay
-// where they are.
 pub(crate) fn chunks_of<T: Drop, A: Allocator + Copy>(
     alloc: A,
     items: Vec<T, A>,

@@ -12,7 +12,6 @@ use std::marker::Model;
 /// The elements of a list in chunks from a place on, in order.
 #[derive(Drop)]
 pub struct Rest<'a, T: Drop, A: Allocator + Copy> {
-    // The elements to come of one chunk; where there are none, no chunk is to come.
     items: &'a [T],
     later: RowRest<'a, Chunk<T, A>, A>,
 }

@@ -10,7 +10,6 @@ use std::marker::Model;
 // The elements of a row of chunks from a place on, in order.
 #[derive(Drop)]
 pub(crate) struct RowRest<'a, T: Drop, A: Allocator + Copy> {
-    // The elements to come of one chunk; where there are none, no chunk is to come.
     items: &'a [T],
     later: &'a [Chunk<T, A>],
 }

@@ -1,3 +1,5 @@
+// Where no element stands at the place, `place_of` is behind the last group, and `open_place` at the end of
+// the last chunk, if there is one.
 ghost use Rattle.std.specs.Prelude.{◌≡◌, ◌≤◌, ◌<◌, ◌+◌, length, not};
 ghost use Rattle.std.specs.List.{position_or_len};
 ghost use Rattle.std.specs.List.Sorted.{IsPartitionedBy};
@@ -81,8 +83,6 @@ fn before<T: Keyed>(items: &[T], major: u64, minor: u64) -> usize
     )
 }
 
-// The place of the first element that doesn't stand before one with these two numbers; behind the
-// last group where there is none.
 pub(crate) fn place_of<T: Keyed, A: Allocator + Copy>(
     groups: &[Group<T, A>],
     major: u64,
@@ -117,8 +117,6 @@ fn last_place<T: Drop, A: Allocator + Copy>(groups: &[Group<T, A>]) -> Place
     Place { group, chunk, at }
 }
 
-// The same place in the list, in a chunk that there is: behind the last group it is at the end of
-// the last chunk, and it stays where there is none.
 pub(crate) fn open_place<T: Drop, A: Allocator + Copy>(
     groups: &[Group<T, A>],
     place: Place,

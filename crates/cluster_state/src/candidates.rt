@@ -1,7 +1,8 @@
-// The candidates of the waiting jobs by estimate, beside the places at which they wait.
+// The candidates of the waiting jobs by estimate, beside the places at which they wait. In front stand those
+// that end in time, which may take all that is free; those behind them may take no more than is extra. All
+// candidates are made anew where those who wait move to other places.
 ghost use Rattle.std.specs.Prelude.{◌≡◌, ◌≤◌, ◌<◌, ◌++◌, ℕ, [], ◌∷◌, IfSome, None, OnOk, OnErr, Some, length, map, remove, count_by, nat_eq, slice_get, slice_set};
 ghost use Rattle.blocks.specs.Rows.{flat};
-ghost use Rattle.scenarios.specs.Job.{IsWithinLimits};
 ghost use Rattle.scenarios.specs.declared.order.Order.TheVariants.{Shortest};
 ghost use Rattle.waiting_places.specs.Offers.{holds};
 ghost use Rattle.waiting_places.specs.Places.{IsFirst, at_place, waiting};
@@ -16,8 +17,6 @@ use std::alloc::Allocator;
 use swf_text::Memory;
 use waiting_places::{Offer, Places};
 
-// The first place of the candidates from one on whose job fits the offer. In front stand those that end
-// in time, which may take all that is free; those behind them may take no more than is extra.
 pub(crate) fn first_fit<A: Allocator + Copy>(
     candidates: &mut Blocks<Ticket, A>,
     from: usize,
@@ -49,8 +48,6 @@ fn fill<A: Allocator + Copy>(candidates: &mut Blocks<Ticket, A>, places: &[Optio
     }
 }
 
-// Reserves capacity for one more at the places. Where those who wait move there, the candidates are made
-// anew. Memory where a growth was refused; the same jobs wait then.
 fn make_place<A: Allocator + Copy>(
     jobs: &mut Places<Waiter, A>,
     candidates: &mut Blocks<Ticket, A>,
@@ -71,8 +68,6 @@ fn make_place<A: Allocator + Copy>(
     Ok(())
 }
 
-// A job comes to the next place, and into the candidates behind those whose estimates are not longer.
-// Memory where a growth was refused; the same jobs wait then.
 pub(crate) fn arrive<A: Allocator + Copy>(
     jobs: &mut Places<Waiter, A>,
     candidates: &mut Blocks<Ticket, A>,

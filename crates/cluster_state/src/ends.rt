@@ -9,8 +9,7 @@ use std::alloc::Allocator;
 use std::cmp::Reverse;
 use std::collections::BinaryHeap;
 
-// When a running job ends, and what it is found by in the row: the second by which it has surely
-// ended, and its number.
+// A job is found in the row by `expected_end`, by which it has surely ended, and its number.
 #[derive(Clone, Copy, PartialEq, Eq, PartialOrd, Ord)]
 pub(crate) struct End {
     pub(crate) end: u64,

@@ -1,4 +1,4 @@
-ghost use Rattle.std.specs.Prelude.{◌≡◌, ◌≤◌, ◌↔◌, IfOk, IfSome, IsSome, IsTrue, All};
+ghost use Rattle.std.specs.Prelude.{◌≡◌, ◌≤◌, ◌↔◌, IfOk, IsSome, IsTrue, All};
 ghost use Rattle.std.specs.List.{filter_map};
 ghost use Rattle.scenarios.specs.Job.{IsWithinLimits};
 ghost use Rattle.scenarios.specs.Plan.{job_numbered};

@@ -1,3 +1,5 @@
+// The jobs that wait, each at a place of its own in order of arrival; and beside them, where the later ones
+// are looked at by estimate, the candidates in which they are.
 ghost use Rattle.std.specs.Prelude.{◌≡◌, ◌≤◌, ◌<◌, ◌+◌, ℕ, [], ◌∷◌, ◌++◌, OnOk, OnErr, IfSome, IsSome, Some, length, drop, find, remove, take, nat_eq, count_by, option_copied, slice_get};
 ghost use Rattle.blocks.specs.Rows.{flat};
 ghost use Rattle.scenarios.specs.Job.{IsWithinLimits};
@@ -18,8 +20,6 @@ use std::marker::Model;
 use swf_text::Memory;
 use waiting_places::{Offer, Places};
 
-// The jobs that wait, each at a place of its own in order of arrival; and beside them, where the later
-// ones are looked at by estimate, the candidates in which they are.
 #[derive(Drop)]
 pub(crate) struct Queue<A: Allocator + Copy> {
     order: Order,
@@ -68,7 +68,6 @@ impl<A: Allocator + Copy> Queue<A> {
         Waiting::of(self.jobs.iter())
     }
 
-    // The same but for so many first ones.
     pub(crate) fn jobs_behind(&self, count: usize) -> Waiting<'_>
         ensures { result ≡ drop count self.now.jobs }
     {
@@ -109,8 +108,6 @@ impl<A: Allocator + Copy> Queue<A> {
         }
     }
 
-    // The place of the candidates from which on those behind so many first jobs stand. By estimate all
-    // stand there.
     pub(crate) fn place_behind(&self, count: usize) -> usize
         requires { count ≤ length self.now.jobs }
         ensures within { result ≤ length self.now.places }

@@ -6,7 +6,6 @@ use blocks::Ranked;
 use scenarios::Placed;
 use std::marker::Model;
 
-// A running job as it stands in the row: by (start + estimate, number), and as heavy as it is large.
 #[derive(Clone, Copy)]
 pub(crate) struct Runner {
     pub(crate) placed: Placed,

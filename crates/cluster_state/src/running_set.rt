@@ -1,3 +1,5 @@
+// The jobs that run, in a row by (start + estimate, number), and when each of them ends. `past` passes
+// over whole blocks.
 ghost use Rattle.std.specs.Prelude.{◌≡◌, ◌+◌, ◌<◌, ◌≤◌, ◌^◌, ◌↔◌, ℕ, [], OnOk, IfOk, IfSome, IfNone, IsNone, IsOk, All, Any, length, filter, count_by, nat_eq, nat_lt, option_copied, slice_get, take};
 ghost use Rattle.scenarios.specs.Limits.{seconds_end};
 ghost use Rattle.scenarios.specs.Placed.{real_end};
@@ -16,7 +18,6 @@ use std::collections::BinaryHeap;
 use std::marker::Model;
 use swf_text::Memory;
 
-// The jobs that run, in a row by (start + estimate, number), and when each of them ends.
 #[derive(Drop)]
 pub(crate) struct RunningSet<A: Allocator + Copy> {
     runners: Blocks<Runner, A>,
@@ -73,8 +74,6 @@ impl<A: Allocator + Copy> RunningSet<A> {
         Some(&runner.placed)
     }
 
-    // The processors that some first ones hold, fewer than these, and the others: whole blocks are
-    // passed over, so that with a block of the others they hold as many, if all do.
     pub(crate) fn past(&self, processors: u64) -> (u64, RunningByEnd<'_, A>)
         requires { 0 < processors }
         ensures rest { IsRest self.now.running result.0 result.1 }
@@ -100,8 +99,6 @@ impl<A: Allocator + Copy> RunningSet<A> {
         self.runners.spare().min(ends)
     }
 
-    // Reserves capacity for so many starts. Memory where a growth was refused; the capacity may then be
-    // greater than it was, too.
     pub(crate) fn reserve(&mut self, count: usize) -> Result<(), Memory>
         ensures running { self.new.running ≡ self.old.running }
         ensures ok { OnOk result (count ≤ self.new.spare) }

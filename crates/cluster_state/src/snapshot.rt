@@ -149,7 +149,6 @@ impl<A: Allocator + Copy> Snapshot<A> {
     }
 }
 
-// A frame of one list, at place 0, which snapshots may share.
 fn shared<T: Copy, A: Allocator + Copy>(
     alloc: A,
     items: &[T],

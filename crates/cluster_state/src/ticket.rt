@@ -1,12 +1,10 @@
+// A waiting job as it stands in the candidates by estimate; `place` is where it waits in order of arrival.
 use blocks::Ranked;
 use scenarios::Job;
 
-// A waiting job as it stands in the candidates by estimate: behind those of its estimate whose places are
-// before its own, and as heavy as it is large.
 #[derive(Clone, Copy)]
 pub(crate) struct Ticket {
     pub(crate) job: Job,
-    // Where it waits in order of arrival.
     pub(crate) place: usize,
 }
 

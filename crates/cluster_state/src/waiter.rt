@@ -2,7 +2,6 @@ use scenarios::Job;
 use std::marker::Model;
 use waiting_places::Waits;
 
-// A waiting job as it stands at its place.
 #[derive(Clone, Copy)]
 pub(crate) struct Waiter {
     pub(crate) job: Job,

@@ -1,6 +1,5 @@
-ghost use Rattle.std.specs.Prelude.{◌≡◌, ◌<◌, ◌+◌, List, ℕ, length, map, codes, IfOk, IfErr, OnOk, OnErr};
+ghost use Rattle.std.specs.Prelude.{◌≡◌, ◌<◌, ◌+◌, length, map, IfOk, IfErr, OnOk, OnErr};
 ghost use Rattle.swf_text.specs.Log.{log_of};
-ghost use Rattle.scenarios.specs.ScenarioList.{Listing};
 ghost use Rattle.commands.specs.ScenarioLine.{scenario_line};
 ghost use Rattle.commands.specs.Opening.{kept, with_line, declared, machine_of, base_on, opened, IsOpenFault, IsBaseFault};
 

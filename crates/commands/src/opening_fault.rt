@@ -16,22 +16,6 @@ pub enum OpenTextFault {
     Memory,
 }
 
-impl OpenTextFault {
-    ghost use Rattle.std.specs.Prelude.{◌≡◌};
-    ghost use Rattle.commands.specs.Names.{open_fault_name};
-
-    /// The fault's name, which is the variant's own.
-    pub fn name(&self) -> &'static str
-        ensures { result.now ≡ open_fault_name self.now }
-    {
-        match self {
-            OpenTextFault::NoMachine => "NoMachine",
-            OpenTextFault::BadMachine => "BadMachine",
-            OpenTextFault::Memory => "Memory",
-        }
-    }
-}
-
 impl fmt::Display for OpenTextFault {
     ghost use Rattle.std.specs.Prelude.{Some};
     ghost use Rattle.commands.specs.Names.{open_fault_name};
@@ -39,7 +23,11 @@ impl fmt::Display for OpenTextFault {
     ghost output = { λ fault. Some (open_fault_name fault) };
 
     fn fmt<W: fmt::Write>(&self, f: &mut fmt::Formatter<W>) -> fmt::Result {
-        f.write_str(self.name())
+        f.write_str(match self {
+            OpenTextFault::NoMachine => "NoMachine",
+            OpenTextFault::BadMachine => "BadMachine",
+            OpenTextFault::Memory => "Memory",
+        })
     }
 }
 

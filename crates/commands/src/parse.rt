@@ -1,5 +1,4 @@
 ghost use Rattle.std.specs.Prelude.{◌≡◌, map};
-ghost use Rattle.swf_text.specs.Line.{fields};
 ghost use Rattle.commands.specs.Commands.{insert_of, remove_of, change_of, scenario_made, scenario_of, only_name, no_words, command_of, command_of_words, command_of_line};
 
 use crate::command::Command;
@@ -84,7 +83,6 @@ fn scenario<A: Allocator + Copy>(words: &[&[u8]]) -> Result<Command<A>, CommandF
     Err(CommandFault::Words)
 }
 
-// The only word, a name.
 fn only_name(words: &[&[u8]]) -> Result<ScenarioName, CommandFault>
     ensures { result ≡ only_name (map (λ w. w.now) words.now) }
 {

@@ -1,4 +1,4 @@
-ghost use Rattle.std.specs.Prelude.{◌≡◌, ◌≤◌, IfOk, map, length};
+ghost use Rattle.std.specs.Prelude.{◌≡◌, ◌≤◌, map, length};
 ghost use Rattle.swf_text.specs.Number.{number_of};
 ghost use Rattle.commands.specs.Words.{job_limit, number_between, entry_value, may_stand, entry_values, job_value};
 
@@ -55,8 +55,7 @@ fn entry_value(place: u8, word: &[u8]) -> Option<Value>
     }
 }
 
-// The values of the eighteen words behind `insert`, or the place of the first that can't stand
-// there.
+// The words are those behind `insert`; an error is the place of the first that can't stand there.
 pub(crate) fn entry_values(words: &[&[u8]]) -> Result<[Value; 18], u8>
     requires { length words.now ≡ 18 }
     ensures { result ≡ entry_values 1 (map (λ w. w.now) words.now) }

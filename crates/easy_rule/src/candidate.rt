@@ -27,8 +27,7 @@ pub(crate) fn next_place<A: Allocator + Copy>(
     cluster.next_fit(from, &offer)
 }
 
-// The later job that starts next, with its place in the candidates; none where none may. Nobody before
-// the place from which it looks may start.
+// Nobody at a place before `from` may start.
 pub(crate) fn next_candidate<A: Allocator + Copy>(
     cluster: &mut Cluster<A>,
     from: usize,

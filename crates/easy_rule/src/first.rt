@@ -1,3 +1,6 @@
+// Who starts first at a second: `Nobody` has the shadow of the state, where it was looked for, and `Later`
+// has the shadow that the first waiting job leaves, and a place of the candidates. What starts jobs returns
+// the shadow of the state that it leaves, where it came to know it.
 ghost use Rattle.std.specs.Prelude.{◌≡◌, ◌<◌, [], IfSome, slice_get, vec_len, vec_capacity};
 ghost use Rattle.scenarios.specs.Limits.{seconds_end};
 ghost use Rattle.cluster_state.specs.State.{ClusterView, free};
@@ -12,14 +15,10 @@ use cluster_state::Cluster;
 use scenarios::Job;
 use std::alloc::Allocator;
 
-// Who starts first at a second.
 #[derive(Clone, Copy)]
 pub(crate) enum FirstStart {
-    // Nobody. The shadow of the state, where it was looked for.
     Nobody(Option<Shadow>),
-    // The first waiting job.
     Head,
-    // A later one, at this place of the candidates. The first waiting job leaves this shadow.
     Later(Shadow, usize),
 }
 
@@ -45,8 +44,6 @@ pub(crate) fn first_start<A: Allocator + Copy>(cluster: &mut Cluster<A>, now: u6
     }
 }
 
-// Chooses and starts the jobs that start at second `now`, of which this is the first; nobody was
-// chosen before. Returns the shadow of the state that it leaves, where it came to know it.
 pub(crate) fn start_from<A: Allocator + Copy>(
     cluster: &mut Cluster<A>,
     chosen: &mut Vec<Job, A>,
@@ -70,9 +67,6 @@ pub(crate) fn start_from<A: Allocator + Copy>(
     }
 }
 
-// Chooses and starts later jobs, where the first waiting job does not fit. Whatever decision those chosen
-// before began is complete then. Returns the shadow of the state that it leaves, where it came to know
-// it.
 fn start_later<A: Allocator + Copy>(
     cluster: &mut Cluster<A>,
     chosen: &mut Vec<Job, A>,

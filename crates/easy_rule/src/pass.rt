@@ -1,3 +1,5 @@
+// The jobs that start at a second: first waiting jobs while they fit, and then later jobs in one pass over
+// the candidates.
 ghost use Rattle.std.specs.Prelude.{◌≡◌, ◌↔◌, ◌<◌, ◌≤◌, [], Some, IsTrue, IsSomeAnd, OnOk, IfSome, slice_get, vec_len, vec_capacity};
 ghost use Rattle.scenarios.specs.Limits.{seconds_end};
 ghost use Rattle.cluster_state.specs.State.{ClusterView, IsSound, free};
@@ -19,7 +21,6 @@ pub(crate) fn most_starts<A: Allocator + Copy>(cluster: &Cluster<A>) -> usize
     cluster.waiting_count().min(cluster.free() as usize)
 }
 
-// Reserves capacity for as many starts as there can be at once: in the cluster, and in a list of jobs.
 pub(crate) fn capacity_for_starts<A: Allocator + Copy>(
     cluster: &mut Cluster<A>,
     chosen: &mut Vec<Job, A>,
@@ -69,8 +70,6 @@ pub(crate) fn start_heads<A: Allocator + Copy>(
     }
 }
 
-// Chooses and starts later jobs in one pass over the candidates from a place on, and returns what the
-// head leaves then. Whatever decision those chosen before began is complete then.
 pub(crate) fn pass_on<A: Allocator + Copy>(
     cluster: &mut Cluster<A>,
     chosen: &mut Vec<Job, A>,

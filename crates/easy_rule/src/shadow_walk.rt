@@ -8,9 +8,6 @@ use crate::shadow_time::Shadow;
 use cluster_state::Cluster;
 use std::alloc::Allocator;
 
-// The least second at which so much is available, and what is over then; and how often it read a
-// running job's expected end.
-//
 // It walks over the running jobs in the order of their expected ends, until they have given back
 // enough, and past all that are expected to end at that same second. First ones that don't give back
 // enough together are passed over, so that the first 128 of the others do.

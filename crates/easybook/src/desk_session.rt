@@ -1,4 +1,3 @@
-// An analyst's session at a desk.
 ghost use Rattle.std.specs.Prelude.{◌≡◌};
 ghost use Rattle.easybook.specs.Along.{ended_by};
 

@@ -63,7 +63,6 @@ pub(crate) struct BegunInput<A: Allocator + Copy> {
     pub(crate) rest: Vec<u8, A>,
 }
 
-// Reads what a reader has left, behind bytes that were read, unless it is known to have no more.
 fn read_rest<R: Read, A: Allocator + Copy>(
     reader: &mut R,
     rest: &mut Vec<u8, A>,

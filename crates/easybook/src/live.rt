@@ -68,8 +68,6 @@ pub fn run_live<R: Read + Drop, W: Write, T: Threads + Sync, A: Allocator + Copy
     talk(alloc, opened, reader, writer)
 }
 
-// Reads a log as it comes, at most one byte past its limit, and holds a conversation on it. Read where
-// the log cannot be read.
 pub(crate) fn talk_on_file<
     L: Read + Drop,
     R: Read + Drop,

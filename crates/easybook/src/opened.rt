@@ -31,8 +31,6 @@ pub(crate) fn opening_of<T: Threads + Sync, A: Allocator + Copy>(
     Ok(opening)
 }
 
-// Opens a log of which the front was read, and the others bytes are these: its jobs, its scenarios, and
-// its other comments.
 pub(crate) fn opening_behind<T: Threads + Sync, A: Allocator + Copy>(
     rt: &T,
     alloc: A,

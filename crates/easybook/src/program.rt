@@ -1,4 +1,6 @@
-ghost use Rattle.std.specs.Prelude.{◌≡◌, ◌<◌, ◌+◌, ◌^◌, IfErr, IfOk, IfSome, List, None, Option, Some, map, slice_get, take, ℕ};
+// The log in a file and its script are both read before the log is opened: Read where either cannot be read,
+// whatever the other holds. The jobs of a log alone are not dropped one by one, since the process ends then.
+ghost use Rattle.std.specs.Prelude.{◌≡◌, ◌<◌, ◌+◌, IfErr, IfOk, IfSome, List, None, Option, Some, map, slice_get, take, ℕ};
 ghost use Rattle.std.specs.Option.{option_map};
 ghost use Rattle.easybook.specs.Alone.{script_limit};
 ghost use Rattle.easybook.specs.Input.{IsBegunUpTo, IsNotHad, IsReadFault};
@@ -31,8 +33,6 @@ use std::thread::Threads;
 /// The most bytes of standard input where it holds the log.
 const INPUT_LIMIT: u64 = 1_200_000_000;
 
-// Reads a log as it comes, at most one byte past its limit, then a script likewise, and works the script
-// on the log. Read where either cannot be read, whatever the other holds.
 fn run_file<L: Read + Drop, R: Read + Drop, W: Write, T: Threads + Sync, A: Allocator + Copy>(
     rt: &T,
     alloc: A,
@@ -49,8 +49,6 @@ fn run_file<L: Read + Drop, R: Read + Drop, W: Write, T: Threads + Sync, A: Allo
     work_script(alloc, script.as_slice(), writer, opened)
 }
 
-// Writes the schedule of an opened log's first scenario. Its jobs are not dropped one by one, since the
-// process ends behind it.
 fn write_last<W: Write, T: Threads + Sync, A: Allocator + Copy>(
     rt: &T,
     alloc: A,
@@ -70,8 +68,6 @@ fn write_last<W: Write, T: Threads + Sync, A: Allocator + Copy>(
     }
 }
 
-// Reads an input, at most 1,200,000,000 bytes, and runs the log that it holds, with the script
-// behind it, if there is one. The log's lines are read as they come, and their bytes are let go.
 fn run_input<R: Read + Drop, W: Write, T: Threads + Sync, A: Allocator + Copy>(
     rt: &T,
     alloc: A,
@@ -120,7 +116,6 @@ fn read_scripts<S: Sources>(
     Ok(scripts)
 }
 
-// Reads the log with this name as it comes, at most one byte past its limit.
 fn begin_named<S: Sources, T: Threads + Sync>(
     alloc: Global,
     rt: &T,
@@ -133,8 +128,6 @@ fn begin_named<S: Sources, T: Threads + Sync>(
     begin_front(rt, alloc, open(sources, name)?, LOG_LIMIT as u64)
 }
 
-// Reads a log as it comes, at most one byte past its limit, or all of the input where it is the log,
-// which may have 1,200,000,000 bytes.
 fn begin_log<S: Sources, T: Threads + Sync, R: Read + Drop>(
     alloc: Global,
     rt: &T,

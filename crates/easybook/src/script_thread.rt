@@ -1,4 +1,4 @@
-// A script of several side by side, which is worked on a thread of its own.
+// No contract speaks of where the scripts are worked, so the view of a `Place` is a unit.
 ghost use Rattle.std.specs.Prelude.{OnOk, map};
 ghost use Rattle.workers.specs.Callers.{IsNewSession};
 ghost use Rattle.easybook.specs.DeskRules.{IsWorkedAtDesk};
@@ -25,14 +25,12 @@ pub(crate) struct Place<'d, A: Allocator + Copy, J: Naming + Works, R: Wait> {
 }
 
 impl<'d, A: Allocator + Copy, J: Naming + Works, R: Wait> Model for Place<'d, A, J, R> {
-    // No contract speaks of where the scripts are worked.
     ghost Value = { Unit {0} };
 
     ghost view = { λ p. tt };
 }
 
 impl<'d, A: Allocator + Copy, J: Naming + Works, R: Wait> Place<'d, A, J, R> {
-    // Runs a worker until it ends.
     pub(crate) fn run<G: Gate>(&self, worker: &mut Worker<A>, gate: &G) {
         let rt = self.rt;
         let desk = self.desk;
@@ -87,8 +85,6 @@ impl<A: Allocator + Copy, J: Naming + Works> ScriptThread<A, J> {
     }
 }
 
-// Works a script, and appends its responses to the text. Memory where the text cannot grow; the work
-// ends there.
 fn work_script<'d, A: Allocator + Copy, J: Naming, R: Wait>(
     analyst: &mut DeskSession<'d, A, J, R>,
     alloc: A,
@@ -104,8 +100,6 @@ fn work_script<'d, A: Allocator + Copy, J: Naming, R: Wait>(
     }
 }
 
-// What the script of a new session's number produces; none where there is no such script, or the text
-// cannot grow.
 fn work_session<A: Allocator + Copy, J: Naming + Works, R: Wait>(
     place: &Place<'_, A, J, R>,
     session: Session<A, J>,

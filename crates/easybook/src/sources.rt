@@ -1,4 +1,4 @@
-// What the program's words name, and the files that have it.
+// `known` has the bytes of each name, where they are known.
 use std::io::Read;
 use std::rt::Files;
 use std::{fs, io};
@@ -10,7 +10,6 @@ pub trait Sources {
     /// What is read of one name.
     type Source: Read + Drop;
 
-    // The bytes of each name, where they are known.
     ghost known: { Self → List ℕ → Option (List ℕ) } = { λ _ _. None };
 
     /// Opens what has this name.

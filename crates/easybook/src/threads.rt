@@ -1,4 +1,6 @@
-// Scripts side by side: a thread for each, and one for each worker.
+// Scripts side by side: a thread for each, and one for each worker. Once the scripts' have ended the desk is
+// stopped, and the workers end; where a thread cannot be started it is stopped at once. It does not happen
+// that the callers' lists are not the book's history, or a session does not have the number of its script.
 ghost use Rattle.std.specs.Prelude.{◌≡◌, IfOk, OnOk, map, vec_len};
 ghost use Rattle.version_book.specs.Book.{machine_of};
 ghost use Rattle.easybook.specs.Along.{AreAnsweredAlong};
@@ -27,15 +29,12 @@ fn threads_of<A: Allocator + Copy, J: Naming + Works, R: Wait>(
 {
     let mut threads = Vec::with_capacity(alloc, count)?;
     for _ in 0..count {
-        let Some(session) = desk.open_session(rt) else {
-            return Err(Memory);
-        };
+        let session = desk.open_session(rt).ok_or(Memory)?;
         threads.push(ScriptThread::new(session))?;
     }
     Ok(threads)
 }
 
-// This many workers. Memory also where the desk opens no further one.
 fn workers_of<A: Allocator + Copy, J: Naming, R: Wait>(
     rt: &R,
     alloc: A,
@@ -46,17 +45,12 @@ fn workers_of<A: Allocator + Copy, J: Naming, R: Wait>(
 {
     let mut workers = Vec::with_capacity(alloc, count as usize)?;
     for _ in 0..count {
-        let Some(worker) = desk.open_worker(rt) else {
-            return Err(Memory);
-        };
+        let worker = desk.open_worker(rt).ok_or(Memory)?;
         workers.push(worker)?;
     }
     Ok(workers)
 }
 
-// Runs all scripts' threads and one for each worker; once the scripts' have ended the desk is stopped, and
-// the workers end. False where a thread could not be started, or memory ran out for that: the desk is then
-// stopped at once.
 fn run_threads<
     A: Allocator + Copy + Send + Sync,
     J: Naming + Works + Send + Sync,
@@ -99,8 +93,6 @@ fn run_threads<
     })
 }
 
-// Takes the session and the text of the next thread. Memory where it has none, or a list cannot grow;
-// Mismatch where the session does not have the number of its place, which does not happen.
 fn take_output<A: Allocator + Copy, J: Naming + Works>(
     sessions: &mut Vec<Session<A, J>, A>,
     texts: &mut Vec<Vec<u8, A>, A>,
@@ -109,9 +101,7 @@ fn take_output<A: Allocator + Copy, J: Naming + Works>(
     requires { AreAtDesk A J.opening J.comments J.scripts sessions.old.items (map (λ t. t.items) texts.old.items) }
     ensures { OnOk result (AreAtDesk A J.opening J.comments J.scripts sessions.new.items (map (λ t. t.items) texts.new.items)) }
 {
-    let Some(answered) = thread.into_answered() else {
-        return Err(SharedFault::Memory);
-    };
+    let answered = thread.into_answered().ok_or(Memory)?;
     let (session, text) = answered.into_both();
     if session.number() != texts.len() as u64 {
         return Err(SharedFault::Close(CloseFault::Mismatch));
@@ -142,15 +132,6 @@ fn outputs_of<A: Allocator + Copy, J: Naming + Works>(
     Ok(Outputs { sessions, texts })
 }
 
-// Works scripts side by side on a book, each with a session of its own, while this many workers
-// simulate, and returns the text that each script produced, in the scripts' order. There are at most 64
-// scripts and 64 workers; the comments are those of the log, which `save` writes. The gate is called
-// before and after each simulation.
-//
-// Memory where a growth for this, or the start of a thread, is refused, or where there are more than
-// 64 scripts or workers; every thread has then ended.
-// Close where the callers' lists are not the book's history, or a session does not have the number of
-// its script, which does not happen.
 pub(crate) fn run_scripts<
     A: Allocator + Copy + Send + Sync,
     J: Naming + Works + Send + Sync,

@@ -72,7 +72,6 @@ pub struct Words<'a> {
     pub live: bool,
 }
 
-// Why words are refused: out of memory is no bad word.
 fn refused(error: clap::Error) -> WordsFault
     ensures { result ≡ BadWords → kind_of error ≡ OutOfMemory → ⊥ }
 {
@@ -166,8 +165,6 @@ fn machine(matches: &ArgMatches<'_>) -> Option<Option<u64>>
     }
 }
 
-// The spacing that the words name, or that which holds where they name none; None where what they
-// name is none.
 fn spacing(matches: &ArgMatches<'_>) -> Option<u32>
     ensures value { result ≡ spacing_of (first_value (found_of matches.now) (codes "spacing")) }
     ensures within { IfSome result (λ n. (1 ≤ n) × (n ≤ spacing_limit)) }
@@ -179,8 +176,6 @@ fn spacing(matches: &ArgMatches<'_>) -> Option<u32>
     Some(spacing as u32)
 }
 
-// The workers that the words name, or those which hold where they name none; None where what they
-// name is none.
 fn workers(matches: &ArgMatches<'_>) -> Option<u32>
     ensures value { result ≡ workers_of (first_value (found_of matches.now) (codes "workers")) }
     ensures within { IfSome result (λ n. (1 ≤ n) × (n ≤ callers_limit)) }

@@ -1,3 +1,5 @@
+// A row is filled with the next jobs, those of whole seconds, until there are enough of them: no second is
+// cut. `fill` returns the submit second of the first job behind them.
 ghost use Rattle.std.specs.Prelude.{◌≡◌, ◌≢◌, ◌+◌, ◌≤◌, ◌<◌, ◌↔◌, [], Some, IfOk, OnOk, IfSome, IfNone, IsTrue, All, drop, filter, nat_eq, slice_get};
 ghost use Rattle.scenarios.specs.Plan.{from_on};
 ghost use Rattle.scenarios.specs.PlanView.{plan_in};
@@ -23,16 +25,12 @@ pub(crate) fn next_submit<A: Allocator + Copy>(plan: &PlanRef<'_, A>, second: u6
     Some(job.submit())
 }
 
-// Whether a row of so many jobs, of which the last is of second `last`, may end before a job of second
-// `next`: it has enough of them, and no second is cut.
 fn may_end(len: usize, last: u64, next: u64) -> bool
     ensures { IsTrue result ↔ ((64 ≤ len) × (last < next)) }
 {
     FULL_ROW <= len && last < next
 }
 
-// Fills a row with the next jobs, from a second on: those of whole seconds, until there are enough of
-// them. Returns the submit second of the first job behind them.
 pub(crate) fn fill<A: Allocator + Copy>(
     row: &mut VecDeque<Job, A>,
     plan: &PlanRef<'_, A>,

@@ -15,12 +15,8 @@ use scenarios::{Job, PlanRef};
 use std::alloc::Allocator;
 use swf_text::Memory;
 
-// The jobs of a second arrive, and those that start at it are left, in order, in a lent list. Returns the
-// shadow of the state that it leaves, where it is known.
-//
-// Where the shadow of the state is known, nobody who waits may start. A job that arrives alone and starts
-// doesn't join the queue before. Memory where a growth was refused; the running jobs are then as they
-// were.
+// Where `last_shadow` is known, nobody who waits may start. A job that arrives alone and starts doesn't join
+// the queue before.
 pub(crate) fn arrive_and_decide<A: Allocator + Copy>(
     cluster: &mut Cluster<A>,
     upcoming: &mut Upcoming<A>,

@@ -41,7 +41,7 @@ impl<A: Allocator + Copy> Engine<A> {
     ghost use Rattle.scenarios.specs.PlanView.{plan_in};
     ghost use Rattle.cluster_state.specs.Snapshot.{numbers_of};
     ghost use Rattle.easy_rule.specs.Simulation.{before};
-    ghost use Rattle.event_loop.specs.Events.{Progress, IsNextEvent, begun};
+    ghost use Rattle.event_loop.specs.Events.{IsNextEvent, begun};
 
     /// An engine of a plan before second 0.
     pub fn new(alloc: A, plan: Plan<A>) -> Engine<A>

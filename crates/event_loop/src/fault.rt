@@ -14,21 +14,6 @@ pub enum EngineFault {
     Memory,
 }
 
-impl EngineFault {
-    ghost use Rattle.std.specs.Prelude.{◌≡◌};
-    ghost use Rattle.event_loop.specs.Names.{engine_fault_name};
-
-    /// The fault's name, which is the variant's own.
-    pub fn name(&self) -> &'static str
-        ensures { result.now ≡ engine_fault_name self.now }
-    {
-        match self {
-            EngineFault::Failed => "Failed",
-            EngineFault::Memory => "Memory",
-        }
-    }
-}
-
 impl fmt::Display for EngineFault {
     ghost use Rattle.std.specs.Prelude.{Some};
     ghost use Rattle.event_loop.specs.Names.{engine_fault_name};
@@ -36,7 +21,10 @@ impl fmt::Display for EngineFault {
     ghost output = { λ fault. Some (engine_fault_name fault) };
 
     fn fmt<W: fmt::Write>(&self, f: &mut fmt::Formatter<W>) -> fmt::Result {
-        f.write_str(self.name())
+        f.write_str(match self {
+            EngineFault::Failed => "Failed",
+            EngineFault::Memory => "Memory",
+        })
     }
 }
 
@@ -48,7 +36,6 @@ impl From<swf_text::Memory> for EngineFault {
     }
 }
 
-// Either fault is that memory ran out, now or before.
 impl From<EngineFault> for swf_text::Memory {
     ghost from_gives = { λ _ memory. memory ≡ record {} };
 

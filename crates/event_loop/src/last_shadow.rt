@@ -25,11 +25,8 @@ pub(crate) fn standing_at<A: Allocator + Copy>(
     last_shadow
 }
 
-// Starts the jobs that start at second `now`, and leaves them, in order, in a lent list; what was in it
-// before is forgotten. Returns the shadow of the state that it leaves, where it came to know it.
-//
-// Where the shadow of the state is known, nobody of the first `settled` waiting jobs may start, and
-// only those behind them are looked at.
+// Where `last_shadow` is known, nobody of the first `settled` waiting jobs may start, and only those
+// behind them are looked at.
 pub(crate) fn decide_knowing<A: Allocator + Copy>(
     cluster: &mut Cluster<A>,
     started: &mut Vec<Job, A>,

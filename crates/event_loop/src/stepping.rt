@@ -15,7 +15,7 @@ impl<A: Allocator + Copy> Engine<A> {
     ghost use Rattle.easy_rule.specs.Simulation.{starts_before, starts_in, sim};
     ghost use Rattle.scenarios.specs.SoundPlan.{IsPlan};
     ghost use Rattle.timeline.specs.Laws.{IsQuiet};
-    ghost use Rattle.event_loop.specs.Events.{Progress, IsNextEvent};
+    ghost use Rattle.event_loop.specs.Events.{IsNextEvent};
     ghost use Rattle.event_loop.specs.Going.{IsStepFault, IsTellFault, IsRunFault, IsRunOn, IsLast};
     ghost use Rattle.event_loop.specs.Stepped.{StartIn};
 
@@ -139,8 +139,6 @@ impl<A: Allocator + Copy> Engine<A> {
         Some(second)
     }
 
-    // Works the event second that comes next, and leaves the jobs that start at it in a lent list; what
-    // was in it before is forgotten.
     fn work(&mut self, second: u64, started: &mut Vec<Job, A>) -> Result<(), Memory>
         requires going { self.old.failed ≡ false }
         requires next { IsNextEvent self.old.plan self.old.position (Some second) }

@@ -1,3 +1,5 @@
+// The jobs that come next: some in a `row`, and in `later` the submit second of the first behind these.
+// `take_up` takes jobs up, so that those of a second stand in the row and those behind it come later.
 ghost use Rattle.std.specs.Prelude.{◌≡◌, ◌<◌, ◌+◌, ◌↔◌, [], ◌∷◌, Some, OnOk, IfOk, IfSome, IsTrue};
 ghost use Rattle.scenarios.specs.PlanView.{plan_in};
 ghost use Rattle.cluster_state.specs.State.{IsSound};
@@ -13,7 +15,6 @@ use std::collections::VecDeque;
 use std::marker::Model;
 use swf_text::Memory;
 
-// The jobs that come next: some of them in a row, and the submit second of the first behind these.
 #[derive(Drop)]
 pub(crate) struct Upcoming<A: Allocator + Copy> {
     row: VecDeque<Job, A>,
@@ -47,7 +48,6 @@ impl<A: Allocator + Copy> Upcoming<A> {
         submit_of_first(&self.row).or(self.later)
     }
 
-    // The jobs of a second join the queue, and come no more. Memory where a growth was refused.
     pub(crate) fn arrive(
         &mut self,
         cluster: &mut Cluster<A>,
@@ -66,7 +66,6 @@ impl<A: Allocator + Copy> Upcoming<A> {
         Ok(())
     }
 
-    // The job of a second, where it is the only one. Memory where a growth was refused.
     pub(crate) fn only_at(
         &mut self,
         plan: &PlanRef<'_, A>,
@@ -88,8 +87,6 @@ impl<A: Allocator + Copy> Upcoming<A> {
         let _passed = self.row.pop_front();
     }
 
-    // Takes jobs up, so that those of a second stand in the row and those behind it come later. Memory
-    // where a growth was refused.
     fn take_up(&mut self, plan: &PlanRef<'_, A>, second: u64) -> Result<(), Memory>
         requires { IsUpcoming self.old second (plan_in plan.now).jobs }
         ensures upcoming { OnOk result (IsUpcoming self.new second (plan_in plan.now).jobs) }

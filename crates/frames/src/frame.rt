@@ -45,13 +45,6 @@ impl<T: Copy, A: Allocator + Copy> Frame<T, A> {
         Ok(Frame::of(stretches))
     }
 
-    /// The stretches, in order.
-    pub fn stretches(&self) -> &[Stretch<T>]
-        ensures { result.now ≡ self.now }
-    {
-        &self.stretches
-    }
-
     /// The items that stand at a place, in order.
     pub fn at(&self, place: u32) -> Standing<'_, T>
         ensures { result ≡ standing_at place self.now }

@@ -18,8 +18,7 @@ fn are_in_order(pairs: &[Numbered]) -> bool
     pairs.is_sorted_by(|one, next| comes_before(one, next))
 }
 
-// Puts the entries of a log, of which these are the pairs, in submit order. Those that stand so are
-// not looked at, and no memory is taken.
+// Entries that stand in order are not looked at, and no memory is taken.
 pub(crate) fn arrange<A: Allocator + Copy>(
     entries: &mut Vec<Entry<A>, A>,
     pairs: &[Numbered],

@@ -27,7 +27,7 @@ pub(crate) fn pairs_of<A: Allocator + Copy>(
     Ok(pairs)
 }
 
-// Puts pairs in order of their numbers. Those that stand so are left, and no memory is taken.
+// Pairs that stand in order are left, and no memory is taken.
 fn sort_pairs<A: Allocator + Copy>(pairs: &mut Vec<Numbered, A>) -> Result<(), Memory>
     ensures same { OnOk result (IsPermutation pairs.old.items pairs.new.items) }
     ensures order { OnOk result (IsNonDecreasingBy number_in pairs.new.items) }

@@ -1,3 +1,4 @@
+// `are_equal` looks at all values: without an end at the first that differs, several can be compared at once.
 ghost use Rattle.std.specs.Prelude.{◌≡◌, ◌≤◌, ◌<◌, ◌+◌, ◌↔◌, length, IfOk, OnErr, OnOk, IsTrue, Some, None, option_copied, option_map};
 ghost use Rattle.chunks.specs.Chunks.{CountsNoneOr, flat, joining, place_in, touched};
 ghost use Rattle.swf_text.specs.Entry.{number_of_entry, submit_of};
@@ -90,8 +91,6 @@ pub(crate) fn without_one<A: Allocator + Copy>(
     Ok(rows.without(submit, number, count)?)
 }
 
-// The entries with another one in place of that with its job number, which was submitted in this
-// second.
 pub(crate) fn with_moved<A: Allocator + Copy>(
     rows: &Rows<A>,
     submit: u64,
@@ -140,8 +139,6 @@ pub(crate) fn changed_entry<A: Allocator + Copy>(
     Entry::of_lines(&lines)
 }
 
-// Whether two lines have the same values. All are looked at: without an end at the first that
-// differs, several can be compared at once.
 fn are_equal(one: &[Value], other: &[Value]) -> bool
     ensures { IsTrue result ↔ (one.now ≡ other.now) }
 {

@@ -1,5 +1,5 @@
 ghost use Rattle.std.specs.Prelude.{◌≡◌, ◌≤◌, ◌<◌, ◌↔◌, ◌∷◌, length, map, IsTrue, IfOk, IfErr, IfSome, OnOk, OnErr, Some, None, nat_abs, option_copied};
-ghost use Rattle.swf_text.specs.Entry.{IsEntry, number_of_entry, submit_of};
+ghost use Rattle.swf_text.specs.Entry.{IsEntry, number_of_entry};
 ghost use Rattle.swf_text.specs.Limits.{entry_limit};
 ghost use Rattle.swf_text.specs.Log.{IsLog, log_of};
 ghost use Rattle.swf_text.specs.Number.{greatest};
@@ -226,8 +226,6 @@ impl<A: Allocator + Copy> JobTable<A> {
         Ok(count)
     }
 
-    // A field of the entry with this number, which there is, gets another value. Returns the count
-    // of `apply_counted`.
     fn change(&mut self, number: u64, field: u8, value: Value) -> Result<u32, Memory>
         requires there { IsTrue (holds number self.old) }
         requires taken { change_fault field value ≡ None }

@@ -6,7 +6,6 @@ ghost use Rattle.std.specs.BTreeMap.{is_at};
 ghost use Rattle.std.specs.List.Sorted.{IsStrictlySortedBy};
 ghost use Rattle.std.specs.Map.{keys_of, lookup};
 ghost use Rattle.metrics.specs.Days.{busy_on, day_total, IsDayList};
-ghost use Rattle.scenarios.specs.Placed.{real_end};
 ghost use Rattle.metrics.specs.Measures.{busy_in};
 ghost use Rattle.metrics.specs.Placed.{IsPlaced};
 ghost use Rattle.metrics.specs.Part.{AreJobs};
@@ -15,13 +14,11 @@ use crate::entries::{find, is_left_first};
 use scenarios::Placed;
 use std::alloc::{AllocError, Allocator};
 
-// A day, and its processor-seconds.
+// A day, and its processor-seconds. A list has them by rising day.
 pub(crate) type DayEntry = (u64, u128);
 
-// Processor-seconds by day, by rising day.
 pub(crate) type Days<A> = Vec<DayEntry, A>;
 
-// The seconds of a day.
 pub(crate) const DAY: u64 = 86400;
 
 fn add_day<A: Allocator + Copy>(days: &mut Days<A>, day: u64, busy: u128) -> Result<(), AllocError>

@@ -1,14 +1,14 @@
 //! Lists of entries, each with a key, by rising key.
 
-ghost use Rattle.std.specs.Prelude.{◌≡◌, ◌+◌, ◌<◌, ◌≤◌, length, IsTrue, IsFalse};
+// Keys that come in their order are found at the end by `find`, with no search. What `is_left_first` returns
+// decides only the order in which two lists are gone over.
+ghost use Rattle.std.specs.Prelude.{◌+◌, ◌<◌, ◌≤◌, length, IsTrue, IsFalse};
 ghost use Rattle.std.specs.List.Sorted.{IsStrictlySortedBy};
 ghost use Rattle.std.specs.Map.{keys_of};
 ghost use Rattle.metrics.specs.Entries.{IsFound};
 
 use std::cmp::Ordering;
 
-// Where a key stands, or where it belongs. Keys that come in their order are found at the end, with
-// no search.
 pub(crate) fn find<K: Ord + Copy, V>(entries: &[(K, V)], key: K) -> Result<usize, usize>
     requires { IsStrictlySortedBy K.cmp (keys_of entries.now) }
     ensures { IsFound K.cmp key entries.now result }
@@ -23,8 +23,6 @@ pub(crate) fn find<K: Ord + Copy, V>(entries: &[(K, V)], key: K) -> Result<usize
     }
 }
 
-// Whether of what is left of two lists, from these places on, the left one's first entry comes
-// first. It decides only the order in which they are gone over.
 pub(crate) fn is_left_first<K: Ord, V>(
     left: &[(K, V)],
     i: usize,

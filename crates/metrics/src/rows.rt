@@ -1,6 +1,6 @@
 //! The numbers of tables.
 
-ghost use Rattle.std.specs.Prelude.{◌≡◌, ℕ, ◌*◌, ◌≤◌, ◌<◌, ◌^◌};
+ghost use Rattle.std.specs.Prelude.{◌≡◌, ◌*◌, ◌<◌, ◌^◌};
 ghost use Rattle.metrics.specs.Tables.{ratio, utilization, span_of, overall_of, user_row_of, day_row_of};
 
 use crate::days::DAY;
@@ -45,14 +45,12 @@ pub struct DayRow {
     pub utilization: u128,
 }
 
-// The quotient, cut down; 0 where the divisor is 0.
 fn divide(n: u128, d: u128) -> u128
     ensures { result ≡ ratio n d }
 {
     n.checked_div(d).unwrap_or(0)
 }
 
-// The part of a machine's processor-seconds that is taken, in 100,000ths.
 fn utilization(busy: u128, procs: u64, seconds: u64) -> u128
     requires busy { busy < 2 ^ 100 }
     ensures { result ≡ utilization busy procs seconds }

@@ -13,7 +13,6 @@ use crate::users::{self, UserEntry, UserSums, Users, sums_at};
 use std::alloc::{AllocError, Allocator};
 use std::marker::Model;
 
-// The sums over the jobs of a user, in 64 bits each.
 #[derive(Clone, Copy)]
 pub(crate) struct ShortSums {
     count: u64,
@@ -46,10 +45,9 @@ impl ShortSums {
     }
 }
 
-// A user, and the sums over its jobs.
 type ShortEntry = (i64, ShortSums);
 
-// Sums by user, by rising user, seen as their entries: the first ones in 64 bits a sum, and the others.
+// Sums by user, by rising user: the first ones in 64 bits a sum, in `short`, and the `others`.
 #[derive(Drop)]
 pub(crate) struct Stored<A: Allocator + Copy> {
     short: Vec<ShortEntry, A>,
@@ -67,7 +65,6 @@ impl<A: Allocator + Copy> Model for Stored<A> {
 }
 
 impl<A: Allocator + Copy> Stored<A> {
-    // No entries. It takes no memory.
     pub(crate) fn empty(alloc: A) -> Stored<A>
         ensures { result ≡ [] }
     {

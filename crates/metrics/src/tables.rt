@@ -1,6 +1,6 @@
 //! The tables of a part.
 
-ghost use Rattle.std.specs.Prelude.{◌≡◌, ℕ, ◌≤◌, ◌<◌, ◌^◌, map, IfOk, All};
+ghost use Rattle.std.specs.Prelude.{◌≡◌, ◌<◌, ◌^◌, map, IfOk, All};
 ghost use Rattle.metrics.specs.Tables.{user_row_of, day_row_of, tables_of};
 
 use crate::days::DayEntry;

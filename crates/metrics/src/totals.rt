@@ -1,6 +1,6 @@
 //! Sums over all jobs.
 
-ghost use Rattle.std.specs.Prelude.{◌≡◌, ℕ, ◌+◌, ◌^◌, ◌<◌, ◌≤◌};
+ghost use Rattle.std.specs.Prelude.{◌≡◌, ◌+◌, ◌<◌};
 ghost use Rattle.metrics.specs.Totals.{earlier_of, later_of, no_totals, totals, totals_alone, joined, FitsJoined};
 ghost use Rattle.metrics.specs.Placed.{CanStart, CanSum, IsPlaced};
 ghost use Rattle.metrics.specs.Part.{AreJobs};

@@ -1,6 +1,6 @@
 //! Sums by user.
 
-ghost use Rattle.std.specs.Prelude.{◌≡◌, ℕ, ℤ, ◌+◌, ◌^◌, ◌<◌, ◌≤◌, All, map, OnOk, IfOk, if◌then◌else◌};
+ghost use Rattle.std.specs.Prelude.{◌≡◌, ℤ, ◌+◌, ◌<◌, All, map, OnOk, IfOk, if◌then◌else◌};
 ghost use Rattle.std.specs.Ordering.{int_cmp, int_eq};
 ghost use Rattle.std.specs.BTreeMap.{is_at};
 ghost use Rattle.std.specs.Map.{keys_of, lookup};
@@ -50,10 +50,8 @@ impl UserSums {
     }
 }
 
-// A user, and the sums over its jobs.
 pub(crate) type UserEntry = (i64, UserSums);
 
-// Sums by user, by rising user.
 pub(crate) type Users<A> = Vec<UserEntry, A>;
 
 fn add_user<A: Allocator + Copy>(

@@ -1,7 +1,6 @@
 ghost use Rattle.std.specs.Prelude.{◌≡◌, ◌≤◌, IfOk, IfSome, nat_abs};
 ghost use Rattle.swf_text.specs.Limits.{whole_limit};
 ghost use Rattle.swf_text.specs.Number.{whole_of, greatest};
-ghost use Rattle.swf_text.specs.Entry.{field};
 ghost use Rattle.scenarios.specs.Limits.{factor_limit};
 ghost use Rattle.scenarios.specs.Job.{IsWithinLimits};
 ghost use Rattle.scenarios.specs.Effective.{effective, whole_field, positive, size_of, estimate_of};

@@ -1,4 +1,4 @@
-ghost use Rattle.std.specs.Prelude.{◌≡◌, ℕ, ◌+◌, ◌≤◌, length, sum_by};
+ghost use Rattle.std.specs.Prelude.{◌≡◌, ◌+◌, ◌≤◌, length, sum_by};
 ghost use Rattle.swf_text.specs.Limits.{entry_limit, whole_limit};
 ghost use Rattle.scenarios.specs.Plan.{Plan};
 ghost use Rattle.easy_rule.specs.Simulation.{bound, last_submit};

@@ -12,7 +12,7 @@ pub(crate) struct PlainRunning {
 }
 
 impl Model for PlainRunning {
-    ghost use Rattle.std.specs.Prelude.{◌<◌, ◌^◌};
+    ghost use Rattle.std.specs.Prelude.{◌<◌};
     ghost use Rattle.scenarios.specs.declared.placed.Placed.{Placed};
 
     ghost Value = { Placed };

@@ -1,6 +1,5 @@
 ghost use Rattle.std.specs.Prelude.{◌≡◌, ◌↔◌, ◌<◌, ◌≤◌, ◌^◌, [], IsTrue, OnErr, OnOk, Some, nat_eq, nat_lt, not, filter, position, sum_by};
 ghost use Rattle.scenarios.specs.Limits.{procs_limit, seconds_end};
-ghost use Rattle.scenarios.specs.Job.{IsWithinLimits};
 ghost use Rattle.scenarios.specs.Placed.{real_end};
 ghost use Rattle.cluster_state.specs.State.{arrived, available, back_by, busy, empty, free, holders, placed, started, waiting_job, without, IsSound};
 ghost use Rattle.easy_rule.specs.Simulation.{ended};
@@ -98,7 +97,7 @@ impl<A: Allocator + Copy> Model for PlainState<A> {
 }
 
 impl<A: Allocator + Copy> PlainState<A> {
-    ghost use Rattle.cluster_state.specs.State.{State, IsSound};
+    ghost use Rattle.cluster_state.specs.State.{IsSound};
 
     pub(crate) fn new(alloc: A, scenario: &Scenario) -> PlainState<A>
         ensures { result ≡ empty scenario.now.procs scenario.now.order }

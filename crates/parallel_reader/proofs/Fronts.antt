@@ -1,10 +1,9 @@
 -- The front of a log, and what stands behind it.
 use Rattle.std.proofs.Common.{◌≡◌, ℕ, zero, suc, ◌+◌, ◌-◌, ◌<◌, ◌≤◌, List, [], ◌∷◌, ◌++◌, length, get_or, take, drop, Option, Some, None, Result, Ok, Err, refl, sym, ap, subst, ◌∙◌, append_assoc, arith, inl, inr, IfErr, IfOk, Bool, true, false, map}
 use Rattle.std.proofs.lemmas.Bool.{eqb-true}
-use Rattle.std.proofs.lemmas.List.{append-nil, take_more, take-append-drop, length-append, length-take, length-take-le, take-take, drop-append-le, drop_at, take_at, take-append-le}
-use Rattle.std.proofs.KnownBytes.{Consumes-trans, Consumes-nil, Consumes-kept}
+use Rattle.std.proofs.lemmas.List.{append-nil, take_more, take-append-drop, length-append, length-take-le, take-take, drop-append-le, drop_at, take_at, take-append-le}
+use Rattle.std.proofs.KnownBytes.{Consumes-trans, Consumes-kept}
 use Rattle.std.proofs.Math.Seq.{take-add}
-use Rattle.std.proofs.Math.ListN.{drop_of_length-le}
 use Rattle.std.specs.Io.{ReadsAtMost}
 use Rattle.std.specs.Io.KnownBytes.{Consumes, Keeps, ReadConsumes}
 use Rattle.memchr.specs.Find.{IsLastByte, is_byte}
@@ -67,10 +66,6 @@ pub filled_so : (bytes front more : List ℕ) (filled whole : ℕ) → take fill
 filled_so bytes front more filled whole is within =
     let sum : whole + (filled - whole) ≡ filled = omega arith in
     sym (take-add whole (filled - whole) bytes) ∙ ap (λ (n : ℕ). take n bytes) sum ∙ is
-
--- a reader that was not asked yet
-pub not_read : (known : Option (List ℕ)) (bytes : List ℕ) (at : ℕ) → Consumes known known (drop at (take at bytes))
-not_read known bytes at = subst (Consumes known known) (sym (drop_of_length-le (take at bytes) (omega (arith, length-take at bytes)))) (Consumes-nil known)
 
 -- a read that failed
 pub filled_same : (a b c : Option (List ℕ)) (old new : List ℕ) (at filled : ℕ) → take filled new ≡ take filled old → Consumes a b (drop at (take filled old)) → Keeps b c → Consumes a c (drop at (take filled new))

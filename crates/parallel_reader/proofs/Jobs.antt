@@ -82,9 +82,6 @@ jobs_after t u (x ∷ xs) ys h = step (λ v e. jobs_after v u xs ys e) (with_job
     step later (Err kind) e = absurd cc
     step later (Ok v) e = later v e
 
-pub jobs_none : (old : List LogEntry) → AddsJobs old [] old
-jobs_none old = λ comments. refl
-
 pub jobs_then : (a b c : List LogEntry) (xs ys : List Fields) → AddsJobs a xs b → AddsJobs b ys c → AddsJobs a (xs ++ ys) c
 jobs_then a b c xs ys h k = λ comments. jobs_after _ _ xs ys (h comments) ∙ k comments
 
@@ -121,10 +118,6 @@ below_more next later entries entry below le lt n there = go (list_any (has_numb
     go true p b q t = omega (arith, below n p)
     go false p true q t = omega (arith, is_number n (whole_number (field entry.main 1)) q)
     go false p false q t = absurd cc
-
--- the numbers of entries that are looked at one after another
-pub below_next : (next later : ℕ) (entries : List LogEntry) (k : ℕ) (d : LogEntry) → k < length entries → Below next (take k entries) → next ≤ later → number_of_entry (get_or entries k d) < later → Below later (take (k + 1) entries)
-below_next next later entries k d lt below le less = subst (Below later) (sym (take_more entries k d lt)) (below_more next later (take k entries) (get_or entries k d) below le less)
 
 pub below_none : Below 0 []
 below_none n there = absurd cc
@@ -241,10 +234,6 @@ line_taken all front rest line after some line_is after_is whole =
     ∙ ap (λ (l : List ℕ). front ++ line ∷ lines l) (sym after_is)
     ∙ sym (append_assoc front (line ∷ []) (lines after))
 
-pub lines_taken : (bytes rest : List ℕ) (front : List (List ℕ)) (jobs : List Fields) → lines bytes ≡ front ++ lines rest → length rest ≡ 0 → AreJobs front jobs → AreJobs (lines bytes) jobs
-lines_taken bytes [] front jobs whole none are = subst (λ (ls : List (List ℕ)). AreJobs ls jobs) (sym (whole ∙ append-nil front)) are
-lines_taken bytes (b ∷ bs) front jobs whole none are = absurd (omega arith)
-
 -- ---- portions that were read
 
 pub read_counted : (ls : List (List ℕ)) (jobs : List PackedLine) (o : Option Counts) (counts : Counts) → IsReadOf ls jobs o → o ≡ Some counts → AreCounted ls jobs counts
@@ -276,17 +265,6 @@ pub portions_all : (old new : List LogEntry) (jobs : List JobLines) (k : ℕ) �
 portions_all old new jobs k le done ls are =
     let all : take k are.portions ≡ are.portions = take_all k are.portions (omega (arith, le, are.count)) in
     subst (λ (l : List (List ℕ)). AddsAll old l new) (ap portion_lines all ∙ are.whole) (done are.portions are.count are.read)
-
--- the lines of the first portions, counted
-pub counted_at : (jobs : List JobLines) (k : ℕ) (d : JobLines) (n : ℕ) (counts : Counts) → k < length jobs → (get_or jobs k d).count ≡ Some counts
-    → ((ps : List (List ℕ)) → length jobs ≡ length ps → AreRead ps jobs → n ≡ length (portion_lines (take k ps)))
-    → (ps : List (List ℕ)) → length jobs ≡ length ps → AreRead ps jobs → n + counts.lines ≡ length (portion_lines (take (k + 1) ps))
-counted_at jobs k d n counts lt is done ps count read =
-    let within : k < length ps = omega (arith, lt, count) in
-    let here = read_counted (lines (get_or ps k [])) (get_or jobs k d).jobs (get_or jobs k d).count counts (read k d within) is in
-    let more : portion_lines (take (k + 1) ps) ≡ portion_lines (take k ps) ++ lines (get_or ps k []) =
-    ap portion_lines (take_more ps k [] within) ∙ flat_map-append lines (take k ps) (get_or ps k [] ∷ []) ∙ ap (λ (l : List (List ℕ)). portion_lines (take k ps) ++ l) (append-nil (lines (get_or ps k []))) in
-    omega (arith, done ps count read, here.lines, ap length more, length-append (portion_lines (take k ps)) (lines (get_or ps k [])))
 
 pub counted_all : (jobs : List JobLines) (k n : ℕ) → length jobs ≤ k
     → ((ps : List (List ℕ)) → length jobs ≡ length ps → AreRead ps jobs → n ≡ length (portion_lines (take k ps)))

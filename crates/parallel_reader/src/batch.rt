@@ -1,4 +1,6 @@
-ghost use Rattle.std.specs.Prelude.{◌≡◌, ◌+◌, ◌-◌, ◌<◌, ◌≤◌, ◌^◌, ◌++◌, ◌==◌, [], length, map, slice_index_or, IfOk, OnOk};
+// Batch after batch is read, each while the one before it is added. Where capacity for entries is refused,
+// it grows as they come.
+ghost use Rattle.std.specs.Prelude.{◌≡◌, ◌+◌, ◌-◌, ◌<◌, ◌≤◌, ◌^◌, ◌++◌, ◌==◌, [], length, slice_index_or, IfOk, OnOk};
 ghost use Rattle.std.specs.Thread.{IsSync};
 ghost use Rattle.swf_text.specs.Text.{lines};
 ghost use Rattle.parallel_reader.specs.Adding.{texts, read_texts, AddsLines};
@@ -81,8 +83,6 @@ fn add_lines<A: Allocator + Copy>(
     Ok(())
 }
 
-// Reads these lines by themselves while those of a batch, the first of which has this number, are
-// added to a text.
 fn read_and_add<R: Threads + Sync, A: Allocator + Copy>(
     rt: &R,
     alloc: A,
@@ -119,7 +119,6 @@ fn read_and_add<R: Threads + Sync, A: Allocator + Copy>(
 }
 
 impl<'a, A: Allocator + Copy> Batch<'a, A> {
-    // No lines. Takes no memory.
     pub(crate) fn new(alloc: A) -> Batch<'a, A>
         ensures lines { result.lines.items ≡ [] }
         ensures readings { result.readings.items ≡ [] }
@@ -142,8 +141,6 @@ impl<'a, A: Allocator + Copy> Batch<'a, A> {
         self.lines.len() as u64
     }
 
-    // Takes the next lines of the bytes in the place of those that were there, and capacity for what
-    // each of them is: what is left of the bytes.
     pub(crate) fn take(&mut self, bytes: &'a [u8]) -> Result<&'a [u8], Memory>
         ensures lines { IfOk result (λ rest. texts self.new.lines.items ++ lines rest.now ≡ lines bytes.now) }
         ensures capacity { OnOk result (length self.new.readings.items ≡ length self.new.lines.items) }
@@ -155,8 +152,6 @@ impl<'a, A: Allocator + Copy> Batch<'a, A> {
         Ok(rest)
     }
 
-    // Reads its lines while those of the batch before it, the first of which has this number, are
-    // added to a text.
     pub(crate) fn read_beside<R: Threads + Sync>(
         &mut self,
         rt: &R,
@@ -178,8 +173,6 @@ impl<'a, A: Allocator + Copy> Batch<'a, A> {
     }
 }
 
-// Adds the lines behind those of a text, which are so many: batch after batch is read, each while the one
-// before it is added.
 pub(crate) fn add_batches<R: Threads + Sync, A: Allocator + Copy>(
     rt: &R,
     alloc: A,
@@ -190,7 +183,6 @@ pub(crate) fn add_batches<R: Threads + Sync, A: Allocator + Copy>(
     requires { count + length bytes.now < 2 ^ 64 - 1 }
     ensures { AddsLines (count + 1) text.old (lines bytes.now) text.new result }
 {
-    // Where this is refused, the capacity grows as entries come.
     let _refused = text.reserve(bytes.len() / LEAST_LINE);
     let mut ready = Batch::new(alloc);
     let mut next = Batch::new(alloc);

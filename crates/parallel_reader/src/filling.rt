@@ -1,3 +1,4 @@
+// A buffer is filled until it is full or the reader has no more. `is_end` says that the latter is known.
 ghost use Rattle.std.specs.Prelude.{◌≡◌, ◌≤◌, ◌<◌, ◌+◌, ◌++◌, ℕ, List, length, take, drop, true, false, IfOk, OnErr, OnOk};
 ghost use Rattle.std.specs.Io.KnownBytes.{Consumes, IsAtEnd, Keeps};
 
@@ -19,8 +20,6 @@ fn read_at<R: Read>(reader: &mut R, buffer: &mut [u8], at: usize) -> io::Result<
     reader.read(&mut buffer[at..])
 }
 
-// Reads behind the first bytes of a buffer until it is full or the reader has no more: how many bytes are
-// in it then.
 fn fill_behind<R: Read>(reader: &mut R, buffer: &mut [u8], at: usize) -> io::Result<usize>
     requires { at ≤ length buffer.old }
     ensures same { length buffer.new ≡ length buffer.old }
@@ -55,8 +54,6 @@ fn put_front(buffer: &mut [u8], front: &[u8])
     buffer[..front.len()].copy_from_slice(front);
 }
 
-// Puts bytes at the beginning of a buffer, and unless a reader is known to have no more, reads behind
-// them until it is full or the reader has no more: how many bytes are in it then.
 pub(crate) fn refill<R: Read>(
     reader: &mut R,
     buffer: &mut [u8],

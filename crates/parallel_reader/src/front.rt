@@ -1,3 +1,6 @@
+// `head` has the bytes of the first lines, with `headed` entries; each line behind them is blank or the
+// summary line of an entry. `next` is one above the greatest job number. Where capacity for entries is
+// refused, it grows as they come.
 ghost use Rattle.std.specs.Prelude.{◌≡◌, ◌<◌, ◌+◌, ◌-◌, ◌^◌, ◌++◌, ℕ, List, [], length, IfSome};
 ghost use Rattle.swf_text.specs.Text.{lines};
 ghost use Rattle.parallel_reader.specs.Fronts.{EndsLine, Grows, IsFront, IsReading};
@@ -17,13 +20,10 @@ use swf_text::{
 /// and how many bytes they have with their line feeds.
 #[derive(Drop)]
 pub struct LogFront<A: Allocator + Copy> {
-    // The bytes of its first lines, behind which each is blank or the summary line of an entry.
     head: Vec<u8, A>,
     comments: Vec<Vec<u8, A>, A>,
     entries: Vec<Entry<A>, A>,
-    // How many entries the first lines have.
     headed: usize,
-    // One above the greatest job number.
     next: u64,
     lines: u64,
     bytes: u64,
@@ -56,7 +56,6 @@ fn count_lines(bytes: &[u8]) -> u64
 }
 
 impl<A: Allocator + Copy> LogFront<A> {
-    // No lines. Takes no memory.
     pub(crate) fn new(alloc: A) -> LogFront<A>
         ensures { IsFront [] result }
     {
@@ -83,7 +82,6 @@ impl<A: Allocator + Copy> LogFront<A> {
         };
         let (comments, mut entries) = text.into_parts();
         let next = number_behind(entries.as_slice());
-        // Where this is refused, the entries are moved as they come.
         let headed = entries.len();
         let _refused = entries.reserve(ENTRY_LIMIT.saturating_sub(headed));
         Some(LogFront {
@@ -104,8 +102,6 @@ impl<A: Allocator + Copy> LogFront<A> {
         self.bytes
     }
 
-    // Adds the lines of a piece, if that can be by its job lines: whether it was. If not, it is as
-    // before.
     pub(crate) fn add(&mut self, alloc: A, piece: &Piece<A>) -> bool
         ensures { Grows self.old piece.now self.new result }
     {
@@ -138,7 +134,6 @@ impl<A: Allocator + Copy> LogFront<A> {
         ensures { IfSome result (λ text. text ≡ self.now.text) }
     {
         let mut text = Builder::new(alloc);
-        // Where this is refused, the capacity grows as entries come.
         let _refused = text.reserve(self.entries.len());
         let Ok(()) = add_batches(rt, alloc, &mut text, 0, self.head.as_slice()) else {
             return None;

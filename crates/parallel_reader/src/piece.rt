@@ -1,5 +1,9 @@
-ghost use Rattle.std.specs.Prelude.{◌≡◌, ◌<◌, ◌≤◌, ◌++◌, [], length, is_some, slice_index_or, true, take, IfNone, IfOk, IfSome, OnOk};
-ghost use Rattle.std.specs.Io.KnownBytes.{Consumes, IsAtEnd};
+// The lines of a piece are read in `readers` threads while those of the piece before it are added to a
+// front. That piece then takes what stands behind the lines of this one, and behind it what the reader has;
+// None where its lines can't be added. Each thread is started by this one: one that another starts may wait
+// until this one has done.
+ghost use Rattle.std.specs.Prelude.{◌≡◌, ◌<◌, ◌≤◌, ◌++◌, [], length, is_some, true, take, IfNone, IfOk, IfSome, OnOk};
+ghost use Rattle.std.specs.Io.KnownBytes.{IsAtEnd};
 ghost use Rattle.std.specs.Thread.{IsSync};
 ghost use Rattle.swf_text.specs.Text.{lines};
 ghost use Rattle.parallel_reader.specs.Adding.{texts};
@@ -69,8 +73,6 @@ fn read_portions(portions: &[&[u8]], jobs: &mut [JobLines])
     }
 }
 
-// Reads portions in so many threads, while this one does something else. Each thread is started by this
-// one: one that another starts may wait until this one has done.
 #[cycle(readers)]
 fn read_while<T: Threads + Sync, F: FnMut() -> B, B>(
     rt: &T,
@@ -126,8 +128,6 @@ fn read_some_while<T: Threads + Sync, F: FnMut() -> B, B>(
     done
 }
 
-// Adds the lines of a piece to a front, and then puts these bytes in their place, and behind them what a
-// reader has: whether it has no more. None where the lines can't be added; then all is as before.
 fn add_and_fill<R: Read, A: Allocator + Copy>(
     alloc: A,
     front: &mut LogFront<A>,
@@ -176,7 +176,6 @@ fn read_and_add<T: Threads + Sync, R: Read, A: Allocator + Copy>(
 }
 
 impl<A: Allocator + Copy> Piece<A> {
-    // No bytes, and memory for so many.
     pub(crate) fn new(alloc: A, size: usize) -> io::Result<Piece<A>>
         ensures lines { IfOk result (λ p. p.lines ≡ []) }
         ensures tail { IfOk result (λ p. p.tail ≡ []) }
@@ -217,8 +216,6 @@ impl<A: Allocator + Copy> Piece<A> {
         self.jobs.as_slice()
     }
 
-    // Takes these bytes in the place of those that were there, and unless a reader is known to have no
-    // more, reads behind them: whether it has no more.
     pub(crate) fn fill<R: Read>(
         &mut self,
         reader: &mut R,
@@ -237,10 +234,6 @@ impl<A: Allocator + Copy> Piece<A> {
         Ok(is_end || filled < self.bytes.len())
     }
 
-    // Reads its lines in so many threads, while those of the piece before it are added to a front, and
-    // then puts what stands behind the lines in that piece's place, and behind it what a reader has:
-    // whether it has no more. None where the lines of that piece can't be added; then they, and the
-    // reader, are as before.
     pub(crate) fn read_beside<T: Threads + Sync, R: Read>(
         &mut self,
         rt: &T,

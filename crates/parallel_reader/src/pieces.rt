@@ -1,3 +1,5 @@
+// A log is read piece after piece, each while the one before it is added and the one behind it comes. If any
+// threads read beside this one, two do at least: one that starts alone often waits on this one's processor.
 ghost use Rattle.std.specs.Prelude.{◌≡◌, ◌++◌, [], List, ℕ, true, IfOk};
 ghost use Rattle.std.specs.Io.KnownBytes.{IsAtEnd};
 ghost use Rattle.parallel_reader.specs.Fronts.{IsFront, IsReadBehind};
@@ -57,8 +59,6 @@ fn with_rest<A: Allocator + Copy>(
     })
 }
 
-// How many threads read lines while this one adds entries, of so many that may run at once: two at
-// least, since one that starts alone often waits on this one's processor.
 fn readers_beside(threads: usize) -> usize {
     match threads {
         0 | 1 => 0,
@@ -67,8 +67,6 @@ fn readers_beside(threads: usize) -> usize {
     }
 }
 
-// Reads the front of a log behind its head: piece after piece, each while the one before it is added and
-// the one behind it comes.
 fn read_pieces<T: Threads + Sync, R: Read, A: Allocator + Copy>(
     rt: &T,
     alloc: A,

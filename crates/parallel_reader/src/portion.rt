@@ -47,8 +47,7 @@ fn is_blank(line: &[u8]) -> bool
     matches!(read_line(line), LineRead::Blank)
 }
 
-// Reads the job line that some bytes begin with into the next place, if there is one: what follows the
-// line. None where it says nothing; places before that one stay.
+// None says nothing of the line.
 fn read_front<'a>(jobs: &mut [PackedLine], count: usize, bytes: &'a [u8]) -> Option<&'a [u8]>
     ensures same { length jobs.new ≡ length jobs.old }
     ensures kept { take count jobs.new ≡ take count jobs.old }

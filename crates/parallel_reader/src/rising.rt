@@ -1,3 +1,6 @@
+// Entries are added whose numbers rise from `next` on, and one above the greatest number is returned;
+// None where a line is neither blank nor a summary line of such a number without faults, or where a growth
+// was refused.
 ghost use Rattle.std.specs.Prelude.{◌≡◌, ◌∷◌, ℕ, List, [], length, map, ◌<◌, IfNone, IfSome};
 ghost use Rattle.swf_text.specs.Text.{lines};
 ghost use Rattle.parallel_reader.specs.Fronts.{AreJobsIn};
@@ -17,8 +20,6 @@ pub(crate) fn number_behind<A: Allocator + Copy>(entries: &[Entry<A>]) -> u64
     next
 }
 
-// Adds the entry of a job line whose number is at least this one: one above its number. None where
-// it is no summary line of such a number without faults, or a growth was refused.
 fn add_job<A: Allocator + Copy>(
     alloc: A,
     entries: &mut Vec<Entry<A>, A>,
@@ -37,10 +38,8 @@ fn add_job<A: Allocator + Copy>(
     if number < next || entries.len() >= ENTRY_LIMIT {
         return None;
     }
-    match entries.push(Entry::of_packed(alloc, job)) {
-        Ok(()) => Some(number + 1),
-        Err(_) => None,
-    }
+    entries.push(Entry::of_packed(alloc, job)).ok()?;
+    Some(number + 1)
 }
 
 fn add_jobs<A: Allocator + Copy>(
@@ -56,10 +55,7 @@ fn add_jobs<A: Allocator + Copy>(
 {
     let mut next = next;
     for job in jobs {
-        match add_job(alloc, entries, next, job) {
-            Some(later) => next = later,
-            None => return None,
-        }
+        next = add_job(alloc, entries, next, job)?;
     }
     Some(next)
 }
@@ -82,8 +78,6 @@ fn add_portion<A: Allocator + Copy>(
     }
 }
 
-// Adds the entries of portions that were read, one after another, whose numbers rise from this one on:
-// one above the greatest number.
 pub(crate) fn add_portions<A: Allocator + Copy>(
     alloc: A,
     entries: &mut Vec<Entry<A>, A>,
@@ -97,10 +91,7 @@ pub(crate) fn add_portions<A: Allocator + Copy>(
 {
     let mut next = next;
     for portion in jobs {
-        match add_portion(alloc, entries, next, portion) {
-            Some(later) => next = later,
-            None => return None,
-        }
+        next = add_portion(alloc, entries, next, portion)?;
     }
     Some(next)
 }
@@ -116,8 +107,6 @@ pub(crate) fn lines_of(jobs: &[JobLines]) -> Option<u64>
     Some(lines)
 }
 
-// Adds the entries of some lines, portion after portion, if they are blank or summary lines whose numbers
-// rise from this one on.
 pub(crate) fn add_lines<A: Allocator + Copy>(
     alloc: A,
     entries: &mut Vec<Entry<A>, A>,

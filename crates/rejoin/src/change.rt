@@ -1,4 +1,7 @@
-ghost use Rattle.std.specs.Prelude.{◌≡◌, ◌≤◌, ◌<◌, ◌+◌, ◌^◌, ◌↔◌, ◌∷◌, List, false, length, drop, map, IsTrue, IfOk};
+// An old run, a new plan, and the numbers in which they differ, with their submit seconds. `reuses` goes by a
+// ledger of the starts before an old segment: no touched number waits or runs right before its first second
+// where each that is submitted before it has started and ended.
+ghost use Rattle.std.specs.Prelude.{◌≡◌, ◌<◌, ◌+◌, ◌^◌, ◌↔◌, ◌∷◌, List, length, drop, map, IsTrue, IfOk};
 ghost use Rattle.std.specs.Arc.{arc_value};
 ghost use Rattle.job_table.specs.Accepted.{AreAccepted};
 ghost use Rattle.job_table.specs.Edit.{edit_of, log_after};
@@ -28,7 +31,6 @@ use std::marker::Model;
 use std::sync::Arc;
 use swf_text::Memory;
 
-// An old run, a new plan, and the numbers in which they differ with their submit seconds.
 #[derive(Drop)]
 pub(crate) struct Change<'a, A: Allocator + Copy> {
     run: &'a Run<A>,
@@ -159,9 +161,6 @@ impl<'a, A: Allocator + Copy> Change<'a, A> {
         count_below(self.submits.as_slice(), second)
     }
 
-    // Whether the old segment at this place is reused, where the new simulation stands before its first
-    // second, by a ledger of the starts before it. No touched number waits or runs there where each that
-    // is submitted before it has started and ended.
     pub(crate) fn reuses(&self, at: usize, position: u64, ledger: &Ledger<A>) -> bool
         requires within { at < length self.now.old }
         requires begins { MayBegin self.now.is position }

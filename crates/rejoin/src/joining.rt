@@ -1,4 +1,6 @@
-// A re-simulation: from one old segment to the next, and the new segments that come of it.
+// A re-simulation: from one old segment to the next, and the new segments that come of it. Behind a reused
+// one the next is reused too where no touched number is submitted in its stretch. `places` has the place of
+// each new segment among the old ones, where it is a reused one; `handled` counts the event seconds worked.
 ghost use Rattle.std.specs.Prelude.{◌≡◌, ℕ, ◌≤◌, ◌<◌, ◌+◌, map, length, IfOk, OnOk};
 ghost use Rattle.std.specs.Arc.{arc_value};
 ghost use Rattle.checkpoints.specs.Cut.{Chain};
@@ -16,13 +18,10 @@ use std::alloc::Allocator;
 use std::sync::Arc;
 use swf_text::Memory;
 
-// The new segments, where they come from, and what they took.
 #[derive(Drop)]
 pub(crate) struct Patched<A: Allocator + Copy> {
     pub(crate) segments: Vec<Arc<Segment<A>, A>, A>,
-    // The place of each among the old segments, where it is a reused one.
     pub(crate) places: Vec<Option<usize>, A>,
-    // The event seconds that were worked.
     pub(crate) handled: u64,
     pub(crate) reused: u64,
 }
@@ -54,8 +53,6 @@ fn reach<A: Allocator + Copy>(
     Ok(())
 }
 
-// Behind a reused old segment: reuses this one too, where no touched number is submitted in its
-// stretch, or puts an engine before its first second.
 fn follow<A: Allocator + Copy>(
     alloc: A,
     change: &Change<'_, A>,
@@ -99,8 +96,6 @@ fn finish<A: Allocator + Copy>(
     Ok(())
 }
 
-// Goes on from the old segment at this place to the next: reuses it, or works up to its first second
-// and tries it.
 fn turn<A: Allocator + Copy>(
     alloc: A,
     change: &Change<'_, A>,

@@ -1,12 +1,12 @@
-// In what the starts of two simulations differ, kept start by start.
+// In what the starts of two simulations differ. `was` has those of the old one whose numbers have none in the
+// new one yet, and `is` the reverse; from `until` on nobody runs any more who started in both at different
+// seconds. Of touched numbers, `started` counts the starts in both, and from `ended` on none of their jobs
+// runs any more; a new ledger counts those `submitted` before it as started and ended.
 ghost use Rattle.std.specs.Prelude.{◌≡◌, ◌≤◌, ◌<◌, ◌+◌, ◌-◌, ◌^◌, ◌++◌, ◌∷◌, [], ℕ, List, All, None, Some, nat_eq, is_none, ◌&&◌, ◌↔◌, max, min, if◌then◌else◌, IfOk, OnOk, IsTrue};
 ghost use Rattle.std.specs.Ordering.{nat_cmp};
 ghost use Rattle.std.specs.BTreeMap.{get};
-ghost use Rattle.scenarios.specs.Job.{EffectiveJob};
-ghost use Rattle.scenarios.specs.Plan.{job_numbered};
 ghost use Rattle.easy_rule.specs.declared.start.Start.{Start as StartView};
-ghost use Rattle.easy_rule.specs.Simulation.{start_of};
-ghost use Rattle.timeline.specs.Ledger.{Ledger as LedgerView, ledger_of};
+ghost use Rattle.timeline.specs.Ledger.{ledger_of};
 ghost use Rattle.rejoin.specs.Noted.{AreStarts, Keeps, HasNone};
 ghost use Rattle.rejoin.specs.Started.{among, starts_of, EachHasEnded};
 
@@ -17,13 +17,8 @@ use std::alloc::Allocator;
 use std::collections::BTreeMap;
 use swf_text::Memory;
 
-// The seconds of some starts, by number.
 pub(crate) type Seconds<A> = BTreeMap<u64, u64, A>;
 
-// The starts of the old simulation whose numbers have none in the new one yet, and those of the new
-// one that have none in the old one yet; and the second from which on nobody runs any more who
-// started in both at different seconds. Of touched numbers, how many starts there are in both, and the
-// second from which on none of their jobs runs any more.
 #[derive(Drop)]
 pub(crate) struct Ledger<A: Allocator + Copy> {
     was: Seconds<A>,
@@ -58,9 +53,6 @@ fn has_none<A: Allocator + Copy>(seconds: &Seconds<A>) -> bool
     seconds.is_empty()
 }
 
-// Notes a start of one simulation, of which and of the other these are the starts that the other has
-// not. The second from which on its number runs in neither any more, where it started in both, at
-// different seconds; or 0.
 fn note<A: Allocator + Copy>(
     change: &Change<'_, A>,
     start: Start,
@@ -99,8 +91,6 @@ fn note_all<A: Allocator + Copy>(
 }
 
 impl<A: Allocator + Copy> Ledger<A> {
-    // The ledger of two simulations whose states before a second are equal, without touched numbers: so
-    // many of these are submitted before it, and all of them have started and ended.
     pub(crate) fn new(alloc: A, submitted: usize) -> Ledger<A>
         ensures was { HasNone result.was }
         ensures is { HasNone result.is }
@@ -151,15 +141,12 @@ impl<A: Allocator + Copy> Ledger<A> {
         Ok(())
     }
 
-    // Whether the same numbers that are not touched have started before the second in both, and none
-    // that started at different seconds runs any more.
     pub(crate) fn has_met(&self, second: u64) -> bool
         ensures { IsTrue result ↔ (HasNone self.now.was × HasNone self.now.is × (self.now.until ≤ second)) }
     {
         has_none(&self.was) && has_none(&self.is) && self.until <= second
     }
-    // Whether as many touched numbers have started as are submitted before the second, which are so
-    // many, and all that have started have ended before it.
+
     pub(crate) fn has_ended(&self, submitted: usize, second: u64) -> bool
         ensures { IsTrue result ↔ ((submitted ≤ self.now.started) × (self.now.ended ≤ second)) }
     {

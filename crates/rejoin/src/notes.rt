@@ -1,5 +1,4 @@
-// What the ledger notes while a re-simulation goes on.
-ghost use Rattle.std.specs.Prelude.{◌≡◌, ℕ, ◌<◌, ◌+◌, length, OnOk};
+ghost use Rattle.std.specs.Prelude.{ℕ, ◌<◌, ◌+◌, length, OnOk};
 ghost use Rattle.checkpoints.specs.Cut.{Spans};
 ghost use Rattle.checkpoints.specs.Pieces.{segment_of};
 ghost use Rattle.rejoin.specs.Reused.{MayBegin};

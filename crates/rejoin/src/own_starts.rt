@@ -1,4 +1,4 @@
-// The starts of touched numbers, noted as a re-simulation goes on.
+// How many starts of touched numbers there are, and the second from which on none of their jobs runs.
 ghost use Rattle.std.specs.Prelude.{◌≡◌, ℕ, ◌+◌, ◌-◌, ◌≤◌, ◌<◌, ◌^◌, ◌↔◌, min, true, All, IfSome, if◌then◌else◌};
 ghost use Rattle.scenarios.specs.Plan.{job_numbered};
 ghost use Rattle.scenarios.specs.PlanView.{plan_in};
@@ -35,8 +35,6 @@ fn note_own<A: Allocator + Copy>(
     }
 }
 
-// Notes the starts of touched numbers among these of one simulation, whose plan this is: how many they
-// are, and the second from which on none of their jobs runs any more.
 pub(crate) fn note_touched<A: Allocator + Copy>(
     change: &Change<'_, A>,
     plan: &PlanRef<'_, A>,

@@ -1,3 +1,7 @@
+// The new segments so far, and the engine that works those that are not old ones. Where `last_reused`, it has
+// stayed behind; otherwise `ledger` has in what the starts of both simulations differ. `started` counts those
+// since the last snapshot noted, `places` has the place of each reused segment among the old ones, and
+// `handled` counts the event seconds worked, except those of an engine that is still at work.
 ghost use Rattle.std.specs.Prelude.{◌≡◌, ℕ, ◌≤◌, ◌<◌, ◌+◌, ◌^◌, ◌∷◌, ◌++◌, [], Some, true, drop, OnOk};
 ghost use Rattle.std.specs.Arc.{arc_value};
 ghost use Rattle.checkpoints.specs.Coming.{NoneComes};
@@ -15,20 +19,14 @@ use std::alloc::Allocator;
 use std::sync::Arc;
 use swf_text::Memory;
 
-// The new segments so far, and the engine that works those that are not old ones.
 #[derive(Drop)]
 pub(crate) struct Patch<A: Allocator + Copy> {
     pub(crate) engine: Engine<A>,
-    // Whether the last new segment is a reused one: the engine has stayed behind then.
     pub(crate) last_reused: bool,
-    // In what the starts of both simulations differ, where the engine is at work.
     pub(crate) ledger: Ledger<A>,
-    // How many jobs have started since the last snapshot that was noted.
     pub(crate) started: u64,
     pub(crate) segments: Segments<A>,
-    // The place of each among the old segments, where it is a reused one.
     pub(crate) places: Vec<Option<usize>, A>,
-    // The event seconds that were worked, but for those of an engine that is still at work.
     pub(crate) handled: u64,
     pub(crate) reused: u64,
 }

@@ -4,19 +4,12 @@ use Rattle.std.specs.List.{flat_map}
 use Rattle.std.specs.Fmt.{decimal, signed_decimal}
 use Rattle.swf_text.specs.Entry.{LogEntry, number_of_entry}
 use Rattle.scenarios.specs.declared.skip.Skip.{Skip}
-use Rattle.scenarios.specs.declared.skip.Skip.TheVariants.{NoSize, NoRun, TooLarge, TooLong}
 use Rattle.scenarios.specs.Job.{EffectiveJob}
 use Rattle.scenarios.specs.Scenario.{ScenarioView}
 use Rattle.scenarios.specs.Effective.{effective}
+use Rattle.scenarios.specs.Names.{skip_name}
 use Rattle.report.specs.Pieces.{right, cell, verdict}
 use Rattle.report.specs.Heading.{heading}
-
--- a reason to skip an entry
-abbrev pub reason : Skip → List ℕ
-reason NoSize = codes "NoSize"
-reason NoRun = codes "NoRun"
-reason TooLarge = codes "TooLarge"
-reason TooLong = codes "TooLong"
 
 -- a job's submit second, size, estimate, length and user, and whether it is killed
 abbrev pub job_cells : EffectiveJob → List ℕ
@@ -27,7 +20,7 @@ job_cells job =
 -- what is written of an entry: its job, or why it is skipped
 abbrev pub job_or_reason : Result EffectiveJob Skip → List ℕ
 job_or_reason (Ok job) = job_cells job
-job_or_reason (Err skip) = codes " skipped " ++ reason skip ++ codes "\n"
+job_or_reason (Err skip) = codes " skipped " ++ skip_name skip ++ codes "\n"
 
 -- an entry's number, and what it is under the scenario
 abbrev pub entry_line : ScenarioView → LogEntry → List ℕ

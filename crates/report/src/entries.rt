@@ -2,7 +2,7 @@
 
 ghost use Rattle.std.specs.Prelude.{◌≡◌, ◌++◌, OnOk, IfOk, Err};
 ghost use Rattle.scenarios.specs.Effective.{effective};
-ghost use Rattle.report.specs.Entries.{reason, job_cells, job_or_reason, entry_line, log_text};
+ghost use Rattle.report.specs.Entries.{job_cells, job_or_reason, entry_line, log_text};
 
 use crate::heading::push_heading;
 use crate::pieces::{push_aligned, push_cell, verdict};
@@ -13,17 +13,6 @@ use swf_text::{Entry, Memory};
 
 /// Capacity for the line of an entry whose numbers fit their columns.
 const LINE: usize = 65;
-
-fn reason(skip: Skip) -> &'static [u8]
-    ensures { result.now ≡ reason skip }
-{
-    match skip {
-        Skip::NoSize => b"NoSize",
-        Skip::NoRun => b"NoRun",
-        Skip::TooLarge => b"TooLarge",
-        Skip::TooLong => b"TooLong",
-    }
-}
 
 fn push_job<A: Allocator + Copy>(text: &mut Vec<u8, A>, job: &Job) -> Result<(), AllocError>
     ensures { OnOk result (text.new.items ≡ text.old.items ++ job_cells job.now) }
@@ -42,7 +31,7 @@ fn push_skip<A: Allocator + Copy>(text: &mut Vec<u8, A>, skip: Skip) -> Result<(
     ensures { OnOk result (text.new.items ≡ text.old.items ++ job_or_reason (Err skip)) }
 {
     text.extend_from_slice(b" skipped ")?;
-    text.extend_from_slice(reason(skip))?;
+    text.extend_from_slice(skip.name().as_bytes())?;
     text.push(b'\n')?;
     Ok(())
 }

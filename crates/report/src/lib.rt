@@ -17,7 +17,10 @@ mod table;
 mod texts;
 mod users;
 
+pub use days::days_text;
 pub use entries::log_text;
 pub use printing::ScheduleReport;
 pub use side::{SideLine, side_text};
-pub use texts::{days_text, plan_report, schedule_text, table_text, users_text};
+pub use table::table_text;
+pub use texts::{plan_report, schedule_text};
+pub use users::users_text;

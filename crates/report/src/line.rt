@@ -9,7 +9,6 @@ use itoa::write_digits;
 /// Capacity for five numbers, each of up to 20 digits and behind a blank.
 pub(crate) const CAPACITY: usize = 105;
 
-// Puts a number, at least so wide, so that it ends here. Returns where it begins.
 pub(crate) fn put_right(line: &mut [u8; CAPACITY], end: usize, number: u64, width: usize) -> usize
     requires capacity { 20 ≤ end }
     requires within { end ≤ 105 }

@@ -66,7 +66,6 @@ fn put_rows(lines: &mut ArrayVec<u8, MOST_BYTES>, rows: &[Row])
     }
 }
 
-// Takes the next rows, as many as there is capacity for: how many they are.
 fn take_rows<S: Source>(taken: &mut [Row], rows: &mut S) -> usize
     ensures capacity { result ≤ length taken.new }
     ensures same { length taken.new ≡ length taken.old }

@@ -1,8 +1,8 @@
 //! The pieces that lines are made of.
 
+// Of thousandths and percents the whole part has at least the width; a percent comes in 100,000ths.
 ghost use Rattle.std.specs.Prelude.{◌≡◌, ◌≤◌, ◌<◌, ◌++◌, OnOk, codes, length, replicate};
-ghost use Rattle.std.specs.Fmt.{decimal};
-ghost use Rattle.report.specs.Pieces.{right, left, three_digits, cell, thousandths, percent, verdict};
+ghost use Rattle.report.specs.Pieces.{right, left, three_digits, thousandths, percent, verdict};
 
 use itoa::{Buffer, Integer};
 use std::alloc::{AllocError, Allocator};
@@ -40,7 +40,6 @@ fn push_right<A: Allocator + Copy>(
     Ok(())
 }
 
-// A name, at least so wide, before blanks.
 pub(crate) fn push_left<A: Allocator + Copy>(
     text: &mut Vec<u8, A>,
     name: &[u8],
@@ -100,7 +99,6 @@ fn push_three_digits<A: Allocator + Copy>(
     Ok(())
 }
 
-// Thousandths, the whole part at least so wide.
 pub(crate) fn push_thousandths<A: Allocator + Copy>(
     text: &mut Vec<u8, A>,
     number: u128,
@@ -114,7 +112,6 @@ pub(crate) fn push_thousandths<A: Allocator + Copy>(
     push_three_digits(text, number % 1000)
 }
 
-// 100,000ths as percent, the whole part at least so wide.
 pub(crate) fn push_percent<A: Allocator + Copy>(
     text: &mut Vec<u8, A>,
     number: u128,

@@ -1,7 +1,6 @@
 //! The report on scenarios side by side.
 
-ghost use Rattle.std.specs.Prelude.{◌≡◌, ◌++◌, OnOk, IfOk, codes};
-ghost use Rattle.std.specs.Arc.{arc_value};
+ghost use Rattle.std.specs.Prelude.{◌≡◌, ◌++◌, OnOk, IfOk};
 ghost use Rattle.report.specs.Pieces.{left};
 ghost use Rattle.report.specs.Side.{shown_line, side_line, side_text};
 

@@ -1,13 +1,15 @@
 //! The report on all jobs.
 
 ghost use Rattle.std.specs.Prelude.{◌≡◌, ◌++◌, OnOk, IfOk, codes};
-ghost use Rattle.report.specs.Table.{word_and_number, jobs_line, skips_line, wait_line, length_line, slowdown_line, busy_line, utilization_line, table_text};
+ghost use Rattle.report.specs.Table.{jobs_line, skips_line, wait_line, length_line, slowdown_line, busy_line, utilization_line, table_text};
 
 use crate::heading::push_title;
 use crate::pieces::{push_number, push_percent, push_thousandths};
+use checkpoints::Run;
 use itoa::Integer;
 use metrics::{Overall, Skips};
 use std::alloc::{AllocError, Allocator};
+use swf_text::Memory;
 
 fn push_labelled<N: Integer, A: Allocator + Copy>(
     text: &mut Vec<u8, A>,
@@ -91,23 +93,28 @@ fn push_utilization<A: Allocator + Copy>(
     Ok(())
 }
 
-pub(crate) fn table_report<A: Allocator + Copy>(
+/// The numbers of a run over all its jobs: how many there are and were killed, how many entries
+/// are skipped, by reason, the mean and greatest wait and the mean length (seconds), the mean
+/// slowdown, processor-seconds, the span (seconds), and the utilization. Memory where a growth is
+/// refused.
+pub fn table_text<A: Allocator + Copy>(
     alloc: A,
     name: &str,
     version: u64,
-    all: &Overall,
-) -> Result<Vec<u8, A>, AllocError>
-    ensures { IfOk result (λ text. text.items ≡ table_text name.now version all.now) }
+    run: &Run<A>,
+) -> Result<Vec<u8, A>, Memory>
+    ensures { IfOk result (λ text. text.items ≡ table_text name.now version run.now.tables.overall) }
 {
+    let all = run.tables().overall();
     let mut text = Vec::new(alloc);
     push_title(&mut text, "table", name, version)?;
     text.push(b'\n')?;
-    push_jobs(&mut text, all)?;
+    push_jobs(&mut text, &all)?;
     push_skips(&mut text, &all.skips)?;
-    push_wait(&mut text, all)?;
-    push_length(&mut text, all)?;
-    push_slowdown(&mut text, all)?;
-    push_busy(&mut text, all)?;
-    push_utilization(&mut text, all)?;
+    push_wait(&mut text, &all)?;
+    push_length(&mut text, &all)?;
+    push_slowdown(&mut text, &all)?;
+    push_busy(&mut text, &all)?;
+    push_utilization(&mut text, &all)?;
     Ok(text)
 }

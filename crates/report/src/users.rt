@@ -5,8 +5,10 @@ ghost use Rattle.report.specs.Users.{user_line, users_text};
 
 use crate::heading::push_heading;
 use crate::pieces::{push_aligned, push_cell, push_thousandths};
+use checkpoints::Run;
 use metrics::UserRow;
 use std::alloc::{AllocError, Allocator};
+use swf_text::Memory;
 
 /// Capacity for the line of a user whose numbers fit their columns.
 const LINE: usize = 59;
@@ -24,14 +26,17 @@ fn push_user<A: Allocator + Copy>(text: &mut Vec<u8, A>, row: &UserRow) -> Resul
     Ok(())
 }
 
-pub(crate) fn users_report<A: Allocator + Copy>(
+/// The numbers of a run for each user, by rising user: how many jobs, their mean wait (seconds),
+/// their mean slowdown, and processor-seconds. Memory where a growth is refused.
+pub fn users_text<A: Allocator + Copy>(
     alloc: A,
     name: &str,
     version: u64,
-    rows: &[UserRow],
-) -> Result<Vec<u8, A>, AllocError>
-    ensures { IfOk result (λ text. text.items ≡ users_text name.now version rows.now) }
+    run: &Run<A>,
+) -> Result<Vec<u8, A>, Memory>
+    ensures { IfOk result (λ text. text.items ≡ users_text name.now version run.now.tables.users) }
 {
+    let rows = run.tables().users();
     let mut text = Vec::with_capacity(alloc, rows.len().saturating_add(2).saturating_mul(LINE))?;
     push_heading(&mut text, "users", name, version, "count", rows.len())?;
     'lines: for row in rows {

@@ -1,6 +1,5 @@
-ghost use Rattle.std.specs.Prelude.{◌≡◌, ◌≤◌, ◌^◌, ◌<◌, IfOk, IfSome, nat_abs};
+ghost use Rattle.std.specs.Prelude.{◌≡◌, ◌≤◌, ◌<◌, IfOk, IfSome, nat_abs};
 ghost use Rattle.swf_text.specs.Limits.{whole_limit};
-ghost use Rattle.swf_text.specs.Entry.{field};
 ghost use Rattle.scenarios.specs.Limits.{factor_limit};
 ghost use Rattle.scenarios.specs.Job.{IsWithinLimits};
 ghost use Rattle.scenarios.specs.Effective.{effective, whole_field, positive, natural, size_of, run_of, base_of, estimate_of};

@@ -11,7 +11,6 @@ fn is_name_byte(byte: u8) -> bool
     (byte >= b'a' && byte <= b'z') || (byte >= b'0' && byte <= b'9') || byte == b'-' || byte == b'_'
 }
 
-// Whether only such bytes stand there.
 fn all_name_bytes(bytes: &[u8]) -> bool
     ensures { result ≡ list_all is_name_byte bytes.now }
 {

@@ -1,4 +1,4 @@
-ghost use Rattle.std.specs.Prelude.{◌≡◌, ◌≤◌};
+ghost use Rattle.std.specs.Prelude.{◌≡◌};
 ghost use Rattle.scenarios.specs.declared.order.Order.TheVariants.{Arrival};
 
 use crate::order::Order;

@@ -41,7 +41,7 @@ impl<A: Allocator + Copy> Model for ScenarioList<A> {
 }
 
 impl<A: Allocator + Copy> ScenarioList<A> {
-    ghost use Rattle.scenarios.specs.ScenarioList.{Listing, IsListing, empty, id_of, add_fault, with_scenario, without_scenario};
+    ghost use Rattle.scenarios.specs.ScenarioList.{IsListing, empty, id_of, add_fault, with_scenario, without_scenario};
 
     /// A list without scenarios. Takes no memory.
     pub fn new(alloc: A) -> ScenarioList<A>
@@ -84,7 +84,6 @@ impl<A: Allocator + Copy> ScenarioList<A> {
         }
     }
 
-    // Why no scenario can be added under this name, apart from memory.
     fn add_fault(&self, name: &str) -> Option<AddFault>
         ensures { result ≡ add_fault name.now self.now }
     {

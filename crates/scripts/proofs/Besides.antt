@@ -5,7 +5,6 @@ use Rattle.std.proofs.lemmas.List.{take-append-drop}
 use Rattle.scenarios.specs.ScenarioList.{Listed}
 use Rattle.version_book.specs.declared.faults.ViewFault.{ViewFault}
 use Rattle.version_book.specs.declared.refusal.Refusal.{Refusal}
-use Rattle.version_book.specs.declared.refusal.Refusal.TheVariants as why
 use Rattle.scripts.specs.Analysts.{AreBeside, NotBeside, StandsSo, lines_of}
 use Rattle.scripts.specs.Rules.{Rules}
 use Rattle.scripts.specs.declared.views.Beside.{Beside}

@@ -1,7 +1,6 @@
 -- Commands that are one call.
-use Rattle.std.proofs.Common.{◌≡◌, ℕ, List, refl, sym, ◌∙◌, ap, subst}
+use Rattle.std.proofs.Common.{◌≡◌, ℕ, List, refl, sym, ◌∙◌}
 use Rattle.std.specs.Prelude.{Result, Ok, Err}
-use Rattle.book_machine.specs.declared.caller.Caller.{Caller}
 use Rattle.book_machine.specs.declared.reply.Reply.{Reply}
 use Rattle.book_machine.specs.Call.{BookCall}
 use Rattle.version_book.specs.Answers.{answer_of}
@@ -9,15 +8,14 @@ use Rattle.version_book.specs.Book.{BookView, machine_of}
 use Rattle.version_book.specs.Names.{refusal_name}
 use Rattle.version_book.specs.declared.refusal.Refusal.{Refusal}
 use Rattle.version_book.specs.declared.refusal.Refusal.TheVariants as why
-use Rattle.version_book.specs.Steps.{Answer, full, memory, outcome, Answers as Answered}
+use Rattle.version_book.specs.Steps.{outcome}
 use Rattle.scripts.specs.Analysts.{CallBy}
 use Rattle.scripts.specs.Answers.{scenario_says, says_of}
-use Rattle.scripts.specs.BookRules.{IsAnswered}
 use Rattle.scripts.specs.Lines.{refused, scenario_line}
 use Rattle.scripts.specs.Rules.{Rules}
 use Rattle.scripts.specs.Answered.{became_word, scenario_outcome}
 use Rattle.scripts.specs.declared.answer.Became.{Became}
-use Rattle.scripts.specs.Session.{Session, seen_of}
+use Rattle.scripts.specs.Session.{Session}
 
 -- ---- what is said
 
@@ -44,24 +42,3 @@ call-scenario rules old new call name what replied because fault_name done named
 -- a session with a book
 abbrev pub with : BookView → ℕ → Session
 with b seen = record { machine = machine_of b; seen = seen }
-
-answered : (old new : BookView) (who : Caller) (call : BookCall) (seen : ℕ) (a : Answer) → Answered old new who call a → IsAnswered (with old seen) call a (with new (seen_of seen a))
-answered old new who call seen full h = (h.0, ap (λ (b : BookView). with b seen) h.1)
-answered old new who call seen memory h = ap (λ (b : BookView). with b seen) h.1
-answered old new who call seen (outcome r) h = record { capacity = h.0; replied = h.1; machine = h.2; seen = refl }
-
-pub answered-as : {v : Session} (old new : BookView) (who : Caller) (call : BookCall) (seen s : ℕ) (a : Answer) → with old seen ≡ v → Answered old new who call a → s ≡ seen_of seen a → IsAnswered v call a (with new s)
-answered-as {v} old new who call seen s a is h s_is =
-    let one : IsAnswered (with old seen) call a (with new s) = subst (λ (n : ℕ). IsAnswered (with old seen) call a (with new n)) (sym s_is) (answered old new who call seen a h) in
-    subst (λ (w : Session). IsAnswered w call a (with new s)) is one
-
--- nothing is seen by a refusal
-pub sees-nothing : {T F : Type 0} (seen : ℕ) (replied : T → Reply) (because : F → Reply) → ((fault : F) → seen_of seen (outcome (because fault)) ≡ seen) → (refusal : Refusal F) → seen ≡ seen_of seen (answer_of replied because (Err refusal))
-sees-nothing seen replied because unseen why.JournalFull = refl
-sees-nothing seen replied because unseen (why.Fault fault) = sym (unseen fault)
-sees-nothing seen replied because unseen why.Memory = refl
-
--- nor by a call on a scenario
-pub sees-none : {T F : Type 0} (seen : ℕ) (replied : T → Reply) (because : F → Reply) → ((value : T) → seen_of seen (outcome (replied value)) ≡ seen) → ((fault : F) → seen_of seen (outcome (because fault)) ≡ seen) → (result : Result T (Refusal F)) → seen ≡ seen_of seen (answer_of replied because result)
-sees-none seen replied because still unseen (Ok value) = sym (still value)
-sees-none seen replied because still unseen (Err refusal) = sees-nothing seen replied because unseen refusal

@@ -5,7 +5,6 @@ use Rattle.std.specs.Option.{option_map}
 use Rattle.book_machine.specs.declared.caller.Caller.{Caller}
 use Rattle.version_book.specs.Answers.{claim_answer}
 use Rattle.version_book.specs.Steps.{Answers as Answered}
-use Rattle.book_machine.specs.declared.reply.Reply.TheVariants as reply
 use Rattle.book_machine.specs.Call.{Claim}
 use Rattle.book_machine.specs.Machine.{Machine, Progress, Ticket, version, due, are_all_out, is_due, after, changed, closed, publish, note_limit}
 use Rattle.checkpoints.specs.RunView.{RunView}

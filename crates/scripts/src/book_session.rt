@@ -1,4 +1,5 @@
-// A session with a book of its own, which works what is due when it settles.
+// A session with a book of its own, which works what is due when it settles. `seen` is the greatest version
+// that an edit or a view returned.
 ghost use Rattle.std.specs.Prelude.{◌≡◌, map};
 ghost use Rattle.version_book.specs.Book.{machine_of};
 ghost use Rattle.scripts.specs.Replies.{reply_text};
@@ -26,7 +27,6 @@ const SESSION: u64 = 0;
 pub(crate) struct BookSession<A: Allocator + Copy> {
     pub(crate) alloc: A,
     pub(crate) book: Book<A>,
-    // the greatest version that an edit or a view returned
     pub(crate) seen: u64,
 }
 

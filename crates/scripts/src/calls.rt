@@ -1,4 +1,3 @@
-// Commands that are one call, and those that only read a number.
 ghost use Rattle.job_table.specs.Edit.{edit_of};
 ghost use Rattle.book_machine.specs.Call.{AddScenario, DropScenario, Edit as Edits, Retry};
 ghost use Rattle.scripts.specs.Analysts.{CallBy, NamedBy, SettledBy, VersionBy};

@@ -1,3 +1,5 @@
+// A line ends at its line feed (`Feed`) or with the input (`Input`), or goes on (`Open`). `front_of` returns
+// which of the bytes that a reader shows belong to the line, how many it uses, and how far the line is read.
 ghost use Rattle.std.specs.Prelude.{◌≡◌, ◌+◌, ◌≤◌, ◌++◌, [], IfOk, length, vec_capacity, vec_len};
 ghost use Rattle.swf_text.specs.Limits.{line_limit};
 ghost use Rattle.scripts.specs.Hearing.{GrowsBy, Hears, IsFront, Passes};
@@ -20,11 +22,8 @@ pub(crate) struct ReadFault;
 /// How far a line is read.
 #[derive(Clone, Copy)]
 pub(crate) enum LineEnd {
-    // Its line feed was read.
     Feed,
-    // The input ended.
     Input,
-    // It goes on.
     Open,
 }
 
@@ -71,8 +70,6 @@ impl<A: Allocator> Line<A> {
     }
 }
 
-// Which of the bytes that a reader shows belong to the line, of which at most `spare` are stored; how
-// many it uses; and how far the line is read then.
 fn front_of(shown: &[u8], spare: usize) -> (&[u8], usize, LineEnd)
     ensures { IsFront shown.now spare result.0.now result.1 result.2 }
 {

@@ -114,8 +114,6 @@ fn may_follow<R: BufRead, A: Allocator>(
     }
 }
 
-// Works one turn: reads a line, writes its response before another is read, and returns whether one
-// may follow.
 fn turn<R: BufRead, W: Write, A: Allocator + Copy>(
     analyst: &mut BookSession<A>,
     comments: &[Vec<u8, A>],

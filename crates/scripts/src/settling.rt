@@ -1,4 +1,4 @@
-// How a session with a book of its own works what is due.
+// How a session with a book of its own works what is due, and whether memory is refused for a run or a call.
 ghost use Rattle.std.specs.Prelude.{◌≡◌, IfOk};
 ghost use Rattle.std.specs.Arc.{arc_value};
 ghost use Rattle.book_machine.specs.Machine.{settled};
@@ -83,8 +83,6 @@ fn work_next<A: Allocator + Copy>(book: &mut Book<A>) -> Turn
     }
 }
 
-// Works task after task, until there is no other, the journal is full, or memory is refused for a
-// call. Returns whether memory was refused, for a run or a call.
 fn work_all<A: Allocator + Copy>(book: &mut Book<A>) -> bool
     ensures { Settles result (machine_of book.old) (machine_of book.new) }
 {

@@ -1,4 +1,3 @@
-// The views of an analyst.
 ghost use Rattle.std.specs.Prelude.{◌≡◌};
 ghost use Rattle.report.specs.Side.{side_line};
 ghost use Rattle.scripts.specs.Analysts.{NamedBy, ViewBy};

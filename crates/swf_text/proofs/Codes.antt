@@ -3,7 +3,6 @@ use Rattle.std.proofs.Common.{◌≡◌, ℕ, ◌+◌, ◌-◌, ◌*◌, ◌<◌
 use Rattle.std.proofs.lemmas.Bool.{lt-ltb, le-ltb}
 use Rattle.std.proofs.lemmas.Grind.{common_steps}
 use Rattle.std.proofs.lemmas.List.{map-append, take_more, take_more_set, take_all}
-use Rattle.swf_text.specs.Number.{whole_of}
 use Rattle.swf_text.specs.Packed.{value_of}
 
 -- ---- the value of a code
@@ -22,13 +21,6 @@ high_code code n le is =
     let known : eqb code 0 ≡ false = not_zero code (omega arith) in
     let great : ltb code 4000000000 ≡ false = le-ltb code 4000000000 le in
     rw (known, great) (ap pos is)
-
--- the nearest whole number to it
-pub low_whole : (code : ℕ) → 0 < code → code < 4000000000 → pos (code - 1) ≡ whole_of (value_of code)
-low_whole code some lt =
-    let known : eqb code 0 ≡ false = not_zero code some in
-    let small : ltb code 4000000000 ≡ true = lt-ltb code 4000000000 lt in
-    rw (known, small) (ap pos (omega arith))
 
 -- ---- the values of a line
 

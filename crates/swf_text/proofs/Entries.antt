@@ -45,9 +45,6 @@ entry_sound main parts number eighteen numbered small submit early summary all =
   parts = all_parts number parts all;
 }
 
-pub entry_alone : (main : List ℤ) (parts : List (List ℤ)) → parts ≡ [] → IsEntry (record { main = main; parts = [] }) → IsEntry (record { main = main; parts = parts })
-entry_alone main parts none entry = subst (λ (ps : List (List ℤ)). IsEntry (record { main = main; parts = ps })) (sym none) entry
-
 -- ---- all entries of a list
 
 pub all_set : {X : Type 0} (P : X → Type 0) (xs : List X) (k : ℕ) (x : X) → AllByRecursion P xs → P x → AllByRecursion P (set xs k x)

@@ -1,18 +1,17 @@
 -- A walk over the job line that bytes begin with, whose end is not known before.
-use Rattle.std.proofs.Common.{◌≡◌, ℕ, zero, suc, ◌+◌, ◌-◌, ◌<◌, ◌≤◌, Bool, true, false, eqb, ◌||◌, List, [], ◌∷◌, ◌++◌, length, get_or, take, drop, Result, Ok, Err, ℤ, refl, sym, ap, subst, ◌∙◌, append_assoc, arith}
+use Rattle.std.proofs.Common.{◌≡◌, ℕ, zero, suc, ◌+◌, ◌-◌, ◌<◌, ◌≤◌, Bool, true, false, eqb, ◌||◌, List, [], ◌∷◌, ◌++◌, length, get_or, take, drop, Ok, ℤ, refl, sym, ap, subst, ◌∙◌, append_assoc, arith}
 use Rattle.std.specs.List.{list_all, list_any, prefix_len, suffix_len, position_or_len, before_first, after_first}
 use Rattle.std.proofs.lemmas.Grind.{common_steps}
 use Rattle.std.proofs.lemmas.Bool.{le-leb, lt-ltb, or_parts}
 use Rattle.std.proofs.lemmas.List.{append-nil, length-append, take_all, take_at, drop_at, get_or-append_right, get_or_append_left}
 use Rattle.std.proofs.lemmas.List.Folds.{list_any-append}
 use Rattle.std.proofs.lemmas.List.Sums.{suffix_len_is}
-use Rattle.swf_text.specs.Line.{is_blank, is_return, values_from, without_returns, from_first, fields, job_line, job_of_values, line_by_front, line_of}
+use Rattle.swf_text.specs.Line.{is_blank, is_return, without_returns, from_first, job_line, job_of_values, line_by_front, line_of}
 use Rattle.swf_text.specs.Scan.{EndedWord, NextWord}
 use Rattle.swf_text.specs.Text.{is_feed}
 use Rattle.swf_text.proofs.Lines.{short_line}
 use Rattle.swf_text.proofs.Numbers.{and_first, and_second}
 use Rattle.swf_text.proofs.Plains.{is_plain, spelling_plain}
-use Rattle.swf_text.proofs.Words.{onto}
 use Rattle.swf_text.proofs.Walks.{IsMet, next_behind, next_ended, next_here, walk_kept, walk_end}
 
 -- ---- bytes of words
@@ -90,18 +89,6 @@ pub record IsWalked (bytes : List ℕ) (values : List ℤ) (count : ℕ) (rest :
   pub is : bytes ≡ front ++ rest
   pub one_line : list_any is_feed front ≡ false
   pub met : (tail : List ℕ) → IsMet (front ++ tail) values count tail
-
-onto_none : (r : Result (List ℤ) ℕ) → onto [] r ≡ r
-onto_none (Ok vs) = refl
-onto_none (Err place) = refl
-
-pub walked_first : (bytes : List ℕ) → IsWalked bytes [] 0 bytes
-walked_first bytes = record {
-  front = [];
-  is = refl;
-  one_line = refl;
-  met = λ tail. record { counted = omega arith; low = refl; read = onto_none (values_from (0 + 1) (fields tail)) ∙ ap (λ (n : ℕ). values_from n (fields tail)) (omega arith) };
-}
 
 -- a word more, before a space
 pub walked_more : (bytes : List ℕ) (values next : List ℤ) (count : ℕ) (rest after : List ℕ) (v : ℤ) → IsWalked bytes values count rest → next ≡ values ++ v ∷ [] → EndedWord rest v 32 after → IsWalked bytes next (count + 1) after

@@ -13,8 +13,3 @@ ten_twelve p le = let whole : 12 - p + p ≡ 12 = omega arith in subst (λ (n : 
 
 pub below : (v p m : ℕ) (bytes : List ℕ) → m ≡ min (length bytes) 12 → p ≤ length (take m bytes) → v < 10 ^ p → v < whole_limit
 below v p m bytes is le small = omega (arith, length-take-le m bytes (omega arith), ten_twelve p (omega (arith, length-take-le m bytes (omega arith))))
-
-pub below_nine : (v p : ℕ) → p ≤ 9 → v < 10 ^ p → v < 1000000000
-below_nine v p le small =
-    let whole : 9 - p + p ≡ 9 = omega arith in
-    omega (arith, subst (λ (n : ℕ). 10 ^ p ≤ 10 ^ n) whole (ten_rises p (9 - p)))

@@ -156,10 +156,6 @@ word_behind bytes front rest v is h =
 pub next_behind : (bytes front rest : List ℕ) (v : ℤ) → from_first front ≡ from_first bytes → NextWord front v rest → NextWord (from_first bytes) v rest
 next_behind bytes front rest v is h = record { after = h.after; word = word_behind bytes front h.after v is h.word; goes_on = h.goes_on }
 
--- a word that is looked at without a blank behind it
-pub next_same : (bytes front rest : List ℕ) (v w : ℤ) → front ≡ bytes → v ≡ w → Word front v rest → NextWord bytes w rest
-next_same bytes front rest v w is value h = record { after = rest; word = subst (λ (l : List ℕ). Word l w rest) is (subst (λ (x : ℤ). Word front x rest) value h); goes_on = refl }
-
 -- ---- a line
 
 blank_low : (b : ℕ) → is_blank b ≡ true → is_high b ≡ false

@@ -1,7 +1,7 @@
-ghost use Rattle.std.specs.Prelude.{◌≡◌, ◌<◌, ◌+◌, ◌++◌, ◌∷◌, ◌-◌, ◌≤◌, [], ℕ, List, length, nat_le, slice_get, if◌then◌else◌, OnErr, OnOk, Ok, Err, Some, true, false};
+ghost use Rattle.std.specs.Prelude.{◌≡◌, ◌<◌, ◌+◌, ◌++◌, ◌∷◌, ◌-◌, [], ℕ, List, length, nat_le, slice_get, if◌then◌else◌, OnErr, OnOk, Ok, Err, Some, true, false};
 ghost use Rattle.std.specs.List.{AllByRecursion, count_by, list_any};
 ghost use Rattle.swf_text.specs.declared.fault.FaultKind.TheVariants.{DuplicateJob, TooManyJobs};
-ghost use Rattle.swf_text.specs.Entry.{IsEntry, LogEntry, field, whole_number, is_partial, has_number};
+ghost use Rattle.swf_text.specs.Entry.{IsEntry, field, whole_number, is_partial, has_number};
 ghost use Rattle.swf_text.specs.Limits.{entry_limit};
 ghost use Rattle.swf_text.specs.Packed.{unpacked};
 ghost use Rattle.swf_text.specs.Text.{empty};

@@ -1,3 +1,4 @@
+// `Packed` keeps the allocator for lines that may come; the first of `Lines` is the summary line.
 ghost use Rattle.std.specs.Prelude.{◌≡◌, ◌++◌, ◌∷◌, ◌≤◌, ◌<◌, ◌&&◌, [], OnOk, OnErr, IfOk, map, true, nat_abs, nat_le, pos, Some, None, if◌then◌else◌};
 ghost use Rattle.swf_text.specs.Limits.{whole_limit};
 ghost use Rattle.swf_text.specs.Entry.{HasNumber, is_partial, field, values, IsEntry, number_of_entry, submit_of};
@@ -21,12 +22,9 @@ pub struct Entry<A: Allocator + Copy> {
     kept: Kept<A>,
 }
 
-// How the lines of an entry are kept.
 #[derive(Drop)]
 enum Kept<A: Allocator + Copy> {
-    // a summary line alone, and the allocator for lines that may come
     Packed(PackedLine, A),
-    // the summary line, and behind it the partial ones
     Lines(Vec<Fields, A>),
 }
 

@@ -142,23 +142,6 @@ pub enum EntryFault {
     BadPart,
 }
 
-impl EntryFault {
-    ghost use Rattle.std.specs.Prelude.{◌≡◌};
-    ghost use Rattle.swf_text.specs.Names.{entry_fault_name};
-
-    /// The fault's name, which is the variant's own.
-    pub fn name(&self) -> &'static str
-        ensures { result.now ≡ entry_fault_name self.now }
-    {
-        match self {
-            EntryFault::BadJobNumber => "BadJobNumber",
-            EntryFault::BadSubmit => "BadSubmit",
-            EntryFault::BadStatus => "BadStatus",
-            EntryFault::BadPart => "BadPart",
-        }
-    }
-}
-
 impl fmt::Display for EntryFault {
     ghost use Rattle.std.specs.Prelude.{Some};
     ghost use Rattle.swf_text.specs.Names.{entry_fault_name};
@@ -166,7 +149,12 @@ impl fmt::Display for EntryFault {
     ghost output = { λ fault. Some (entry_fault_name fault) };
 
     fn fmt<W: fmt::Write>(&self, f: &mut fmt::Formatter<W>) -> fmt::Result {
-        f.write_str(self.name())
+        f.write_str(match self {
+            EntryFault::BadJobNumber => "BadJobNumber",
+            EntryFault::BadSubmit => "BadSubmit",
+            EntryFault::BadStatus => "BadStatus",
+            EntryFault::BadPart => "BadPart",
+        })
     }
 }
 
@@ -177,20 +165,6 @@ pub enum WriteFault {
     Device,
 }
 
-impl WriteFault {
-    ghost use Rattle.std.specs.Prelude.{◌≡◌};
-    ghost use Rattle.swf_text.specs.Names.{write_fault_name};
-
-    /// The fault's name, which is the variant's own.
-    pub fn name(&self) -> &'static str
-        ensures { result.now ≡ write_fault_name self.now }
-    {
-        match self {
-            WriteFault::Device => "Device",
-        }
-    }
-}
-
 impl fmt::Display for WriteFault {
     ghost use Rattle.std.specs.Prelude.{Some};
     ghost use Rattle.swf_text.specs.Names.{write_fault_name};
@@ -198,6 +172,8 @@ impl fmt::Display for WriteFault {
     ghost output = { λ fault. Some (write_fault_name fault) };
 
     fn fmt<W: fmt::Write>(&self, f: &mut fmt::Formatter<W>) -> fmt::Result {
-        f.write_str(self.name())
+        f.write_str(match self {
+            WriteFault::Device => "Device",
+        })
     }
 }

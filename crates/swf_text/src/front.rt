@@ -1,4 +1,5 @@
 //! A job line at the front of bytes, whose end is met by the walk over its values.
+// A short number has at most ten digits. None says nothing of the bytes.
 ghost use Rattle.std.specs.Prelude.{◌≡◌, ◌≤◌, IfSome, Ok, length};
 ghost use Rattle.std.specs.List.{after_first, before_first};
 ghost use Rattle.swf_text.specs.Line.{job_of_values, line_of};
@@ -9,8 +10,6 @@ ghost use Rattle.swf_text.specs.Text.{is_feed};
 use crate::limits::LINE_LIMIT;
 use crate::packed::{HUNDREDTHS, PackedLine, UNKNOWN};
 
-// The code of the number of at most ten digits that the bytes begin with, and what follows the byte that
-// ends it; None says nothing.
 #[inline(always)]
 fn short_number(end: u8, bytes: &[u8]) -> Option<(u32, &[u8])>
     requires { 11 ≤ length bytes.now }
@@ -40,8 +39,6 @@ fn after_unknown(end: u8, bytes: &[u8]) -> Option<&[u8]>
     Some(&bytes[3..])
 }
 
-// The code of `-1` or of a short number that the bytes begin with, and what follows the byte that ends it;
-// None says nothing.
 #[inline(always)]
 pub(crate) fn ended_word(end: u8, bytes: &[u8]) -> Option<(u32, &[u8])>
     ensures { IfSome result (λ r. EndedWord bytes.now (value_of r.0) end r.1.now) }

@@ -129,7 +129,6 @@ impl PackedLine {
         self.value(10).is_partial()
     }
 
-    // The value at an index below 18.
     pub(crate) fn value(&self, index: usize) -> Value
         requires { index < 18 }
         ensures { result ≡ slice_index_or (unpacked self.now) index (pos 0) }
@@ -137,7 +136,6 @@ impl PackedLine {
         value_of(self.0[index])
     }
 
-    // The nearest whole number to the value at an index below 18, halves up.
     pub(crate) fn whole(&self, index: usize) -> i64
         requires { index < 18 }
         ensures value { result ≡ whole_of (slice_index_or (unpacked self.now) index (pos 0)) }

@@ -1,4 +1,4 @@
-ghost use Rattle.std.specs.Prelude.{◌≡◌, ◌+◌, ◌<◌, ◌≤◌, length, IfOk, IfErr};
+ghost use Rattle.std.specs.Prelude.{◌≡◌, ◌+◌, ◌<◌, IfOk, IfErr};
 ghost use Rattle.std.specs.List.{AllByRecursion, before_first, after_first};
 ghost use Rattle.swf_text.specs.Comment.{IsComment};
 ghost use Rattle.swf_text.specs.Grammar.{IsText, IsOkOf, IsFaultOf, HasReached};
@@ -25,8 +25,7 @@ pub fn split_line(bytes: &[u8]) -> (&[u8], &[u8])
     }
 }
 
-// Adds what the first line of some bytes holds: what follows the line. The codes are those of a job
-// line, or say nothing.
+// The codes of `job` are those of a job line, or say nothing.
 #[tactic(auto, unfolding(crate::specs::Reading::with_line))]
 fn add_first<'a, A: Allocator + Copy>(
     alloc: A,

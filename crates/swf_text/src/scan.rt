@@ -1,6 +1,6 @@
-ghost use Rattle.std.specs.Prelude.{◌≡◌, ◌+◌, ◌-◌, ◌<◌, ◌≤◌, ℕ, length, IfSome, Result, Ok, Err, not};
-ghost use Rattle.std.specs.List.{list_any, prefix_len, suffix_len, position_or_len, before_first};
-ghost use Rattle.swf_text.specs.Line.{is_blank, is_return, is_high, without_returns, from_first, fields, values_from, job_line, job_of_values, line_by_front, line_of, IsReadAs};
+ghost use Rattle.std.specs.Prelude.{◌≡◌, ◌+◌, ◌-◌, ◌<◌, ◌≤◌, length, IfSome, Result, Ok, Err};
+ghost use Rattle.std.specs.List.{list_any, prefix_len, position_or_len};
+ghost use Rattle.swf_text.specs.Line.{is_blank, is_high, without_returns, from_first, fields, values_from, job_line, job_of_values, line_by_front, line_of, IsReadAs};
 ghost use Rattle.swf_text.specs.Packed.{unpacked};
 ghost use Rattle.swf_text.specs.Scan.{first_word, after_word};
 ghost use Rattle.swf_text.specs.declared.line.LineRead.{LineRead};

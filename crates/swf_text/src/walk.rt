@@ -1,7 +1,9 @@
-ghost use Rattle.std.specs.Prelude.{◌≡◌, ◌∷◌, ◌++◌, ◌+◌, ◌*◌, ◌≤◌, ◌<◌, take, drop, length, IfSome, IsTrue, List, ℕ, true};
+// A job line without faults is read by one walk: in codes, or as values where not all of them have codes.
+// None says nothing of the bytes.
+ghost use Rattle.std.specs.Prelude.{◌≡◌, ◌∷◌, ◌+◌, ◌*◌, ◌≤◌, ◌<◌, take, length, IfSome, true};
 ghost use Rattle.std.specs.List.{list_all};
 ghost use Rattle.std.specs.Char.{is_ascii_digit};
-ghost use Rattle.swf_text.specs.Number.{digits_value, greatest, millionths_of, signed};
+ghost use Rattle.swf_text.specs.Number.{digits_value, signed};
 ghost use Rattle.swf_text.specs.Packed.{unpacked, value_of};
 ghost use Rattle.swf_text.specs.Scan.{NextWord, Word, ends};
 ghost use Rattle.swf_text.specs.Header.{digit_len};
@@ -70,12 +72,8 @@ fn after_byte(byte: u8, bytes: &[u8]) -> Option<&[u8]>
 fn after_unknown(bytes: &[u8]) -> Option<&[u8]>
     ensures { IfSome result (λ rest. Word bytes.now (signed true 1000000) rest.now) }
 {
-    let Some(digits) = after_byte(b'-', bytes) else {
-        return None;
-    };
-    let Some(rest) = after_byte(b'1', digits) else {
-        return None;
-    };
+    let digits = after_byte(b'-', bytes)?;
+    let rest = after_byte(b'1', digits)?;
     if is_ended(rest) { Some(rest) } else { None }
 }
 
@@ -109,7 +107,6 @@ fn word_at(bytes: &[u8]) -> Option<(Value, &[u8])>
     Some((signed_value(is_negative, magnitude), rest))
 }
 
-// The code of any word that has one, behind blanks, and what follows it; None says nothing.
 fn long_word(bytes: &[u8]) -> Option<(u32, &[u8])>
     ensures { IfSome result (λ r. NextWord (from_first bytes.now) (value_of r.0) r.1.now) }
 {
@@ -122,7 +119,6 @@ fn long_word(bytes: &[u8]) -> Option<(u32, &[u8])>
     }
 }
 
-// The code of the next word, and what follows it; None says nothing.
 fn next_code(bytes: &[u8]) -> Option<(u32, &[u8])>
     ensures { IfSome result (λ r. NextWord (from_first bytes.now) (value_of r.0) r.1.now) }
 {
@@ -139,7 +135,6 @@ fn next_code(bytes: &[u8]) -> Option<(u32, &[u8])>
     }
 }
 
-// The values of a job line without faults in codes, by one walk; None says nothing.
 pub(crate) fn codes_at(line: &[u8]) -> Option<PackedLine>
     ensures { IfSome result (λ packed. job_line line.now ≡ job_of_values (Ok (unpacked packed))) }
 {
@@ -159,8 +154,6 @@ pub(crate) fn codes_at(line: &[u8]) -> Option<PackedLine>
     }
 }
 
-// The values of a job line without faults, by one walk, where not all of them have codes; None says
-// nothing.
 pub(crate) fn values_at(line: &[u8]) -> Option<[Value; 18]>
     ensures { IfSome result (λ values. job_line line.now ≡ job_of_values (Ok values)) }
 {

@@ -7,7 +7,6 @@ use std::alloc::Allocator;
 use std::marker::Model;
 use std::sync::Arc;
 
-// A run that a task has made.
 #[derive(Drop)]
 pub(crate) struct MadeRun<A: Allocator + Copy> {
     run: Arc<Run<A>, A>,
@@ -46,8 +45,7 @@ impl<A: Allocator + Copy> Response<Plan<A>> for MadeRun<A> {
     ghost answers = { IsRunOf };
 }
 
-// Where a task leaves its run.
 pub(crate) type RunSender<A> = Sender<Plan<A>, MadeRun<A>, A>;
 
-// Where a ticket finds it; its request is the plan of which a run is requested.
+// Its request is the plan of which a run is requested.
 pub(crate) type RunReceiver<A> = Receiver<Plan<A>, MadeRun<A>, A>;

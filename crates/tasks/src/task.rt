@@ -68,7 +68,7 @@ pub struct Task<A: Allocator + Copy> {
     plan: Plan<A>,
     spacing: u32,
     base: Option<Base<A>>,
-    // Where its run is left for the ticket; None before the ticket is made.
+    // None before the ticket is made.
     sender: Option<RunSender<A>>,
 }
 

@@ -1,3 +1,5 @@
+// A ticket's `receiver` has what the ticket asks for, and the run that its task has left, if one is there: a
+// run of the ticket's log and scenario, since no other can be left.
 ghost use Rattle.std.specs.Prelude.{◌≡◌, ◌==◌, ◌&&◌, ◌↔◌, IfSome, IsTrue, Some};
 ghost use Rattle.std.specs.Arc.{arc_value};
 ghost use Rattle.tasks.specs.Tickets.{HasThoseOf, has_number};
@@ -15,7 +17,6 @@ pub struct Ticket<A: Allocator + Copy> {
     number: u64,
     id: ScenarioId,
     version: u64,
-    // What it asks for, and where its task leaves the run.
     receiver: RunReceiver<A>,
 }
 
@@ -76,8 +77,6 @@ impl<A: Allocator + Copy> Ticket<A> {
         self.version
     }
 
-    // The run that its task has left, if one is there. It is of the ticket's log and scenario, since no
-    // other can be left.
     pub(crate) fn take_run(&mut self) -> Option<Arc<Run<A>, A>>
         ensures run { IfSome result (λ run. HasThoseOf (Some self.old) (arc_value run)) }
         ensures ticket { self.new ≡ self.old }

@@ -6,7 +6,6 @@ use cluster_state::RunningNumber;
 use frames::Stretch;
 use scenarios::Job;
 
-// How many of these seconds come no later than so many seconds behind a second. By halving.
 fn place_behind(seconds: &[u64], second: u64, lasting: u64) -> u32
     requires rising { IsNonDecreasing seconds.now }
     requires few { length seconds.now ≤ 4294967295 }

@@ -1,5 +1,4 @@
-// The calls of a book. Each first reserves capacity for its note, then takes its step, and then notes
-// its reply.
+// Each call of a book first reserves capacity for its note, then takes its step, and then notes its reply.
 ghost use Rattle.std.specs.Prelude.{◌≡◌, IfOk, IfSome, Some};
 ghost use Rattle.std.specs.Option.{option_map};
 ghost use Rattle.std.specs.Arc.{arc_value};
@@ -104,12 +103,8 @@ impl<A: Allocator + Copy> Book<A> {
         reserve_note::<NoSuchScenario, A>(&mut self.journal)?;
         let outcome = self.state.retry(id);
         let reply = replies::retry_reply(&outcome);
-        note(
-            &mut self.journal,
-            Caller::Session(session),
-            Call::Retry { id },
-            reply,
-        );
+        let call = Call::Retry { id };
+        note(&mut self.journal, Caller::Session(session), call, reply);
         outcome
     }
 
@@ -132,12 +127,8 @@ impl<A: Allocator + Copy> Book<A> {
         reserve_note::<ViewFault, A>(&mut self.journal)?;
         let outcome = self.state.view(id, seen);
         let reply = replies::view_reply(&outcome);
-        note(
-            &mut self.journal,
-            Caller::Session(session),
-            Call::View { id, seen },
-            reply,
-        );
+        let call = Call::View { id, seen };
+        note(&mut self.journal, Caller::Session(session), call, reply);
         outcome
     }
 
@@ -154,12 +145,8 @@ impl<A: Allocator + Copy> Book<A> {
         reserve_note::<TooManyTickets, A>(&mut self.journal)?;
         let outcome = self.state.claim();
         let reply = replies::claim_reply(&outcome);
-        note(
-            &mut self.journal,
-            Caller::Worker(worker),
-            Call::Claim,
-            reply,
-        );
+        let call = Call::Claim;
+        note(&mut self.journal, Caller::Worker(worker), call, reply);
         outcome
     }
 
@@ -184,12 +171,8 @@ impl<A: Allocator + Copy> Book<A> {
         let outcome = self.state.finish(ticket, run);
         let reply = replies::finish_reply(&outcome);
         let fits = replies::fitted(&outcome);
-        note(
-            &mut self.journal,
-            Caller::Worker(worker),
-            Call::Finish { ticket, fits },
-            reply,
-        );
+        let call = Call::Finish { ticket, fits };
+        note(&mut self.journal, Caller::Worker(worker), call, reply);
         outcome
     }
 
@@ -215,12 +198,8 @@ impl<A: Allocator + Copy> Book<A> {
         };
         let reply = replies::finish_reply(&outcome);
         let fits = replies::fitted(&outcome);
-        note(
-            &mut self.journal,
-            Caller::Worker(worker),
-            Call::Finish { ticket, fits },
-            reply,
-        );
+        let call = Call::Finish { ticket, fits };
+        note(&mut self.journal, Caller::Worker(worker), call, reply);
         of_left(outcome)
     }
 
@@ -256,12 +235,8 @@ impl<A: Allocator + Copy> Book<A> {
         reserve_note::<UnknownTicket, A>(&mut self.journal)?;
         let outcome = self.state.give_up(ticket);
         let reply = replies::give_up_reply(&outcome);
-        note(
-            &mut self.journal,
-            Caller::Worker(worker),
-            Call::GiveUp { ticket },
-            reply,
-        );
+        let call = Call::GiveUp { ticket };
+        note(&mut self.journal, Caller::Worker(worker), call, reply);
         outcome
     }
 }

@@ -7,7 +7,6 @@ use crate::refusal::Refusal;
 use book_machine::{Call, Caller, Note, Reply};
 use std::alloc::Allocator;
 
-// The most notes of a journal.
 const NOTE_LIMIT: usize = 1_000_000;
 
 fn is_full<A: Allocator + Copy>(journal: &Vec<Note<A>, A>) -> bool
@@ -16,8 +15,6 @@ fn is_full<A: Allocator + Copy>(journal: &Vec<Note<A>, A>) -> bool
     journal.len() >= NOTE_LIMIT
 }
 
-// Reserves capacity for the note of a call that may have faults of this type. JournalFull where no further
-// note is allowed.
 pub(crate) fn reserve_note<F, A: Allocator + Copy>(
     journal: &mut Vec<Note<A>, A>,
 ) -> Result<(), Refusal<F>>

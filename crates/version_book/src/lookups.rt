@@ -79,7 +79,6 @@ fn place_of<A: Allocator + Copy>(shown: &[Shown<A>], id: ScenarioId) -> Option<u
     shown.iter().position(move |x| x.has_id(id))
 }
 
-// Publishes a run for the scenario with this id. Its condition: no two scenarios have one id.
 pub(crate) fn publish<A: Allocator + Copy>(
     shown: &mut Vec<Shown<A>, A>,
     id: ScenarioId,
@@ -94,7 +93,6 @@ pub(crate) fn publish<A: Allocator + Copy>(
     }
 }
 
-// Marks the scenario with this id as given up at a version, under the same condition.
 pub(crate) fn mark<A: Allocator + Copy>(shown: &mut Vec<Shown<A>, A>, id: ScenarioId, version: u64)
     requires { AreApart shown.old.items }
     ensures shown { shown.new.items ≡ with_change id (marking version) shown.old.items }

@@ -1,5 +1,4 @@
-// The replies that are noted for the results of the calls: none where the journal is full or memory
-// runs out.
+// The replies that are noted for the results of the calls: none where the journal is full or memory runs out.
 ghost use Rattle.std.specs.Prelude.{◌≡◌};
 ghost use Rattle.version_book.specs.Answers.{edit_answer, add_answer, drop_answer, retry_answer, view_answer, claim_answer, finish_answer, give_up_answer, fitted};
 ghost use Rattle.version_book.specs.Steps.{reply_in};

@@ -1,4 +1,6 @@
-// What the sessions' calls change in the state of a book, and what they return.
+// What the sessions' calls change in the state of a book. The table gets an accepted edit in place where
+// nobody else holds it, and otherwise on a copy, which shares all chunks of entries except those that the
+// edit touches.
 ghost use Rattle.std.specs.Prelude.{◌≡◌, ◌<◌, Some, IfOk, OnOk, OnErr, vec_len, vec_capacity};
 ghost use Rattle.std.specs.Arc.{arc_value};
 ghost use Rattle.job_table.specs.Accepted.{IsEdit};
@@ -21,8 +23,6 @@ use swf_text::Memory;
 use tasks::Published;
 use tasks::tickets::close_all;
 
-// The table after an edit that is accepted. It shares all chunks of entries but those that the edit
-// touches.
 fn after_edit<A: Allocator + Copy>(
     alloc: A,
     table: &JobTable<A>,
@@ -38,8 +38,6 @@ fn after_edit<A: Allocator + Copy>(
     }
 }
 
-// The table gets an edit that is accepted: in place where nobody else holds it, and otherwise on a
-// copy.
 fn put_edit<A: Allocator + Copy>(
     alloc: A,
     table: &mut Arc<JobTable<A>, A>,

@@ -1,4 +1,4 @@
-ghost use Rattle.std.specs.Prelude.{◌≡◌, ◌==◌, ◌&&◌, not, None, Some, option_copied};
+ghost use Rattle.std.specs.Prelude.{◌≡◌, ◌==◌, ◌&&◌, None, Some, option_copied};
 ghost use Rattle.book_machine.specs.Machine.{is_below};
 ghost use Rattle.version_book.specs.Book.{published_version};
 ghost use Rattle.version_book.specs.Lookups.{has_id, is_mark, is_behind, is_awaited};

@@ -1,4 +1,5 @@
-// What the workers' calls change in the state of a book, and what they return.
+// What the workers' calls change in the state of a book. A run that fits its ticket closes it, and is
+// published unless one of its version or a newer one is.
 ghost use Rattle.std.specs.Prelude.{◌≡◌, ◌<◌, [], ◌∷◌, ◌++◌, IfNone, IfOk, IfSome, true};
 ghost use Rattle.std.specs.Option.{option_map};
 ghost use Rattle.std.specs.Arc.{arc_value};
@@ -69,8 +70,6 @@ impl<A: Allocator + Copy> State<A> {
         Ok(Some(task))
     }
 
-    // Takes a run that has the log and the scenario of its ticket: publishes it, unless one of its
-    // version or a newer one is published, and closes the ticket.
     fn accept(&mut self, number: u64, run: Arc<Run<A>, A>) -> Result<u64, FinishRefusal>
         requires { Fits self.old number (arc_value run) }
         ensures does { Does self.old self.new (Finish number true) (finish_answer result) }

@@ -7,7 +7,7 @@ pub(crate) const CLASSES: usize = 100;
 /// How often a size is halved at most.
 const HALVINGS: usize = 23;
 
-// The class of a size. The leading zeros tell how often it is halved until less than 8 is left.
+// The leading zeros tell how often the size is halved until less than 8 is left.
 pub(crate) fn class_of(size: u64) -> usize
     ensures class { result ≡ class_of size }
     ensures few { result < 100 }

@@ -1,4 +1,4 @@
-ghost use Rattle.std.specs.Prelude.{◌≡◌, ◌+◌, ◌*◌, ◌≤◌, ◌^◌, IfOk, length};
+ghost use Rattle.std.specs.Prelude.{◌+◌, ◌*◌, ◌≤◌, ◌^◌, IfOk, length};
 ghost use Rattle.waiting_places.specs.Places.{capacity_of};
 ghost use Rattle.waiting_places.specs.Tree.{IsWhole};
 

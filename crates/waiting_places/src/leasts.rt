@@ -1,3 +1,4 @@
+// Estimates fall from class to class, so `lower` ends at the first that is low enough.
 ghost use Rattle.std.specs.Prelude.{◌≡◌, ℕ, ◌-◌, ◌^◌, ◌≤◌, ◌<◌, IfSome, true, min, length, nat_le, slice_index_or};
 ghost use Rattle.waiting_places.specs.Classes.{class_of};
 ghost use Rattle.waiting_places.specs.Bounds.{AreBelow, Falls, IsBelow, Keeps, least_size, may_fit, sizes_known};
@@ -42,8 +43,6 @@ fn short(number: u64) -> u32
     u32::try_from(number).unwrap_or(u32::MAX)
 }
 
-// Lowers the estimates of a class and of all that are larger. They fall from class to class, so it ends
-// at the first that is low enough.
 fn lower(estimates: &mut [u32], class: usize, estimate: u32)
     requires { Falls estimates.old }
     ensures falls { Falls estimates.new }
@@ -200,8 +199,6 @@ impl Leasts {
         Leasts { sizes, estimates }
     }
 
-    // The bounds on the sizes of those of two nodes, once they were asked for those who are at most so
-    // long.
     pub(crate) fn sizes_of_both(a: &Leasts, b: &Leasts, window: u64) -> Sizes
         ensures first { Keeps a.now (sizes_known result) }
         ensures second { Keeps b.now (sizes_known result) }

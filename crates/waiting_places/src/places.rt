@@ -28,7 +28,6 @@ pub struct Places<T: Waits, A: Allocator + Copy> {
     places: Vec<Option<T>, A>,
     nodes: Vec<Leasts, A>,
     len: usize,
-    // The place of the first who waits; where nobody does, behind the last place.
     head: usize,
 }
 
@@ -56,8 +55,6 @@ fn note<T: Waits>(nodes: &mut [Leasts], place: usize, item: &T)
     lower(nodes, leaf, item);
 }
 
-// The place of the first who waits, where nobody does before this one; behind the last place where nobody
-// waits.
 fn head_from<T: Waits>(places: &[Option<T>], from: usize) -> usize
     requires within { from ≤ length places.now }
     requires ahead { (place : ℕ) → place < from → at_place places.now place ≡ None }
@@ -112,7 +109,6 @@ impl<T: Waits, A: Allocator + Copy> Places<T, A> {
         }
     }
 
-    // Nobody, with capacity for so many.
     fn with_capacity(alloc: A, capacity: usize) -> Result<Places<T, A>, Memory>
         requires { capacity ≤ 2 ^ 40 }
         ensures places { IfOk result (λ p. p.places ≡ []) }

@@ -146,8 +146,7 @@ fn first_within<T: Waits>(
     None
 }
 
-// The first place from one on where one waits who fits the offer: in what is left of a leaf, and then
-// in the tree.
+// It looks in what is left of a leaf, and then in the tree.
 pub(crate) fn first_in_tree<T: Waits>(
     nodes: &mut [Leasts],
     places: &[Option<T>],

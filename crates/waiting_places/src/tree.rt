@@ -1,3 +1,5 @@
+// The bounds of a node are made anew from those of the two below it, and those of a leaf from those who wait
+// at its places. Where the bounds on the sizes showed that one may fit, those on the estimates stay.
 ghost use Rattle.std.specs.Prelude.{◌≡◌, ◌≢◌, ℕ, ◌+◌, ◌*◌, ◌/◌, ◌≤◌, ◌<◌, length, slice_index_or, Some, None};
 ghost use Rattle.waiting_places.specs.Bounds.{IsBelow, Keeps};
 ghost use Rattle.waiting_places.specs.Tree.{halved, node_at};
@@ -24,8 +26,6 @@ pub(crate) fn lower<T: Waits>(nodes: &mut [Leasts], leaf: usize, item: &T)
     }
 }
 
-// Makes the bounds of a node anew, from those of the two below it. Those on the estimates it leaves as
-// they are where those on the sizes showed that one may fit.
 pub(crate) fn raise(nodes: &mut [Leasts], node: usize, offer: &Offer)
     requires { 2 * node + 1 < length nodes.old }
     ensures len { length nodes.new ≡ length nodes.old }
@@ -43,8 +43,6 @@ pub(crate) fn raise(nodes: &mut [Leasts], node: usize, offer: &Offer)
     nodes[node] = leasts;
 }
 
-// Makes the bounds of a leaf anew, from those who wait at its places. Those on the estimates it leaves as
-// they are where those on the sizes showed that one may fit.
 pub(crate) fn raise_leaf<T: Waits>(
     nodes: &mut [Leasts],
     places: &[Option<T>],

@@ -10,21 +10,6 @@ pub enum CloseFault {
     Mismatch,
 }
 
-impl CloseFault {
-    ghost use Rattle.std.specs.Prelude.{◌≡◌};
-    ghost use Rattle.workers.specs.Names.{close_fault_name};
-
-    /// The fault's name, which is the variant's own.
-    pub fn name(&self) -> &'static str
-        ensures { result.now ≡ close_fault_name self.now }
-    {
-        match self {
-            CloseFault::StillOut => "StillOut",
-            CloseFault::Mismatch => "Mismatch",
-        }
-    }
-}
-
 impl fmt::Display for CloseFault {
     ghost use Rattle.std.specs.Prelude.{Some};
     ghost use Rattle.workers.specs.Names.{close_fault_name};
@@ -32,6 +17,9 @@ impl fmt::Display for CloseFault {
     ghost output = { λ fault. Some (close_fault_name fault) };
 
     fn fmt<W: fmt::Write>(&self, f: &mut fmt::Formatter<W>) -> fmt::Result {
-        f.write_str(self.name())
+        f.write_str(match self {
+            CloseFault::StillOut => "StillOut",
+            CloseFault::Mismatch => "Mismatch",
+        })
     }
 }

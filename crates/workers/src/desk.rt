@@ -1,3 +1,4 @@
+// `closed` is all of the history where `close` handed the desk back.
 ghost use Rattle.std.specs.Prelude.{◌≡◌, false, is_none, length, IfSome};
 ghost use Rattle.std.specs.Sync.Mutex.{mutex_guard_value};
 ghost use Rattle.book_machine.specs.declared.caller.Caller.TheVariants as caller;
@@ -26,7 +27,6 @@ pub struct Desk<A: Allocator + Copy, J: Naming> {
     pub(crate) opening: usize,
     pub(crate) shared: Mutex<Shared<A, J>>,
     pub(crate) changed: Condvar,
-    // All of the history where `close` handed the desk back.
     pub(crate) closed: Option<Front<J>>,
     pub ghost opened_at: { opening ≡ J.opening.notes },
 }
@@ -72,7 +72,6 @@ impl<A: Allocator + Copy, J: Naming> Desk<A, J> {
         self.changed.notify_all();
     }
 
-    // The lock, taken once a scenario is due or the desk is stopped; until then it sleeps.
     pub(crate) fn when_busy<R: Wait>(&self, rt: &R) -> MutexGuard<'_, Shared<A, J>>
         ensures { is_idle (mutex_guard_value result).stopped (mutex_guard_value result).book.state ≡ false }
     {
@@ -80,8 +79,6 @@ impl<A: Allocator + Copy, J: Naming> Desk<A, J> {
             .wait_while(rt, self.shared.lock(rt), |shared| shared.is_idle())
     }
 
-    // The lock, taken once a session that has seen this version need not wait any longer; until then it
-    // sleeps.
     pub(crate) fn when_settled<R: Wait>(&self, rt: &R, seen: u64) -> MutexGuard<'_, Shared<A, J>>
         ensures { is_none (outcome_settled (settled seen (machine_of (mutex_guard_value result).book)) (mutex_guard_value result).stopped) ≡ false }
     {

@@ -1,4 +1,4 @@
-// How what the book noted of a call is recorded in the history.
+// How the history records what the book noted of a call.
 ghost use Rattle.std.specs.Prelude.{◌≡◌, true, IfSome, length, option_copied};
 ghost use Rattle.std.specs.List.{slice_get};
 ghost use Rattle.std.specs.Option.{option_map};

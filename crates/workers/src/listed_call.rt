@@ -13,7 +13,6 @@ pub struct ListedCall<A: Allocator + Copy> {
     pub reply: Reply,
 }
 
-// Reserves capacity for a call. Memory only where there was none left.
 pub(crate) fn reserve_call<A: Allocator + Copy>(
     list: &mut Vec<ListedCall<A>, A>,
 ) -> Result<(), Memory>

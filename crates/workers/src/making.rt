@@ -1,16 +1,15 @@
+// `gives` tells which results the making may have: this run, or none. A task leaves its run at the ticket.
 use checkpoints::Run;
 use std::alloc::Allocator;
 use std::sync::Arc;
 use swf_text::Memory;
 use version_book::Task;
 
-// Makes the run that a ticket is for.
 pub(crate) trait Making<A: Allocator + Copy> {
     ghost use Rattle.std.specs.Prelude.{Option, None, Some, IfOk, OnErr};
     ghost use Rattle.std.specs.Arc.{arc_value};
     ghost use Rattle.checkpoints.specs.RunView.{RunView};
 
-    // The results that it may have: this run, or none.
     ghost gives: { Self → Option RunView → Type 0 };
 
     fn make(&mut self) -> Result<Arc<Run<A>, A>, Memory>
@@ -23,7 +22,6 @@ impl<A: Allocator + Copy> Making<A> for Task<A> {
 
     ghost gives = { IsWanted };
 
-    // The run is left at its ticket too.
     fn make(&mut self) -> Result<Arc<Run<A>, A>, Memory> {
         let (run, _work) = self.deliver()?;
         Ok(run)

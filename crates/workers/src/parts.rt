@@ -1,4 +1,3 @@
-// Whether a caller's list is its part of the notes.
 ghost use Rattle.std.specs.Prelude.{◌≡◌, ◌↔◌, IsTrue, drop, map};
 ghost use Rattle.book_machine.specs.Noted.{noted_of};
 ghost use Rattle.workers.specs.Lists.{listed_by, listed_of, part_of, same_caller};

@@ -1,4 +1,3 @@
-// Whether the callers of a desk are all those that it opened.
 ghost use Rattle.std.specs.Prelude.{◌≡◌, ◌↔◌, ◌<◌, ℕ, true, IsTrue};
 ghost use Rattle.workers.specs.Closing.{AreAll, AreOpened, has_session, has_worker};
 

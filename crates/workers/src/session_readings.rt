@@ -1,5 +1,3 @@
-// What a session reads at its desk; none of it is listed. Each reading is at a place of the history behind
-// all earlier responses to the session, to which its front then advances.
 ghost use Rattle.std.specs.Prelude.{◌≡◌, IfOk};
 ghost use Rattle.scenarios.specs.ScenarioList.{id_of};
 ghost use Rattle.book_machine.specs.Machine.{version};

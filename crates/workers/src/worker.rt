@@ -1,3 +1,4 @@
+// A worker makes the run for a ticket without the lock.
 ghost use Rattle.std.specs.Prelude.{◌≡◌, Err, IfNone, Some};
 ghost use Rattle.workers.specs.Callers.{new_worker};
 ghost use Rattle.workers.specs.declared.worker.WorkerEnd.TheVariants as ends;
@@ -89,7 +90,6 @@ impl<A: Allocator + Copy> Worker<A> {
         self.list.as_slice()
     }
 
-    // Waits until a scenario is due or the desk is stopped, and claims; or why the worker ends.
     fn claim<J: Naming, R: Wait>(&mut self, rt: &R, desk: &Desk<A, J>) -> Result<Task<A>, WorkerEnd>
         ensures list { GainsClaim result self.old.list self.new.list }
         ensures full { result ≡ Err ends.Full → WasFull }
@@ -145,8 +145,6 @@ impl<A: Allocator + Copy> Worker<A> {
         end_of(outcome)
     }
 
-    // Makes the run for a ticket without the lock, and hands it in; or gives the ticket up, where a
-    // growth was refused.
     fn make<J: Naming, R: Wait, G: Gate, M: Making<A>>(
         &mut self,
         rt: &R,

@@ -1,4 +1,4 @@
-use Rattle.std.proofs.Common.{◌≡◌, ℕ, ◌+◌, List, [], ◌∷◌, ◌++◌, append_assoc, length, None, Some, sym, ◌∙◌, ap, arith, subst}
+use Rattle.std.proofs.Common.{◌≡◌, List, [], ◌∷◌, append_assoc, length, None, Some, sym, ◌∙◌, ap, arith, subst}
 use Rattle.std.proofs.lemmas.List.{length-append}
 use Rattle.scenarios.specs.Job.{EffectiveJob}
 use Rattle.cluster_state.specs.State.{State, arrived}

@@ -1,4 +1,4 @@
-use Rattle.std.proofs.Common.{◌≡◌, List, map, subst, sym, ◌∙◌}
+use Rattle.std.proofs.Common.{◌≡◌, map, subst, sym, ◌∙◌}
 use Rattle.std.specs.Arc.{arc_value}
 use Rattle.scenarios.specs.Plan.{plan_of}
 use Rattle.scenarios.specs.PlanView.{PlanView, plan_in}

@@ -1,4 +1,4 @@
-use Rattle.std.proofs.Common.{◌≡◌, ◌+◌, ◌<◌, ◌≤◌, arith}
+use Rattle.std.proofs.Common.{arith}
 use Rattle.easybook.proofs.Beguns.{begun-past, begun-within}
 use Rattle.easybook.proofs.input.begin_input.Goals as goal
 

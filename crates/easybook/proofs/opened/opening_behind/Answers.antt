@@ -1,4 +1,4 @@
-use Rattle.std.proofs.Common.{rules, arith, ◌≡◌, ◌≤◌, ◌++◌, ℕ, length, Err}
+use Rattle.std.proofs.Common.{rules, arith, ◌≡◌, ◌≤◌, ◌++◌, length, Err}
 use Rattle.std.proofs.lemmas.List.{length-append}
 use Rattle.easybook.specs.Fault.{fault_of, fault_of_opening}
 use Rattle.easybook.specs.Plain.{log_limit}

@@ -1,4 +1,4 @@
-use Rattle.std.proofs.Common.{◌≡◌, ◌++◌, ℕ, List, Option, Some, None, Bor, subst}
+use Rattle.std.proofs.Common.{◌++◌, ℕ, List, Option, Some, None, Bor, subst}
 use Rattle.std.specs.Option.{option_map}
 use Rattle.easybook.specs.Split.{IsCut}
 use Rattle.easybook.proofs.Beguns.{err-is, input-ends, refused-so}

@@ -10,8 +10,8 @@ loop-job-preserved g c =
     let h = c.loop-job.invariant in
     record {
       kept = extends_then c.args.entries.now.items c.loop-job.entries.items c.add_job.new.entries.items h.kept c.add_job.ensures.kept;
-      below = c.in-Some.ensures.below;
-      added = jobs_next c.args.entries.now.items c.loop-job.entries.items c.add_job.new.entries.items c.args.jobs.now c.loop-job.job-index _ (omega (arith, c.loop-job-test.true)) h.added c.in-Some.ensures.added;
+      below = c.in_ok-next.ensures.below;
+      added = jobs_next c.args.entries.now.items c.loop-job.entries.items c.add_job.new.entries.items c.args.jobs.now c.loop-job.job-index _ (omega (arith, c.loop-job-test.true)) h.added c.in_ok-next.ensures.added;
     }
 
 pub returns-clause-added : goal.returns-clause-added

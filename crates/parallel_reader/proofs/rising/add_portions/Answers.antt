@@ -10,12 +10,12 @@ loop-portion-preserved g c =
     let h = c.loop-portion.invariant in
     record {
       kept = extends_then c.args.entries.now.items c.loop-portion.entries.items c.add_portion.new.entries.items h.kept c.add_portion.ensures.kept;
-      below = c.in-Some.ensures.below;
-      added = portions_at c.args.entries.now.items c.loop-portion.entries.items c.add_portion.new.entries.items c.args.jobs.now c.loop-portion.portion-index _ (omega (arith, c.loop-portion-test.true)) h.added c.in-Some.ensures.added;
+      below = c.in_ok-next.ensures.below;
+      added = portions_at c.args.entries.now.items c.loop-portion.entries.items c.add_portion.new.entries.items c.args.jobs.now c.loop-portion.portion-index _ (omega (arith, c.loop-portion-test.true)) h.added c.in_ok-next.ensures.added;
     }
 
-pub returns-in-None-clause-kept : goal.returns-in-None-clause-kept
-returns-in-None-clause-kept g c = extends_then c.args.entries.now.items c.loop-portion.entries.items c.add_portion.new.entries.items c.loop-portion.invariant.kept c.add_portion.ensures.kept
+pub returns-in_err-next-clause-kept : goal.returns-in_err-next-clause-kept
+returns-in_err-next-clause-kept g c = extends_then c.args.entries.now.items c.loop-portion.entries.items c.add_portion.new.entries.items c.loop-portion.invariant.kept c.add_portion.ensures.kept
 
 pub returns-clause-added : goal.returns-clause-added
 returns-clause-added g c = portions_all c.args.entries.now.items c.loop-portion.entries.items c.args.jobs.now c.loop-portion.portion-index (omega (arith, c.loop-portion-test.false)) c.loop-portion.invariant.added
