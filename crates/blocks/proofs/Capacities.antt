@@ -24,13 +24,15 @@ module _ {X : Type 0} where
   first_block used new b c x none clear e f = f ∙ ap (λ (r : List (List X)). insert r 0 c) none ∙ ap (λ (l : List X). l ∷ []) (e ∙ ap (λ (l : List X). insert l 0 x) clear)
 
   module _ {used empty : List (List X)} {over len ur er : ℕ} (row : IsRow used empty over len ur er) where
-    -- by how many items one block is over, and all blocks are
+    -- one block is over by no more items than all blocks together
     pub over_here : (k : ℕ) → k < length used → length (get_or used k []) - 65 ≤ over
     over_here k lt = omega (arith, get_or-le-sum_by over_of used k [] lt, row.overs)
 
+    -- a row has at most 2 ^ 47 items
     pub many : len ≤ 2 ^ 47
     many = omega (arith, row.all, all_is used, most used row.filled, row.few)
 
+    -- a row is over by at most 2 ^ 47 items
     pub over_many : over ≤ 2 ^ 47
     over_many = omega (arith, row.overs, sum_by-le-sum_by over_of (λ (c : List X). length c) used (λ (c : List X). fewer c), most used row.filled, row.few)
 
@@ -38,6 +40,7 @@ module _ {X : Type 0} where
     pub here_all : (k : ℕ) → k < length used → length (get_or used k []) ≤ len
     here_all k lt = omega (arith, row.all, all_is used, get_or-le-sum_by (λ (c : List X). length c) used k [] lt)
 
+    -- a row that had no block in use, and now has one with one item, keeps what a row keeps
     pub begun_row : (x : X) (new rest : List (List X)) (ur' er' : ℕ) → used ≡ [] → new ≡ (x ∷ []) ∷ [] → All IsClear rest → length rest + 1 ≡ length empty → ur ≤ ur' → er ≤ er' → IsRow new rest over 1 ur' er'
     begun_row x new rest ur' er' none e clear fewer wide capacity =
         let count : length new ≡ length used + 1 = omega (arith, ap (λ (r : List (List X)). length r) e, ap (λ (r : List (List X)). length r) none) in
@@ -53,6 +56,7 @@ module _ {X : Type 0} where
           returnable = omega (arith, row.returnable, fewer, count, capacity);
         }
 
+    -- a row with the same blocks, in use and empty, and no less capacity keeps what a row keeps
     pub kept_row : (more rest : List (List X)) (ur' er' : ℕ) → more ≡ used → rest ≡ empty → ur ≤ ur' → er ≤ er' → IsRow more rest over len ur' er'
     kept_row more rest ur' er' e f wide capacity =
         let count : length more ≡ length used = ap (λ (r : List (List X)). length r) e in
@@ -68,6 +72,7 @@ module _ {X : Type 0} where
           returnable = omega (arith, row.returnable, count, same, capacity);
         }
 
+    -- a row with one empty block more, and capacity for it, keeps it
     pub grown_row : (more rest : List (List X)) (ur' er' : ℕ) → more ≡ used → All IsClear rest → length rest ≡ length empty + 1 → length used + length empty < 2 ^ 40 → length used + length empty < ur' → length used + length empty < er' → IsRow more rest over len ur' er'
     grown_row more rest ur' er' e clear added few wide capacity =
         let count : length more ≡ length used = ap (λ (r : List (List X)). length r) e in
@@ -82,6 +87,7 @@ module _ {X : Type 0} where
           returnable = omega (arith, capacity, count, added);
         }
 
+    -- a row whose full block was cut, with one empty block fewer, keeps it, and is over by 63 fewer
     pub cut_row : (k : ℕ) (new rest : List (List X)) (ur' er' : ℕ) → k < length used → length (get_or used k []) ≡ 128 → 1 ≤ capacity_of (length used) (length empty) over → new ≡ cut_at k used → All IsClear rest → length rest + 1 ≡ length empty → ur ≤ ur' → er ≤ er' → IsRow new rest (over - 63) len ur' er'
     cut_row k new rest ur' er' lt full some e clear fewer wide capacity =
         let count : length new ≡ length used + 1 = ap length e ∙ cut_length k used lt in
@@ -111,6 +117,7 @@ module _ {X : Type 0} where
           returnable = omega (arith, row.returnable);
         }
 
+    -- a row with one item more in a block that had capacity keeps it
     pub put_row : (k at n less more : ℕ) (new : List (List X)) (x : X) (ur' er' : ℕ) → k < length used → at ≤ length (get_or used k []) → length (get_or used k []) < 128 → (64 < length (get_or used k []) → 1 ≤ capacity_of (length used) (length empty) over) → n ≡ length (get_or used k []) → less ≡ n - 65 → more ≡ n + 1 - 65 → new ≡ set used k (insert (get_or used k []) at x) → ur ≤ ur' → er ≤ er'
         → IsRow new empty (over - less + more) (len + 1) ur' er'
     put_row k at n less more new x ur' er' lt le short capacity long down up e wide same =
@@ -121,15 +128,19 @@ module _ {X : Type 0} where
         owes (inl many) = let some = capacity many in omega (arith, row.owed, some)
         owes (inr few) = omega (arith, row.owed)
 
+    -- an insertion in a block takes at most one from the insertions that surely find capacity
     pub put_spare : (k n less more : ℕ) (b : List X) (new : List (List X)) {spare : ℕ} → k < length used → n ≡ length (get_or used k []) → less ≡ n - 65 → more ≡ n + 1 - 65 → new ≡ set used k b → spare ≡ capacity_of (length used) (length empty) over → spare ≤ capacity_of (length new) (length empty) (over - less + more) + 1
     put_spare k n less more b new lt long down up e is = omega (arith, long, down, up, over_here k lt, ap length e, length-set used k b, is)
 
+    -- an insertion in a block of at most 64 items leaves as many insertions that surely find capacity
     pub put_kept : (n less more k : ℕ) (b : List X) (new : List (List X)) {spare : ℕ} → n ≤ 64 → less ≡ n - 65 → more ≡ n + 1 - 65 → new ≡ set used k b → spare ≡ capacity_of (length used) (length empty) over → capacity_of (length new) (length empty) (over - less + more) ≡ spare
     put_kept n less more k b new short down up e is = omega (arith, short, down, up, ap length e, length-set used k b, is)
 
+    -- an item taken from a block leaves no fewer insertions that surely find capacity
     pub taken_spare : (k n less more : ℕ) (b : List X) (new : List (List X)) {spare : ℕ} → k < length used → n ≡ length (get_or used k []) → less ≡ n - 65 → more ≡ n - 1 - 65 → new ≡ set used k b → spare ≡ capacity_of (length used) (length empty) over → spare ≤ capacity_of (length new) (length empty) (over - less + more)
     taken_spare k n less more b new lt long down up e is = omega (arith, long, down, up, over_here k lt, ap length e, length-set used k b, is)
 
+    -- a row with one item fewer in a block that has others keeps what a row keeps
     pub taken_row : (k at n less more : ℕ) (new : List (List X)) (ur' er' : ℕ) → k < length used → at < length (get_or used k []) → 2 ≤ length (get_or used k []) → n ≡ length (get_or used k []) → less ≡ n - 65 → more ≡ n - 1 - 65 → new ≡ set used k (remove (get_or used k []) at) → ur ≤ ur' → er ≤ er'
         → IsRow new empty (over - less + more) (len - 1) ur' er'
     taken_row k at n less more new ur' er' lt le several long down up e wide same =
@@ -137,6 +148,7 @@ module _ {X : Type 0} where
         let here : IsFilled (get_or used k []) = filled_here k used row.filled lt in
         same_row k (remove (get_or used k []) at) new (over - less + more) (len - 1) ur' er' lt (record { low = omega arith; high = omega (arith, here.high) }) e wide same (omega (arith, row.owed, over_here k lt)) (omega (arith, over_here k lt)) (omega (arith, here_all k lt))
 
+    -- a row one of whose blocks of one item is now among the empty ones keeps it
     pub retired_row : (k : ℕ) (new rest : List (List X)) (ur' er' : ℕ) → k < length used → length (get_or used k []) ≡ 1 → new ≡ remove used k → All IsClear rest → length rest ≡ length empty + 1 → ur ≤ ur' → er ≤ er' → IsRow new rest over (len - 1) ur' er'
     retired_row k new rest ur' er' lt one e clear more wide capacity =
         let count : length new + 1 ≡ length used = ap (λ (r : List (List X)). length r + 1) e ∙ length-remove used k lt in
@@ -151,6 +163,7 @@ module _ {X : Type 0} where
           returnable = omega (arith, row.returnable, more, count, capacity);
         }
 
+    -- a row of which two blocks with at most 64 items together were joined, with one empty block more, keeps it
     pub joined_row : (k : ℕ) (new rest : List (List X)) (ur' er' : ℕ) → k + 1 < length used → length (get_or used k []) + length (get_or used (k + 1) []) ≤ 64 → new ≡ joined_at k used → All IsClear rest → length rest ≡ length empty + 1 → ur ≤ ur' → er ≤ er' → IsRow new rest over len ur' er'
     joined_row k new rest ur' er' lt le e clear more wide capacity =
         let count : length new + 1 ≡ length used = ap (λ (r : List (List X)). length r + 1) e ∙ join_length k used lt in
@@ -165,6 +178,7 @@ module _ {X : Type 0} where
           returnable = omega (arith, row.returnable, more, count, capacity);
         }
 
+    -- a row with all blocks among the empty ones keeps it, with no items
     pub cleared_row : (new rest : List (List X)) (ur' er' : ℕ) → new ≡ [] → All IsClear rest → length rest ≡ length used + length empty → ur ≤ ur' → er ≤ er' → IsRow new rest 0 0 ur' er'
     cleared_row new rest ur' er' none clear more wide capacity =
         let count : length new ≡ 0 = ap (λ (r : List (List X)). length r) none in

@@ -1,4 +1,5 @@
--- Items of a row in blocks, by their places.
+-- Items of a row in blocks, by their places: a walk over the blocks to a place, an item that is read, put in or taken out there, and what a
+-- search by two numbers meets.
 use Rattle.std.proofs.Common.{◌≡◌, ℕ, zero, suc, ◌+◌, ◌-◌, ◌<◌, ◌≤◌, Option, Some, None, List, [], ◌∷◌, ◌++◌, length, length-append, take, drop, find, get_or, insert, remove, slice_get, option_copied, Bor, Bool, true, false, refl, ap, sym, subst, ◌∙◌, arith, ⊎_elim}
 use Rattle.std.specs.Slice.{IsItemAt}
 use Rattle.std.proofs.lemmas.Bool.{cases_lt, false≢true}
@@ -10,11 +11,12 @@ use Rattle.blocks.proofs.Edits.{item_is}
 use Rattle.blocks.proofs.Order.{entered_is, hit, miss}
 
 module _ {X : Type 0} where
-  -- what `get` lends
+  -- the item that is lent by its place is the one there
   pub got_is : (xs : List X) (i : ℕ) (r : Option (Bor X)) → IsItemAt xs i r → option_copied r ≡ slice_get xs i
   got_is xs i None h = sym (slice_get_past xs i h.3)
   got_is xs i (Some x) h = sym (slice_get-get_or xs i x.now h.3.0 ∙ ap Some (sym (h.3.1 x.now)))
 
+  -- a place in a block is one among all items
   pub inside_flat : (k at : ℕ) (cs : List (List X)) → at < length (get_or cs k []) → start k cs + at < length (flat cs)
   inside_flat k at cs lt =
       omega (arith, ap length (flat_at k cs), length-append (flat (take k cs)) (get_or cs k [] ++ flat (drop (suc k) cs)), length-append (get_or cs k []) (flat (drop (suc k) cs)))
@@ -22,7 +24,7 @@ module _ {X : Type 0} where
   behind_is : (k : ℕ) (cs : List (List X)) → length cs ≤ k → start k cs ≡ length (flat cs)
   behind_is k cs le = ap (λ (r : List (List X)). length (flat r)) (take_all k cs le)
 
-  -- the item at a place of a block, and none behind the last block
+  -- the item at a place of a block, and none behind the last block, is what stands at that place among all items
   pub get_is : (k at : ℕ) (cs : List (List X)) → (k < length cs → at < length (get_or cs k [])) → slice_get (flat cs) (start k cs + at) ≡ slice_get (get_or cs k []) at
   get_is k at cs there =
       ⊎_elim
@@ -46,7 +48,6 @@ module _ {X : Type 0} where
       = omega (arith, ap length (flat_at k cs), length-append (flat (take k cs)) (get_or cs k [] ++ flat (drop (suc k) cs)), length-append (get_or cs k []) (flat (drop (suc k) cs)), ap length none, low) in
       sym (get_is k (length (get_or cs k []) - 1) cs (λ lt. omega (arith, low))) ∙ ap (slice_get (flat cs)) all
 
-  -- ---- a walk over the blocks
   get_left : (b xs : List X) (n : ℕ) → n < length b → slice_get (b ++ xs) n ≡ slice_get b n
   get_left [] xs n lt = absurd (omega (arith, lt))
   get_left (x ∷ b) xs zero lt = refl
@@ -61,18 +62,19 @@ module _ {X : Type 0} where
     from_here : flat (drop i cs) ≡ b ++ flat (drop (i + 1) cs)
     from_here = ap flat (drop_more cs i b lt) ∙ ap (λ (c : List X). c ++ flat (drop (i + 1) cs)) (sym read)
 
+    -- a walk that comes to a block with more items than are to pass ends in that block
     pub walk_ends : n < length b → slice_get b n ≡ slice_get (flat (drop i cs)) n
     walk_ends le = sym (ap (λ (l : List X). slice_get l n) from_here ∙ get_left b (flat (drop (i + 1) cs)) n le)
 
+    -- a walk goes on behind a block that has no more items than are to pass
     pub walk_on : length b ≤ n → slice_get (flat (drop (i + 1) cs)) (n - length b) ≡ slice_get (flat (drop i cs)) n
     walk_on le = sym (ap (λ (l : List X). slice_get l n) from_here ∙ get_right b (flat (drop (i + 1) cs)) n le)
 
-  -- ---- the item that is taken out
+  -- the item that is taken out is the one that was found
   pub taken_item : (k at : ℕ) (cs old : List (List X)) (x : X) (found : Option X) → cs ≡ old → k < length cs → at < length (get_or cs k []) → found ≡ slice_get (flat cs) (start k cs + at) → x ≡ get_or (flat old) (start k old + at) x → Some x ≡ found
   taken_item k at cs old x found same lt le e read =
       ap Some (read ∙ ap (λ (r : List (List X)). get_or (flat r) (start k r + at) x) (sym same)) ∙ sym (slice_get-get_or (flat cs) (start k cs + at) x (inside_flat k at cs le)) ∙ sym e
 
-  -- an item that was read stands in a block that there is
   pub within_is : (k at : ℕ) (cs : List (List X)) (found : List X) (x : X) → found ≡ get_or cs k [] → slice_get found at ≡ Some x → (k < length cs) × (at < length (get_or cs k []))
   within_is k at cs found x value e =
       let within : at < length (get_or cs k []) = subst (λ (l : List X). at < length l) value (slice_get_within found at x e) in
@@ -81,13 +83,15 @@ module _ {X : Type 0} where
       (λ (le : length cs ≤ k). let none : length (get_or cs k []) ≡ 0 = ap length (get_or_past cs k [] le) in absurd (omega (arith, none, within)))
       (cases_lt k (length cs))
 
-  -- ---- what is read and taken at a place that was found
+  -- what is read at a place of a block is what was found there
   pub read_item : (k at : ℕ) (cs again : List (List X)) (items : List X) (found got : Option X) → again ≡ cs → at < length (get_or cs k []) → found ≡ slice_get (flat cs) (start k cs + at) → items ≡ get_or again k [] → got ≡ slice_get items at → got ≡ found
   read_item k at cs again items found got same le e value g = g ∙ ap (λ (l : List X). slice_get l at) (value ∙ ap (λ (r : List (List X)). get_or r k []) same) ∙ sym (get_is k at cs (λ _. le)) ∙ sym e
 
+  -- all items without the one at its place are those without the first that passes, where the two are the same
   pub left_by : (test : X → Bool) (k at : ℕ) (cs old : List (List X)) (new : List X) → cs ≡ old → without_first test (flat cs) ≡ remove (flat cs) (start k cs + at) → new ≡ remove (flat old) (start k old + at) → new ≡ without_first test (flat old)
   left_by test k at cs old new same left e = e ∙ ap (λ (r : List (List X)). remove (flat r) (start k r + at)) (sym same) ∙ sym left ∙ ap (λ (r : List (List X)). without_first test (flat r)) same
 
+  -- the last item of the last block is the last of all items
   pub last_item : (cs : List (List X)) (block items : List X) (got : Option X) → AreFilled cs → Some block ≡ slice_get cs (length cs - 1) → items ≡ block → got ≡ slice_get items (length items - 1) → got ≡ slice_get (flat cs) (length (flat cs) - 1)
   last_item cs block items got filled e value g =
       let there : length cs - 1 < length cs = slice_get_within cs (length cs - 1) block (sym e) in
@@ -95,7 +99,7 @@ module _ {X : Type 0} where
       g ∙ ap (λ (l : List X). slice_get l (length l - 1)) same ∙ last_is (length cs - 1) cs filled (omega (arith, there))
 
 module _ {X : Type 0} (major minor : X → ℕ) where
-  -- ---- an item at the place that a search found
+  -- an item inserted at the place that a search found is entered among the items
   pub entered_by : (item : X) (cs old : List (List X)) (new : List X) (a b k at : ℕ) → cs ≡ old → a ≡ major item → b ≡ minor item → start k cs + at ≡ place_in major minor a b (flat cs) → new ≡ insert (flat old) (start k old + at) item
       → new ≡ entered major minor item (flat old)
   entered_by item cs old new a b k at same one two place e =
@@ -105,7 +109,6 @@ module _ {X : Type 0} (major minor : X → ℕ) where
       ∙ ap (λ (n : ℕ). place_in major minor (major item) n (flat old)) two)
       ∙ entered_is major minor item (flat old)
 
-  -- ---- what a search by two numbers meets
   module _ (a b k at : ℕ) (cs : List (List X)) (found : List X) (rises : Rises major minor (flat cs)) (there : k < length cs → at < length (get_or cs k [])) (value : found ≡ get_or cs k []) (place : start k cs + at ≡ place_in major minor a b (flat cs)) where
     here : slice_get (flat cs) (start k cs + at) ≡ slice_get found at
     here = get_is k at cs there ∙ ap (λ (l : List X). slice_get l at) (sym value)
@@ -116,6 +119,7 @@ module _ {X : Type 0} (major minor : X → ℕ) where
     abbrev test : X → Bool
     test = is_at major minor a b
 
+    -- where the item found has not the two numbers, none has them, and none is taken out
     pub missed : passes test (slice_get found at) ≡ false → (find test (flat cs) ≡ None) × (without_first test (flat cs) ≡ flat cs)
     missed p = miss major minor a b (flat cs) rises (λ x (e : slice_get (flat cs) (place_in major minor a b (flat cs)) ≡ Some x). ap (passes test) (sym (sym spot ∙ e)) ∙ p)
 
@@ -125,6 +129,7 @@ module _ {X : Type 0} (major minor : X → ℕ) where
       pub item : find test (flat cs) ≡ slice_get (flat cs) (start k cs + at)
       pub left : without_first test (flat cs) ≡ remove (flat cs) (start k cs + at)
 
+    -- where the item found has the two numbers, it is the first that does
     pub met : passes test (slice_get found at) ≡ true → IsMet
     met p =
         ⊎_elim

@@ -1,4 +1,5 @@
--- Groups of blocks, through each edit of the blocks.
+-- Groups of blocks, through each edit of the blocks: where a block begins once one before it was edited, one group, all groups, and the
+-- groups before a block that is cut, joined or taken away.
 use Rattle.std.proofs.Common.{◌≡◌, ℕ, zero, suc, ◌+◌, ◌-◌, ◌*◌, ◌/◌, ◌<◌, ◌≤◌, List, [], ◌∷◌, ◌++◌, length, length-append, take, drop, get_or, insert, remove, set, slice_get, refl, ap, sym, subst, ◌∙◌, arith, ⊎_elim}
 use Rattle.std.specs.List.{All, sum_by}
 use Rattle.std.proofs.lemmas.Bool.{cases_lt}
@@ -12,7 +13,6 @@ use Rattle.blocks.proofs.Edits.{again_is, cut_parts, join_parts, read_is}
 use Rattle.blocks.specs.Groups.{AreGroups, IsGroup}
 use Rattle.blocks.specs.declared.groups.Group.{Group}
 
--- ---- elements of a list that was edited behind them
 module _ {Y : Type 0} where
   front_take : (k n : ℕ) (xs rest : List Y) → k ≤ n → n ≤ length xs → take k (take n xs ++ rest) ≡ take k xs
   front_take zero n xs rest le within = refl
@@ -55,22 +55,22 @@ module _ {Y : Type 0} where
   take_set (suc k) zero (x ∷ xs) y le = absurd (omega (arith, le))
   take_set (suc k) (suc b) (x ∷ xs) y le = ap (λ (r : List Y). x ∷ r) (take_set k b xs y (omega (arith, le)))
 
--- a list that was lent as a whole
+-- a list that was lent as a whole, and has its length still, is what it was written to
 pub lent : {Y : Type 0} (n : ℕ) (new old : List Y) → n ≡ length old → length new ≡ length old → take n (new ++ drop (length new) old) ≡ new
 lent n new old at same =
     ap (λ (r : List _). take n (new ++ r)) (drop_all (length new) old (omega (arith, same))) ∙ ap (take n) (append-nil new) ∙ take_all n new (omega (arith, at, same))
 
--- and one of whose elements was set
+-- a list has its length still once one of its elements was set
 pub lent_length : {Y : Type 0} (k : ℕ) (new old seen : List Y) (f : List Y → Y) → seen ≡ old → new ≡ set seen k (f seen) → length new ≡ length old
 lent_length k new old seen f same e = ap length e ∙ length-set seen k (f seen) ∙ ap length same
 
+-- a list that was lent as a whole, and one of whose elements was set, is the old list with that element set
 pub lent_set : {Y : Type 0} (n k : ℕ) (new old seen : List Y) (f : List Y → Y) → n ≡ length old → seen ≡ old → new ≡ set seen k (f seen) → take n (new ++ drop (length new) old) ≡ set old k (f old)
 lent_set n k new old seen f at same e =
     let here : new ≡ set old k (f old) = e ∙ ap (λ (r : List _). set r k (f r)) same in
     lent n new old at (ap length here ∙ length-set old k (f old)) ∙ here
 
 module _ {X : Type 0} where
-  -- ---- where a block begins, once one before it was edited
   start_set : (k b : ℕ) (cs : List (List X)) (c : List X) → b < k → b < length cs → start k (set cs b c) + length (get_or cs b []) ≡ start k cs + length c
   start_set zero b cs c lt there = absurd (omega (arith, lt))
   start_set (suc k) b [] c lt there = absurd (omega (arith, there))
@@ -81,12 +81,12 @@ module _ {X : Type 0} where
   start_same : (k b : ℕ) (cs : List (List X)) (c : List X) → k ≤ b → start k (set cs b c) ≡ start k cs
   start_same k b cs c le = ap (λ (r : List (List X)). length (flat r)) (take_set k b cs c le)
 
-  -- one block further
   start_suc : (k : ℕ) (cs : List (List X)) → k < length cs → start (suc k) cs ≡ start k cs + length (get_or cs k [])
   start_suc k [] lt = absurd (omega (arith, lt))
   start_suc zero (c ∷ cs) lt = omega (arith, length-append c [])
   start_suc (suc k) (c ∷ cs) lt = omega (arith, length-append c (flat (take (suc k) cs)), length-append c (flat (take k cs)), start_suc k cs (omega (arith, lt)))
 
+  -- one block further, the items of the block are passed too
   pub start_next : (k : ℕ) (cs : List (List X)) → k < length cs → start (k + 1) cs ≡ start k cs + length (get_or cs k [])
   start_next k cs lt = let next : k + 1 ≡ suc k = omega arith in ap (λ (n : ℕ). start n cs) next ∙ start_suc k cs lt
 
@@ -102,6 +102,7 @@ module _ {X : Type 0} where
   start_rises (suc k) (suc n) [] le = omega arith
   start_rises (suc k) (suc n) (c ∷ cs) le = omega (arith, length-append c (flat (take k cs)), length-append c (flat (take n cs)), start_rises k n cs (omega (arith, le)))
 
+  -- a block begins no later than all items end
   pub start_most : (k : ℕ) (cs : List (List X)) → start k cs ≤ length (flat cs)
   start_most zero cs = omega arith
   start_most (suc k) [] = omega arith
@@ -111,7 +112,6 @@ module _ {X : Type 0} where
     abbrev Low : ℕ → List X → Type 0
     Low least xs = All (λ x. least ≤ f x) xs
 
-    -- ---- one group
     pub group_front : (n : ℕ) (cs rest : List (List X)) (first items least : ℕ) → n ≤ length cs → first + 64 ≤ n → IsGroup f cs first items least → IsGroup f (take n cs ++ rest) first items least
     group_front n cs rest first items least within le g =
         record {
@@ -141,7 +141,6 @@ module _ {X : Type 0} where
           bound = λ block low high. subst (Low least) (sym (set_above block b cs c [] (omega (arith, low, lt)))) (g.bound block low high);
         }
 
-    -- a block of the group was edited
     pub group_edited : (cs : List (List X)) (b : ℕ) (c : List X) (first items least more less : ℕ) → first ≤ b → b < first + 64 → IsGroup f cs first items least → more + length (get_or cs b []) ≡ items + length c
         → ((block : ℕ) → first ≤ block → block < first + 64 → Low less (get_or cs block [])) → Low less c → IsGroup f (set cs b c) first more less
     group_edited cs b c first items least more less le lt g count others here =
@@ -161,7 +160,6 @@ module _ {X : Type 0} where
               (cases_lt block b);
         }
 
-    -- ---- all groups
     pub groups_front : (n : ℕ) (cs new rest : List (List X)) (groups kept : List Group) → n ≤ length cs → new ≡ take n cs ++ rest → kept ≡ take (n / 64) groups → AreGroups f cs groups → AreGroups f new kept
     groups_front n cs new rest groups kept within e k all number other lt =
         let below : number < n / 64 = omega (arith, ap length k, length-take (n / 64) groups, lt) in
@@ -172,13 +170,14 @@ module _ {X : Type 0} where
         (subst (λ (r : List (List X)). IsGroup f r (64 * number) (get_or groups number other).items (get_or groups number other).least) (sym e)
         (group_front n cs rest (64 * number) (get_or groups number other).items (get_or groups number other).least within last (all number other inside)))
 
+    -- what is known of groups is known of equal blocks and equal groups
     pub groups_same : (cs new : List (List X)) (groups kept : List Group) → new ≡ cs → kept ≡ groups → AreGroups f cs groups → AreGroups f new kept
     groups_same cs new groups kept e k all = subst (λ (r : List (List X)). AreGroups f r kept) (sym e) (subst (AreGroups f cs) (sym k) all)
 
+    -- no groups are the groups of any blocks
     pub groups_none : (cs : List (List X)) (groups : List Group) → length groups ≡ 0 → AreGroups f cs groups
     groups_none cs groups none number other lt = absurd (omega (arith, none, lt))
 
-    -- a block was edited whose group, if it has one, was set
     pub groups_set : (cs new : List (List X)) (b q : ℕ) (c : List X) (groups : List Group) (group : Group) → q ≡ b / 64 → new ≡ set cs b c → AreGroups f cs groups → q < length groups → IsGroup f (set cs b c) (64 * q) group.items group.least → AreGroups f new (set groups q group)
     groups_set cs new b q c groups group at e all there is number other lt =
         let inside : number < length groups = omega (arith, length-set groups q group, lt) in
@@ -199,12 +198,12 @@ module _ {X : Type 0} where
         (cases_lt q number))
         (cases_lt number q))
 
+    -- the groups are known still where a block behind all of them is set
     pub groups_unset : (cs new : List (List X)) (b q : ℕ) (c : List X) (groups : List Group) → q ≡ b / 64 → new ≡ set cs b c → AreGroups f cs groups → length groups ≤ q → AreGroups f new groups
     groups_unset cs new b q c groups at e all past number other lt =
         subst (λ (r : List (List X)). IsGroup f r (64 * number) (get_or groups number other).items (get_or groups number other).least) (sym e)
         (group_before cs b c (64 * number) (get_or groups number other).items (get_or groups number other).least (omega (arith, at, past, lt)) (all number other lt))
 
-    -- one group more
     pub groups_push : (cs : List (List X)) (groups more : List Group) (group : Group) → more ≡ groups ++ group ∷ [] → AreGroups f cs groups → IsGroup f cs (64 * length groups) group.items group.least → AreGroups f cs more
     groups_push cs groups more group e all is number other lt =
         subst (λ (r : List Group). IsGroup f cs (64 * number) (get_or r number other).items (get_or r number other).least) (sym e)
@@ -222,11 +221,12 @@ module _ {X : Type 0} where
         before zero (h ∷ gs) l = refl
         before (suc k) (h ∷ gs) l = before k gs (omega (arith, l))
 
-    -- ---- what groups tell together
+    -- there are 64 blocks for each group
     pub groups_there : (cs : List (List X)) (groups : List Group) → AreGroups f cs groups → 64 * length groups ≤ length cs
     groups_there cs [] all = omega arith
     groups_there cs (g ∷ groups) all = let last = (all (length groups) g (omega arith)).there in omega (arith, last)
 
+    -- the first groups have as many items together as the blocks of theirs
     pub groups_sum : (n : ℕ) (cs : List (List X)) (groups : List Group) → AreGroups f cs groups → n ≤ length groups → sum_by (λ (g : Group). g.items) (take n groups) ≡ start (64 * n) cs
     groups_sum zero cs groups all le = refl
     groups_sum (suc n) cs [] all le = absurd (omega (arith, le))
@@ -243,10 +243,12 @@ module _ {X : Type 0} where
     low_all least [] h = All-nil (λ x. least ≤ f x)
     low_all least (c ∷ cs) h = All-append (λ x. least ≤ f x) c (flat cs) (h 0 (omega arith)) (low_all least cs (λ k lt. h (suc k) (omega (arith, lt))))
 
+    -- all groups have no more items than all blocks
     pub groups_all : (cs : List (List X)) (groups : List Group) → AreGroups f cs groups → sum_by (λ (g : Group). g.items) groups ≤ length (flat cs)
     groups_all cs groups all =
         omega (arith, groups_sum (length groups) cs groups all (omega arith), ap (sum_by (λ (g : Group). g.items)) (take_all (length groups) groups (omega arith)), start_most (64 * length groups) cs)
 
+    -- the item so many places behind the first groups is the one that many places behind their items, among all
     pub item_start : (n left place : ℕ) (cs : List (List X)) (groups : List Group) → AreGroups f cs groups → n ≤ length groups → sum_by (λ (g : Group). g.items) (take n groups) + left ≡ place → slice_get (flat (drop (64 * n) cs)) left ≡ slice_get (flat cs) place
     item_start n left place cs groups all le e = behind (64 * n) left cs ∙ ap (slice_get (flat cs)) (ap (λ (k : ℕ). k + left) (sym (groups_sum n cs groups all le)) ∙ e)
       where
@@ -294,9 +296,11 @@ module _ {X : Type 0} where
         is (g ∷ gs) (suc n) l = is gs n (omega (arith, l))
 
 module _ {X : Type 0} (f : X → ℕ) where
+  -- a group ends no later than all items
   pub group_fits : (cs : List (List X)) (first items least : ℕ) → IsGroup f cs first items least → start first cs + items ≤ length (flat cs)
   group_fits cs first items least g = omega (arith, g.count, start_most (first + 64) cs)
 
+  -- a block of a group has no more items than the group
   pub group_some : (cs : List (List X)) (b first items least : ℕ) → first ≤ b → b < first + 64 → IsGroup f cs first items least → length (get_or cs b []) ≤ items
   group_some cs b first items least le lt g =
       omega (arith, g.count, start_next b cs (omega (arith, lt, g.there)), start_rises first b cs le, start_rises (b + 1) (first + 64) cs (omega (arith, lt)))
@@ -315,6 +319,7 @@ module _ {X : Type 0} (f : X → ℕ) where
       (cases_lt n number))
       (cases_lt number n)
 
+  -- a group may have another bound, if none of its items weighs less
   pub groups_learn : (cs now : List (List X)) (groups : List Group) (n less : ℕ) (d : Group) → now ≡ cs → n < length groups → AreGroups f cs groups → ((block : ℕ) → 64 * n ≤ block → block < 64 * n + 64 → Low f less (get_or now block []))
       → AreGroups f cs (set groups n (record { items = (get_or groups n d).items; least = less }))
   groups_learn cs now groups n less d e lt all low =
@@ -325,6 +330,7 @@ module _ {X : Type 0} (f : X → ℕ) where
         bound = λ block first last. subst (λ (r : List (List X)). Low f less (get_or r block [])) e (low block first last);
       })
 
+  -- an item inserted in a block of a group makes it one item larger, with a bound no greater than its old one and than the item
   pub groups_put : (cs : List (List X)) (b at : ℕ) (x : X) (c r : List X) (groups new : List Group) (least : ℕ) (d : Group) → b < length cs → at ≤ length (get_or cs b []) → r ≡ get_or cs b r → c ≡ insert (get_or cs b r) at x → AreGroups f cs groups → b / 64 < length groups
       → least ≤ (get_or groups (b / 64) d).least → least ≤ f x → new ≡ set groups (b / 64) (record { items = (get_or groups (b / 64) d).items + 1; least = least }) → AreGroups f (set cs b c) new
   groups_put cs b at x c r groups new least d lt le read made all inside one two is =
@@ -339,6 +345,7 @@ module _ {X : Type 0} (f : X → ℕ) where
       (group_edited f cs b c (64 * q) (get_or groups q d).items (get_or groups q d).least ((get_or groups q d).items + 1) least (omega arith) (omega arith) old (omega (arith, ap length made_here, length-insert (get_or cs b []) at x le))
       (λ block first last. lower f (get_or groups q d).least least (get_or cs block []) one (old.bound block first last)) fresh))
 
+  -- an item removed from a block of a group makes the group one item smaller
   pub groups_taken : (cs : List (List X)) (b at : ℕ) (c r : List X) (groups new : List Group) (d : Group) → b < length cs → at < length (get_or cs b []) → r ≡ get_or cs b r → c ≡ remove (get_or cs b r) at → AreGroups f cs groups → b / 64 < length groups
       → new ≡ set groups (b / 64) (record { items = (get_or groups (b / 64) d).items - 1; least = (get_or groups (b / 64) d).least }) → AreGroups f (set cs b c) new
   groups_taken cs b at c r groups new d lt le read made all inside is =
@@ -353,21 +360,26 @@ module _ {X : Type 0} (f : X → ℕ) where
       (group_edited f cs b c (64 * q) (get_or groups q d).items least ((get_or groups q d).items - 1) least (omega arith) (omega arith) old
       (omega (arith, ap length made_here, length-remove (get_or cs b []) at le, group_some cs b (64 * q) (get_or groups q d).items least (omega arith) (omega arith) old)) (old.bound) fresh))
 
+  -- one group more, behind those that there are
   pub groups_added : (cs : List (List X)) (n : ℕ) (groups more : List Group) (group : Group) → more ≡ groups ++ group ∷ [] → AreGroups f cs groups → n ≡ length groups → IsGroup f cs (64 * n) group.items group.least → AreGroups f cs more
   groups_added cs n groups more group e all at is = groups_push f cs groups more group e all (subst (λ (k : ℕ). IsGroup f cs (64 * k) group.items group.least) at is)
 
-  -- ---- groups before a block that is cut, joined or taken away
+  -- the groups before that of a block that is cut are known still
   pub groups_cut : (k : ℕ) (cs new : List (List X)) (groups kept : List Group) → k < length cs → new ≡ cut_at k cs → kept ≡ take (k / 64) groups → AreGroups f cs groups → AreGroups f new kept
   groups_cut k cs new groups kept lt e t all = groups_front f k cs new (take 64 (get_or cs k []) ∷ drop 64 (get_or cs k []) ∷ drop (k + 1) cs) groups kept (omega (arith, lt)) (e ∙ cut_parts k cs lt) t all
 
+  -- the groups before that of two blocks that are joined are known still
   pub groups_joined : (k : ℕ) (cs new : List (List X)) (groups kept : List Group) → k + 1 < length cs → new ≡ joined_at k cs → kept ≡ take (k / 64) groups → AreGroups f cs groups → AreGroups f new kept
   groups_joined k cs new groups kept lt e t all = groups_front f k cs new ((get_or cs k [] ++ get_or cs (k + 1) []) ∷ drop (suc (k + 1)) cs) groups kept (omega (arith, lt)) (e ∙ join_parts k cs lt) t all
 
+  -- the groups before that of a block that is removed are known still
   pub groups_retired : (k : ℕ) (cs new : List (List X)) (groups kept : List Group) → k < length cs → new ≡ remove cs k → kept ≡ take (k / 64) groups → AreGroups f cs groups → AreGroups f new kept
   groups_retired k cs new groups kept lt e t all = groups_front f k cs new (drop (suc k) cs) groups kept (omega (arith, lt)) e t all
 
+  -- the groups of no blocks are groups of any
   pub groups_empty : (cs new : List (List X)) (groups : List Group) → cs ≡ [] → AreGroups f cs groups → AreGroups f new groups
   groups_empty cs new groups e all = groups_none f new groups (omega (arith, groups_there f cs groups all, ap length e))
 
+  -- a block that is removed makes one block fewer
   pub retired_length : (k : ℕ) (cs new : List (List X)) → k < length cs → new ≡ remove cs k → length new + 1 ≡ length cs
   retired_length k cs new lt e = ap (λ (r : List (List X)). length r + 1) e ∙ length-remove cs k lt

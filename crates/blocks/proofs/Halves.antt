@@ -4,6 +4,7 @@ use Rattle.std.specs.List.Sorted.{IsPartitionedBy}
 use Rattle.blocks.proofs.Places.{parted-rest, place}
 
 module _ {X : Type 0} (test : X → Bool) where
+  -- no more elements pass before the first that doesn't than there are
   pub place-within : (xs : List X) → place test xs ≤ length xs
   place-within [] = omega arith
   place-within (x ∷ xs) = go (test x) refl (place-within xs)
@@ -12,7 +13,7 @@ module _ {X : Type 0} (test : X → Bool) where
       go true e h = rw e (omega (arith, h))
       go false e h = rw e (omega arith)
 
-  -- it comes behind one that passes
+  -- the place of the first that doesn't pass comes behind one that passes
   pub place-behind : (xs : List X) (i : ℕ) (d : X) → IsPartitionedBy test xs → i < length xs → test (get_or xs i d) ≡ true → i + 1 ≤ place test xs
   place-behind [] i d p lt t = absurd (omega (arith, lt))
   place-behind (x ∷ xs) zero d p lt t = rw t (omega arith)
@@ -21,7 +22,7 @@ module _ {X : Type 0} (test : X → Bool) where
       let rest : i + 1 ≤ place test xs = place-behind xs i d (parted-rest test (x ∷ []) xs p) (omega (arith, lt)) t in
       rw front (omega (arith, rest))
 
-  -- and not behind one that doesn't
+  -- the place of the first that doesn't pass comes no later than one that doesn't
   pub place-ahead : (xs : List X) (i : ℕ) (d : X) → i < length xs → test (get_or xs i d) ≡ false → place test xs ≤ i
   place-ahead [] i d lt f = absurd (omega (arith, lt))
   place-ahead (x ∷ xs) zero d lt f = rw f (omega arith)

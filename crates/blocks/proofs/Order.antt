@@ -1,4 +1,5 @@
--- Items that rise by two numbers.
+-- Items that rise by two numbers: a search finds its way among them, also with one item more or less, and meets the first item that has
+-- two numbers.
 use Rattle.std.proofs.Common.{◌≡◌, ℕ, zero, suc, ◌+◌, ◌<◌, ◌≤◌, Bool, true, false, cond, not, nat_lt, ◌==◌, ◌&&◌, ◌||◌, Some, None, List, [], ◌∷◌, find, slice_get, insert, remove, one-add, refl, ap, ◌∙◌, arith}
 use Rattle.std.specs.List.{All}
 use Rattle.std.specs.List.Sorted.{IsPartitionedBy}
@@ -6,7 +7,6 @@ use Rattle.std.proofs.lemmas.Bool.Decides.{nat_tests}
 use Rattle.std.proofs.lemmas.List.Elements.{All-cons, All-head, All-nil, All-tail, All-weaker}
 use Rattle.blocks.specs.Rows.{AreBefore, Rises, entered, is_at, passes, place_in, stands, without_first}
 
--- ---- pairs of numbers
 abbrev less : ℕ → ℕ → ℕ → ℕ → Bool
 less p q a b = nat_lt p a || (p == a && nat_lt q b)
 
@@ -29,11 +29,10 @@ behind-differs : (p q m n a b : ℕ) → less p q m n ≡ false → less m n a b
 behind-differs p q m n a b h k s = grind (arith, nat_tests)
 
 module _ {X : Type 0} (major minor : X → ℕ) where
-  -- x doesn't stand in front of y's place
   abbrev IsBehind : X → X → Type 0
   IsBehind x y = stands major minor (major x) (minor x) y ≡ false
 
-  -- ---- a search finds its way
+  -- items that rise are parted by which stand before two numbers
   pub parted : (a b : ℕ) (xs : List X) → Rises major minor xs → IsPartitionedBy (stands major minor a b) xs
   parted a b [] s i j d le lt t = absurd (omega (arith, lt))
   parted a b (x ∷ xs) s zero zero d le lt t = t
@@ -41,7 +40,7 @@ module _ {X : Type 0} (major minor : X → ℕ) where
   parted a b (x ∷ xs) s (suc i) zero d le lt t = absurd (omega (arith, le))
   parted a b (x ∷ xs) s (suc i) (suc j) d le lt t = parted a b xs s.1 i j d (omega (arith, le)) (omega (arith, lt)) t
 
-  -- ---- one item more
+  -- an item inserted before the first that doesn't stand before it is entered among the items
   pub entered_is : (r : X) (xs : List X) → insert xs (place_in major minor (major r) (minor r) xs) r ≡ entered major minor r xs
   entered_is r [] = refl
   entered_is r (x ∷ xs) =
@@ -58,6 +57,7 @@ module _ {X : Type 0} (major minor : X → ℕ) where
         | false ↦ All-cons P r (x ∷ xs) p h
       ]
 
+  -- items that rise do so with one entered
   pub rises-entered : (r : X) (xs : List X) → Rises major minor xs → Rises major minor (entered major minor r xs)
   rises-entered r [] s = (All-nil (IsBehind r), tt)
   rises-entered r (x ∷ xs) s = go (stands major minor (major r) (minor r) x) refl (rises-entered r xs s.1)
@@ -67,7 +67,6 @@ module _ {X : Type 0} (major minor : X → ℕ) where
       go false t i =
           (All-cons (IsBehind r) x xs t (All-weaker (IsBehind x) (IsBehind r) (λ y (k : IsBehind x y). not-less (major y) (minor y) (major x) (minor x) (major r) (minor r) t k) xs s.0), s)
 
-  -- ---- one item less
   All-without : (P : X → Type 0) (test : X → Bool) (xs : List X) → All P xs → All P (without_first test xs)
   All-without P test [] h = h
   All-without P test (x ∷ xs) h =
@@ -76,6 +75,7 @@ module _ {X : Type 0} (major minor : X → ℕ) where
         | false ↦ All-cons P x (without_first test xs) (All-head P x xs h) (All-without P test xs (All-tail P x xs h))
       ]
 
+  -- items that rise do so without one of them
   pub rises-without : (test : X → Bool) (xs : List X) → Rises major minor xs → Rises major minor (without_first test xs)
   rises-without test [] s = tt
   rises-without test (x ∷ xs) s =
@@ -84,8 +84,8 @@ module _ {X : Type 0} (major minor : X → ℕ) where
         | false ↦ (All-without (IsBehind x) test xs s.0, rises-without test xs s.1)
       ]
 
-  -- ---- the first item with two numbers
   module _ (a b : ℕ) where
+    -- where the first item that doesn't stand before two numbers has these, it is the first with them
     pub hit : (xs : List X) (x : X) → slice_get xs (place_in major minor a b xs) ≡ Some x → is_at major minor a b x ≡ true
         → (find (is_at major minor a b) xs ≡ Some x) × (without_first (is_at major minor a b) xs ≡ remove xs (place_in major minor a b xs))
     hit [] x e t = cc
@@ -110,6 +110,7 @@ module _ {X : Type 0} (major minor : X → ℕ) where
         let r = none xs (All-tail (λ x. is_at major minor a b x ≡ false) x xs h) in
         rw other (r.0, ap (λ (l : List X). x ∷ l) r.1)
 
+    -- where the first item that doesn't stand before two numbers hasn't these, none has them
     pub miss : (xs : List X) → Rises major minor xs → ((x : X) → slice_get xs (place_in major minor a b xs) ≡ Some x → is_at major minor a b x ≡ false)
         → (find (is_at major minor a b) xs ≡ None) × (without_first (is_at major minor a b) xs ≡ xs)
     miss [] s h = (refl, refl)
@@ -127,7 +128,6 @@ module _ {X : Type 0} (major minor : X → ℕ) where
             (All-cons (λ x. is_at major minor a b x ≡ false) y xs (h y refl)
             (All-weaker (IsBehind y) (λ x. is_at major minor a b x ≡ false) (λ x (k : IsBehind y x). behind-differs (major x) (minor x) (major y) (minor y) a b k t (h y refl)) xs s.0))
 
-  -- ---- those before the first that doesn't stand before two numbers
   module _ (a b : ℕ) where
     front-stands : (xs : List X) (k : ℕ) → k < place_in major minor a b xs → passes (stands major minor a b) (slice_get xs k) ≡ true
     front-stands [] k lt = absurd (omega (arith, lt))
@@ -153,5 +153,6 @@ module _ {X : Type 0} (major minor : X → ℕ) where
         go false e more zero le = e
         go false e more (suc i) le = all-behind x xs i e s.0
 
+    -- so many first ones stand before two numbers, and no others
     pub are_before : (xs : List X) (count : ℕ) → Rises major minor xs → count ≡ place_in major minor a b xs → AreBefore major minor a b xs count
     are_before xs count s e = record { front = λ k lt. front-stands xs k (omega (arith, e, lt)); rest = λ k le. rest-stands xs k s (omega (arith, e, le)) }

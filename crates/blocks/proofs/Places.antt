@@ -1,4 +1,5 @@
--- Where a search over the blocks of a row ends.
+-- Where a search over the blocks of a row ends: the blocks that end by an item that passes come first, and the place in the next block
+-- gives that in the whole list.
 use Rattle.std.proofs.Common.{◌≡◌, ℕ, zero, suc, ◌+◌, ◌-◌, ◌<◌, ◌≤◌, Bool, true, false, not, List, [], ◌∷◌, ◌++◌, length, length-append, take, drop, get_or, refl, ap, sym, subst, ◌∙◌, arith, zero-add}
 use Rattle.std.specs.List.{position_or_len}
 use Rattle.std.specs.List.Sorted.{IsPartitionedBy}
@@ -11,18 +12,18 @@ one_more : (k : ℕ) → 1 + k ≡ suc k
 one_more k = omega arith
 
 module _ {X : Type 0} (test : X → Bool) where
-  -- how many elements pass before the first that doesn't, and how many blocks end by one that passes
+  -- how many elements pass before the first that doesn't
   abbrev pub place : List X → ℕ
   place xs = position_or_len (λ x. not (test x)) xs
 
+  -- how many blocks end by an element that passes before the first that doesn't
   abbrev pub blocks_before : List (List X) → ℕ
   blocks_before cs = position_or_len (λ c. not (ends_by test c)) cs
 
-  -- ---- the last element of a block
   last_at : (c : List X) (e : X) → 1 ≤ length c → ends_by test c ≡ test (get_or c (length c - 1) e)
   last_at c e low = ap (passes test) (slice_get-get_or c (length c - 1) e (omega arith))
 
-  -- ---- parts of a list that a test parts
+  -- a test that parts a list parts the elements from a place on
   pub parted-rest : (c xs : List X) → IsPartitionedBy test (c ++ xs) → IsPartitionedBy test xs
   parted-rest c xs p i j d le lt t =
       let there : test (get_or (c ++ xs) (length c + j) d) ≡ true = ap test (get_or-append-add c xs j d) ∙ t in
@@ -33,12 +34,12 @@ module _ {X : Type 0} (test : X → Bool) where
       let there : test (get_or (c ++ xs) j d) ≡ true = ap test (get_or_append_left c xs d j lt) ∙ t in
       sym (ap test (get_or_append_left c xs d i (omega arith))) ∙ p i j d le (omega (arith, length-append c xs)) there
 
+  -- a test that parts all items parts those of each block
   pub parted-at : (k : ℕ) (cs : List (List X)) → IsPartitionedBy test (flat cs) → IsPartitionedBy test (get_or cs k [])
   parted-at k cs p =
       let whole : IsPartitionedBy test (flat (take k cs) ++ (get_or cs k [] ++ flat (drop (suc k) cs))) = subst (λ (xs : List X). IsPartitionedBy test xs) (flat_at k cs) p in
       parted-front (get_or cs k []) (flat (drop (suc k) cs)) (parted-rest (flat (take k cs)) (get_or cs k [] ++ flat (drop (suc k) cs)) whole)
 
-  -- ---- the blocks that end by an element that passes come first
   reaches : (cs : List (List X)) (j : ℕ) (d : List X) → AreFilled cs → j < length cs → ends_by test (get_or cs j d) ≡ true → (m : ℕ) × (m < length (flat cs)) × ((e : X) → test (get_or (flat cs) m e) ≡ true)
   reaches [] j d s lt t = absurd (omega arith)
   reaches (c ∷ cs) zero d s lt t =
@@ -52,6 +53,7 @@ module _ {X : Type 0} (test : X → Bool) where
   ends-all [] low h = absurd (omega arith)
   ends-all (x ∷ c) low h = last_at (x ∷ c) x low ∙ h x
 
+  -- a test that parts all items parts the blocks by their last items
   pub parted-ends : (cs : List (List X)) → AreFilled cs → IsPartitionedBy test (flat cs) → (i j : ℕ) (d : List X) → i ≤ j → j < length cs → ends_by test (get_or cs j d) ≡ true → ends_by test (get_or cs i d) ≡ true
   parted-ends [] s p i j d le lt t = absurd (omega arith)
   parted-ends (c ∷ cs) s p zero zero d le lt t = t
@@ -63,7 +65,6 @@ module _ {X : Type 0} (test : X → Bool) where
   parted-ends (c ∷ cs) s p (suc i) zero d le lt t = absurd (omega arith)
   parted-ends (c ∷ cs) s p (suc i) (suc j) d le lt t = parted-ends cs s.1 (parted-rest c (flat cs) p) i j d (omega arith) (omega arith) t
 
-  -- ---- the place in the whole list
   skip : (c xs : List X) → ((i : ℕ) (e : X) → i < length c → test (get_or c i e) ≡ true) → place (c ++ xs) ≡ length c + place xs
   skip [] xs h = sym (zero-add (place xs))
   skip (x ∷ c) xs h =
@@ -92,11 +93,11 @@ module _ {X : Type 0} (test : X → Bool) where
           rw (t, one_more) (omega (arith, length-append c (flat (take (blocks_before cs) cs)), i, all))
       go false t low i = rw t (zero-add (place c) ∙ sym (stop c (flat cs) (length c - 1) (omega arith) (λ e. sym (last_at c e low) ∙ t)))
 
+  -- the place in the first block that doesn't end by an item that passes gives the place among all items
   pub place_by : (cs : List (List X)) (k at : ℕ) (found : List X) → AreFilled cs → IsPartitionedBy test (flat cs) → k ≡ blocks_before cs → found ≡ get_or cs k [] → at ≡ place found → start k cs + at ≡ place (flat cs)
   place_by cs k at found s p e f h =
       ap (λ (n : ℕ). start k cs + n) (h ∙ ap place f) ∙ ap (λ (n : ℕ). start n cs + place (get_or cs n [])) e ∙ place_is cs s p
 
-  -- ---- within the block
   stop_at : (c : List X) (j : ℕ) → j < length c → ((e : X) → test (get_or c j e) ≡ false) → place c ≤ j
   stop_at [] j lt h = absurd (omega arith)
   stop_at (x ∷ xs) zero lt h = rw (h x) (omega arith)
@@ -120,6 +121,7 @@ module _ {X : Type 0} (test : X → Bool) where
           let lt : place c < length c = omega (arith, le, low) in
           rw t lt
 
+  -- the place lies in that block where that block is there
   pub there_by : (cs : List (List X)) (k at : ℕ) (found : List X) → AreFilled cs → k ≡ blocks_before cs → found ≡ get_or cs k [] → at ≡ place found → k < length cs → at < length (get_or cs k [])
   there_by cs k at found s e f h =
       let first = subst (λ (n : ℕ). n < length cs → place (get_or cs n []) < length (get_or cs n [])) (sym e) (there_is cs s) in

@@ -1,4 +1,5 @@
--- Items that weigh at most so much, by their places, and where blocks begin.
+-- Items that weigh at most so much, by their places, and where blocks begin: a walk over the blocks, up to a place or to the end, which
+-- passes over a group none of whose items is light.
 use Rattle.std.proofs.Common.{◌≡◌, ℕ, zero, suc, ◌+◌, ◌-◌, ◌<◌, ◌≤◌, Bool, true, false, nat_le, nat_lt, Option, Some, None, List, [], ◌∷◌, ◌++◌, length, length-append, take, drop, slice_get, get_or, set, refl, ap, sym, subst, ◌∙◌, arith, ⊎_elim}
 use Rattle.std.specs.List.{All, sum_by}
 use Rattle.std.specs.Prelude.{if◌then◌else◌}
@@ -40,7 +41,6 @@ module _ {X : Type 0} (f : X → ℕ) (limit : ℕ) where
       (λ (h : (length xs ≤ place) × (slice_get xs place ≡ None)). ap (passes (λ x. nat_le (f x) limit)) h.1)
       (slice_get_cases xs place).1
 
-  -- ---- a walk over the blocks
   module _ (i from : ℕ) (cs : List (List X)) (b : List X) (lt : i < length cs) (read : b ≡ get_or cs i b) where
     here : b ≡ get_or cs i []
     here = read_is i cs b lt read
@@ -48,7 +48,6 @@ module _ {X : Type 0} (f : X → ℕ) (limit : ℕ) where
     same_at : (at : ℕ) → at < length b → is_light f limit (flat cs) (start i cs + at) ≡ is_light f limit b at
     same_at at le = ap (passes (λ x. nat_le (f x) limit)) (get_is i at cs (λ _. omega (arith, ap length here, le)) ∙ ap (λ (l : List X). slice_get l at) (sym here))
 
-    -- none before the block, and none of its first items
     pub on : (n : ℕ) → n ≤ length b → NoneLight f limit (flat cs) from (start i cs) → NoneLight f limit b (from - start i cs) n → NoneLight f limit (flat cs) from (start i cs + n)
     on n le none these place low high =
         ⊎_elim
@@ -69,7 +68,6 @@ module _ {X : Type 0} (f : X → ℕ) (limit : ℕ) where
         go true e = let l = first.0 in (omega (arith, l), grind (arith, nat_tests, e), same_at at first.1 ∙ first.2, before)
         go false e = λ place low high. before place low (grind (arith, nat_tests, e, high))
 
-  -- ---- what the search has of a block that it reads
   module _ (n from : ℕ) (cs now : List (List X)) (b : List X) (begin first : ℕ) (same : now ≡ cs) (within : n < length now) (read : b ≡ get_or now n b) (at_start : begin ≡ start n cs) (skip : first ≡ from - begin) (none : NoneLight f limit (flat cs) from begin) where
     there : n < length cs
     there = subst (λ (l : List (List X)). n < length l) same within
@@ -86,42 +84,52 @@ module _ {X : Type 0} (f : X → ℕ) (limit : ℕ) where
     first_here : (r : Option ℕ) → IsFirstLight f limit (get_or now n b) first (length (get_or now n b)) r → IsFirstLight f limit b (from - start n cs) (length b) r
     first_here r h = subst (λ (k : ℕ). IsFirstLight f limit b k (length b) r) (skip ∙ ap (λ (k : ℕ). from - k) at_start) (subst (λ (l : List X). IsFirstLight f limit l first (length l) r) (sym read) h)
 
+    -- the place of an item found in a block is below a number that all items are fewer than
     pub fits_found : (at size : ℕ) → length (flat cs) < size → at < length (get_or now n b) → begin + at < size
     fits_found at size le lt = omega (arith, le, at_start, inside_flat n at cs (subst (λ (l : List X). at < length l) (sym read ∙ b_is) lt))
 
+    -- the first light item of a block, behind none among those before it, is the first of all where it stands before the end
     pub found_by : (end at : ℕ) → IsFirstLight f limit (get_or now n b) first (length (get_or now n b)) (Some at) → IsFirstLight f limit (flat cs) from end (if nat_lt (begin + at) end then Some (begin + at) else None)
     found_by end at h =
         subst (λ (k : ℕ). IsFirstLight f limit (flat cs) from end (if nat_lt (k + at) end then Some (k + at) else None)) (sym at_start)
         (found n from cs b there read_here end at none_here (first_here (Some at) h))
 
+    -- the next block begins behind the items of a block
     pub next_by : (len : ℕ) → len ≡ length b → begin + len ≡ start (n + 1) cs
     next_by len e = omega (arith, e, at_start, next n cs b there read_here)
 
+    -- the next block begins below a number that all items are fewer than
     pub fits_next : (len size : ℕ) → length (flat cs) < size → len ≡ length b → begin + len < size
     fits_next len size le e = omega (arith, le, at_start, e, ap length b_is, ap length (flat_at n cs), length-append (flat (take n cs)) (get_or cs n [] ++ flat (drop (suc n) cs)), length-append (get_or cs n []) (flat (drop (suc n) cs)))
 
+    -- no item is light up to the end of a block none of whose items is, behind none before it
     pub none_by : (len : ℕ) → len ≡ length b → IsFirstLight f limit (get_or now n b) first (length (get_or now n b)) None → NoneLight f limit (flat cs) from (begin + len)
     none_by len e h =
         subst (λ (k : ℕ). NoneLight f limit (flat cs) from k) (ap (λ (k : ℕ). k + length b) (sym at_start) ∙ ap (λ (k : ℕ). begin + k) (sym e))
         (on n from cs b there read_here (length b) (omega arith) none_here (first_here None h))
 
+    -- a block that is set to itself leaves the blocks as they are
     pub same_by : (new : List X) → new ≡ get_or now n b → set now n new ≡ cs
     same_by new e = ap (set now n) e ∙ set-get_or now n b ∙ same
 
+  -- a block that was read twice has its length each time
   pub same_length : (n : ℕ) (now : List (List X)) (a b items : List X) → n < length now → a ≡ get_or now n a → b ≡ get_or now n b → items ≡ a → length items ≡ length b
   same_length n now a b items lt one two e = ap length (e ∙ read_is n now a lt one ∙ sym (read_is n now b lt two))
 
--- ---- what a walk up to a place tells of a walk up to the end
 module _ {X : Type 0} (f : X → ℕ) (limit : ℕ) (xs : List X) (from end : ℕ) where
+  -- none is light up to a place, and so none is up to the place and the end
   pub within_none : (to : ℕ) → NoneLight f limit xs from to → NoneWithin f limit xs from end to
   within_none to none place low _ high = none place low high
 
+  -- none is light up to a place before the end, where none is before the end
   pub none_within : (to : ℕ) → to ≤ end → NoneWithin f limit xs from end to → NoneLight f limit xs from to
   none_within to le none place low high = none place low (omega (arith, high, le)) high
 
+  -- none is light before the end, up to any place, once a walk is behind the end
   pub ended : (at to : ℕ) → end ≤ at → NoneWithin f limit xs from end at → NoneWithin f limit xs from end to
   ended at to le none place low high _ = none place low high (omega (arith, high, le))
 
+  -- none is light up to the end, once a walk is behind the end
   pub ended_none : (at : ℕ) → end ≤ at → NoneWithin f limit xs from end at → NoneLight f limit xs from end
   ended_none at le none place low high = none place low high (omega (arith, high, le))
 
@@ -132,6 +140,7 @@ module _ {X : Type 0} (f : X → ℕ) (limit : ℕ) (xs : List X) (from end : �
       (λ (g : at ≤ place). ap (passes (λ x. nat_le (f x) limit)) (slice_get_past xs place (omega (arith, g, le))))
       (cases_lt place at)
 
+  -- the first light item up to the end is the first up to a place
   pub until : (to : ℕ) (r o : Option ℕ) → r ≡ o → IsFirstLight f limit xs from end o → IsFirstUntil f limit xs from end to r
   until to r o e h = go r (subst (IsFirstLight f limit xs from end) (sym e) h)
     where
@@ -139,12 +148,13 @@ module _ {X : Type 0} (f : X → ℕ) (limit : ℕ) (xs : List X) (from end : �
       go None h = λ place low high _. h place low high
       go (Some k) h = h
 
+  -- the first light item of all is the first up to a place behind the last
   pub until_all : (to : ℕ) (r : Option ℕ) → length xs ≤ to → IsFirstUntil f limit xs from end to r → IsFirstLight f limit xs from end r
   until_all to None le h = all_none to le h
   until_all to (Some k) le h = h
 
--- ---- a group that is passed over
 module _ {X : Type 0} (f : X → ℕ) (limit from end : ℕ) (cs : List (List X)) (first items least : ℕ) (g : IsGroup f cs first items least) where
+  -- none is light in a group that lies before the place from which on one is sought
   pub behind_from : (begin : ℕ) → begin ≡ start first cs → begin + items ≤ from → NoneWithin f limit (flat cs) from end (start (first + 64) cs)
   behind_from begin at le place low _ high = absurd (omega (arith, at, le, low, high, g.count))
 
@@ -165,6 +175,7 @@ module _ {X : Type 0} (f : X → ℕ) (limit from end : ℕ) (cs : List (List X)
       item_read zero (d ∷ ds) l = refl
       item_read (suc k) (d ∷ ds) l = item_read k ds (omega (arith, l))
 
+  -- none is light up to the end of a group whose items all weigh more, where none is before it
   pub heavy_group : (begin : ℕ) → begin ≡ start first cs → limit < least → NoneWithin f limit (flat cs) from end begin → NoneWithin f limit (flat cs) from end (start (first + 64) cs)
   heavy_group begin at lt none =
       ⊎_elim

@@ -25,22 +25,23 @@ module _ {X : Type 0} (f : X → ℕ) where
       let most : sum_by f xs ≤ length xs * 18446744073709551616 = sum_by-le f 18446744073709551616 xs (All-weaker Fit (λ x. f x ≤ 18446744073709551616) (λ x (k : f x < 2 ^ 64). omega (arith, k)) xs h) in
       omega (arith, most, le)
 
-  -- none of these weighs less
   abbrev Below : ℕ → List X → Type 0
   Below least xs = All (λ x. least ≤ f x) xs
 
   lower : (least less : ℕ) (xs : List X) → less ≤ least → Below least xs → Below less xs
   lower least less xs le h = All-weaker (λ x. least ≤ f x) (λ x. less ≤ f x) (λ x (k : least ≤ f x). omega (arith, k, le)) xs h
 
+  -- a block weighs less than 2 ^ 80
   pub block_light : (weight least capacity : ℕ) (xs : List X) → IsBlock f weight least capacity xs → weight < 2 ^ 80
   block_light weight least capacity xs b = omega (arith, b.sum, light xs b.fit b.most)
 
-  -- a part from one place on
+  -- the items of a block from a place on weigh less than 2 ^ 80, and no more than the block
   pub back_light : (weight least capacity k : ℕ) (xs back : List X) → IsBlock f weight least capacity xs → back ≡ drop k xs → (sum_by f back < 2 ^ 80) × (sum_by f back ≤ weight)
   back_light weight least capacity k xs back b e =
       let parts : sum_by f (take k xs) + sum_by f (drop k xs) ≡ sum_by f xs = sum_by-take-drop f xs k in
       (omega (arith, ap (sum_by f) e, parts, light xs b.fit b.most), omega (arith, ap (sum_by f) e, parts, b.sum))
 
+  -- a block that had capacity keeps what a block keeps, with an item inserted
   pub block_insert : (weight least capacity more at : ℕ) (xs ys : List X) (x : X) (least' capacity' : ℕ) → IsBlock f weight least capacity xs → at ≤ length xs → length xs < 128 → more ≡ f x → more < 2 ^ 64 → ys ≡ insert xs at x → least' ≤ least → least' ≤ more → capacity ≤ capacity' → IsBlock f (weight + more) least' capacity' ys
   block_insert weight least capacity more at xs ys x least' capacity' b le lt e fits is low under wide =
       let fit : f x < 2 ^ 64 = omega (arith, e, fits) in
@@ -55,6 +56,7 @@ module _ {X : Type 0} (f : X → ℕ) where
         wide = omega (arith, b.wide, wide);
       })
 
+  -- a block keeps it with an item removed
   pub block_remove : (weight least capacity less at : ℕ) (xs ys : List X) (x : X) (capacity' : ℕ) → IsBlock f weight least capacity xs → at < length xs → x ≡ get_or xs at x → less ≡ f x → ys ≡ remove xs at → capacity' ≡ capacity → IsBlock f (weight - less) least capacity' ys
   block_remove weight least capacity less at xs ys x capacity' b lt here e is same =
       let left : sum_by f (remove xs at) + f (get_or xs at x) ≡ sum_by f xs = sum_by-remove f xs at x lt in
@@ -67,6 +69,7 @@ module _ {X : Type 0} (f : X → ℕ) where
         wide = omega (arith, b.wide, same);
       })
 
+  -- a block that is cut keeps it for the items before the place
   pub block_low : (weight least capacity more k : ℕ) (xs ys back : List X) (capacity' : ℕ) → IsBlock f weight least capacity xs → back ≡ drop k xs → more ≡ sum_by f back → ys ≡ take k xs → capacity' ≡ capacity → IsBlock f (weight - more) least capacity' ys
   block_low weight least capacity more k xs ys back capacity' b e s is same =
       let parts : sum_by f (take k xs) + sum_by f (drop k xs) ≡ sum_by f xs = sum_by-take-drop f xs k in
@@ -79,6 +82,7 @@ module _ {X : Type 0} (f : X → ℕ) where
         wide = omega (arith, b.wide, same);
       })
 
+  -- a block of the items from a place of another on keeps it
   pub block_high : (weight least capacity more k : ℕ) (xs ys back : List X) (capacity' : ℕ) → IsBlock f weight least capacity xs → back ≡ drop k xs → more ≡ sum_by f back → ys ≡ back → 128 ≤ capacity' → IsBlock f more least capacity' ys
   block_high weight least capacity more k xs ys back capacity' b e s is wide =
       subst (IsBlock f more least capacity') (sym (is ∙ e))

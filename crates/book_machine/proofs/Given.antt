@@ -1,4 +1,4 @@
--- The numbers that replies give count up.
+-- The numbers that replies give count up: a reply gives no id and no ticket, or the next one, so both rise over a legal history.
 use Rattle.std.proofs.Common.{◌≡◌, ℕ, ◌+◌, ◌<◌, ◌≤◌, List, [], ◌∷◌, ◌++◌, Bool, true, false, cond, Option, None, Some, is_some, unwrap_or, refl, sym, subst, arith}
 use Rattle.std.specs.List.{cons_option}
 use Rattle.job_table.specs.Edit.{LogEdit, fault_of}
@@ -14,12 +14,10 @@ use Rattle.book_machine.specs.History.{Noted, IsLegal}
 use Rattle.book_machine.specs.Laws.{RiseFrom, id_in, ticket_in, ids_given, tickets_given}
 use Rattle.std.specs.Prelude.{nat_lt}
 
--- a reply gives no number, or the next one
 abbrev pub Counts : Option ℕ → ℕ → ℕ → Type 0
 Counts None old new = old ≤ new
 Counts (Some n) old new = (n ≡ old) × (old < new)
 
--- what a reply gives, of ids and of tickets
 pub record Gives (outcome : Reply) (old new : Machine) : Type 0 where
   pub id : Counts (id_in outcome) old.listing.next new.listing.next
   pub ticket : Counts (ticket_in outcome) old.next_ticket new.next_ticket
@@ -80,18 +78,18 @@ step_gives m (Finish number fits) = finish_gives m number fits (ticket_of number
 step_gives m (GiveUp number) = give_up_gives m number (ticket_of number m.tickets)
 step_gives m (View id seen) = view_gives m seen (progress_of id m.progress)
 
--- ---- over a history
-
 rises : (n old new : ℕ) (o : Option ℕ) (rest : List ℕ) → Counts o old new → n < old → ((k : ℕ) → k < new → RiseFrom k rest) → RiseFrom n (cons_option o rest)
 rises n old new None rest counts lt more = more n (omega (arith, counts, lt))
 rises n old new (Some k) rest counts lt more = (omega (arith, counts.0, lt), more k (omega (arith, counts.0, counts.1)))
 
+-- the ids that a legal history gives rise, above each number below the next id of the state before it
 pub ids_rise : (m : Machine) (notes : List Noted) (n : ℕ) → IsLegal m notes → n < m.listing.next → RiseFrom n (ids_given notes)
 ids_rise m [] n legal lt = tt
 ids_rise m (note ∷ notes) n legal lt =
     let gives : Gives note.reply m (changed_by note.call m) = subst (λ (r : Reply). Gives r m (changed_by note.call m)) (sym legal.1) (step_gives m note.call) in
     rises n m.listing.next (changed_by note.call m).listing.next (id_in note.reply) (ids_given notes) gives.id lt (λ k below. ids_rise (after note.call m) notes k legal.2 below)
 
+-- the tickets that a legal history gives rise, above each number below the next ticket of the state before it
 pub tickets_rise : (m : Machine) (notes : List Noted) (n : ℕ) → IsLegal m notes → n < m.next_ticket → RiseFrom n (tickets_given notes)
 tickets_rise m [] n legal lt = tt
 tickets_rise m (note ∷ notes) n legal lt =

@@ -6,12 +6,11 @@ use Rattle.std.specs.Prelude.{nat_lt}
 use Rattle.book_machine.specs.Machine.{Progress, progress_of, changed, publish, fresh, is_below}
 use Rattle.book_machine.specs.Laws.{IsNoOlder}
 
--- ---- look-ups
-
--- what becomes of one scenario
+-- the progress of one scenario, changed where it has this id
 abbrev pub alter : ℕ → (Progress → Progress) → Progress → Progress
 alter k f p = cond (p.id == k) (f p) p
 
+-- a progress that may be changed keeps its id where the change keeps ids
 pub alter_id : (k : ℕ) (f : Progress → Progress) → ((p : Progress) → (f p).id ≡ p.id) → (p : Progress) → (alter k f p).id ≡ p.id
 alter_id k f keep p = go (p.id == k)
   where
@@ -36,6 +35,7 @@ progress_of-same id (p ∷ ps) = go (p.id == id) refl (progress_of-same id ps)
     go true e more = more
     go false e more = ap (λ t. cond t (Some p) (progress_of id (filter (λ q. not (q.id == id)) ps))) e ∙ more
 
+-- with all of one id left out, a look-up by another id finds what it found
 pub progress_of-other : (id k : ℕ) → (id == k) ≡ false → (ps : List Progress) → progress_of id (filter (λ p. not (p.id == k)) ps) ≡ progress_of id ps
 progress_of-other id k apart [] = refl
 progress_of-other id k apart (p ∷ ps) = go (p.id == k) refl (progress_of-other id k apart ps)
@@ -50,6 +50,7 @@ pub progress_of-end : (id : ℕ) (q : Progress) → (q.id == id) ≡ false → (
 progress_of-end id q apart [] = ap (λ t. cond t (Some q) None) apart
 progress_of-end id q apart (p ∷ ps) = ap (λ o. cond (p.id == id) (Some p) o) (progress_of-end id q apart ps)
 
+-- an id that is found is found still with one more at the end
 pub stands-end : (id : ℕ) (q : Progress) (ps : List Progress) → is_some (progress_of id ps) ≡ true → is_some (progress_of id (ps ++ q ∷ [])) ≡ true
 stands-end id q [] h = absurd (true≢false (sym h))
 stands-end id q (p ∷ ps) h = go (p.id == id) h (stands-end id q ps)
@@ -58,6 +59,7 @@ stands-end id q (p ∷ ps) h = go (p.id == id) h (stands-end id q ps)
     go true e more = refl
     go false e more = more e
 
+-- after a change that keeps ids, the same ids are found
 pub stands-changed : (id k : ℕ) (f : Progress → Progress) → ((p : Progress) → (f p).id ≡ p.id) → (ps : List Progress) → is_some (progress_of id (changed k f ps)) ≡ is_some (progress_of id ps)
 stands-changed id k f keep ps = ap is_some (progress_of-changed id k f keep ps) ∙ go (progress_of id ps)
   where
@@ -65,14 +67,13 @@ stands-changed id k f keep ps = ap is_some (progress_of-changed id k f keep ps) 
     go None = refl
     go (Some p) = refl
 
--- ---- no older
-
 -- what stood stands still, no older, or is gone; what didn't stand doesn't
 abbrev pub GoesOn : Option Progress → Option Progress → Type 0
 GoesOn old None = Unit {0}
 GoesOn None (Some q) = ⊥
 GoesOn (Some p) (Some q) = IsNoOlder p.published q.published
 
+-- what is published is no older than itself
 pub IsNoOlder-refl : (o : Option ℕ) → IsNoOlder o o
 IsNoOlder-refl None = tt
 IsNoOlder-refl (Some v) = omega arith
@@ -83,16 +84,19 @@ IsNoOlder-trans (Some u) None c h k = absurd h
 IsNoOlder-trans (Some u) (Some v) None h k = absurd k
 IsNoOlder-trans (Some u) (Some v) (Some w) h k = omega (arith, h, k)
 
+-- what is unchanged goes on
 pub GoesOn-refl : (o : Option Progress) → GoesOn o o
 GoesOn-refl None = tt
 GoesOn-refl (Some p) = IsNoOlder-refl p.published
 
+-- what goes on, and then goes on again, goes on over both
 pub GoesOn-trans : (a b c : Option Progress) → GoesOn a b → GoesOn b c → GoesOn a c
 GoesOn-trans a b None h k = tt
 GoesOn-trans a None (Some r) h k = absurd k
 GoesOn-trans None (Some q) (Some r) h k = absurd h
 GoesOn-trans (Some p) (Some q) (Some r) h k = IsNoOlder-trans p.published q.published r.published h k
 
+-- each scenario goes on over a change that keeps ids and makes nothing published older
 pub goes_on-changed : (id k : ℕ) (f : Progress → Progress) → ((p : Progress) → (f p).id ≡ p.id) → ((p : Progress) → IsNoOlder p.published (f p).published) → (ps : List Progress) → GoesOn (progress_of id ps) (progress_of id (changed k f ps))
 goes_on-changed id k f keep newer ps = subst (GoesOn (progress_of id ps)) (sym (progress_of-changed id k f keep ps)) (go (progress_of id ps))
   where
@@ -104,6 +108,7 @@ goes_on-changed id k f keep newer ps = subst (GoesOn (progress_of id ps)) (sym (
     go None = tt
     go (Some p) = one p (p.id == k)
 
+-- each scenario goes on, or is gone, where all of one id are left out
 pub goes_on-dropped : (id k : ℕ) (ps : List Progress) → GoesOn (progress_of id ps) (progress_of id (filter (λ p. not (p.id == k)) ps))
 goes_on-dropped id k ps = go (id == k) refl
   where
@@ -115,13 +120,13 @@ goes_on-dropped id k ps = go (id == k) refl
         subst (GoesOn (progress_of id ps)) (sym gone) tt
     go false e = subst (GoesOn (progress_of id ps)) (sym (progress_of-other id k e ps)) (GoesOn-refl (progress_of id ps))
 
+-- a scenario of an id below the next goes on where a fresh one of the next id comes at the end
 pub goes_on-end : (id next : ℕ) → id < next → (ps : List Progress) → GoesOn (progress_of id ps) (progress_of id (ps ++ fresh next ∷ []))
 goes_on-end id next lt ps =
     let apart : (next == id) ≡ false = grind (arith, nat_tests) in
     subst (GoesOn (progress_of id ps)) (sym (progress_of-end id (fresh next) apart ps)) (GoesOn-refl (progress_of id ps))
 
--- ---- publishing
-
+-- publishing a version leaves a scenario's id
 pub publish_id : (v : ℕ) (p : Progress) → (publish v p).id ≡ p.id
 publish_id v p = go (is_below p.published v)
   where
@@ -129,6 +134,7 @@ publish_id v p = go (is_below p.published v)
     go true = refl
     go false = refl
 
+-- publishing a version makes what is published no older
 pub publish_newer : (v : ℕ) (p : Progress) → IsNoOlder p.published (publish v p).published
 publish_newer v p = go p.published refl
   where

@@ -1,3 +1,2 @@
--- What crates above cite of these proofs, passed on from one place. Declares nothing.
--- the state after each call is sound
+-- What crates above cite of these proofs, passed on from one place: the state after each call is sound. Declares nothing.
 pub use Rattle.book_machine.proofs.Sound.{sound-opened, sound_after}

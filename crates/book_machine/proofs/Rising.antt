@@ -1,4 +1,5 @@
--- Published versions over a history and each way in which it goes on.
+-- Published versions over a history and each way in which it goes on: what goes on, and stands in the end, is no older,
+-- and what a sound state has published was made.
 use Rattle.std.proofs.Common.{◌≡◌, ℕ, ◌+◌, ◌<◌, ◌≤◌, ◌==◌, List, [], ◌∷◌, ◌++◌, map, Bool, true, false, cond, Option, None, Some, is_some, refl, sym, ap, subst, arith}
 use Rattle.std.specs.List.{AllByRecursion}
 use Rattle.std.proofs.lemmas.Bool.{true≢false}
@@ -13,11 +14,9 @@ use Rattle.book_machine.proofs.Later.{GoesOn}
 use Rattle.book_machine.proofs.Steps.{all_goes, after_all-append}
 use Rattle.book_machine.proofs.Sound.{sound-opened, sound_after}
 
--- the version of what was found
 abbrev shown : Option Progress → Option ℕ
 shown o = elim o [ None ↦ None | Some p ↦ p.published ]
 
--- what is published of a sound state was made
 pub published-made : (v id w : ℕ) (ps : List Progress) → AllByRecursion (IsProgress v) ps → published_of id ps ≡ Some w → w ≤ v
 published-made v id w [] all is = cc
 published-made v id w (p ∷ ps) all is = go (p.id == id) is (published-made v id w ps all.1)
@@ -26,7 +25,6 @@ published-made v id w (p ∷ ps) all is = go (p.id == id) is (published-made v i
     go true e more = let made : IsMade v (Some w) = subst (IsMade v) e all.0.published in made
     go false e more = more e
 
--- the ids that stand are below the next one
 above : (first : ℕ) (ss : List Listed) (next : ℕ) → IdsRise first ss next → first ≤ next
 above first [] next h = h
 above first (s ∷ ss) next h = let more = above (s.id + 1) ss next h.1 in let le : first ≤ s.id = h.0 in omega arith
@@ -46,13 +44,11 @@ id_below id first (p ∷ ps) (s ∷ ss) next same h stands =
         omega arith
     go false e one st more = more st
 
--- what goes on, and stands in the end, is no older
 goes-published : (a b : Option Progress) → GoesOn a b → is_some b ≡ true → IsNoOlder (shown a) (shown b)
 goes-published a None h stands = absurd (true≢false (sym stands))
 goes-published None (Some q) h stands = absurd h
 goes-published (Some p) (Some q) h stands = h
 
--- the calls after a sound state make nothing older
 later : (id : ℕ) (m : Machine) (more : List Noted) → IsSound m → Stands id (after_all m more) → IsNoOlder (published_of id m.progress) (published_of id (after_all m more).progress)
 later id m more h stands = go (progress_of id m.progress) refl
   where
@@ -63,11 +59,11 @@ later id m more h stands = go (progress_of id m.progress) refl
         let lt = id_below id 1 m.progress m.listing.scenarios m.listing.next h.ids h.rise there in
         goes-published (progress_of id m.progress) (progress_of id (after_all m more).progress) (all_goes id m more lt).on stands
 
--- the first calls of a legal history are one
 legal_front : (m : Machine) (notes more : List Noted) → IsLegal m (notes ++ more) → IsLegal m notes
 legal_front m [] more legal = tt
 legal_front m (note ∷ notes) more legal = (legal.0, legal.1, legal_front (after note.call m) notes more legal.2)
 
+-- over a legal history, a scenario's published version never goes down while its id stands
 pub versions : (log : List LogEntry) (notes more : List Noted) (id : ℕ) → IsLegal (opened log) (notes ++ more) → Stands id (after_all (opened log) (notes ++ more)) → IsNoOlder (published_of id (after_all (opened log) notes).progress) (published_of id (after_all (opened log) (notes ++ more)).progress)
 versions log notes more id legal =
     let mid : Machine = after_all (opened log) notes in
@@ -75,6 +71,7 @@ versions log notes more id legal =
     let P : Machine → Type 0 = λ m. Stands id m → IsNoOlder (published_of id mid.progress) (published_of id m.progress) in
     subst P (sym (after_all-append (opened log) notes more)) (later id mid more sound)
 
+-- after a legal history, no version is published that was not yet made
 pub none_ahead : (log : List LogEntry) (notes : List Noted) (id v : ℕ) → IsLegal (opened log) notes → published_of id (after_all (opened log) notes).progress ≡ Some v → v ≤ version (after_all (opened log) notes)
 none_ahead log notes id v legal is =
     let m : Machine = after_all (opened log) notes in

@@ -1,4 +1,4 @@
--- What tests of equality say of entries and of edits.
+-- What the test of equality of two entries says: their lines are compared by their values.
 use Rattle.std.proofs.Common.{◌≡◌, List, [], ◌∷◌, Bool, true, ◌&&◌, map, refl, ap, ap₂, ◌∙◌}
 use Rattle.std.specs.Ordering.{int_eq}
 use Rattle.std.specs.Cmp.Lexicographic.{pointwise}
@@ -6,11 +6,9 @@ use Rattle.swf_text.specs.declared.line.Fields.{Fields}
 use Rattle.swf_text.specs.Entry.{LogEntry, values}
 use Rattle.book_machine.specs.Same.{same_entry}
 
--- the test of two lines
 abbrev pub same_line : Fields → Fields → Bool
 same_line a b = pointwise int_eq a.0 b.0
 
--- lines are compared by their values
 pointwise-values : (ps qs : List Fields) → pointwise same_line ps qs ≡ pointwise (pointwise int_eq) (map values ps) (map values qs)
 pointwise-values [] [] = refl
 pointwise-values [] (q ∷ qs) = refl

@@ -1,4 +1,4 @@
--- Each call keeps what is sound of a state.
+-- A log that was just opened is sound, and each call keeps a state sound, so each state of a legal history is.
 use Rattle.std.proofs.Common.{◌≡◌, ℕ, ◌+◌, ◌<◌, ◌≤◌, ◌==◌, List, [], ◌∷◌, ◌++◌, length, filter, find, Bool, true, false, cond, not, Option, None, Some, is_some, refl, sym, ◌∙◌, ap, subst, arith, length-append}
 use Rattle.std.specs.List.{AllByRecursion}
 use Rattle.std.proofs.lemmas.Bool.Decides.{nat_tests}
@@ -15,13 +15,10 @@ use Rattle.book_machine.proofs.Lists.{all_weaken, all_end, all_map, all_filter, 
 use Rattle.book_machine.proofs.Later.{alter, progress_of-other, stands-end, stands-changed, publish_id}
 use Rattle.book_machine.proofs.Ids.{ids-end, ids-without, ids_without, ids_filter, ids_changed, ids_end}
 
--- ---- versions
-
 made_more : (v : ℕ) (o : Option ℕ) → IsMade v o → IsMade (v + 1) o
 made_more v None h = tt
 made_more v (Some w) h = omega (arith, h)
 
--- what becomes of one scenario is sound where the change keeps it so
 altered : (v k : ℕ) (f : Progress → Progress) → ((p : Progress) → IsProgress v p → IsProgress v (f p)) → (p : Progress) → IsProgress v p → IsProgress v (alter k f p)
 altered v k f keep p h = go (p.id == k)
   where
@@ -36,7 +33,6 @@ published_made v w le p h = go (is_below p.published w)
     go true = record { published = le; mark = h.mark }
     go false = h
 
--- a ticket that is found is one that stands
 found_ticket : (P : Ticket → Type 0) (number : ℕ) (t : Ticket) (ts : List Ticket) → AllByRecursion P ts → ticket_of number ts ≡ Some t → P t
 found_ticket P number t [] all is = cc
 found_ticket P number t (u ∷ ts) all is = go (u.number == number) is (found_ticket P number t ts all.1)
@@ -45,7 +41,6 @@ found_ticket P number t (u ∷ ts) all is = go (u.number == number) is (found_ti
     go true e more = let same : u ≡ t = cc in subst P same all.0
     go false e more = more e
 
--- a scenario that is due stands
 due_stands : (m : Machine) (p : Progress) (ps : List Progress) → find (is_due m) ps ≡ Some p → is_some (progress_of p.id ps) ≡ true
 due_stands m p [] is = cc
 due_stands m p (q ∷ ps) is = go (is_due m q) (q.id == p.id) refl is (due_stands m p ps)
@@ -58,9 +53,6 @@ due_stands m p (q ∷ ps) is = go (is_due m q) (q.id == p.id) refl is (due_stand
         absurd (grind (arith, nat_tests))
     go false false e found more = more found
 
--- ---- the calls
-
--- a ticket that stands is sound in a state of more versions and tickets, where its scenario still stands
 claims : (old new : Machine) → old.next_ticket ≤ new.next_ticket → version old ≤ version new → ((id : ℕ) → Stands id old → Stands id new) → (ts : List Ticket) → AllByRecursion (IsClaim old) ts → AllByRecursion (IsClaim new) ts
 claims old new tickets versions stands ts all =
     all_weaken (IsClaim old) (IsClaim new) (λ t c. record {
@@ -140,7 +132,6 @@ sound-drop m name k found h lt =
       notes = omega (arith, lt);
     }
 
--- a change of what is known of one scenario
 sound-changed : (m : Machine) (k : ℕ) (f : Progress → Progress) (test : Ticket → Bool) → ((p : Progress) → (f p).id ≡ p.id) → ((p : Progress) → IsProgress (version m) p → IsProgress (version m) (f p)) → IsSound m → m.notes < note_limit → IsSound (noted (record m { progress = changed k f m.progress; tickets = filter test m.tickets }))
 sound-changed m k f test keep sound h lt =
     let new : Machine = noted (record m { progress = changed k f m.progress; tickets = filter test m.tickets }) in
@@ -249,8 +240,7 @@ step_sound m (Finish number fits) h lt = finish_sound m number fits (ticket_of n
 step_sound m (GiveUp number) h lt = given_up_sound m number (ticket_of number m.tickets) refl h lt
 step_sound m (View k seen) h lt = sound-same m h lt
 
--- ---- histories
-
+-- a log that was just opened is a sound state
 pub sound-opened : (log : List LogEntry) → IsSound (opened log)
 sound-opened log = record {
   ids = refl;
@@ -266,6 +256,7 @@ sound-opened log = record {
   notes = omega arith;
 }
 
+-- the calls of a legal history keep a state sound
 pub sound_after : (m : Machine) (notes : List Noted) → IsSound m → IsLegal m notes → IsSound (after_all m notes)
 sound_after m [] h legal = h
 sound_after m (note ∷ notes) h legal = sound_after (after note.call m) notes (step_sound m note.call h legal.0) legal.2

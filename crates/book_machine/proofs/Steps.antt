@@ -8,7 +8,6 @@ use Rattle.book_machine.specs.Machine.{Machine, Progress, Ticket, version, curre
 use Rattle.book_machine.specs.History.{Noted, after_all}
 use Rattle.book_machine.proofs.Later.{GoesOn, GoesOn-refl, GoesOn-trans, IsNoOlder-refl, goes_on-changed, goes_on-dropped, goes_on-end, publish_id, publish_newer}
 
--- what stands under an id that was given goes on, and so does the next id
 pub record Goes (id : ℕ) (old new : Machine) : Type 0 where
   pub on : GoesOn (progress_of id old.progress) (progress_of id new.progress)
   pub next : old.listing.next ≤ new.listing.next
@@ -59,7 +58,7 @@ step_goes id m (Finish number fits) lt = finish_goes id m number fits (ticket_of
 step_goes id m (GiveUp number) lt = give_up_goes id m number (ticket_of number m.tickets)
 step_goes id m (View k seen) lt = stays id m
 
--- over a list of calls
+-- over a history, the scenario of an id that was given goes on, or is gone, and the next id never goes down
 pub all_goes : (id : ℕ) (m : Machine) (notes : List Noted) → id < m.listing.next → Goes id m (after_all m notes)
 all_goes id m [] lt = stays id m
 all_goes id m (note ∷ notes) lt =
@@ -71,6 +70,7 @@ all_goes id m (note ∷ notes) lt =
       next = let a = first.next in let b = rest.next in omega (arith, a, b);
     }
 
+-- the state after some calls and more is that after the more, from the state after the first
 pub after_all-append : (m : Machine) (notes more : List Noted) → after_all m (notes ++ more) ≡ after_all (after_all m notes) more
 after_all-append m [] more = refl
 after_all-append m (note ∷ notes) more = after_all-append (after note.call m) notes more

@@ -1,4 +1,4 @@
--- Edits are only added to the log, and only where they are accepted.
+-- Edits are only added to the log, and only where they are accepted; the log that was opened stays, and the notes tell the edits.
 use Rattle.std.proofs.Common.{◌≡◌, ℕ, ◌+◌, ◌≤◌, List, [], ◌∷◌, ◌++◌, take, Bool, true, false, cond, Option, None, Some, is_some, refl, sym, ◌∙◌, ap, subst, append_assoc}
 use Rattle.std.proofs.lemmas.List.{append-nil, take-append-le}
 use Rattle.std.specs.List.{filter_map, cons_option}
@@ -15,7 +15,6 @@ use Rattle.book_machine.specs.History.{Noted, IsLegal, after_all}
 use Rattle.book_machine.specs.Versions.{WereAccepted, edit_outcome}
 use Rattle.book_machine.proofs.Steps.{after_all-append}
 
--- the log that was opened and its edits stay
 pub record Stays (old new : Machine) : Type 0 where
   pub opening : new.opening ≡ old.opening
   pub edits : new.edits ≡ old.edits
@@ -45,21 +44,16 @@ give_up_stays : (m : Machine) (number : ℕ) (o : Option Ticket) → Stays m (el
 give_up_stays m number None = same m
 give_up_stays m number (Some t) = record { opening = refl; edits = refl }
 
--- ---- the edits grow
-
--- an accepted edit more, or none
 abbrev pub Adds : Machine → List LogEdit → Type 0
 Adds m [] = Unit {0}
 Adds m (edit ∷ []) = fault_of edit (current m) ≡ None
 Adds m (edit ∷ other ∷ edits) = ⊥
 
--- the log that was opened, and the edits behind those before, which the reply tells
 pub record Grows (call : BookCall) (outcome : Reply) (old new : Machine) : Type 0 where
   pub opening : new.opening ≡ old.opening
   pub adds : Adds old (cons_option (edit_outcome call outcome) [])
   pub edits : new.edits ≡ old.edits ++ cons_option (edit_outcome call outcome) []
 
--- a call that tells no edit, and adds none
 kept_as : (call : BookCall) (outcome : Reply) (old new : Machine) → edit_outcome call outcome ≡ None → Stays old new → Grows call outcome old new
 kept_as call outcome old new is stays =
     let none : cons_option (edit_outcome call outcome) [] ≡ [] = ap (λ (o : Option LogEdit). cons_option o []) is in
@@ -83,8 +77,6 @@ step_grows m (Finish number fits) = kept_as (Finish number fits) (finish_reply n
 step_grows m (GiveUp number) = kept_as (GiveUp number) (give_up_reply number m) m (after_give_up number m) refl (give_up_stays m number (ticket_of number m.tickets))
 step_grows m (View k seen) = kept_as (View k seen) (view_reply k seen m) m m refl (same m)
 
--- ---- accepted
-
 accepted-end : (log : List LogEntry) (edits : List LogEdit) (edit : LogEdit) → WereAccepted log edits → fault_of edit (log_after log edits) ≡ None → WereAccepted log (edits ++ edit ∷ [])
 accepted-end log [] edit were is = (is, tt)
 accepted-end log (first ∷ edits) edit were is = (were.0, accepted-end (applied first log) edits edit were.1 is)
@@ -105,8 +97,6 @@ all_accepted : (m : Machine) (notes : List Noted) → WereAccepted m.opening m.e
 all_accepted m [] were = were
 all_accepted m (note ∷ notes) were = all_accepted (after note.call m) notes (step_accepted m note.call were)
 
--- ---- the log that was opened stays, and the edits grow
-
 pub opening_stays : (m : Machine) (notes : List Noted) → (after_all m notes).opening ≡ m.opening
 opening_stays m [] = refl
 opening_stays m (note ∷ notes) = opening_stays (after note.call m) notes ∙ (step_grows m note.call).opening
@@ -119,6 +109,7 @@ edits_grow m (note ∷ notes) =
     let rest = edits_grow (after note.call m) notes in
     (new ++ rest.0, rest.1 ∙ ap (λ es. es ++ rest.0) g.edits ∙ append_assoc m.edits new rest.0)
 
+-- after a legal history, each edit was accepted by the log after those before it
 pub accepted : (log : List LogEntry) (notes : List Noted) → IsLegal (opened log) notes → WereAccepted log (after_all (opened log) notes).edits
 accepted log notes legal =
     subst (λ l. WereAccepted l (after_all (opened log) notes).edits) (opening_stays (opened log) notes) (all_accepted (opened log) notes tt)
@@ -128,11 +119,10 @@ log_stays log m more v le =
     let grown = edits_grow m more in
     ap (log_after log) (ap (take v) grown.1 ∙ take-append-le v m.edits grown.0 le)
 
+-- whatever is called later in a legal history, a version's log stays what it was
 pub kept : (log : List LogEntry) (notes more : List Noted) (v : ℕ) → IsLegal (opened log) (notes ++ more) → v ≤ version (after_all (opened log) notes) → log_at log (after_all (opened log) (notes ++ more)).edits v ≡ log_at log (after_all (opened log) notes).edits v
 kept log notes more v legal le =
     ap (λ (m : Machine). log_at log m.edits v) (after_all-append (opened log) notes more) ∙ log_stays log (after_all (opened log) notes) more v le
-
--- ---- the notes tell the edits
 
 one_first : (o : Option LogEdit) (rest : List LogEdit) → cons_option o [] ++ rest ≡ cons_option o rest
 one_first None rest = refl
@@ -149,5 +139,6 @@ outcome_from m (note ∷ notes) legal =
     ∙ append_assoc m.edits new later
     ∙ ap (λ es. m.edits ++ es) (one_first (edit_outcome note.call (reply_to note.call m)) later ∙ ap (λ r. cons_option (edit_outcome note.call r) later) (sym legal.1))
 
+-- after a legal history, the edits are those in its notes that were answered with a version
 pub noted_edits : (log : List LogEntry) (notes : List Noted) → IsLegal (opened log) notes → (after_all (opened log) notes).edits ≡ filter_map (λ n. edit_outcome n.call n.reply) notes
 noted_edits log notes legal = outcome_from (opened log) notes legal

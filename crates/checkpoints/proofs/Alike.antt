@@ -1,4 +1,4 @@
--- Runs of one table and scenario are alike.
+-- Runs of one table and scenario are alike: each has all starts of the simulation, and a log has one such table.
 use Rattle.std.proofs.Common.{◌≡◌, List, sym, ◌∙◌, ap, subst}
 use Rattle.std.specs.List.{filter_map}
 use Rattle.swf_text.specs.Entry.{LogEntry}
@@ -18,7 +18,6 @@ use Rattle.checkpoints.specs.RunView.{RunView, IsRun}
 use Rattle.checkpoints.specs.Alike.{RunsOfOneTableAreAlike}
 use Rattle.checkpoints.proofs.Chains.{cut-outcome}
 
--- a log has one such table
 one-tables : (log : List LogEntry) (s : ScenarioView) (t u : TableRows) → IsTablesOf log s t → IsTablesOf log s u → t ≡ u
 one-tables log s t u (v, pv, ev) (w, pw, ew) =
     ev ∙ ap (λ (x : PartSums). tables_of s.procs (skips_of log s) x) (one_part (all_placed (plan_of log s)) v w pv pw) ∙ sym ew
@@ -27,6 +26,7 @@ same-starts : (a b : RunView) → IsPlan (plan_of a.log a.scenario) → IsRun a 
 same-starts a b p ra rb e =
     cut-outcome (plan_of a.log a.scenario) a.segments p ra.cut ∙ ap sim e ∙ sym (cut-outcome (plan_of b.log b.scenario) b.segments (subst IsPlan e p) rb.cut)
 
+-- two runs of one sound table and scenario have the same starts in the same order, the same schedule and the same tables
 pub runs-of-one-table-are-alike : RunsOfOneTableAreAlike
 runs-of-one-table-are-alike a b p ra rb log scenario =
     let plan : plan_of a.log a.scenario ≡ plan_of b.log b.scenario = ap (λ (l : List LogEntry). plan_of l a.scenario) log ∙ ap (plan_of b.log) scenario in

@@ -37,6 +37,7 @@ reasons-counted (r ∷ rs) =
     go TooLarge i a b c d = omega (arith, i, a, b, c, d)
     go TooLong i a b c d = omega (arith, i, a, b, c, d)
 
+-- the entries that are skipped and the jobs of a log are together as many as its entries
 pub jobs-or-skips : (s : ScenarioView) (es : List LogEntry) → length (reasons_of es s) + length (jobs_of es s) ≡ length es
 jobs-or-skips s [] = refl
 jobs-or-skips s (e ∷ es) = go (effective e s) (jobs-or-skips s es)
@@ -45,9 +46,9 @@ jobs-or-skips s (e ∷ es) = go (effective e s) (jobs-or-skips s es)
     go (Ok job) i = omega (arith, i)
     go (Err skip) i = omega (arith, i)
 
--- the jobs of a log are all entries but those that are skipped
 pub jobs-counted : (s : ScenarioView) (es : List LogEntry) → all_skips (skips_of es s) + length (jobs_of es s) ≡ length es
 jobs-counted s es = omega (arith, jobs-or-skips s es, reasons-counted (reasons_of es s))
 
+-- the entries that are skipped, summed over all reasons, and the jobs of a log are together as many as its entries
 pub kept-counted : (log : List LogEntry) (s : ScenarioView) (skips : Skips) (count : ℕ) → skips ≡ skips_of log s → count ≡ length log → all_skips skips + length (jobs_of log s) ≡ count
 kept-counted log s skips count e f = omega (arith, ap all_skips e, f, jobs-counted s log)

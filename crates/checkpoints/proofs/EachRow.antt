@@ -24,5 +24,6 @@ rows-numbered starts (j ∷ js) h =
     go None s rest = absurd s
     go (Some t) s rest = ap (λ l. j.number ∷ l) rest
 
+-- the rows of a sound plan have the numbers of its jobs, in order
 pub each-job-has-a-row : EachJobHasARow
 each-job-has-a-row plan p = rows-numbered (sim plan) plan.jobs (none-starts-early plan p)

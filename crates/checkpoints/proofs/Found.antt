@@ -1,4 +1,4 @@
--- The starts of jobs by their numbers.
+-- The start that is found for a number: the same one where starts are sorted by number, and an early one where all are.
 use Rattle.std.proofs.Common.{◌≡◌, ℕ, ◌≤◌, ◌<◌, ◌^◌, ◌&&◌, Bool, true, false, cond, eqb, not, nat_eq, List, [], ◌∷◌, Option, Some, None, All, filter, refl, sym, ap, arith, ◌∙◌, ⊎_elim}
 use Rattle.std.specs.Prelude.{IfSome, find}
 use Rattle.std.specs.List.Sorted.{IsStableByKey, ties}
@@ -9,7 +9,6 @@ use Rattle.std.proofs.lemmas.List.Elements.{All-head, All-tail}
 use Rattle.easy_rule.specs.declared.start.Start.{Start}
 use Rattle.easy_rule.specs.Simulation.{start_of}
 
--- what is found is the first of those that pass
 find-filter : {X : Type 0} (p : X → Bool) (xs ys : List X) → filter p xs ≡ filter p ys → find p xs ≡ find p ys
 find-filter p xs ys e = first p xs ∙ ap head e ∙ sym (first p ys)
   where
@@ -24,7 +23,6 @@ find-filter p xs ys e = first p xs ∙ ap head e ∙ sym (first p ys)
       go true i = refl
       go false i = i
 
--- neither number comes before the other where they are the same
 same-number : (m n : ℕ) → (not (is_lt (nat_cmp n m)) && not (is_lt (nat_cmp m n))) ≡ nat_eq m n
 same-number m n =
     ⊎_elim
@@ -40,7 +38,7 @@ filter-agree : {X : Type 0} (p q : X → Bool) → ((x : X) → p x ≡ q x) →
 filter-agree p q h [] = refl
 filter-agree p q h (x ∷ xs) = ap (λ b. cond b (x ∷ filter p xs) (filter p xs)) (h x) ∙ ap (λ l. cond (q x) (x ∷ l) l) (filter-agree p q h xs)
 
--- in order of their numbers, where those of one number stay as they stand, the same starts are found
+-- starts that are sorted by number, those of one number in their old order, give each number the same start as before
 pub sorted-starts : (xs ys : List Start) → IsStableByKey (λ (x : Start). x.number) nat_cmp xs ys → (n : ℕ) → start_of ys n ≡ start_of xs n
 sorted-starts xs ys stable n =
     let at : Start = record { number = n; at = 0 } in
@@ -49,11 +47,11 @@ sorted-starts xs ys stable n =
     let agree : (zs : List Start) → filter by zs ≡ filter mine zs = filter-agree by mine (λ x. same-number x.number n) in
     ap (λ (o : Option Start). option_map (λ (x : Start). x.at) o) (find-filter mine ys xs (sym (agree ys) ∙ stable at ∙ agree xs))
 
--- no start is late, so none that is found is
 early-first : (b : Bool) (x : Start) (xs : List Start) (n : ℕ) → eqb x.number n ≡ b → x.at < 2 ^ 49 → IfSome (start_of xs n) (λ at. at < 2 ^ 49) → IfSome (start_of (x ∷ xs) n) (λ at. at < 2 ^ 49)
 early-first true x xs n same first later = rw same first
 early-first false x xs n other first later = rw other later
 
+-- where all starts come before second 2^49, so does the one that is found for a number
 pub found-early : (xs : List Start) (n : ℕ) → All (λ (s : Start). s.at < 2 ^ 49) xs → IfSome (start_of xs n) (λ at. at < 2 ^ 49)
 found-early [] n all = tt
 found-early (x ∷ xs) n all = early-first (eqb x.number n) x xs n refl (All-head (λ (s : Start). s.at < 2 ^ 49) x xs all) (found-early xs n (All-tail (λ (s : Start). s.at < 2 ^ 49) x xs all))

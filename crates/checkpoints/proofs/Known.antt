@@ -1,4 +1,4 @@
--- Starts that are looked up by number.
+-- Starts that are looked up by number, in places and a list: with one start more, with more places, segment after segment; and the rows by them.
 use Rattle.std.proofs.Common.{◌≡◌, ◌≢◌, ℕ, ◌+◌, ◌-◌, ◌≤◌, ◌<◌, ◌^◌, Bool, nat_eq, List, [], ◌∷◌, ◌++◌, length, take, replicate, map, get_or, set, length-set, Option, Some, None, refl, ap, sym, subst, ◌∙◌, arith, ⊎_elim}
 use Rattle.std.specs.Prelude.{IfSome, find, slice_index_or}
 use Rattle.std.specs.List.{cons_option, filter_map}
@@ -16,7 +16,6 @@ use Rattle.checkpoints.specs.Cut.{all_starts}
 use Rattle.checkpoints.specs.Schedule.{row_at, row_of}
 use Rattle.checkpoints.specs.Starts.{KnownStarts, AreApart, AreEarly, known_start, place_in, row_by, second_at, start_in}
 
--- ---- a start more
 or-none : (o : Option ℕ) → option_or o None ≡ o
 or-none None = refl
 or-none (Some n) = refl
@@ -25,6 +24,7 @@ pub or-later : (a b c : Option ℕ) → option_or (option_or a b) c ≡ option_o
 or-later None b c = refl
 or-later (Some n) b c = refl
 
+-- the start of a number in two lists is that in the first, or else that in the second
 pub start-append : (n : ℕ) (xs ys : List Start) → start_of (xs ++ ys) n ≡ option_or (start_of xs n) (start_of ys n)
 start-append n xs ys =
     let has : Start → Bool = λ x. nat_eq x.number n in
@@ -41,7 +41,7 @@ some-none : (o : Option ℕ) (k : ℕ) → o ≡ Some k → o ≡ None → ⊥
 some-none None k e f = cc
 some-none (Some j) k e f = cc
 
--- a start without a place
+-- a start without a place, put at the end of the list, is that of its number where none was known; all else is as before
 pub noted-other : (least n : ℕ) (places : List (Option ℕ)) (others new : List Start) (x : Start) → place_in least (length places) x.number ≡ None → new ≡ others ++ x ∷ []
     → start_in least places new n ≡ option_or (start_in least places others n) (start_of (x ∷ []) n)
 noted-other least n places others new x none push = go (place_in least (length places) n) refl
@@ -52,7 +52,6 @@ noted-other least n places others new x none push = go (place_in least (length p
         let other : start_of (x ∷ []) n ≡ None = other-start x n (λ same. some-none (place_in least (length places) n) k e (ap (place_in least (length places)) (sym same) ∙ none)) in
         sym (or-none (slice_index_or places k None)) ∙ ap (option_or (slice_index_or places k None)) (sym other)
 
--- ---- places more
 place-low : (least len n : ℕ) → n < least → place_in least len n ≡ None
 place-low least len n l = rw (lt-leb least n l) refl
 
@@ -76,7 +75,7 @@ place-is least len n k is =
     same-some : {a b : ℕ} → Some a ≡ Some b → a ≡ b
     same-some e = cc
 
--- a start at its place
+-- a start noted at its place, where that has none, is that of its number where none was known; all else is as before
 pub noted-here : (least n p : ℕ) (places new : List (Option ℕ)) (others : List Start) (x : Start) → place_in least (length places) x.number ≡ Some p → new ≡ set places p (option_or (get_or places p None) (Some x.at))
     → start_in least new others n ≡ option_or (start_in least places others n) (start_of (x ∷ []) n)
 noted-here least n p places new others x at is =
@@ -99,7 +98,7 @@ noted-here least n p places new others x at is =
         ap (λ (xs : List (Option ℕ)). slice_index_or xs k None) is ∙ get_or-set_other places p k (option_or (get_or places p None) (Some x.at)) None (apart k e)
         ∙ sym (or-none (slice_index_or places k None)) ∙ ap (option_or (slice_index_or places k None)) (sym none)
 
--- places that have no start yet, of numbers of which no start stands in the list
+-- with more places, which are empty, each number starts as before, where none that may have a place has a start in the list
 pub noted-places : (least most n k : ℕ) (places new : List (Option ℕ)) (others : List Start) → AreApart least most others → length new ≤ most → new ≡ places ++ replicate k None
     → start_in least new others n ≡ start_in least places others n
 noted-places least most n k places new others apart within more =
@@ -128,17 +127,17 @@ noted-places least most n k places new others apart within more =
     (cases_lt (n - least) (length places)))
     (cases_lt n least)
 
--- a start more in the list, whose number may have no place
+-- with one more start, of a number that may have no place, the list still has none of a number that may have one
 pub apart-more : (least most : ℕ) (others new : List Start) (x : Start) → AreApart least most others → place_in least most x.number ≡ None → new ≡ others ++ x ∷ [] → AreApart least most new
 apart-more least most others new x apart none push n place at =
     let other : start_of (x ∷ []) n ≡ None = other-start x n (λ same. some-none (place_in least most n) place at (ap (place_in least most) (sym same) ∙ none)) in
     ap (λ (xs : List Start). start_of xs n) push ∙ start-append n others (x ∷ []) ∙ ap (λ (o : Option ℕ). option_or o (start_of (x ∷ []) n)) (apart n place at) ∙ other
 
--- a number that may have a place has it, where there is one
+-- the place of a number among the most that there may be is its place among those that there are, where it is one of them
 pub placed-some : (least most len n k : ℕ) → place_in least most n ≡ Some k → k < len → place_in least len n ≡ Some k
 placed-some least most len n k is here = let there = place-is least most n k is in place-at least len n there.0 (omega (arith, there.1, here)) ∙ ap Some (sym there.1)
 
--- a number that may have no place has none
+-- a number without a place among the most that there may be has none among those that there are
 pub placed-none : (least most len n : ℕ) → len ≤ most → place_in least most n ≡ None → place_in least len n ≡ None
 placed-none least most len n within none =
     ⊎_elim
@@ -150,10 +149,11 @@ placed-none least most len n within none =
     (cases_lt (n - least) most))
     (cases_lt n least)
 
--- ---- a list of starts, one after another
+-- what is known of a number, or else nothing, is what is known of it
 pub noted-none : (o : Option ℕ) → o ≡ option_or o None
 noted-none o = sym (or-none o)
 
+-- where the first i starts of a list are noted, and the next one is then, the first i + 1 are
 pub noted-more : (n i : ℕ) (xs : List Start) (x : Start) (first old new : Option ℕ) → i < length xs → x ≡ get_or xs i x → old ≡ option_or first (start_of (take i xs) n) → new ≡ option_or old (start_of (x ∷ []) n)
     → new ≡ option_or first (start_of (take (i + 1) xs) n)
 noted-more n i xs x first old new l at before more =
@@ -161,7 +161,7 @@ noted-more n i xs x first old new l at before more =
     more ∙ ap (λ (o : Option ℕ). option_or o (start_of (x ∷ []) n)) before ∙ or-later first (start_of (take i xs) n) (start_of (x ∷ []) n)
     ∙ ap (option_or first) (sym (start-append n (take i xs) (x ∷ [])) ∙ ap (λ (ys : List Start). start_of ys n) (sym next))
 
--- the start of a job more
+-- where the starts at second t of the first i jobs are noted, and that of the next job is then, those of the first i + 1 are
 pub noted-job : (n i t : ℕ) (jobs : List EffectiveJob) (job : EffectiveJob) (x : Start) (first old new : Option ℕ) → i < length jobs → job ≡ get_or jobs i job → x ≡ start_at t job → old ≡ option_or first (start_of (map (start_at t) (take i jobs)) n)
     → new ≡ option_or old (start_of (x ∷ []) n) → new ≡ option_or first (start_of (map (start_at t) (take (i + 1) jobs)) n)
 noted-job n i t jobs job x first old new l at is before more =
@@ -171,10 +171,10 @@ noted-job n i t jobs job x first old new l at is before more =
     more ∙ ap (λ (o : Option ℕ). option_or o (start_of (x ∷ []) n)) before ∙ or-later first (start_of front n) (start_of (x ∷ []) n)
     ∙ ap (option_or first) (sym (start-append n front (x ∷ [])) ∙ ap (λ (ys : List Start). start_of ys n) (sym next))
 
--- ---- segment after segment
 all-append : (ss ts : List SegmentView) → all_starts (ss ++ ts) ≡ all_starts ss ++ all_starts ts
 all-append ss ts = flat_map-append (λ (s : SegmentView). s.starts) ss ts
 
+-- where the starts of the first i segments are noted, and those of the next one are then, those of the first i + 1 are
 pub noted-segment : {X : Type 0} (f : X → SegmentView) (n i : ℕ) (xs : List X) (x : X) (starts : List Start) (old new : Option ℕ) → i < length xs → x ≡ get_or xs i x → starts ≡ (f x).starts → old ≡ start_of (all_starts (map f (take i xs))) n
     → new ≡ option_or old (start_of starts n) → new ≡ start_of (all_starts (map f (take (i + 1) xs))) n
 noted-segment f n i xs x starts old new l at is before more =
@@ -184,12 +184,13 @@ noted-segment f n i xs x starts old new l at is before more =
     ap (λ ys. all_starts (map f ys)) next ∙ ap all_starts (map_push f (take i xs) x) ∙ all-append (map f (take i xs)) (f x ∷ []) ∙ ap (λ (ys : List Start). all_starts (map f (take i xs)) ++ ys) one in
     more ∙ ap (λ (o : Option ℕ). option_or o (start_of starts n)) before ∙ sym (ap (λ (ys : List Start). start_of ys n) all ∙ start-append n (all_starts (map f (take i xs))) starts)
 
--- ---- rows by these starts
+-- rows by known starts are the rows by a list in which each number has the same start
 pub rows-same : (known : KnownStarts) (starts : List Start) (jobs : List EffectiveJob) → ((n : ℕ) → known_start known n ≡ start_of starts n) → filter_map (row_by known) jobs ≡ filter_map (row_of starts) jobs
 rows-same known starts [] h = refl
 rows-same known starts (job ∷ jobs) h =
     ap (λ (o : Option ℕ). cons_option (option_map (row_at job) o) (filter_map (row_by known) jobs)) (h job.number)
     ∙ ap (cons_option (row_of starts job)) (rows-same known starts jobs h)
 
+-- starts are early where a list in which each number has the same start has none at second 2^49 or later
 pub early-same : (known : KnownStarts) (starts : List Start) → ((n : ℕ) → known_start known n ≡ start_of starts n) → ((n : ℕ) → IfSome (start_of starts n) (λ at. at < 2 ^ 49)) → AreEarly known
 early-same known starts h early n = subst (λ (o : Option ℕ). IfSome o (λ at. at < 2 ^ 49)) (sym (h n)) (early n)

@@ -1,4 +1,4 @@
--- No job starts before its submit second.
+-- No job starts before its submit second, as many start as there are jobs, and sums can be made over the jobs of starts that stand together.
 use Rattle.std.proofs.Common.{◌≡◌, ℕ, suc, ◌+◌, ◌-◌, ◌^◌, ◌≤◌, ◌<◌, Bool, true, false, cond, nat_eq, List, [], ◌∷◌, ◌++◌, length, length-append, get_or, Option, Some, None, All, count_by, refl, sym, ◌∙◌, ap, arith, subst, inl, inr, ⊎_elim}
 use Rattle.std.specs.Prelude.{find, IsSomeAnd}
 use Rattle.std.specs.Option.{option_map, option_or}
@@ -19,7 +19,6 @@ use Rattle.timeline.proofs.Lemmas.{submits-by, starts-below, all-start-early, ea
 use Rattle.metrics.specs.Placed.{CanStart, CanSum}
 use Rattle.checkpoints.specs.Cut.{placed_of}
 
--- the starts from a second on
 pub outcome-later : (plan : Plan) (t : ℕ) → t ≤ bound plan + 1 → (ys : List Start) × (sim plan ≡ starts_before plan t ++ ys) × All (λ (x : Start). t ≤ x.at) ys
 outcome-later plan t l =
     let n = bound plan + 1 - t in
@@ -27,7 +26,6 @@ outcome-later plan t l =
     let k = later plan t n in
     (k.0, ap (starts_before plan) (sym whole) ∙ k.1, k.2)
 
--- where one is found
 abbrev second_of : Option Start → Option ℕ
 second_of o = option_map (λ (x : Start). x.at) o
 
@@ -58,7 +56,6 @@ not-before plan n t job p is le =
           absurd (omega (arith, low, high, le))
     ]
 
--- a job that is not simulated has no start
 none-counted : {X : Type 0} (p : X → Bool) (xs : List X) → All (λ x. p x ≡ false) xs → count_by p xs ≡ 0
 none-counted p [] h = refl
 none-counted p (x ∷ xs) h =
@@ -76,6 +73,7 @@ counted-none p (x ∷ xs) h =
     (λ (b : p x ≡ false). All-cons (λ y. p y ≡ false) x xs b (counted-none p xs (omega (arith, f, h))))
     (cases_Bool (p x))
 
+-- a number without a job in the plan has no start in its simulation
 pub not-started : (plan : Plan) (n : ℕ) → IsPlan plan → job_numbered plan.jobs n ≡ None → start_of (sim plan) n ≡ None
 not-started plan n p none =
     let has : Start → Bool = λ x. nat_eq x.number n in
@@ -83,7 +81,6 @@ not-started plan n p none =
     let zero' : count_by mine plan.jobs ≡ 0 = none-counted mine plan.jobs (none-passes mine plan.jobs none) in
     ap second_of (find-none has (sim plan) (counted-none has (sim plan) (each-job-starts-once plan n p ∙ zero')))
 
--- each start of a job's number comes at its submit second or later
 pub start-late : (plan : Plan) (n : ℕ) (job : EffectiveJob) → IsPlan plan → job_numbered plan.jobs n ≡ Some job → All (λ (x : Start). nat_eq x.number n ≡ true → job.submit ≤ x.at) (sim plan)
 start-late plan n job p is =
     let has : Start → Bool = λ x. nat_eq x.number n in
@@ -96,7 +93,6 @@ start-late plan n job p is =
     (λ i d l e. absurd (true≢false (sym e ∙ none i d l)))
     (λ i d l e. tl.2 i d l))
 
--- starts at which their jobs may start
 abbrev pub InTime : Plan → Start → Type 0
 InTime plan x = (job : EffectiveJob) → job_numbered plan.jobs x.number ≡ Some job → (job.submit ≤ x.at) × (x.at < 2 ^ 49)
 
@@ -118,6 +114,7 @@ placed-each plan (x ∷ xs) h =
           rw some (All-cons CanStart (record { job = job; start = x.at }) (placed_of plan.jobs xs) (record { after_submit = k.0; in_time = k.1 }) rest)
     ]
 
+-- there are no more jobs of some starts than starts
 pub placed-fewer : (jobs : List EffectiveJob) (xs : List Start) → length (placed_of jobs xs) ≤ length xs
 placed-fewer jobs [] = omega arith
 placed-fewer jobs (x ∷ xs) =
@@ -127,7 +124,6 @@ placed-fewer jobs (x ∷ xs) =
       | inr (job, some) ↦ rw some (omega (arith, i))
     ]
 
--- where each number is counted no more often among xs than among ys, there are no more of them
 counted-where : {X : Type 0} (p : X → Bool) (xs : List X) → 1 ≤ count_by p xs → (k : ℕ) × (d : X) × (k < length xs) × (p (get_or xs k d) ≡ true)
 counted-where {X = X} p [] l = absurd (omega arith)
 counted-where {X = X} p (x ∷ xs) l =
@@ -161,7 +157,7 @@ module _ {X Y : Type 0} (f : X → ℕ) (g : Y → ℕ) where
       omega (arith, c, d, k, all)) in
       omega (arith, one, fewer)
 
--- as many start as there are jobs at most
+-- no more jobs start than there are
 pub sim-fewer : (plan : Plan) → IsPlan plan → length (sim plan) ≤ length plan.jobs
 sim-fewer plan p = no-more (λ (x : Start). x.number) (λ (j : EffectiveJob). j.number) (sim plan) plan.jobs (λ n. let e = each-job-starts-once plan n p in omega (arith, e))
 
@@ -172,6 +168,7 @@ sim-counted plan p =
     let fewer = sim-fewer plan p in
     omega (arith, more, fewer)
 
+-- a simulation has 4194304 starts at most
 pub sim-few : (plan : Plan) → IsPlan plan → length (sim plan) ≤ 4194304
 sim-few plan p = let l = sim-fewer plan p in let few = p.few in omega (arith, l, few)
 
@@ -183,7 +180,6 @@ All-last : {X : Type 0} (P : X → Type 0) (xs ys : List X) → All P (xs ++ ys)
 All-last P [] ys h = h
 All-last P (x ∷ xs) ys h = All-last P xs ys (All-tail P x (xs ++ ys) h)
 
--- sums can be made over the jobs of starts that stand together in the simulation
 pub can-sum-part : (plan : Plan) (xs ys zs : List Start) → IsPlan plan → sim plan ≡ (xs ++ ys) ++ zs → CanSum (placed_of plan.jobs ys)
 can-sum-part plan xs ys zs p e =
     let times : All (InTime plan) ((xs ++ ys) ++ zs) = subst (All (InTime plan)) e (all-in-time plan p) in
@@ -196,6 +192,7 @@ can-sum-part plan xs ys zs p e =
       few = omega (arith, c, d, f, few);
     }
 
+-- sums can be made over the jobs that start from second a to before b, which is one second after the bound at most
 pub can-sum : (plan : Plan) (a b : ℕ) (starts : List Start) → IsPlan plan → b ≤ bound plan + 1 → starts_before plan a ++ starts ≡ starts_before plan b → CanSum (placed_of plan.jobs starts)
 can-sum plan a b starts p l outcome =
     let tl = outcome-later plan b l in

@@ -1,4 +1,4 @@
--- A job's start, looked up in segments.
+-- A job's start, looked up in segments, from the first on or from the last one that begins by its submit second: those before that have none.
 use Rattle.std.proofs.Common.{◌≡◌, ℕ, zero, suc, ◌+◌, ◌-◌, ◌≤◌, ◌<◌, Bool, true, false, nat_eq, nat_le, List, [], ◌∷◌, ◌++◌, map, take, drop, length, get_or, Option, Some, None, is_some, refl, sym, ◌∙◌, ap, arith, subst, add-one}
 use Rattle.std.specs.Prelude.{find}
 use Rattle.std.specs.Option.{option_map, option_or}
@@ -41,7 +41,7 @@ start-later n xs ys e =
     let has : Start → Bool = λ x. nat_eq x.number n in
     ap second_of (find-append has xs ys) ∙ none-first (find has xs) (find has ys) e
 
--- what a slice from a place on has
+-- of a list from place k on, as many elements as the length less k are all that there are
 pub rest-is : {X : Type 0} (k : ℕ) (xs : List X) → take (length xs - k) (drop k xs) ≡ drop k xs
 rest-is k xs = let l = length-drop k xs in take_all (length xs - k) (drop k xs) (omega (arith, l))
 
@@ -56,16 +56,16 @@ module _ {X : Type 0} (f : X → SegmentView) where
       ∙ flat_map-cons (λ (s : SegmentView). s.starts) (f (get_or xs i d)) (map f (drop (suc i) xs))
       ∙ ap (λ k. (f (get_or xs i d)).starts ++ starts-from xs k) (sym (add-one i))
 
-  -- a loop over the segments
+  -- where the i-th segment has a start of the number, it is the one that is looked for from there on
   pub found-here : (n : ℕ) (xs : List X) (i : ℕ) (d : X) (o w : Option ℕ) → i < length xs → o ≡ start_of (f (get_or xs i d)).starts n → is_some o ≡ true → start_of (starts-from xs i) n ≡ w → o ≡ w
   found-here n xs i d o w l e s h =
       e ∙ sym (start-first n (f (get_or xs i d)).starts (starts-from xs (i + 1)) (ap is_some (sym e) ∙ s)) ∙ ap (λ ys. start_of ys n) (sym (next-starts xs i d l)) ∙ h
 
+  -- where the i-th segment has no start of the number, the one that is looked for is that from the next segment on
   pub found-later : (n : ℕ) (xs : List X) (i : ℕ) (d : X) (o w : Option ℕ) → i < length xs → o ≡ start_of (f (get_or xs i d)).starts n → is_some o ≡ false → start_of (starts-from xs i) n ≡ w → start_of (starts-from xs (i + 1)) n ≡ w
   found-later n xs i d o w l e s h =
       sym (start-later n (f (get_or xs i d)).starts (starts-from xs (i + 1)) (ap is_some (sym e) ∙ s)) ∙ ap (λ ys. start_of ys n) (sym (next-starts xs i d l)) ∙ h
 
-  -- the segments before one that begins by the submit second have no start of the job
   pub found-from : (plan : Plan) (xs : List X) (n i : ℕ) (d : X) (job : EffectiveJob) → IsPlan plan → IsCut plan (map f xs) → job_numbered plan.jobs n ≡ Some job → i < length xs → (f (get_or xs i d)).first ≤ job.submit
       → start_of (starts-from xs i) n ≡ start_of (sim plan) n
   unfolding starts_before
@@ -85,11 +85,10 @@ module _ {X : Type 0} (f : X → SegmentView) where
       ∙ sym (start-later n (all_starts (take i ss)) (all_starts (drop i ss)) (ap is_some none))
       ∙ ap (λ ys. start_of ys n) whole
 
-  -- with all segments
   pub found-among : (plan : Plan) (xs : List X) (n : ℕ) → IsPlan plan → IsCut plan (map f xs) → start_of (starts-from xs 0) n ≡ start_of (sim plan) n
   found-among plan xs n p cut = ap (λ ys. start_of ys n) (cut-outcome plan (map f xs) p cut)
 
-  -- from the last segment that begins by the submit second
+  -- from the last of some first segments that begin by a job's submit second on, or from the first one, its number starts as in the simulation
   pub found-by : (plan : Plan) (xs : List X) (n later k submit : ℕ) (job : EffectiveJob) → IsPlan plan → IsCut plan (map f xs) → job_numbered plan.jobs n ≡ Some job → submit ≡ job.submit → later ≤ length xs → k ≡ later - 1
       → ((j : ℕ) (d : X) → j < later → nat_le (f (get_or xs j d)).first submit ≡ true) → start_of (starts-from xs k) n ≡ start_of (sim plan) n
   found-by plan [] n zero k submit job p cut is same w e h = let e' : k ≡ 0 = omega (arith, e) in subst (λ j. start_of (starts-from [] j) n ≡ start_of (sim plan) n) (sym e') (found-among plan [] n p cut)
@@ -100,9 +99,10 @@ module _ {X : Type 0} (f : X → SegmentView) where
       let le = leb-true (f (get_or (x ∷ xs) m x)).first submit (h m x (omega arith)) in
       subst (λ j. start_of (starts-from (x ∷ xs) j) n ≡ start_of (sim plan) n) (sym e') (found-from plan (x ∷ xs) n m x job p cut is (omega (arith, w)) (omega (arith, le, same)))
 
-  -- the segments that begin by a second come before the others
+  -- whether a segment begins at second t or before
   abbrev pub begins-by : ℕ → X → Bool
   begins-by t x = nat_le (f x).first t
 
+  -- the segments of a cut that begin by a second come before the others
   pub parted : (plan : Plan) (xs : List X) (t : ℕ) → IsCut plan (map f xs) → IsPartitionedBy (begins-by t) xs
   parted plan xs t (e, chain, over) = IsPartitionedBy-leb (λ x. (f x).first) xs t (firsts-rise f plan 0 e xs chain)

@@ -1,4 +1,4 @@
--- Parts merged into one.
+-- Parts merged into one: none, one, two, or two halves of a list, and those of segments that have the parts of their own starts.
 use Rattle.std.proofs.Common.{◌≡◌, ℕ, ◌+◌, ◌≤◌, List, [], ◌∷◌, ◌++◌, map, take, drop, length, length-append, get_or, All, refl, sym, ◌∙◌, ap, arith, subst, append-nil}
 use Rattle.std.specs.List.{AllZip}
 use Rattle.std.proofs.lemmas.Grind.{flat_map-append}
@@ -18,10 +18,11 @@ use Rattle.checkpoints.specs.Nodes.{parts_of}
 joined-both : (xss yss : List (List Placed)) → joined (xss ++ yss) ≡ joined xss ++ joined yss
 joined-both xss yss = flat_map-append (λ (ps : List Placed). ps) xss yss
 
+-- a part counts the jobs of which it is
 pub count-is : (ps : List Placed) (v : PartSums) → IsPartOf ps v → v.totals.count ≡ length ps
 count-is ps v h = ap (λ (t : Totals). t.count) h.totals
 
--- of both lists of parts each has its own lists of jobs
+-- lists of jobs whose parts are two lists, one behind the other, are the lists of jobs of the first and, behind them, of the second
 pub zip-split : (vs ws : List PartSums) (lists : List (List Placed)) → AllZip IsPartOf lists (vs ++ ws)
     → (xss : List (List Placed)) × (yss : List (List Placed)) × (lists ≡ xss ++ yss) × AllZip IsPartOf xss vs × AllZip IsPartOf yss ws
 zip-split [] ws lists z = ([], lists, refl, tt, z)
@@ -60,7 +61,6 @@ few-back vs ws h =
     let both = both-few h.lists r.0 r.1 r.2 h.few in
     record { lists = r.1; parts = r.4; few = omega (arith, both) }
 
--- both merged parts are over few jobs
 pub few-both : (vs ws : List PartSums) (v w : PartSums) → AreFew (vs ++ ws) → IsMerged vs v → IsMerged ws w → v.totals.count + w.totals.count ≤ 4194304
 few-both vs ws v w h m k =
     let r = zip-split vs ws h.lists h.parts in
@@ -69,6 +69,7 @@ few-both vs ws v w h m k =
     let b = count-is (joined r.1) w (k r.1 r.4) in omega (arith, both, a, b)
 
 module _ {X : Type 0} (f : X → PartSums) where
+  -- the part of no job is the merged part of no parts
   pub none-merged : (xs : List X) (e : PartSums) → length xs ≡ 0 → IsPartOf [] e → IsMerged (map f xs) e
   none-merged [] e l h = merged-none e h
   none-merged (x ∷ xs) e l h = absurd (omega (arith, l))
@@ -78,10 +79,11 @@ module _ {X : Type 0} (f : X → PartSums) where
   one-is (y ∷ []) x l e = ap (λ z. f z ∷ []) (sym e)
   one-is (y ∷ z ∷ xs) x l e = absurd (omega (arith, l))
 
-  -- the part of no job, and one part
+  -- the part of no job and a list's only part, which is over few jobs, count together 4194304 at most
   pub one-few : (xs : List X) (x : X) (e : PartSums) → length xs ≡ 1 → x ≡ get_or xs 0 x → IsPartOf [] e → AreFew (map f xs) → e.totals.count + (f x).totals.count ≤ 4194304
   one-few xs x e l is h few' = few-both [] (f x ∷ []) e (f x) (subst AreFew (one-is xs x l is) few') (merged-none e h) (merged-one (f x))
 
+  -- the sum of the part of no job and a list's only part is the list's merged part
   pub one-merged : (xs : List X) (x : X) (e u : PartSums) → length xs ≡ 1 → x ≡ get_or xs 0 x → IsPartOf [] e → ((ps qs : List Placed) → IsPartOf ps e → IsPartOf qs (f x) → IsPartOf (ps ++ qs) u) → IsMerged (map f xs) u
   one-merged xs x e u l is h join = subst (λ vs. IsMerged vs u) (sym (one-is xs x l is)) (merged-both [] (f x ∷ []) e (f x) u (merged-none e h) (merged-one (f x)) join)
 
@@ -91,30 +93,35 @@ module _ {X : Type 0} (f : X → PartSums) where
   two-are (a ∷ b ∷ []) x y l d e = λ i. f (sym d i) ∷ f (sym e i) ∷ []
   two-are (a ∷ b ∷ c ∷ xs) x y l d e = absurd (omega (arith, l))
 
-  -- two parts
+  -- a list's only two parts, which are over few jobs, count together 4194304 at most
   pub two-few : (xs : List X) (x y : X) → length xs ≡ 2 → x ≡ get_or xs 0 x → y ≡ get_or xs 1 y → AreFew (map f xs) → (f x).totals.count + (f y).totals.count ≤ 4194304
   two-few xs x y l d e few' = few-both (f x ∷ []) (f y ∷ []) (f x) (f y) (subst AreFew (two-are xs x y l d e) few') (merged-one (f x)) (merged-one (f y))
 
+  -- the sum of a list's only two parts is its merged part
   pub two-merged : (xs : List X) (x y : X) (u : PartSums) → length xs ≡ 2 → x ≡ get_or xs 0 x → y ≡ get_or xs 1 y → ((ps qs : List Placed) → IsPartOf ps (f x) → IsPartOf qs (f y) → IsPartOf (ps ++ qs) u) → IsMerged (map f xs) u
   two-merged xs x y u l d e join = subst (λ vs. IsMerged vs u) (sym (two-are xs x y l d e)) (merged-both (f x ∷ []) (f y ∷ []) (f x) (f y) u (merged-one (f x)) (merged-one (f y)) join)
 
+  -- the parts of a list are those of its first k elements and those of the others
   pub halves : (xs ys zs : List X) (k : ℕ) → ys ≡ take k xs → zs ≡ drop k xs → map f ys ++ map f zs ≡ map f xs
   halves xs ys zs k d e = (λ i. map f (d i) ++ map f (e i)) ∙ sym (map-append f (take k xs) (drop k xs)) ∙ ap (map f) (take-append-drop k xs)
 
+  -- where the parts of a list are over few jobs, so are those of its first k elements
   pub front-few : (xs ys zs : List X) (k : ℕ) → ys ≡ take k xs → zs ≡ drop k xs → AreFew (map f xs) → AreFew (map f ys)
   front-few xs ys zs k d e h = few-front (map f ys) (map f zs) (subst AreFew (sym (halves xs ys zs k d e)) h)
 
+  -- where the parts of a list are over few jobs, so are those behind its first k elements
   pub back-few : (xs ys zs : List X) (k : ℕ) → ys ≡ take k xs → zs ≡ drop k xs → AreFew (map f xs) → AreFew (map f zs)
   back-few xs ys zs k d e h = few-back (map f ys) (map f zs) (subst AreFew (sym (halves xs ys zs k d e)) h)
 
+  -- where the parts of a list are over few jobs, the merged parts of its two halves count together 4194304 at most
   pub halves-few : (xs ys zs : List X) (k : ℕ) (v w : PartSums) → ys ≡ take k xs → zs ≡ drop k xs → AreFew (map f xs) → IsMerged (map f ys) v → IsMerged (map f zs) w → v.totals.count + w.totals.count ≤ 4194304
   halves-few xs ys zs k v w d e h m n = few-both (map f ys) (map f zs) v w (subst AreFew (sym (halves xs ys zs k d e)) h) m n
 
+  -- the sum of the merged parts of a list's two halves is the list's merged part
   pub halves-merged : (xs ys zs : List X) (k : ℕ) (v w u : PartSums) → ys ≡ take k xs → zs ≡ drop k xs → IsMerged (map f ys) v → IsMerged (map f zs) w
       → ((ps qs : List Placed) → IsPartOf ps v → IsPartOf qs w → IsPartOf (ps ++ qs) u) → IsMerged (map f xs) u
   halves-merged xs ys zs k v w u d e m n join = subst (λ vs. IsMerged vs u) (halves xs ys zs k d e) (merged-both (map f ys) (map f zs) v w u m n join)
 
--- the jobs of the starts of each segment
 lists_of : List EffectiveJob → List SegmentView → List (List Placed)
 lists_of jobs ss = map (λ (s : SegmentView). placed_of jobs s.starts) ss
 
@@ -128,12 +135,12 @@ unfolding lists_of
 joined-lists jobs [] = refl
 joined-lists jobs (s ∷ ss) = ap (λ l. placed_of jobs s.starts ++ l) (joined-lists jobs ss) ∙ sym (filter_map-append (placed_at jobs) s.starts (all_starts ss))
 
--- the parts of segments that have their own parts
+-- the parts of segments that have the parts of their own starts are over few jobs, where the jobs of all these starts are few
 pub own-few : (jobs : List EffectiveJob) (ss : List SegmentView) → All (HasOwnPart jobs) ss → length (placed_of jobs (all_starts ss)) ≤ 4194304 → AreFew (parts_of ss)
 own-few jobs ss h l =
     let e = ap length (joined-lists jobs ss) in
     record { lists = lists_of jobs ss; parts = own-lists jobs ss h; few = omega (arith, e, l) }
 
--- their merged part is that of all jobs that start in them
+-- the merged part of segments that have the parts of their own starts is that of all jobs that start in them
 pub own-merged : (jobs : List EffectiveJob) (ss : List SegmentView) (v : PartSums) → All (HasOwnPart jobs) ss → IsMerged (parts_of ss) v → IsPartOf (placed_of jobs (all_starts ss)) v
 own-merged jobs ss v h m = subst (λ ps. IsPartOf ps v) (joined-lists jobs ss) (m (lists_of jobs ss) (own-lists jobs ss h))

@@ -25,6 +25,7 @@ pub record Noted (plan : Plan) (now : Progress) (known : KnownStarts) (count : �
   pub outcome : (n : ℕ) → known_start known n ≡ start_of starts n
   pub counted : count ≡ min (length starts) (2 ^ 64 - 1)
 
+-- of an engine that was just begun no start is known, and none is counted
 pub noted-first : (plan whole : Plan) (now : Progress) (known : KnownStarts) → now ≡ begun whole 0 → whole ≡ plan → ((n : ℕ) → known_start known n ≡ None) → Noted plan now known 0
 noted-first plan whole now known is same none =
     let e : now ≡ begun plan 0 = is ∙ ap (λ (p : Plan). begun p 0) same in
@@ -36,6 +37,7 @@ noted-first plan whole now known is same none =
     } in
     record { starts = []; run = subst (λ (p : Progress). IsRunOn (begun plan 0) p []) (sym e) first; outcome = none; counted = refl }
 
+-- an event second further, with the starts of that second noted and counted, all starts so far are
 pub noted-step : (plan : Plan) (now new : Progress) (known more : KnownStarts) (count next : ℕ) (js : List EffectiveJob) (t : ℕ) → Noted plan now known count → IsNextEvent now.plan now.position (Some t)
     → new ≡ record now { position = t + 1; handled = now.handled + 1 } → StartIn now.plan t js
     → ((n : ℕ) → known_start more n ≡ option_or (known_start known n) (start_of (map (start_at t) js) n)) → next ≡ min (count + length js) (2 ^ 64 - 1) → Noted plan new more next
@@ -46,6 +48,7 @@ noted-step plan now new known more count next js t h event is outcome noted coun
   counted = let l = length-append h.starts (map (start_at t) js) in let m = length-map js (start_at t) in let c = h.counted in omega (arith, l, m, c, counts);
 }
 
+-- an event second further, fewer seconds are left up to the bound
 pub noted-nearer : (plan : Plan) (now new : Progress) (known : KnownStarts) (count t : ℕ) → Noted plan now known count → IsPlan now.plan → IsNextEvent now.plan now.position (Some t)
     → new ≡ record now { position = t + 1; handled = now.handled + 1 } → bound plan + 1 - new.position < bound plan + 1 - now.position
 noted-nearer plan now new known count t h p event is =
@@ -55,16 +58,17 @@ noted-nearer plan now new known count t h p event is =
     let low = event.0 in
     omega (arith, within, pos, low)
 
--- where no event second is left these are the starts of the whole simulation
 pub noted-whole : (plan : Plan) (now : Progress) (known : KnownStarts) (count : ℕ) → IsPlan now.plan → IsNextEvent now.plan now.position None → (h : Noted plan now known count) → h.starts ≡ sim plan
 noted-whole plan now known count p none h =
     let same = h.run.further.plan in
     let all : starts_before plan now.position ≡ sim plan = outcome-all plan now.position (subst IsPlan same p) (λ u l e. none u l (subst (λ (q : Plan). IsEvent q u) (sym same) e)) in
     outcome-whole plan plan (begun plan 0) h.starts refl refl (h.run.outcome ∙ all)
 
+-- where no event second is left, each number is known to start as in the simulation
 pub noted-all : (plan : Plan) (now : Progress) (known : KnownStarts) (count : ℕ) → IsPlan now.plan → IsNextEvent now.plan now.position None → Noted plan now known count → (n : ℕ) → known_start known n ≡ start_of (sim plan) n
 noted-all plan now known count p none h n = h.outcome n ∙ ap (λ (xs : List Start). start_of xs n) (noted-whole plan now known count p none h)
 
+-- where no event second is left, as many starts are counted as the simulation has
 pub noted-count : (plan : Plan) (now : Progress) (known : KnownStarts) (count : ℕ) → IsPlan now.plan → IsNextEvent now.plan now.position None → Noted plan now known count → count ≡ length (sim plan)
 noted-count plan now known count p none h =
     let few = sim-few plan (subst IsPlan h.run.further.plan p) in

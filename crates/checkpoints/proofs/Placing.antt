@@ -20,14 +20,12 @@ use Rattle.timeline.proofs.Lemmas.{before-more}
 use Rattle.event_loop.proofs.Lemmas.{before-of-plan}
 use Rattle.checkpoints.specs.Cut.{placed_at, placed_of}
 
--- how many of these starts have the number, and how many of these running jobs
 abbrev starts_of : ℕ → List Start → ℕ
 starts_of n xs = count_by (λ (x : Start). nat_eq x.number n) xs
 
 abbrev runs_with : ℕ → List Placed → ℕ
 runs_with n rs = count_by (λ (r : Placed). nat_eq r.job.number n) rs
 
--- each start adds a running job of its number
 runs-more : (n k : ℕ) (s : State) (now : ℕ) → starts_of n (decisions k s now) + runs_with n s.running ≡ runs_with n (decided k s now).running
 unfolding decisions decided
 runs-more n zero s now = omega arith
@@ -49,7 +47,6 @@ runs-more n (suc k) s now =
     omega (arith, a, b, i, sum_by-cons (λ (y : Start). cond {A = ℕ} (nat_eq y.number n) 1 0) x (decisions k s' now), sum_by-placed (λ (y : Placed). cond {A = ℕ} (nat_eq y.job.number n) 1 0) r s.running))
     (cases_option (next s now))
 
--- so who starts at a second runs before the next one
 starts-run : (plan : Plan) (t n : ℕ) → starts_of n (starts_in plan t) ≤ runs_with n (before plan (t + 1)).running
 starts-run plan t n =
     let s = ready plan (before plan t) t in
@@ -57,10 +54,10 @@ starts-run plan t n =
     let b = ap (λ (z : State). runs_with n z.running) (before-more plan t) in
     omega (arith, a, b)
 
--- where running jobs are the plan's of their numbers, a number that runs has the same job among them as in the plan
 abbrev Own : Plan → Placed → Type 0
 Own plan r = job_numbered plan.jobs r.job.number ≡ Some r.job
 
+-- the jobs of these running ones
 abbrev pub jobs_running : List Placed → List EffectiveJob
 jobs_running rs = map (λ (r : Placed). r.job) rs
 
@@ -76,7 +73,6 @@ found-own plan (r ∷ rs) n own l =
     cond-false (nat_eq r.job.number n) (Some r.job) (job_numbered (jobs_running rs) n) other ∙ found-own plan rs n (All-tail (Own plan) r rs own) (omega (arith, e, g, l)))
     (cases_Bool (nat_eq r.job.number n))
 
--- the same jobs at the numbers of these starts
 placed-same : (js ks : List EffectiveJob) (xs : List Start) → All (λ (x : Start). job_numbered js x.number ≡ job_numbered ks x.number) xs → placed_of js xs ≡ placed_of ks xs
 placed-same js ks [] h = refl
 placed-same js ks (x ∷ xs) h =
@@ -84,7 +80,7 @@ placed-same js ks (x ∷ xs) h =
     let at : Option EffectiveJob → Option Placed = λ o. option_map (λ (job : EffectiveJob). let p : Placed = record { job = job; start = x.at } in p) o in
     ap (λ o. cons_option (at o) (placed_of js xs)) (All-head Same x xs h) ∙ ap (cons_option (placed_at ks x)) (placed-same js ks xs (All-tail Same x xs h))
 
--- the jobs that start at a second, found among those that run before the next one
+-- the starts of a second have the same jobs among those that run before the next second as in the plan
 pub starts-placed : (plan : Plan) (t : ℕ) → IsPlan plan → placed_of (jobs_running (before plan (t + 1)).running) (starts_in plan t) ≡ placed_of plan.jobs (starts_in plan t)
 starts-placed plan t p =
     placed-same (jobs_running (before plan (t + 1)).running) plan.jobs (starts_in plan t)
@@ -95,11 +91,11 @@ starts-placed plan t p =
     let more = starts-run plan t n in
     found-own plan (before plan (t + 1)).running n (before-of-plan plan (t + 1) p).running (omega (arith, one, yes', more)))
 
--- a job with its second
+-- a job that starts at this second
 abbrev pub placed_from : ℕ → EffectiveJob → Placed
 placed_from t job = record { job = job; start = t }
 
--- jobs that are the plan's of their numbers, found by their starts
+-- where jobs are found by their own numbers, those of their starts at second t are these jobs, each at t
 pub placed-own : (js ks : List EffectiveJob) (t : ℕ) → All (λ (j : EffectiveJob). job_numbered js j.number ≡ Some j) ks → placed_of js (map (start_at t) ks) ≡ map (placed_from t) ks
 placed-own js [] t h = refl
 placed-own js (k ∷ ks) t h =

@@ -1,4 +1,4 @@
--- A number looked up in a list that rises by number.
+-- A number looked up in a list that rises by number: it stands at the place before which the numbers are less, or nowhere.
 use Rattle.std.proofs.Common.{◌≡◌, ℕ, zero, suc, ◌≤◌, ◌<◌, Bool, true, false, nat_eq, nat_lt, List, [], ◌∷◌, length, get_or, Some, None, All, find, refl, sym, ◌∙◌, ap, arith, ⊎_elim}
 use Rattle.std.specs.List.Sorted.{IsNonDecreasingBy, IsPartitionPoint}
 use Rattle.std.proofs.lemmas.Bool.{cond-true, cond-false, eq-eqb, ne_eqb, ltb-true, ltb-false, cases_lt}
@@ -9,10 +9,10 @@ module _ {X : Type 0} (number : X → ℕ) where
   abbrev pub has : ℕ → X → Bool
   has n x = nat_eq (number x) n
 
+  -- whether an element's number is less than n
   abbrev pub is_less : ℕ → X → Bool
   is_less n x = nat_lt (number x) n
 
-  -- the place before which the numbers are less
   abbrev pub IsPlaceOf : ℕ → List X → ℕ → Type 0
   IsPlaceOf n xs i = IsPartitionPoint (λ x. is_less n x ≡ true) (λ x. is_less n x ≡ false) xs i
 
@@ -30,10 +30,11 @@ module _ {X : Type 0} (number : X → ℕ) where
       let Other : X → Type 0 = λ y. number y ≡ n → ⊥ in
       cond-false (has n x) (Some x) (find (has n) xs) (ne_eqb (number x) n (All-head Other x xs none)) ∙ find-nowhere xs n (All-tail Other x xs none)
 
-  -- what stands at the place
+  -- where the element at the place has the number, it is the one found
   pub found-there : (xs : List X) (n i : ℕ) (x : X) → IsPlaceOf n xs i → i < length xs → x ≡ get_or xs i x → number x ≡ n → find (has n) xs ≡ Some x
   found-there xs n i x point l at same = find-here xs n i x (λ k e m. point.0 k e (omega arith) m) l (ap number (sym at) ∙ same) ∙ ap Some (sym at)
 
+  -- where the element at the place has another number, none is found in a list that rises
   pub other-there : (xs : List X) (n i : ℕ) (x : X) → IsPlaceOf n xs i → IsNonDecreasingBy number xs → i < length xs → x ≡ get_or xs i x → (number x ≡ n → ⊥) → find (has n) xs ≡ None
   other-there xs n i x point rising l at other =
       let here = ap number at in
@@ -47,5 +48,6 @@ module _ {X : Type 0} (number : X → ℕ) where
       other (omega (arith, up, e, here, high, there)))
       (cases_lt k i))
 
+  -- where the place is the end of the list, none is found
   pub none-there : (xs : List X) (n i : ℕ) → IsPlaceOf n xs i → length xs ≤ i → find (has n) xs ≡ None
   none-there xs n i point l = find-nowhere xs n (λ k d m e. let less = ltb-true (number (get_or xs k d)) n (point.0 k d (omega arith) (omega arith)) in omega (arith, less, e))

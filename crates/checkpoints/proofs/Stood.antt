@@ -1,4 +1,4 @@
--- Who stands before the seconds of a gap.
+-- Who stands before the seconds of a gap: the numbers of the states, which are snapshots; and pieces become segments by frames that have them.
 use Rattle.std.proofs.Common.{◌≡◌, ℕ, zero, suc, ◌+◌, ◌^◌, ◌≤◌, ◌<◌, nat_le, List, [], ◌∷◌, ◌++◌, map, length, All, Some, refl, sym, ◌∙◌, ap, arith, subst, append-nil}
 use Rattle.std.specs.Prelude.{slice_get}
 use Rattle.std.specs.List.{filter_map, flat_map}
@@ -24,7 +24,6 @@ use Rattle.checkpoints.specs.Pieces.{PieceView, segment_of}
 use Rattle.checkpoints.specs.Closing.{BaseView, GapView, FramesView, base_of, last_of, numbers_in, numbers_at, segments_at}
 use Rattle.checkpoints.proofs.Gaps.{IsBase, base-is, chain-seam, gap-outcome, seconds-rise, seconds-within}
 
--- ---- the numbers of a state are a snapshot
 abbrev from_number : ℕ → RunningNumber → Type 0
 from_number n r = n ≤ r.number
 
@@ -72,7 +71,6 @@ is-snapshot plan t p runs =
       started = early s.running sound.started;
     }
 
--- ---- the numbers that stand before a second of a gap
 both : (w w' : List ℕ) (r r' : List RunningNumber) → w ≡ w' → r ≡ r' → ◌≡◌ {A = Numbers} (record { waiting = w; running = r }) (record { waiting = w'; running = r' })
 both w w' r r' a b = rw (a, b) refl
 
@@ -98,7 +96,7 @@ module _ (plan : Plan) (base : BaseView) (k : ℕ) (p : IsPlan plan) (h : IsBase
       (ap (λ js. standing_at place (waiting_stretches gap.seconds (js ++ coming_between plan.jobs base.second u) (start_of gap.starts))) waited ∙ sym w)
       (ap (λ rs. by_key (λ (x : RunningNumber). x.number) (standing_at place (map (placed_stretch gap.seconds) (rs ++ started_of plan.jobs gap.starts)))) ran ∙ sym r)
 
--- the numbers before the first seconds of pieces behind segments
+-- the numbers that stand at the place of a piece behind segments are those of the state before the piece's first second
 pub stands-behind : (plan : Plan) (ss : List SegmentView) (ps : List PieceView) (q : PieceView) (m : ℕ) → IsPlan plan → WaitingStandInAStretch → RunningStandInAStretch → Chain plan 0 (ss ++ map (segment_of plan) (ps ++ q ∷ [])) m
     → (gap : GapView) → gap.seconds ≡ map (λ (p : PieceView). p.first) ps ++ q.first ∷ [] → gap.starts ≡ (base_of (last_of ss)).starts ++ flat_map (λ (p : PieceView). p.starts) ps
     → (place t : ℕ) → slice_get (map (λ (p : PieceView). p.first) (ps ++ q ∷ [])) place ≡ Some t → numbers_at plan (base_of (last_of ss)) gap q.first place ≡ numbers_of (before plan t)
@@ -113,18 +111,19 @@ stands-behind plan ss ps q m p waits runs c gap seconds starts place t e =
     (subst (λ l. slice_get l place ≡ Some t) (sym all) e) within.0 within.1
     (gap-outcome plan two.0 m base ps q is two.2 ∙ ap (λ l. starts_before plan base.second ++ l) (sym starts))
 
+-- the first seconds of pieces behind segments never fall
 pub behind-rise : (plan : Plan) (ss : List SegmentView) (ps : List PieceView) (q : PieceView) (m : ℕ) → Chain plan 0 (ss ++ map (segment_of plan) (ps ++ q ∷ [])) m → IsNonDecreasing (map (λ (p : PieceView). p.first) ps ++ q.first ∷ [])
 behind-rise plan ss ps q m c =
     let two = chain-seam plan 0 m ss (map (segment_of plan) (ps ++ q ∷ [])) c in
     subst IsNonDecreasing (map-append (λ (p : PieceView). p.first) ps (q ∷ [])) (seconds-rise plan two.0 m (ps ++ q ∷ []) two.2)
 
--- ---- pieces as segments, by frames that have the numbers of each second
 abbrev pub AreIn : Plan → FramesView → ℕ → List PieceView → Type 0
 AreIn plan frames k ps = (place t : ℕ) → slice_get (map (λ (p : PieceView). p.first) ps) place ≡ Some t → numbers_in (k + place) frames ≡ numbers_of (before plan t)
 
 as-segment : (first : ℕ) (m n : Numbers) (p : PieceView) → m ≡ n → ◌≡◌ {A = SegmentView} (record { first = p.first; before = m; starts = p.starts; part = p.part }) (record { first = p.first; before = n; starts = p.starts; part = p.part })
 as-segment first m n p e = rw e refl
 
+-- by frames that have the numbers before each piece's first second, from place k on, the pieces become the plan's segments
 pub segments-are : (plan : Plan) (frames : FramesView) (k : ℕ) (ps : List PieceView) → AreIn plan frames k ps → segments_at k frames ps ≡ map (segment_of plan) ps
 segments-are plan frames k [] h = refl
 segments-are plan frames k (p ∷ ps) h =
@@ -138,16 +137,17 @@ has-second [] place l = absurd (omega arith)
 has-second (p ∷ ps) zero l = (p.first, refl)
 has-second (p ∷ ps) (suc place) l = has-second ps place (omega arith)
 
--- from place 0 on
+-- frames that have, at each place, the numbers before the first second of the piece there have them from place 0 on
 pub there-in : (plan : Plan) (frames : FramesView) (ps : List PieceView) → ((place t : ℕ) → slice_get (map (λ (p : PieceView). p.first) ps) place ≡ Some t → numbers_in place frames ≡ numbers_of (before plan t)) → AreIn plan frames 0 ps
 there-in plan frames ps h place t e = subst (λ i. numbers_in i frames ≡ numbers_of (before plan t)) (let s : place ≡ 0 + place = omega arith in s) (h place t e)
 
--- one place more
+-- one piece more becomes one segment more, by the next place of the frames
 pub segments-more : (frames : FramesView) (k place : ℕ) (ps : List PieceView) (p : PieceView) → place ≡ k + length ps → segments_at k frames (ps ++ p ∷ []) ≡ segments_at k frames ps ++ segments_at place frames (p ∷ [])
 segments-more frames k place [] p e = let at : place ≡ k = omega (arith, e) in ap (λ i. segments_at i frames (p ∷ [])) (sym at)
 segments-more frames k place (q ∷ qs) p e =
     ap (λ l. record { first = q.first; before = numbers_in k frames; starts = q.starts; part = q.part } ∷ l) (segments-more frames (k + 1) place qs p (omega (arith, e)))
 
+-- where frames have the numbers before each piece's first second, those at a piece's place are a snapshot
 pub snapshots-there : (plan : Plan) (frames : FramesView) (ps : List PieceView) (place : ℕ) → IsPlan plan → RunningStandInAStretch → AreIn plan frames 0 ps → place < length ps → IsSnapshot (numbers_in place frames)
 snapshots-there plan frames ps place p runs h l =
     let s = has-second ps place l in

@@ -18,11 +18,10 @@ use Rattle.checkpoints.proofs.Counting.{jobs-or-skips}
 use Rattle.checkpoints.proofs.Late.{placed-fewer, sim-few, sim-fewer}
 use Rattle.checkpoints.proofs.Merging.{count-is, own-few, own-merged}
 
--- each segment of a cut has the part of its own starts
 parts-are : (plan : Plan) (ss : List SegmentView) → IsCut plan ss → All (HasOwnPart plan.jobs) ss
 parts-are plan ss (e, chain, over) i d l = chain-part plan i 0 e ss d chain l
 
--- and they are few
+-- the parts of a cut's segments are over few jobs
 pub cut-few : (plan : Plan) (ss : List SegmentView) → IsPlan plan → IsCut plan ss → AreFew (parts_of ss)
 cut-few plan ss p cut =
     let e = ap (λ xs. length (placed_of plan.jobs xs)) (cut-outcome plan ss p cut) in
@@ -30,7 +29,7 @@ cut-few plan ss p cut =
     let b = sim-few plan p in
     own-few plan.jobs ss (parts-are plan ss cut) (omega (arith, e, a, b))
 
--- the merged part of a cut's parts is that of all jobs
+-- the merged part of a cut's segments is that of all jobs of the plan, each at its start
 pub total-is : (plan : Plan) (ss : List SegmentView) (v : PartSums) → IsPlan plan → IsCut plan ss → IsMerged (parts_of ss) v → IsPartOf (all_placed plan) v
 total-is plan ss v p cut m = subst (λ xs. IsPartOf (placed_of plan.jobs xs) v) (cut-outcome plan ss p cut) (own-merged plan.jobs ss v (parts-are plan ss cut) m)
 

@@ -1,6 +1,5 @@
--- An engine that works some event seconds.
+-- An engine that works some event seconds: its stretch, the piece that it becomes, and the segments up to there.
 use Rattle.std.proofs.Common.{◌≡◌, ℕ, ◌+◌, ◌-◌, ◌≤◌, ◌<◌, ◌⊎◌, inl, inr, List, [], ◌∷◌, ◌++◌, map, All, Option, Some, None, IfSome, refl, sym, ◌∙◌, ap, arith, subst}
-use Rattle.std.proofs.lemmas.List.{map-append}
 use Rattle.std.proofs.lemmas.List.Elements.{filter_map-append}
 use Rattle.scenarios.specs.Job.{EffectiveJob}
 use Rattle.scenarios.specs.Plan.{Plan, job_numbered}
@@ -35,7 +34,6 @@ pub record Working (old now : Progress) (starts : List Start) (placed : List Pla
   pub some : 0 < count → EndsWithEvent old.plan old.position now.position
   pub plan : 0 < count → IsPlan old.plan
 
--- the jobs of one second more
 jobs-more : (plan now : Plan) (t : ℕ) (xs zs : List Start) (ps qs : List Placed) (js : List EffectiveJob) → now ≡ plan → StartIn now t js → ps ≡ placed_of plan.jobs xs → zs ≡ xs ++ map (start_at t) js → qs ≡ ps ++ map (placed_from t) js → qs ≡ placed_of plan.jobs zs
 jobs-more plan now t xs zs ps qs js same outcome had put more =
     let own : All (λ (j : EffectiveJob). job_numbered plan.jobs j.number ≡ Some j) js = subst (λ (q : Plan). All (λ (j : EffectiveJob). job_numbered q.jobs j.number ≡ Some j) js) same outcome.own in
@@ -43,6 +41,7 @@ jobs-more plan now t xs zs ps qs js same outcome had put more =
     more ∙ ap (λ l. l ++ map (placed_from t) js) had ∙ ap (λ l. placed_of plan.jobs xs ++ l) those
     ∙ sym (filter_map-append (placed_at plan.jobs) xs (map (start_at t) js)) ∙ ap (placed_of plan.jobs) (sym put)
 
+-- the next event second is worked too, with the starts of its jobs
 pub working-more : (old now new : Progress) (xs zs : List Start) (ps qs : List Placed) (js : List EffectiveJob) (t count : ℕ) → Working old now xs ps count → IsPlan now.plan → IsNextEvent now.plan now.position (Some t) → new ≡ record now { position = t + 1; handled = now.handled + 1 } → StartIn now.plan t js
     → zs ≡ xs ++ map (start_at t) js → qs ≡ ps ++ map (placed_from t) js → Working old new zs qs (count + 1)
 working-more old now new xs zs ps qs js t count h p next e outcome put more =
@@ -60,11 +59,11 @@ working-more old now new xs zs ps qs js t count h p next e outcome put more =
       plan = λ l. sound;
     }
 
--- where an event second comes, and up to n of them were worked, at least one was
+-- where at least one event second was worked, a stretch was
 pub working-stretch : (old now : Progress) (starts : List Start) (placed : List Placed) (count : ℕ) → Working old now starts placed count → (count ≡ 0 → ⊥) → WorksStretch old now starts placed
 working-stretch old now starts placed count h ne = record { run = h.run; ends = h.some (omega (arith, ne)); jobs = h.jobs }
 
--- where up to n were to be worked, that many were, or no more come before the end
+-- where n event seconds were worked, or fewer and no more of them come before the end, the engine has worked up to n
 pub working-up-to : (old now : Progress) (starts : List Start) (placed : List Placed) (count n : ℕ) (end : Option ℕ) → Working old now starts placed count → IfSome end (λ e. now.position ≤ e) → count ≤ n → (count ≡ n) ⊎ NoneComes now end → WorksUpTo old now n end
 working-up-to old now starts placed count n end h within few full = record {
   within = within;
@@ -76,11 +75,9 @@ working-up-to old now starts placed count n end h within few full = record {
     go (inl e) = inl (let a = h.counted in let b = h.run.further.counted in omega (arith, a, b, e))
     go (inr none) = inr none
 
--- a stretch ends soon after the bound, at the latest
 pub ends-bounded : (plan : Plan) (a b : ℕ) → IsPlan plan → EndsWithEvent plan a b → b ≤ bound plan + 1
 ends-bounded plan a b p (t, le, e, event) = let l = events-end-by-the-bound plan t p event in omega (arith, l, e)
 
--- a segment that was worked is full, or the last one
 filled : (plan : Plan) (n a b : ℕ) (new : Progress) → new.plan ≡ plan → new.position ≡ b → events_before plan b ≤ events_before plan a + n → (events_before plan b ≡ events_before plan a + n) ⊎ NoneComes new None → IsFull plan n a b
 filled plan n a b new same at short (inl e) = inl e
 filled plan n a b new same at short (inr none) = inr (short, subst (λ (p : Plan). Over p b) same (subst (λ t. Over new.plan t) at none))
@@ -94,12 +91,13 @@ cutting-more plan n now new ss s starts h run spans events = record {
       (subst (λ (p : Plan). IsFull p n now.position new.position) h.same (filled now.plan n now.position new.position new run.further.plan refl events.short events.full));
 }
 
--- the segments so far and the piece that was worked are one after another
+-- the segments so far and, as one more of them, the piece that was worked are one after another
 pub cutting-chain : (plan : Plan) (n : ℕ) (now new : Progress) (ss : List SegmentView) (p : PieceView) → Cutting plan n now ss → Spans now.plan (segment_of now.plan p) now.position new.position
     → (m : ℕ) × (b : ℕ) × Chain plan 0 ss m × Spans plan (segment_of plan p) m b
 cutting-chain plan n now new ss p h spans =
     (now.position, new.position, short-chain plan n 0 now.position ss h.chain, subst (λ (q : Plan). Spans q (segment_of q p) now.position new.position) h.same spans)
 
+-- behind a segment that was worked fewer seconds are left up to the bound
 pub cutting-down : (plan : Plan) (now new : Progress) (s : SegmentView) → IsPlan plan → now.plan ≡ plan → Spans now.plan s now.position new.position → bound plan + 1 - new.position < bound plan + 1 - now.position
 cutting-down plan now new s p same spans =
     let spans' : Spans plan s now.position new.position = subst (λ (q : Plan). Spans q s now.position new.position) same spans in
@@ -108,16 +106,18 @@ cutting-down plan now new s p same spans =
     let b = spans'.ends.2 in
     omega (arith, l, a, b)
 
--- one piece more
+-- with the piece that was worked as one more, the segments are those up to where the engine stands then
 pub cutting-piece : (plan : Plan) (n : ℕ) (now new : Progress) (ss ts : List SegmentView) (p : PieceView) → Cutting plan n now ss → IsRunOn now new p.starts → Spans now.plan (segment_of now.plan p) now.position new.position → WorksUpTo now new n None
     → ts ≡ ss ++ segment_of plan p ∷ [] → Cutting plan n new ts
 cutting-piece plan n now new ss ts p h run spans events put =
     subst (Cutting plan n new) (sym put)
     (cutting-more plan n now new ss (segment_of plan p) p.starts h run (subst (λ (q : Plan). Spans now.plan (segment_of q p) now.position new.position) h.same spans) events)
 
+-- where no event second comes any more, the segments so far are a cut of n event seconds each
 pub cut-done : (plan : Plan) (n : ℕ) (now : Progress) (ss : List SegmentView) → Cutting plan n now ss → IsNextEvent now.plan now.position None → IsShortCut plan n ss
 cut-done plan n now ss h none = (now.position, h.chain, subst (λ (p : Plan). IsNextEvent p now.position None) h.same none)
 
+-- where an engine was just begun, no segments are those up to there
 pub cutting-first : (plan q : Plan) (n : ℕ) (now : Progress) (ss : List SegmentView) → now ≡ begun q 0 → q ≡ plan → ss ≡ [] → Cutting plan n now ss
 cutting-first plan q n now ss e same none = record {
   going = ap (λ (p : Progress). p.failed) e;
@@ -125,17 +125,18 @@ cutting-first plan q n now ss e same none = record {
   chain = subst (λ (zs : List SegmentView). ShortChain plan n 0 zs now.position) (sym none) (sym (ap (λ (p : Progress). p.position) e));
 }
 
--- sums can be made over the jobs of a stretch
+-- where at least one event second was worked, sums can be made over the jobs that started
 pub working-can : (old now : Progress) (starts : List Start) (placed : List Placed) (count : ℕ) → Working old now starts placed count → (count ≡ 0 → ⊥) → CanSum placed
 working-can old now starts placed count h ne =
     let p : IsPlan old.plan = h.plan (omega (arith, ne)) in
     let ends = h.some (omega (arith, ne)) in
     subst CanSum (sym h.jobs) (can-sum old.plan old.position now.position starts p (ends-bounded old.plan old.position now.position p ends) h.run.outcome)
 
--- the piece of a stretch
+-- an engine that works a stretch goes on with the starts of the stretch's piece
 pub piece-run : (old new : Progress) (p : PieceView) (first : ℕ) (snap : Option Numbers) (starts : List Start) (ps : List Placed) (part : PartSums) → p ≡ record { first = first; before = snap; starts = starts; part = part } → WorksStretch old new starts ps → IsRunOn old new p.starts
 piece-run old new p first snap starts ps part is stretch = subst (λ (x : PieceView). IsRunOn old new x.starts) (sym is) stretch.run
 
+-- the piece of a stretch, with the sums over the jobs that start in it, spans it as a segment
 pub piece-spans : (old new : Progress) (p : PieceView) (first : ℕ) (snap : Option Numbers) (starts : List Start) (ps qs : List Placed) (part : PartSums) → p ≡ record { first = first; before = snap; starts = starts; part = part }
     → WorksStretch old new starts ps → first ≡ old.position → qs ≡ ps → IsPartOf qs part → Spans old.plan (segment_of old.plan p) old.position new.position
 piece-spans old new p first snap starts ps qs part is stretch at e sums =
@@ -149,12 +150,8 @@ piece-spans old new p first snap starts ps qs part is stretch at e sums =
     } in
     subst (λ (x : PieceView). Spans old.plan (segment_of old.plan x) old.position new.position) (sym is) spans
 
--- and its snapshot is that of the plan's state, where it was noted
+-- where the snapshot that was noted, if one was, is that of the state before the position, that of the piece is the plan's
 pub piece-noted : (plan : Plan) (position : ℕ) (p : PieceView) (first : ℕ) (snap : Option Numbers) (starts : List Start) (part : PartSums) → p ≡ record { first = first; before = snap; starts = starts; part = part }
     → first ≡ position → IfSome snap (λ there. there ≡ numbers_of (before plan position)) → IsNotedIn plan p
 piece-noted plan position p first snap starts part is at noted =
     subst (IsNotedIn plan) (sym is) (subst (λ t. IfSome snap (λ there. there ≡ numbers_of (before plan t))) (sym at) noted)
-
--- one segment more, as callers see them
-pub push-seen : {X : Type 0} (f : X → SegmentView) (xs ys : List X) (x : X) (s : SegmentView) → ys ≡ xs ++ x ∷ [] → f x ≡ s → map f ys ≡ map f xs ++ s ∷ []
-push-seen f xs ys x s e same = ap (map f) e ∙ map-append f xs (x ∷ []) ∙ ap (λ (v : SegmentView). map f xs ++ v ∷ []) same

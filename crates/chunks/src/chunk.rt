@@ -73,7 +73,7 @@ impl<T: Drop, A: Allocator + Copy> Chunk<T, A> {
 }
 
 impl<T: Drop, A: Allocator + Copy> Chunk<Chunk<T, A>, A> {
-    // It is put there where no other list has that chunk.
+    // The element is put at its place where no other list has that chunk.
     pub(crate) fn put_in(&mut self, chunk: usize, at: usize, item: T) -> Result<(), T>
         requires chunk { chunk < length self.old }
         requires at { at < length (chunk_of self.old chunk) }

@@ -31,7 +31,7 @@ pub(crate) fn elements_at<T: Drop, A: Allocator + Copy>(
     elements(chunks, place.chunk)
 }
 
-// It is put there where no other list has that chunk.
+// The element is put at its place where no other list has that chunk.
 pub(crate) fn put<T: Drop, A: Allocator + Copy>(
     groups: &mut [Group<T, A>],
     place: Place,

@@ -1,4 +1,5 @@
--- The order in which later jobs are looked at.
+-- The order in which later jobs are looked at. By estimate, who joins the queue stands behind those of no longer estimate, and who leaves it
+-- moves nobody else; whom a search refuses may as well not stand there.
 use Rattle.std.proofs.Common.{◌≡◌, ℕ, ◌+◌, ◌≤◌, ◌<◌, Bool, true, false, cond, nat_eq, nat_lt, nat_le, List, [], ◌∷◌, ◌++◌, Some, None, All, find, sum_by, count_by, refl, sym, ◌∙◌, ap, arith, subst, ⊎_elim}
 use Rattle.std.proofs.lemmas.List.Sums.{sum_by-cons}
 use Rattle.std.proofs.lemmas.List.Elements.{All-cons, All-head, All-tail, All-nil, All-weaker}
@@ -9,14 +10,15 @@ use Rattle.scenarios.specs.declared.order.Order.TheVariants.{Arrival, Shortest}
 use Rattle.cluster_state.specs.State.{without}
 use Rattle.cluster_state.specs.Candidates.{put, by_estimate, in_order, candidates_of, put_last}
 
--- the two cases of `put`
+-- a job whose estimate is no longer than the first one's is put before it
 pub put-before : (j x : EffectiveJob) (xs : List EffectiveJob) → j.estimate ≤ x.estimate → put j (x ∷ xs) ≡ j ∷ x ∷ xs
 put-before j x xs l = cond-true (nat_le j.estimate x.estimate) (j ∷ x ∷ xs) (x ∷ put j xs) (le-leb j.estimate x.estimate l)
 
+-- a job whose estimate is longer than the first one's is put among those behind it
 pub put-behind : (j x : EffectiveJob) (xs : List EffectiveJob) → x.estimate < j.estimate → put j (x ∷ xs) ≡ x ∷ put j xs
 put-behind j x xs l = cond-false (nat_le j.estimate x.estimate) (j ∷ x ∷ xs) (x ∷ put j xs) (lt-leb j.estimate x.estimate l)
 
--- estimates that rise
+-- the estimates of these jobs do not fall
 abbrev pub RisesByEstimate : List EffectiveJob → Type 0
 RisesByEstimate [] = Unit {0}
 RisesByEstimate (x ∷ xs) = All (λ y. x.estimate ≤ y.estimate) xs × RisesByEstimate xs
@@ -52,24 +54,26 @@ rises-put j (x ∷ xs) r =
     subst RisesByEstimate (sym (put-behind j x xs (omega arith))) (All-put (λ y. x.estimate ≤ y.estimate) j xs (omega arith) r.0, rises-put j xs r.1))
     (cases_lt j.estimate (x.estimate + 1))
 
+-- in the order by estimate the estimates do not fall
 pub rises-by_estimate : (js : List EffectiveJob) → RisesByEstimate (by_estimate js)
 rises-by_estimate [] = tt
 rises-by_estimate (j ∷ js) = rises-put j (by_estimate js) (rises-by_estimate js)
 
+-- what holds of all jobs holds of all in the order by estimate
 pub All-by_estimate : (P : EffectiveJob → Type 0) (js : List EffectiveJob) → All P js → All P (by_estimate js)
 All-by_estimate P [] a = a
 All-by_estimate P (j ∷ js) a = All-put P j (by_estimate js) (All-head P j js a) (All-by_estimate P js (All-tail P j js a))
 
+-- what holds of all in the order by estimate holds of all jobs
 pub by_estimate-All : (P : EffectiveJob → Type 0) (js : List EffectiveJob) → All P (by_estimate js) → All P js
 by_estimate-All P [] a = a
 by_estimate-All P (j ∷ js) a = let p = put-All P j (by_estimate js) a in All-cons P j js p.0 (by_estimate-All P js p.1)
 
--- what holds of all in the order holds of all
+-- what holds of all in the order in which they are looked at holds of all jobs
 pub in_order-All : (P : EffectiveJob → Type 0) (o : Order) (js : List EffectiveJob) → All P (in_order o js) → All P js
 in_order-All P Arrival js a = a
 in_order-All P Shortest js a = by_estimate-All P js a
 
--- nobody has a number that is held by none
 pub none-of : (p : EffectiveJob → Bool) (js : List EffectiveJob) → count_by p js ≡ 0 → All (λ j. p j ≡ false) js
 none-of p [] e = All-nil (λ j. p j ≡ false)
 none-of p (j ∷ js) e =
@@ -87,7 +91,6 @@ without-put-same n j (x ∷ xs) e a =
     (λ _. cond-false (nat_eq x.number n) (put j xs) (x ∷ without n (put j xs)) (All-head (λ x. nat_eq x.number n ≡ false) x xs a)
     ∙ ap (λ l. x ∷ l) (without-put-same n j xs e (All-tail (λ x. nat_eq x.number n ≡ false) x xs a)))
 
--- a job with an estimate at most all these stands before them
 put-first : (j : EffectiveJob) (xs : List EffectiveJob) → All (λ y. j.estimate ≤ y.estimate) xs → put j xs ≡ j ∷ xs
 put-first j [] a = refl
 put-first j (x ∷ xs) a = put-before j x xs (All-head (λ y. j.estimate ≤ y.estimate) x xs a)
@@ -118,7 +121,7 @@ without-put-other n j (x ∷ xs) e r =
     (cases_lt j.estimate (x.estimate + 1)))
     (cases_Bool (nat_eq x.number n))
 
--- who leaves the queue leaves the row, and nothing else moves
+-- who leaves the queue leaves the order by estimate, and nobody else moves, where the number stands at most once
 pub without-by_estimate : (n : ℕ) (js : List EffectiveJob) → count_by (λ (j : EffectiveJob). nat_eq j.number n) js ≤ 1 → without n (by_estimate js) ≡ by_estimate (without n js)
 without-by_estimate n [] once = refl
 without-by_estimate n (j ∷ js) once =
@@ -173,11 +176,12 @@ put-put_last a b (x ∷ xs) =
     (cases_lt b.estimate x.estimate))
     (cases_lt a.estimate (x.estimate + 1))
 
+-- who joins the queue stands in the order by estimate before the first whose estimate is longer
 pub by_estimate-arrived : (js : List EffectiveJob) (job : EffectiveJob) → by_estimate (js ++ job ∷ []) ≡ put_last job (by_estimate js)
 by_estimate-arrived [] job = refl
 by_estimate-arrived (j ∷ js) job = ap (put j) (by_estimate-arrived js job) ∙ put-put_last j job (by_estimate js)
 
--- whom the test refuses may as well not stand there
+-- a search finds the same among jobs where one is put that it refuses
 pub find-put : (q : EffectiveJob → Bool) (j : EffectiveJob) (xs : List EffectiveJob) → q j ≡ false → find q (put j xs) ≡ find q xs
 find-put q j [] e = cond-false (q j) (Some j) None e
 find-put q j (x ∷ xs) e =
@@ -185,16 +189,16 @@ find-put q j (x ∷ xs) e =
     (λ _. cond-false (q j) (Some j) (find q (x ∷ xs)) e)
     (λ _. ap (λ o. cond (q x) (Some x) o) (find-put q j xs e))
 
+-- a search in the order finds the same with one job more in front of the queue that it refuses
 pub find-in_order : (q : EffectiveJob → Bool) (o : Order) (j : EffectiveJob) (js : List EffectiveJob) → q j ≡ false → find q (in_order o (j ∷ js)) ≡ find q (in_order o js)
 find-in_order q Arrival j js e = cond-false (q j) (Some j) (find q js) e
 find-in_order q Shortest j js e = find-put q j (by_estimate js) e
 
--- the kept row, as a job goes
+-- the kept candidates without a number that stands at most once are those of the queue without it
 pub candidates-started : (o : Order) (n : ℕ) (js : List EffectiveJob) → count_by (λ (j : EffectiveJob). nat_eq j.number n) js ≤ 1 → without n (candidates_of o js) ≡ candidates_of o (without n js)
 candidates-started Arrival n js once = refl
 candidates-started Shortest n js once = without-by_estimate n js once
 
--- sums over the queue are those over the row
 sum_by-put : (f : EffectiveJob → ℕ) (j : EffectiveJob) (xs : List EffectiveJob) → sum_by f (put j xs) ≡ f j + sum_by f xs
 sum_by-put f j [] = omega arith
 sum_by-put f j (x ∷ xs) =
@@ -202,6 +206,7 @@ sum_by-put f j (x ∷ xs) =
     (λ _. sum_by-cons f j (x ∷ xs))
     (λ _. sum_by-cons f x (put j xs) ∙ omega (arith, sum_by-put f j xs, sum_by-cons f x xs))
 
+-- a sum over jobs is the same in the order by estimate
 pub sum_by-by_estimate : (f : EffectiveJob → ℕ) (js : List EffectiveJob) → sum_by f (by_estimate js) ≡ sum_by f js
 sum_by-by_estimate f [] = refl
 sum_by-by_estimate f (j ∷ js) = omega (arith, sum_by-put f j (by_estimate js), sum_by-by_estimate f js, sum_by-cons f j js)

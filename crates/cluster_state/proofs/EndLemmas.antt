@@ -1,4 +1,5 @@
--- Running jobs in the order in which they are expected to end.
+-- Running jobs in the order in which they are expected to end: who starts enters, whoever enters first, and who ends leaves the others as they stand.
+-- No two tie where each has a number of its own. And what a list of the ends, with the first to end in front, tells of the running jobs.
 use Rattle.std.proofs.Common.{◌≡◌, ◌≢◌, ℕ, suc, ◌+◌, ◌≤◌, ◌<◌, Bool, true, false, cond, ◌||◌, ◌&&◌, ◌==◌, nat_eq, nat_lt, not, List, [], ◌∷◌, All, Any, get_or, filter, sum_by, count_by, length, insert, one-add, Option, Some, None, IfSome, IsNone, slice_get, refl, sym, ◌∙◌, ap, arith, subst, inl, inr, ⊎_elim, ◌⊎◌}
 use Rattle.std.specs.List.{position_or_len}
 use Rattle.std.specs.Option.{option_map}
@@ -16,11 +17,10 @@ use Rattle.cluster_state.specs.State.{State, IsSound, placed, waiting_job}
 use Rattle.cluster_state.specs.Ends.{is_sooner, entered, by_end, EndsSooner, RisesByEnd}
 use Rattle.cluster_state.proofs.StateLemmas.{sum_by-without}
 
--- ---- the order
 abbrev pub Sooner : Placed → Placed → Type 0
 Sooner a b = EndsSooner a b
 
--- a is not later than b
+-- a is expected to end earlier than b, or at the same second and has no greater number
 abbrev pub NotLater : Placed → Placed → Type 0
 NotLater a b = (expected_end a < expected_end b) ⊎ ((expected_end a ≡ expected_end b) × (a.job.number ≤ b.job.number))
 
@@ -42,7 +42,6 @@ is-sooner a b (inr p) =
     or_right (nat_lt (expected_end a) (expected_end b)) (expected_end a == expected_end b && nat_lt a.job.number b.job.number)
     (and_from (expected_end a == expected_end b) (nat_lt a.job.number b.job.number) (eq-eqb (expected_end a) (expected_end b) p.0) (lt-ltb a.job.number b.job.number p.1))
 
--- one of two is sooner, or the other is not later
 sooner-or : (a b : Placed) → Sooner a b ⊎ NotLater b a
 sooner-or a b =
     ⊎_elim
@@ -68,7 +67,6 @@ sooner-never a b (inr l) (inr m) = let k = l.1 in let n = m.1 in omega (arith, k
 pub not-sooner : (a b : Placed) → NotLater b a → is_sooner a b ≡ false
 not-sooner a b h = ⊎_elim (λ (y : is_sooner a b ≡ true). absurd (sooner-never a b (sooner-is a b y) h)) (λ (n : is_sooner a b ≡ false). n) (cases_Bool (is_sooner a b))
 
--- of two numbers one is sooner
 strictly : (a b : Placed) → a.job.number ≢ b.job.number → NotLater a b → Sooner a b
 strictly a b ne (inl l) = inl l
 strictly a b ne (inr p) = inr (p.0, (let k = p.1 in ⊎_elim (λ (l : a.job.number < b.job.number). l) (λ (l : b.job.number ≤ a.job.number). absurd (ne (omega (arith, k)))) (cases_lt a.job.number b.job.number)))
@@ -89,13 +87,13 @@ no-later-than a b c (inl l) (inr m) = inl (let k = m.0 in omega (arith, k))
 no-later-than a b c (inr l) (inl m) = inl (let k = l.0 in omega (arith, k))
 no-later-than a b c (inr l) (inr m) = inr ((let k = l.0 in let n = m.0 in omega (arith, k, n)), (let k = l.1 in let n = m.1 in omega (arith, k, n)))
 
--- ---- one more
 enters-before : (r x : Placed) (xs : List Placed) → Sooner r x → entered r (x ∷ xs) ≡ r ∷ x ∷ xs
 enters-before r x xs s = cond-true (is_sooner r x) (r ∷ x ∷ xs) (x ∷ entered r xs) (is-sooner r x s)
 
 enters-behind : (r x : Placed) (xs : List Placed) → NotLater x r → entered r (x ∷ xs) ≡ x ∷ entered r xs
 enters-behind r x xs n = cond-false (is_sooner r x) (r ∷ x ∷ xs) (x ∷ entered r xs) (not-sooner r x n)
 
+-- a sum with one more job entered is the job's own value and the sum over the others
 pub sum_by-entered : (f : Placed → ℕ) (r : Placed) (xs : List Placed) → sum_by f (entered r xs) ≡ f r + sum_by f xs
 sum_by-entered f r [] = omega arith
 sum_by-entered f r (x ∷ xs) =
@@ -103,6 +101,7 @@ sum_by-entered f r (x ∷ xs) =
     (λ _. sum_by-cons f r (x ∷ xs))
     (λ _. sum_by-cons f x (entered r xs) ∙ omega (arith, sum_by-entered f r xs, sum_by-cons f x xs))
 
+-- a sum over running jobs is the same in the order of expected ends
 pub sum_by-by_end : (f : Placed → ℕ) (rs : List Placed) → sum_by f (by_end rs) ≡ sum_by f rs
 sum_by-by_end f [] = refl
 sum_by-by_end f (r ∷ rs) = omega (arith, sum_by-entered f r (by_end rs), sum_by-by_end f rs, sum_by-cons f r rs)
@@ -114,6 +113,7 @@ All-entered P r (x ∷ xs) h a =
     (λ _. All-cons P r (x ∷ xs) h a)
     (λ _. All-cons P x (entered r xs) (All-head P x xs a) (All-entered P r xs h (All-tail P x xs a)))
 
+-- what holds of all running jobs holds of all in the order of expected ends
 pub All-by_end : (P : Placed → Type 0) (rs : List Placed) → All P rs → All P (by_end rs)
 All-by_end P [] a = a
 All-by_end P (r ∷ rs) a = All-entered P r (by_end rs) (All-head P r rs a) (All-by_end P rs (All-tail P r rs a))
@@ -125,11 +125,12 @@ length-entered r (x ∷ xs) =
     (λ _. omega arith)
     (λ _. let k = length-entered r xs in omega (arith, k))
 
+-- as many jobs stand in the order of expected ends
 pub length-by_end : (rs : List Placed) → length (by_end rs) ≡ length rs
 length-by_end [] = refl
 length-by_end (r ∷ rs) = let k = length-entered r (by_end rs) in let i = length-by_end rs in omega (arith, k, i)
 
--- none ends sooner than one before it
+-- none of these running jobs is expected to end sooner than one before it
 abbrev pub NoneEndsSooner : List Placed → Type 0
 NoneEndsSooner [] = Unit {0}
 NoneEndsSooner (x ∷ xs) = All (NotLater x) xs × NoneEndsSooner xs
@@ -142,11 +143,11 @@ rises-entered r (x ∷ xs) h =
     (λ (n : NotLater x r). subst NoneEndsSooner (sym (enters-behind r x xs n)) (All-entered (NotLater x) r xs n h.0, rises-entered r xs h.1))
     (sooner-or r x)
 
+-- in the order of expected ends none is expected to end sooner than one before it
 pub rises-by_end : (rs : List Placed) → NoneEndsSooner (by_end rs)
 rises-by_end [] = tt
 rises-by_end (r ∷ rs) = rises-entered r (by_end rs) (rises-by_end rs)
 
--- ---- who enters first makes no difference
 entered-entered : (a b : Placed) (xs : List Placed) → a.job.number ≢ b.job.number → entered a (entered b xs) ≡ entered b (entered a xs)
 entered-entered a b [] ne =
     ⊎_elim
@@ -178,7 +179,7 @@ entered-entered a b (x ∷ xs) ne =
     (sooner-or b x))
     (sooner-or a x)
 
--- who starts enters the row
+-- where no other has its number, who is placed among the running jobs by number enters those by expected end
 pub by_end-placed : (r : Placed) (rs : List Placed) → count_by (λ (x : Placed). nat_eq x.job.number r.job.number) rs ≡ 0 → by_end (placed r rs) ≡ entered r (by_end rs)
 by_end-placed r [] none = refl
 by_end-placed r (x ∷ rs) none =
@@ -188,7 +189,7 @@ by_end-placed r (x ∷ rs) none =
     (λ _. refl)
     (λ _. ap (entered x) (by_end-placed r rs (omega (arith, none, k))) ∙ sym (entered-entered r x (by_end rs) other))
 
--- ---- who ends leaves the row
+-- who is expected to end sooner than all others enters in front of them
 pub enters-first : (r : Placed) (xs : List Placed) → All (Sooner r) xs → entered r xs ≡ r ∷ xs
 enters-first r [] a = refl
 enters-first r (x ∷ xs) a = enters-before r x xs (All-head (Sooner r) x xs a)
@@ -214,6 +215,7 @@ filter-entered p r (x ∷ xs) h =
     go false true n = refl
     go false false n = refl
 
+-- those that pass a test stand in the order of expected ends as they stand in that of all
 pub by_end-filter : (p : Placed → Bool) (rs : List Placed) → by_end (filter p rs) ≡ filter p (by_end rs)
 by_end-filter p [] = refl
 by_end-filter p (r ∷ rs) =
@@ -222,7 +224,6 @@ by_end-filter p (r ∷ rs) =
     (λ n. by_end-filter p rs ∙ sym (cond-false (p r) (entered r (filter p (by_end rs))) (filter p (by_end rs)) n))
     ∙ sym (filter-entered p r (by_end rs) (rises-by_end rs))
 
--- ---- its place
 pub entered-at : (r : Placed) (rs : List Placed) → entered r rs ≡ insert rs (position_or_len (λ (x : Placed). is_sooner r x) rs) r
 entered-at r [] = refl
 entered-at r (x ∷ rs) =
@@ -231,12 +232,11 @@ entered-at r (x ∷ rs) =
       | false ↦ rw one-add (ap (λ l. x ∷ l) (entered-at r rs))
     ]
 
--- ---- the seconds at which they end
+-- one for each element adds up to how many there are
 pub sum_by-ones : {X : Type 0} (xs : List X) → sum_by (λ x. 1) xs ≡ length xs
 sum_by-ones [] = refl
 sum_by-ones (x ∷ xs) = let k = sum_by-cons (λ x. 1) x xs in let i = sum_by-ones xs in omega (arith, k, i)
 
--- none adds anything: none passes
 none-adds : {X : Type 0} (p : X → Bool) (xs : List X) → sum_by (λ x. cond (p x) 1 0) xs ≡ 0 → All (λ x. p x ≡ false) xs
 none-adds p [] e = All-nil (λ x. p x ≡ false)
 none-adds p (x ∷ xs) e =
@@ -246,6 +246,7 @@ none-adds p (x ∷ xs) e =
     (λ (n : p x ≡ false). All-cons (λ x. p x ≡ false) x xs n (none-adds p xs (omega (arith, e, k))))
     (cases_Bool (p x))
 
+-- where none passes a test none is counted
 pub adds-none : {X : Type 0} (p : X → Bool) (xs : List X) → All (λ x. p x ≡ false) xs → sum_by (λ x. cond (p x) 1 0) xs ≡ 0
 adds-none p [] a = refl
 adds-none p (x ∷ xs) a =
@@ -259,6 +260,7 @@ Any-first P x xs h = (0, x, omega arith, refl, h)
 Any-later : {X : Type 0} (P : X → Type 0) (x : X) (xs : List X) → Any P xs → Any P (x ∷ xs)
 Any-later P x xs (k, y, l, e, h) = (suc k, y, omega (arith, l), e, h)
 
+-- where a test that only those with a property pass counts one at least, one has the property
 pub one-adds : {X : Type 0} (P : X → Type 0) (p : X → Bool) (xs : List X) → ((x : X) → p x ≡ true → P x) → 1 ≤ sum_by (λ x. cond (p x) 1 0) xs → Any P xs
 one-adds P p [] f l = absurd (omega (arith, l))
 one-adds P p (x ∷ xs) f l =
@@ -268,7 +270,7 @@ one-adds P p (x ∷ xs) f l =
     (λ (n : p x ≡ false). let none = cond-false {A = ℕ} (p x) 1 0 n in Any-later P x xs (one-adds P p xs f (omega (arith, l, k, none))))
     (cases_Bool (p x))
 
--- one passes: something is added
+-- where one has a property, a test that all with this property pass counts one at least
 pub adds-one : {X : Type 0} (P : X → Type 0) (p : X → Bool) (xs : List X) → ((x : X) → P x → p x ≡ true) → Any P xs → 1 ≤ sum_by (λ x. cond (p x) 1 0) xs
 adds-one P p xs f (k, x, l, at, h) =
     let some = get_or-le-sum_by (λ x. cond {A = ℕ} (p x) 1 0) xs k x l in
@@ -277,7 +279,7 @@ adds-one P p xs f (k, x, l, at, h) =
     omega (arith, some, one, here)
 
 module _ {E : Type 0} (at : E → ℕ) where
-  -- these are the ends of the running jobs
+  -- the seconds of these are those at which the running jobs end: whatever is added up over the ones is added up over the others
   abbrev pub EndsOf : List E → List Placed → Type 0
   EndsOf ends rs = (f : ℕ → ℕ) → sum_by (λ e. f (at e)) ends ≡ sum_by (λ r. f (real_end r)) rs
 
@@ -292,6 +294,7 @@ module _ {E : Type 0} (at : E → ℕ) where
       let k = h f in
       one-adds (λ (r : Placed). real_end r ≡ t) (λ r. nat_eq (real_end r) t) rs (λ r e. eqb-true (real_end r) t e) (omega (arith, one, some, k))
 
+  -- where none of these ends comes before a second, no running job ends before it
   pub none-sooner : (ends : List E) (rs : List Placed) (t : ℕ) → EndsOf ends rs → All (λ e. t ≤ at e) ends → All (λ r. t ≤ real_end r) rs
   none-sooner ends rs t h a =
       let f : ℕ → ℕ = λ n. cond (nat_lt n t) 1 0 in
@@ -299,7 +302,6 @@ module _ {E : Type 0} (at : E → ℕ) where
       All-weaker (λ (r : Placed). nat_lt (real_end r) t ≡ false) (λ r. t ≤ real_end r) (λ r n. ltb-false (real_end r) t n) rs
       (none-adds (λ (r : Placed). nat_lt (real_end r) t) rs (sym (h f) ∙ zero'))
 
--- the first of the heap
 pub first-none : {E : Type 0} (at : E → ℕ) (ends : List E) → option_map at (slice_get ends 0) ≡ None → ends ≡ []
 first-none at [] e = refl
 first-none at (y ∷ ys) e = let k : Some (at y) ≡ None = e in cc
@@ -308,7 +310,7 @@ pub first-some : {E : Type 0} (at : E → ℕ) (ends : List E) (t : ℕ) → opt
 first-some at [] t e rs h = let k : None ≡ Some t = e in cc
 first-some at (y ∷ ys) t e rs h = let k : Some (at y) ≡ Some t = e in let same : at y ≡ t = cc in one-ends at (y ∷ ys) rs t 0 y h (omega arith) same
 
--- who outlasts t stays
+-- where all running jobs end after second t, those that outlast it are all
 pub filter-later : (t : ℕ) (rs : List Placed) → All (λ r. t < real_end r) rs → filter (λ r. nat_lt t (real_end r)) rs ≡ rs
 filter-later t [] a = refl
 filter-later t (r ∷ rs) a =
@@ -321,7 +323,7 @@ not-running s n job h found same =
     let one = cond-true {A = ℕ} (nat_eq job.number n) 1 0 (eq-eqb job.number n same) in
     omega (arith, one, h.once n, sum_by-without (λ (j : EffectiveJob). cond (nat_eq j.number n) 1 0) n s.waiting job found)
 
--- ---- what the first of the heap tells of the running jobs
+-- a list of the running jobs' ends has no first one just where nobody runs
 pub next-end-none : {E : Type 0} (at : E → ℕ) (ends : List E) (rs : List Placed) (o : Option ℕ) → o ≡ option_map at (slice_get ends 0) → EndsOf at ends rs → (IsNone o → rs ≡ []) × (rs ≡ [] → IsNone o)
 next-end-none at ends rs None e h = (
   λ _. nil_from_length rs (sym (as-many at ends rs h) ∙ ap length (first-none at ends (sym e))),
@@ -334,15 +336,17 @@ next-end-none at ends rs (Some t) e h = (
       cc,
 )
 
+-- the first in a list of the running jobs' ends, if there is one, is the second at which one of them ends
 pub next-end-found : {E : Type 0} (at : E → ℕ) (ends : List E) (rs : List Placed) (o : Option ℕ) → o ≡ option_map at (slice_get ends 0) → EndsOf at ends rs → IfSome o (λ t. Any (λ r. real_end r ≡ t) rs)
 next-end-found at ends rs None e h = tt
 next-end-found at ends rs (Some t) e h = first-some at ends t (sym e) rs h
 
+-- a second that none in a list of the running jobs' ends comes before is one that no running job ends before
 pub next-end-least : {E : Type 0} (at : E → ℕ) (ends : List E) (rs : List Placed) (o : Option ℕ) → IfSome o (λ t. All (λ e. t ≤ at e) ends) → EndsOf at ends rs → IfSome o (λ t. All (λ r. t ≤ real_end r) rs)
 next-end-least at ends rs None a h = tt
 next-end-least at ends rs (Some t) a h = none-sooner at ends rs t h a
 
--- ---- no two of them tie
+-- where each is expected to end sooner than all behind it, so it is with one entered whose number none of them has
 pub strict-entered : (r : Placed) (xs : List Placed) → RisesByEnd xs → All (λ x. x.job.number ≢ r.job.number) xs → RisesByEnd (entered r xs)
 strict-entered r [] h a = (All-nil (EndsSooner r), tt)
 strict-entered r (x ∷ xs) h a =
@@ -366,10 +370,11 @@ strict-by_end (r ∷ rs) once =
     (strict-by_end rs (λ m. (let o = once m in let l = sum_by-cons (λ (x : Placed). cond {A = ℕ} (nat_eq x.job.number m) 1 0) r rs in omega (arith, o, l))))
     (All-by_end (λ x. x.job.number ≢ n) rs others)
 
+-- of the running jobs of a sound state, by expected ends, each is expected to end sooner than all those behind it
 pub rises-of : (s : State) → IsSound s → RisesByEnd (by_end s.running)
 rises-of s h = strict-by_end s.running (λ n. (let o = h.once n in omega (arith, o)))
 
--- and each stands there once
+-- running jobs by their expected ends are the same jobs in another order: each stands there once
 pub permuted-by_end : (rs : List Placed) → IsPermutation rs (by_end rs)
 permuted-by_end [] = IsPermutation-refl []
 permuted-by_end (r ∷ rs) =
@@ -377,7 +382,7 @@ permuted-by_end (r ∷ rs) =
     IsPermutation-trans (r ∷ rs) (r ∷ runners) (entered r runners) (IsPermutation-cons r rs runners (permuted-by_end rs))
     (subst (IsPermutation (r ∷ runners)) (sym (entered-at r runners)) (IsPermutation-insert runners (position_or_len (λ (x : Placed). is_sooner r x) runners) r))
 
--- where none ties with it, it enters a row of blocks at the same place
+-- a job enters a row of blocks where it enters the order of expected ends, if no other there has its number
 pub entered-same : (r : Placed) (runners : List Placed) → All (λ x. x.job.number ≢ r.job.number) runners → row_entered expected_end (λ (x : Placed). x.job.number) r runners ≡ entered r runners
 entered-same r [] a = refl
 entered-same r (x ∷ xs) a =

@@ -1,4 +1,5 @@
--- The heap of ends and the row of the running jobs.
+-- The heap of ends and the row of the running jobs: who starts joins both. Whose end is taken from the heap stands in the row under its expected
+-- end and number, and there alone; it leaves on both sides, and those who outlast its end stay.
 use Rattle.std.proofs.Common.{◌≡◌, ℕ, suc, ◌+◌, ◌≤◌, ◌<◌, Bool, true, false, cond, ◌&&◌, ◌==◌, nat_eq, List, ◌∷◌, All, find, sum_by, nat_lt, filter, length, refl, sym, ◌∙◌, ap, arith, Some, None}
 use Rattle.std.specs.declared.cmp.Reverse.{Reverse}
 use Rattle.std.specs.List.Sorted.{IsPermutation}
@@ -15,23 +16,21 @@ use Rattle.cluster_state.proofs.EndLemmas.{EndsOf, none-sooner, sum_by-entered, 
 use Rattle.cluster_state.proofs.LeavingLemmas.{sum_by-leaves, sum_by-others, none-found, filter-leaves, rises-others}
 use Rattle.cluster_state.proofs.NumberLemmas.{Once, sum_by-by_number, by_number-filter}
 
--- these are the ends of the running jobs
 abbrev pub KeysOf : List (Reverse End) → List Placed → Type 0
 KeysOf ends rs = (f : End → ℕ) → sum_by (λ e. f e.0) ends ≡ sum_by (λ r. f (end_of r)) rs
 
--- their seconds are those of the jobs, also by number
+-- the seconds in a heap that has the end of each job of a row are those at which these jobs, by number, end
 pub ends-of : (ends : List (Reverse End)) (runners : List Placed) → KeysOf ends runners → EndsOf (λ (e : Reverse End). e.0.end) ends (by_number runners)
 ends-of ends runners h = λ f. h (λ e. f e.end) ∙ sym (sum_by-by_number (λ r. f (real_end r)) runners)
 
--- who starts joins them
+-- a heap with the ends of a row's jobs, and the end of one job more, has those of the row that this job has entered
 pub keys-joined : (ends ends' : List (Reverse End)) (x : Reverse End) (r : Placed) (runners : List Placed) → KeysOf ends runners → IsPermutation (x ∷ ends) ends' → x.0 ≡ end_of r → KeysOf ends' (entered r runners)
 keys-joined ends ends' x r runners h p here = λ f. (let a = sum_by_pushed (λ (e : Reverse End). f e.0) x ends ends' p in let b = h f in let c = sum_by-entered (λ r. f (end_of r)) r runners in let d = ap f here in omega (arith, a, b, c, d))
 
--- where none of them comes by second t, all outlast it
+-- where no end in the heap comes by second t, all jobs of the row outlast it
 pub nobody-due : (ends : List (Reverse End)) (runners : List Placed) (t : ℕ) → KeysOf ends runners → All (λ (x : Reverse End). t < x.0.end) ends → All (λ r. t < real_end r) (by_number runners)
 nobody-due ends runners t h later = none-sooner (λ (e : Reverse End). e.0.end) ends (by_number runners) (suc t) (ends-of ends runners h) later
 
--- ---- who ends is found
 abbrev made : ℕ → ℕ → ℕ → End
 made a b c = record { end = a; expected_end = b; number = c }
 
@@ -60,7 +59,6 @@ num r = r.job.number
 is-at : (r : Placed) (x : End) → is (end_of r) x ≡ true → is_at expected_end num x.expected_end x.number r ≡ true
 is-at r x h = (and_parts (nat_eq (real_end r) x.end) (nat_eq (expected_end r) x.expected_end && nat_eq r.job.number x.number) h).1
 
--- where one test passes only with the other
 fewer-pass : (p q : Bool) → (p ≡ true → q ≡ true) → cond {A = ℕ} p 1 0 ≤ cond {A = ℕ} q 1 0
 fewer-pass true q h = let one = cond-true {A = ℕ} q 1 0 (h refl) in omega (arith, one)
 fewer-pass false q h = omega arith
@@ -69,7 +67,7 @@ passes : (b : Bool) → 1 ≤ cond {A = ℕ} b 1 0 → b ≡ true
 passes true l = refl
 passes false l = absurd (omega (arith, l))
 
--- the row without it
+-- the row without the first job that has this end's expected end and number
 abbrev pub left-runners : End → List Placed → List Placed
 left-runners x runners = without_first (is_at expected_end num x.expected_end x.number) runners
 
@@ -84,7 +82,7 @@ module _ (ends mid : List (Reverse End)) (x : End) (runners : List Placed) (keys
       let l = keys (λ e. cond (is e x) 1 0) in
       omega (arith, one, k, l)
 
-  -- it stands in the row under its key
+  -- in the row stands a job with the expected end and number of an end that was taken from the heap
   pub is-found : find (is_at expected_end num x.expected_end x.number) runners ≡ None → ⊥
   is-found found =
       let none = none-found (is_at expected_end num x.expected_end x.number) runners found in
@@ -92,7 +90,6 @@ module _ (ends mid : List (Reverse End)) (x : End) (runners : List Placed) (keys
       omega (arith, none, fewer, stands)
 
   module _ (r : Placed) (found : find (is_at expected_end num x.expected_end x.number) runners ≡ Some r) where
-    -- and there alone
     ends-so : end_of r ≡ x
     ends-so =
         let test : Placed → Bool = is_at expected_end num x.expected_end x.number in
@@ -102,7 +99,7 @@ module _ (ends mid : List (Reverse End)) (x : End) (runners : List Placed) (keys
         let fewer = sum_by-le-sum_by (λ (r : Placed). cond (is (end_of r) x) 1 0) (λ (r : Placed). cond (nat_eq r.job.number x.number) 1 0) (left-runners x runners) (λ r. fewer-pass (is (end_of r) x) (nat_eq r.job.number x.number) (λ y. is-named (end_of r) x y)) in
         is-same (end_of r) x (passes (is (end_of r) x) (omega (arith, its, named, here, fewer, stands, once x.number)))
 
-    -- it leaves on both sides
+    -- the heap without the end that was taken has the ends of the row without its job
     pub keys-leave : KeysOf mid (left-runners x runners)
     keys-leave = λ f.
         let a = popped f in
@@ -111,20 +108,23 @@ module _ (ends mid : List (Reverse End)) (x : End) (runners : List Placed) (keys
         let d = ap f ends-so in
         omega (arith, a, b, c, d)
 
+    -- no two of the row without this job have one number
     pub once-left : Once (left-runners x runners)
     once-left n = omega (arith, once n, sum_by-others (is_at expected_end num x.expected_end x.number) (λ (r : Placed). cond (nat_eq r.job.number n) 1 0) runners)
 
+    -- in the row without this job each is expected to end sooner than all behind it
     pub rises-left : RisesByEnd (left-runners x runners)
     rises-left = rises-others (is_at expected_end num x.expected_end x.number) runners rises
 
-    -- whatever is added up over it and the others, by number
+    -- the value of this job, and the sum over the others by number, are the sum over all by number
     pub sum_by-left : (f : Placed → ℕ) → f r + sum_by f (by_number (left-runners x runners)) ≡ sum_by f (by_number runners)
     sum_by-left f = omega (arith, sum_by-leaves (is_at expected_end num x.expected_end x.number) f runners r found, sum_by-by_number f runners, sum_by-by_number f (left-runners x runners))
 
+    -- by number, fewer are left without this job
     pub length-left : length (by_number (left-runners x runners)) < length (by_number runners)
     length-left = omega (arith, sum_by-left (λ _. 1), sum_by-ones (by_number runners), sum_by-ones (by_number (left-runners x runners)))
 
-    -- where it ends by a second, those who outlast this stay
+    -- where this job ends by a second, those that outlast it are the same without the job
     pub filter-left : (t : ℕ) → x.end ≤ t → filter (lasts t) (by_number (left-runners x runners)) ≡ filter (lasts t) (by_number runners)
     filter-left t by =
         let ends : real_end r ≡ x.end = ap (λ (e : End). e.end) ends-so in

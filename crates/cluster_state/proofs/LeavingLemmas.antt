@@ -1,4 +1,4 @@
--- Who ends leaves the row.
+-- Who ends leaves the row: what is added up over it and the others, and that the others stand as they stood.
 use Rattle.std.proofs.Common.{◌≡◌, ℕ, ◌+◌, ◌≤◌, Bool, true, false, cond, List, [], ◌∷◌, All, Some, None, filter, find, sum_by, refl, sym, ap, arith, subst}
 use Rattle.std.proofs.lemmas.List.Sums.{sum_by-cons}
 use Rattle.std.proofs.lemmas.List.Elements.{All-cons, All-head, All-tail}
@@ -8,7 +8,7 @@ use Rattle.scenarios.specs.declared.placed.Placed.{Placed}
 use Rattle.cluster_state.specs.Ends.{EndsSooner, RisesByEnd}
 
 module _ {X : Type 0} (test : X → Bool) where
-  -- what is added up over the one that leaves and the others
+  -- the value of the first that passes, and the sum over the others, are the sum over all
   pub sum_by-leaves : (f : X → ℕ) (xs : List X) (x : X) → find test xs ≡ Some x → f x + sum_by f (without_first test xs) ≡ sum_by f xs
   sum_by-leaves f [] x e = cc
   sum_by-leaves f (y ∷ ys) x e =
@@ -17,6 +17,7 @@ module _ {X : Type 0} (test : X → Bool) where
         | false ↦ λ h. omega (arith, sum_by-leaves f ys x h, sum_by-cons f y ys, sum_by-cons f y (without_first test ys))
       ] e
 
+  -- a sum without the first that passes is at most the sum over all
   pub sum_by-others : (f : X → ℕ) (xs : List X) → sum_by f (without_first test xs) ≤ sum_by f xs
   sum_by-others f [] = omega arith
   sum_by-others f (y ∷ ys) =
@@ -24,7 +25,7 @@ module _ {X : Type 0} (test : X → Bool) where
       (λ _. omega (arith, sum_by-cons f y ys))
       (λ _. omega (arith, sum_by-others f ys, sum_by-cons f y ys, sum_by-cons f y (without_first test ys)))
 
-  -- none is found where nobody passes
+  -- where none is found, none that passes is counted
   pub none-found : (xs : List X) → find test xs ≡ None → sum_by (λ x. cond (test x) 1 0) xs ≡ 0
   none-found [] e = refl
   none-found (y ∷ ys) e =
@@ -41,7 +42,7 @@ module _ {X : Type 0} (test : X → Bool) where
       (λ _. All-tail P y ys a)
       (λ _. All-cons P y (without_first test ys) (All-head P y ys a) (All-others P ys (All-tail P y ys a)))
 
-  -- who fails another test leaves those that pass it
+  -- where the first that passes fails another test, those that pass this one are the same without it
   pub filter-leaves : (p : X → Bool) (xs : List X) (x : X) → find test xs ≡ Some x → p x ≡ false → filter p (without_first test xs) ≡ filter p xs
   filter-leaves p [] x e fails = refl
   filter-leaves p (y ∷ ys) x e fails =
@@ -50,7 +51,7 @@ module _ {X : Type 0} (test : X → Bool) where
         | false ↦ λ h. ap (λ l. cond (p y) (y ∷ l) l) (filter-leaves p ys x h fails)
       ] e
 
--- the others stand as they stood
+-- a row in which each is expected to end sooner than all behind it stays so without the first that passes a test
 pub rises-others : (test : Placed → Bool) (runners : List Placed) → RisesByEnd runners → RisesByEnd (without_first test runners)
 rises-others test [] h = tt
 rises-others test (x ∷ xs) h =

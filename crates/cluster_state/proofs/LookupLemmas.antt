@@ -1,4 +1,5 @@
--- Numbers looked up in a table one after another.
+-- Numbers looked up in a table one after another: the running jobs that they give, and a state into which the jobs of some last numbers are
+-- still to come.
 use Rattle.std.proofs.Common.{◌≡◌, ◌↔◌, ℕ, ◌+◌, ◌-◌, ◌^◌, ◌≤◌, ◌<◌, Bool, cond, nat_eq, List, [], ◌∷◌, ◌++◌, Option, Some, None, IsSome, All, count_by, refl, sym, ◌∙◌, ap, arith, subst}
 use Rattle.std.specs.List.{filter_map, cons_option}
 use Rattle.std.specs.Option.{option_map}
@@ -13,14 +14,12 @@ use Rattle.cluster_state.specs.State.{State, IsSound, busy, holders}
 use Rattle.cluster_state.specs.Snapshot.{Numbers, IsSnapshot, running_numbered, Fits}
 use Rattle.cluster_state.proofs.StateLemmas.{test-find}
 
--- the job that runs since a second
 abbrev since : ℕ → Option EffectiveJob → Option Placed
 since start o = option_map (λ job. record { job = job; start = start }) o
 
 abbrev run_of : List EffectiveJob → List RunningNumber → List Placed
 run_of jobs rs = filter_map (running_numbered jobs) rs
 
--- the first number's job, if there is one
 pub run-first : (jobs : List EffectiveJob) (r : RunningNumber) (rs : List RunningNumber) (o : Option EffectiveJob) → o ≡ job_numbered jobs r.number
     → run_of jobs (r ∷ rs) ≡ cons_option (since r.start o) (run_of jobs rs)
 run-first jobs r rs o e = ap (λ p. cons_option (since r.start p) (run_of jobs rs)) (sym e)
@@ -30,7 +29,6 @@ busy-first : (jobs : List EffectiveJob) (r : RunningNumber) (rs : List RunningNu
 busy-first jobs r rs job e =
     ap busy (run-first jobs r rs (Some job) e) ∙ sum_by-cons (λ (x : Placed). x.job.size) (record { job = job; start = r.start }) (run_of jobs rs)
 
--- each of these numbers has a job
 abbrev pub HaveJobs : List EffectiveJob → List ℕ → Type 0
 HaveJobs jobs ns = All (λ n. IsSome (job_numbered jobs n)) ns
 
@@ -38,7 +36,7 @@ HaveJobs jobs ns = All (λ n. IsSome (job_numbered jobs n)) ns
 abbrev pub CanRun : List EffectiveJob → List RunningNumber → ℕ → Type 0
 CanRun jobs rs left = All (λ r. IsSome (job_numbered jobs r.number)) rs × (busy (run_of jobs rs) ≤ left)
 
--- the first number has a job: that leaves those behind it
+-- where all have jobs just where those that are left have, and the first of these has one, all have just where those behind it have
 pub have-behind : (jobs : List EffectiveJob) (all left behind : List ℕ) (n : ℕ) (o : Option EffectiveJob) → left ≡ n ∷ behind → o ≡ job_numbered jobs n → IsSome o
     → HaveJobs jobs left ↔ HaveJobs jobs all → HaveJobs jobs behind ↔ HaveJobs jobs all
 have-behind jobs all left behind n o is e some h =
@@ -47,7 +45,7 @@ have-behind jobs all left behind n o is e some h =
       λ a. All-tail P n behind (subst (λ l. HaveJobs jobs l) is (h.1 a)),
     )
 
--- the first number's job finds capacity: that leaves those behind it, with the rest of the capacity
+-- where all can run just where those left can, and the first one's job fits, all can just where those behind it can in the processors then left
 pub can-run-behind : (jobs : List EffectiveJob) (all left behind : List RunningNumber) (capacity procs size : ℕ) (r : RunningNumber) (job : EffectiveJob) → left ≡ r ∷ behind → Some job ≡ job_numbered jobs r.number
     → size ≡ job.size → size ≤ capacity → CanRun jobs left capacity ↔ CanRun jobs all procs → CanRun jobs behind (capacity - size) ↔ CanRun jobs all procs
 can-run-behind jobs all left behind capacity procs size r job is e same fits h =
@@ -83,7 +81,7 @@ running-counts jobs m (r ∷ rs) = go (job_numbered jobs r.number) refl (running
         let same = ap (λ k. cond {A = ℕ} (nat_eq k m) 1 0) (job-number jobs r.number job e) in
         omega (arith, i, same, sum_by-cons (λ (r : RunningNumber). cond {A = ℕ} (nat_eq r.number m) 1 0) r rs, sum_by-cons (λ (r : Placed). cond {A = ℕ} (nat_eq r.job.number m) 1 0) (record { job = job; start = r.start }) (run_of jobs rs))
 
--- the running jobs of a snapshot that fits are a sound state
+-- the running jobs of a snapshot that fits a plan, where nobody waits, are a sound state, if they and the machine are within the limits
 pub sound-running : (p : Numbers) (plan : Plan) (rs : List Placed) → IsSnapshot p → Fits p plan → plan.procs ≤ 16777216 → rs ≡ run_of plan.jobs p.running → All (λ r. IsWithinLimits r.job) rs
     → IsSound (record { procs = plan.procs; order = plan.order; waiting = []; running = rs })
 sound-running p plan rs h fits small is limits = record {
@@ -109,7 +107,7 @@ pub record IsRestoring (p : Numbers) (plan : Plan) (left : List ℕ) (s : State)
   pub rest : s.waiting ++ filter_map (job_numbered plan.jobs) left ≡ filter_map (job_numbered plan.jobs) p.waiting
   pub others : s ≡ record { procs = plan.procs; order = plan.order; waiting = s.waiting; running = run_of plan.jobs p.running }
 
--- the job of the next number is not there yet
+-- nobody in the state has the number of the next job that is still to come
 pub absent-next : (p : Numbers) (plan : Plan) (n : ℕ) (left : List ℕ) (s : State) (job : EffectiveJob) → IsSnapshot p → IsRestoring p plan (n ∷ left) s → Some job ≡ job_numbered plan.jobs n
     → holders s job.number ≡ 0
 absent-next p plan n left s job h so e =
@@ -123,7 +121,7 @@ absent-next p plan n left s job h so e =
     let runs = ap (λ (z : State). count_by (λ (r : Placed). nat_eq r.job.number m) z.running) so.others in
     omega (arith, one, all, parts, next, runs, waiting-counts plan.jobs m p.waiting, running-counts plan.jobs m p.running, h.once m)
 
--- there is no such job
+-- where the next number has no job, only the jobs of the numbers behind it are still to come
 pub restoring-none : (p : Numbers) (plan : Plan) (n : ℕ) (left : List ℕ) (s : State) → IsRestoring p plan (n ∷ left) s → None ≡ job_numbered plan.jobs n → IsRestoring p plan left s
 restoring-none p plan n left s so e = record {
   rest = ap (λ o. s.waiting ++ cons_option o (filter_map (job_numbered plan.jobs) left)) e ∙ so.rest;

@@ -1,4 +1,5 @@
--- The running jobs in a row by their expected ends, and in the order of their numbers.
+-- The running jobs in a row by their expected ends, and in the order of their numbers: where no two have one number, each order is found again
+-- from the other.
 use Rattle.std.proofs.Common.{◌≡◌, ◌≢◌, ℕ, ◌+◌, ◌≤◌, ◌<◌, Bool, false, cond, nat_eq, nat_lt, zero, suc, List, [], ◌∷◌, ◌++◌, take, length, All, map, filter, get_or, sum_by, count_by, refl, sym, ◌∙◌, ap, arith, subst, ⊎_elim}
 use Rattle.std.specs.List.{position_or_len}
 use Rattle.std.specs.List.Sorted.{IsPermutation, IsNonDecreasingBy}
@@ -22,18 +23,17 @@ use Rattle.cluster_state.proofs.EndLemmas.{strict-entered, sum_by-entered, sum_b
 use Rattle.cluster_state.proofs.RiseLemmas.{rises-placed, rises-filter, numbers-rise}
 use Rattle.cluster_state.proofs.SnapshotLemmas.{counts-running}
 
--- how many have the number
+-- how many of these running jobs have the number
 abbrev pub Having : ℕ → List Placed → ℕ
 Having n rs = count_by (λ (r : Placed). nat_eq r.job.number n) rs
 
--- no two have one number
+-- no two of these running jobs have one number
 abbrev pub Once : List Placed → Type 0
 Once rs = (n : ℕ) → Having n rs ≤ 1
 
 once-tail : (r : Placed) (rs : List Placed) → Once (r ∷ rs) → Once rs
 once-tail r rs once n = (let o = once n in let k = sum_by-cons (λ (x : Placed). cond {A = ℕ} (nat_eq x.job.number n) 1 0) r rs in omega (arith, o, k))
 
--- the first one's number is that of no other
 alone : (r : Placed) (rs : List Placed) → Once (r ∷ rs) → Having r.job.number rs ≡ 0
 alone r rs once =
     let n = r.job.number in
@@ -42,7 +42,6 @@ alone r rs once =
     let one = cond-true {A = ℕ} (nat_eq r.job.number n) 1 0 (eq-eqb r.job.number n refl) in
     omega (arith, o, k, one)
 
--- who is not counted has another number
 other : (n : ℕ) (x : Placed) (xs : List Placed) → Having n (x ∷ xs) ≡ 0 → x.job.number ≢ n
 other n x xs none e =
     let k = sum_by-cons (λ (x : Placed). cond {A = ℕ} (nat_eq x.job.number n) 1 0) x xs in
@@ -56,7 +55,6 @@ others : (n : ℕ) (xs : List Placed) → Having n xs ≡ 0 → All (λ (x : Pla
 others n [] none = All-nil (λ (x : Placed). x.job.number ≢ n)
 others n (x ∷ xs) none = All-cons (λ (x : Placed). x.job.number ≢ n) x xs (other n x xs none) (others n xs (none-tail n x xs none))
 
--- ---- the two cases of one more among those that rise by number
 placed-before : (r x : Placed) (xs : List Placed) → r.job.number < x.job.number → placed r (x ∷ xs) ≡ r ∷ x ∷ xs
 placed-before r x xs l = cond-true (nat_lt r.job.number x.job.number) (r ∷ x ∷ xs) (x ∷ placed r xs) (lt-ltb r.job.number x.job.number l)
 
@@ -66,7 +64,6 @@ placed-behind r x xs l = cond-false (nat_lt r.job.number x.job.number) (r ∷ x 
 more : (a b : Placed) → a.job.number ≢ b.job.number → b.job.number ≤ a.job.number → b.job.number < a.job.number
 more a b ne l = ⊎_elim (λ (m : b.job.number < a.job.number). m) (λ (m : a.job.number ≤ b.job.number). absurd (ne (omega (arith, l, m)))) (cases_lt b.job.number a.job.number)
 
--- who comes first makes no difference
 placed-placed : (a b : Placed) (xs : List Placed) → a.job.number ≢ b.job.number → placed a (placed b xs) ≡ placed b (placed a xs)
 placed-placed a b [] ne =
     ⊎_elim
@@ -104,7 +101,6 @@ placed-first r (x ∷ xs) a none =
     let ne : x.job.number ≢ r.job.number = other r.job.number x xs none in
     placed-before r x xs (more x r ne (All-head (λ (x : Placed). r.job.number ≤ x.job.number) x xs a))
 
--- behind all that have no greater number
 placed-last : (r : Placed) (rs : List Placed) → All (λ (x : Placed). x.job.number ≤ r.job.number) rs → placed r rs ≡ rs ++ r ∷ []
 placed-last r [] a = refl
 placed-last r (x ∷ xs) a =
@@ -122,7 +118,7 @@ placed-next rs i r h l is =
     placed-last r (take i rs) (subst (λ (y : Placed). All (λ (x : Placed). x.job.number ≤ y.job.number) (take i rs)) (sym is) (before-next rs i r h l))
     ∙ ap (λ (y : Placed). take i rs ++ y ∷ []) is ∙ sym (take_more rs i r l)
 
--- and has another number
+-- where no two have one number, none of those before the next one has its number
 pub none-before : (rs : List Placed) (i : ℕ) (r : Placed) → Once rs → i < length rs → r ≡ get_or rs i r → Having r.job.number (take i rs) ≡ 0
 none-before rs i r once l is =
     let n = r.job.number in
@@ -131,7 +127,7 @@ none-before rs i r once l is =
     let one = cond-true {A = ℕ} (nat_eq (get_or rs i r).job.number n) 1 0 (eq-eqb (get_or rs i r).job.number n (ap (λ (x : Placed). x.job.number) (sym is))) in
     omega (arith, o, k, one)
 
--- ---- from the one order to the other
+-- where no other has its number, who enters the jobs by expected end is placed among those by number
 pub by_number-entered : (r : Placed) (xs : List Placed) → Having r.job.number xs ≡ 0 → by_number (entered r xs) ≡ placed r (by_number xs)
 by_number-entered r [] none = refl
 by_number-entered r (x ∷ xs) none =
@@ -139,13 +135,16 @@ by_number-entered r (x ∷ xs) none =
     (λ _. refl)
     (λ _. ap (placed x) (by_number-entered r xs (none-tail r.job.number x xs none)) ∙ placed-placed x r (by_number xs) (other r.job.number x xs none))
 
+-- a sum over running jobs is the same in the order of their numbers
 pub sum_by-by_number : (f : Placed → ℕ) (rs : List Placed) → sum_by f (by_number rs) ≡ sum_by f rs
 sum_by-by_number f [] = refl
 sum_by-by_number f (r ∷ rs) = omega (arith, sum_by-placed f r (by_number rs), sum_by-by_number f rs, sum_by-cons f r rs)
 
+-- as many jobs stand in the order of their numbers
 pub length-by_number : (rs : List Placed) → length (by_number rs) ≡ length rs
 length-by_number rs = sym (sum_by-ones (by_number rs)) ∙ sum_by-by_number (λ _. 1) rs ∙ sum_by-ones rs
 
+-- in the order of their numbers the numbers of running jobs do not fall
 pub rises-by_number : (rs : List Placed) → RisesByNumber (by_number rs)
 rises-by_number [] = tt
 rises-by_number (r ∷ rs) = rises-placed r (by_number rs) (rises-by_number rs)
@@ -156,6 +155,7 @@ once-by_number rs once n = omega (arith, once n, sum_by-by_number (λ (r : Place
 pub once-filter : (p : Placed → Bool) (rs : List Placed) → Once rs → Once (filter p rs)
 once-filter p rs once n = omega (arith, once n, sum_by-filter-le (λ (r : Placed). cond (nat_eq r.job.number n) 1 0) p rs)
 
+-- where no two have one number, no two have with one more entered whose number nobody has
 pub once-entered : (r : Placed) (runners : List Placed) → Once runners → Having r.job.number runners ≡ 0 → Once (entered r runners)
 once-entered r runners once none n =
     let k = sum_by-entered (λ (x : Placed). cond {A = ℕ} (nat_eq x.job.number n) 1 0) r runners in
@@ -169,7 +169,6 @@ permuted-by_number (r ∷ rs) =
     IsPermutation-trans (r ∷ rs) (r ∷ runners) (placed r runners) (IsPermutation-cons r rs runners (permuted-by_number rs))
     (subst (IsPermutation (r ∷ runners)) (sym (placed-at r runners)) (IsPermutation-insert runners (position_or_len (λ (x : Placed). nat_lt r.job.number x.job.number) runners) r))
 
--- those that rise by number are found again from the row
 pub by_number-by_end : (rs : List Placed) → RisesByNumber rs → Once rs → by_number (by_end rs) ≡ rs
 by_number-by_end [] h once = refl
 by_number-by_end (r ∷ rs) h once =
@@ -177,7 +176,7 @@ by_number-by_end (r ∷ rs) h once =
     by_number-entered r (by_end rs) (omega (arith, none, sum_by-by_end (λ (x : Placed). cond (nat_eq x.job.number r.job.number) 1 0) rs))
     ∙ ap (placed r) (by_number-by_end rs h.1 (once-tail r rs once)) ∙ placed-first r rs h.0 none
 
--- and a row from those that rise by number
+-- a row by expected ends, in which no two have one number, is found again from its jobs by number
 pub runners-is : (runners : List Placed) → RisesByEnd runners → Once runners → runners ≡ by_end (by_number runners)
 runners-is [] h once = refl
 runners-is (r ∷ rs) h once =
@@ -185,21 +184,21 @@ runners-is (r ∷ rs) h once =
     (by_end-placed r (by_number rs) (omega (arith, alone r rs once, sum_by-by_number (λ (x : Placed). cond (nat_eq x.job.number r.job.number) 1 0) rs))
     ∙ ap (entered r) (sym (runners-is rs h.1 (once-tail r rs once))) ∙ enters-first r rs h.0)
 
--- who starts joins the row
+-- a job whose number nobody in the row has enters the row of blocks where it enters the order of expected ends
 pub enters-runners : (r : Placed) (runners : List Placed) → Having r.job.number runners ≡ 0 → row_entered expected_end (λ (x : Placed). x.job.number) r runners ≡ entered r runners
 enters-runners r runners none = entered-same r runners (others r.job.number runners none)
 
+-- a row in which each is expected to end sooner than all behind it stays so with one entered whose number nobody has
 pub rises-joined : (r : Placed) (runners : List Placed) → RisesByEnd runners → Having r.job.number runners ≡ 0 → RisesByEnd (entered r runners)
 rises-joined r runners h none = strict-entered r runners h (others r.job.number runners none)
 
--- who ends leaves the others as they stand
+-- those of a row that pass a test, by number, are those that pass of its jobs by number
 pub by_number-filter : (p : Placed → Bool) (runners : List Placed) → RisesByEnd runners → Once runners → by_number (filter p runners) ≡ filter p (by_number runners)
 by_number-filter p runners h once =
     let rs = by_number runners in
     ap (λ (l : List Placed). by_number (filter p l)) (runners-is runners h once) ∙ ap by_number (sym (by_end-filter p rs))
     ∙ by_number-by_end (filter p rs) (rises-filter p rs (rises-by_number runners)) (once-filter p rs (once-by_number runners once))
 
--- ---- their numbers, sorted, are those of the order by number
 abbrev its : RunningNumber → ℕ
 its r = r.number
 
@@ -219,6 +218,7 @@ climbs-numbers (r ∷ ns) h = (opens ns h.0, climbs-numbers ns h.1)
     opens (x ∷ xs) a =
         (not-comes x.number r.number (All-head (λ (x : RunningNumber). r.number ≤ x.number) x xs a), opens xs (All-tail (λ (x : RunningNumber). r.number ≤ x.number) x xs a))
 
+-- the numbers of running jobs, of which no two are the same, with their starts, sorted, are those of the jobs by number
 pub sorted-numbers : (rs : List Placed) (ns : List RunningNumber) → Once rs → IsPermutation (map number_of rs) ns → IsNonDecreasingBy its ns → ns ≡ map number_of (by_number rs)
 sorted-numbers rs ns once p up =
     let rs' = by_number rs in

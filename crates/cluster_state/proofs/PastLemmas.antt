@@ -10,7 +10,6 @@ use Rattle.cluster_state.specs.State.{busy}
 use Rattle.cluster_state.specs.Ends.{block_limit, by_number}
 use Rattle.cluster_state.proofs.NumberLemmas.{sum_by-by_number}
 
--- those of a block hold no more than so many first ones of a row that begins with it
 front-holds : (n : ℕ) (block later : List Placed) → length block ≤ n → busy block ≤ busy (take n (block ++ later))
 front-holds n [] later le = omega arith
 front-holds zero (r ∷ block) later le = absurd (omega (arith, le))
@@ -18,13 +17,12 @@ front-holds (suc n) (r ∷ block) later le =
     let size : Placed → ℕ = λ x. x.job.size in
     omega (arith, front-holds n block later (omega (arith, le)), sum_by-cons size r block, sum_by-cons size r (take n (block ++ later)))
 
--- a block has at most its limit
 within-limit : (n : ℕ) (blocks : List (List Placed)) → AreFilled blocks → length (block_of blocks n) ≤ block_limit
 within-limit n [] filled = omega arith
 within-limit zero (block ∷ blocks) filled = filled.0.high
 within-limit (suc n) (block ∷ blocks) filled = within-limit n blocks filled.1
 
--- with a block of the others, those that are passed over hold as many as are wanted, if all do
+-- where the passed blocks hold too few processors, and enough with the next one, they do with as many first ones of the rest as a block may have
 pub past-most : (blocks : List (List Placed)) (n processors held : ℕ) (rest : List Placed) → AreFilled blocks → held ≡ busy (flat (take n blocks)) → held < processors → (n < length blocks → processors ≤ held + busy (block_of blocks n)) → rest ≡ flat (drop n blocks) → processors ≤ busy (by_number (flat blocks)) → processors ≤ held + busy (take block_limit rest)
 past-most blocks n processors held rest filled hold fewer most is all =
     ⊎_elim

@@ -1,7 +1,7 @@
--- Waiting jobs at places of their own, and the places of the row.
-use Rattle.std.proofs.Common.{◌≡◌, ℕ, zero, suc, ◌+◌, ◌≤◌, ◌<◌, Bool, true, false, cond, nat_eq, List, [], ◌∷◌, ◌++◌, length, drop, set, map, remove, find, count_by, slice_get, get_or, Option, Some, None, IfSome, All, refl, sym, ◌∙◌, ap, arith, subst, ⊎_elim}
-use Rattle.std.proofs.lemmas.Bool.{cond-true, cond-false, cases_Bool, cases_lt, eq-eqb, eqb-true, true≢false}
-use Rattle.std.proofs.lemmas.Option.{slice_get-get_or}
+-- Waiting jobs at places of their own, and the places of the candidates: what they hold as one comes or leaves, and that who stands at a place is
+-- found by its number.
+use Rattle.std.proofs.Common.{◌≡◌, ℕ, zero, suc, ◌+◌, ◌≤◌, ◌<◌, true, false, cond, nat_eq, List, [], ◌∷◌, ◌++◌, length, drop, set, map, remove, find, count_by, slice_get, Option, Some, None, IfSome, All, refl, sym, ◌∙◌, ap, arith, subst, ⊎_elim}
+use Rattle.std.proofs.lemmas.Bool.{cond-true, cond-false, cases_Bool, eq-eqb, eqb-true, true≢false}
 use Rattle.std.proofs.lemmas.List.{drop-map}
 use Rattle.std.proofs.lemmas.List.Sums.{sum_by-cons}
 use Rattle.std.proofs.lemmas.List.Elements.{All-cons, All-head, All-tail, All-nil, All-weaker, filter_map-append}
@@ -14,17 +14,19 @@ use Rattle.cluster_state.specs.State.{without}
 use Rattle.cluster_state.specs.Candidates.{by_estimate, in_order, candidates_of, candidates_places}
 use Rattle.cluster_state.proofs.CandidatesLemmas.{All-by_estimate, sum_by-by_estimate, without-by_estimate}
 
--- how many have the number
+-- how many of these jobs have the number
 abbrev pub Having : ℕ → List EffectiveJob → ℕ
 Having n js = count_by (λ (j : EffectiveJob). nat_eq j.number n) js
 
--- no number stands twice
+-- no two of these jobs have one number
 abbrev pub Once : List EffectiveJob → Type 0
 Once js = (n : ℕ) → Having n js ≤ 1
 
+-- of a job and others, those behind it that have the number are counted, and the job itself if it has it
 pub counts : (n : ℕ) (j : EffectiveJob) (js : List EffectiveJob) → Having n (j ∷ js) ≡ cond (nat_eq j.number n) 1 0 + Having n js
 counts n j js = sum_by-cons (λ (j : EffectiveJob). cond {A = ℕ} (nat_eq j.number n) 1 0) j js
 
+-- a job that has the number counts as one
 pub one : (n : ℕ) (j : EffectiveJob) → nat_eq j.number n ≡ true → cond {A = ℕ} (nat_eq j.number n) 1 0 ≡ 1
 one n j e = cond-true {A = ℕ} (nat_eq j.number n) 1 0 e
 
@@ -34,27 +36,26 @@ fewer n j js once = omega (arith, once, counts n j js)
 once-tail : (j : EffectiveJob) (js : List EffectiveJob) → Once (j ∷ js) → Once js
 once-tail j js once n = fewer n j js (once n)
 
--- ---- places of which none is empty
 pub all_wait : (js : List EffectiveJob) → waiting (map (λ job. Some job) js) ≡ js
 all_wait [] = refl
 all_wait (j ∷ js) = ap (λ l. j ∷ l) (all_wait js)
 
+-- at places of which none is empty, the jobs stand as in their list
 pub at_map : (js : List EffectiveJob) (k : ℕ) → at_place (map (λ job. Some job) js) k ≡ slice_get js k
 at_map [] k = refl
 at_map (j ∷ js) zero = refl
 at_map (j ∷ js) (suc k) = at_map js k
 
--- the row has the waiting jobs in the order in which they are looked at
+-- at the candidates' places the waiting jobs stand in the order in which they are looked at
 pub candidates_is : (o : Order) (places : List (Option EffectiveJob)) (candidates : List EffectiveJob) → candidates ≡ candidates_of o (waiting places) → waiting (candidates_places o places candidates) ≡ in_order o (waiting places)
 candidates_is Arrival places candidates e = refl
 candidates_is Shortest places candidates e = all_wait candidates ∙ e
 
--- one comes
+-- who comes to a new last place waits behind all others
 pub waiting-push : (xs new : List (Option EffectiveJob)) (x : EffectiveJob) → new ≡ xs ++ Some x ∷ [] → waiting new ≡ waiting xs ++ x ∷ []
 waiting-push xs new x e = ap waiting e ∙ filter_map-append (λ (place : Option EffectiveJob). place) xs (Some x ∷ [])
 
--- ---- one leaves
--- who stands there is counted
+-- one at least of those who wait has the number of who stands at a place
 pub counted : (xs : List (Option EffectiveJob)) (k : ℕ) (x : EffectiveJob) → at_place xs k ≡ Some x → 1 ≤ Having x.number (waiting xs)
 counted [] k x e = cc
 counted (None ∷ xs) zero x e = cc
@@ -64,7 +65,6 @@ counted (Some y ∷ xs) zero x e =
     omega (arith, counts x.number y (waiting xs), one x.number y (eq-eqb y.number x.number (ap (λ (j : EffectiveJob). j.number) same)))
 counted (Some y ∷ xs) (suc k) x e = omega (arith, counts x.number y (waiting xs), counted xs k x e)
 
--- the one before has another number
 pub other : (y : EffectiveJob) (js : List EffectiveJob) (n : ℕ) → Having n (y ∷ js) ≤ 1 → 1 ≤ Having n js → nat_eq y.number n ≡ false
 other y js n once l =
     ⊎_elim
@@ -72,6 +72,7 @@ other y js n once l =
     (λ (f : nat_eq y.number n ≡ false). f)
     (cases_Bool (nat_eq y.number n))
 
+-- to empty the place of a job whose number no other has takes the one of that number from those who wait
 pub waiting-set : (xs : List (Option EffectiveJob)) (k : ℕ) (x : EffectiveJob) → Having x.number (waiting xs) ≤ 1 → at_place xs k ≡ Some x → waiting (set xs k None) ≡ without x.number (waiting xs)
 waiting-set [] k x once e = cc
 waiting-set (None ∷ xs) zero x once e = cc
@@ -83,7 +84,7 @@ waiting-set (Some y ∷ xs) (suc k) x once e =
     ap (λ l. y ∷ l) (waiting-set xs k x (fewer x.number y (waiting xs) once) e)
     ∙ sym (cond-false (nat_eq y.number x.number) (waiting xs) (y ∷ without x.number (waiting xs)) (other y (waiting xs) x.number once (counted xs k x e)))
 
--- the same of one that is found by its number, and of one whose place is known
+-- to empty the place of a job takes the one of a number from those who wait, where the job has that number and no other has
 pub leaves-numbered : (xs : List (Option EffectiveJob)) (k n : ℕ) → Having n (waiting xs) ≤ 1 → holds (λ (j : EffectiveJob). nat_eq j.number n) (at_place xs k) ≡ true → waiting (set xs k None) ≡ without n (waiting xs)
 leaves-numbered xs k n once e = go (at_place xs k) refl
   where
@@ -93,6 +94,7 @@ leaves-numbered xs k n once e = go (at_place xs k) refl
         let same : x.number ≡ n = eqb-true x.number n (sym (ap (holds (λ (j : EffectiveJob). nat_eq j.number n)) is) ∙ e) in
         waiting-set xs k x (subst (λ m. Having m (waiting xs) ≤ 1) (sym same) once) is ∙ ap (λ m. without m (waiting xs)) same
 
+-- where no two who wait have one number, to empty a place takes the one of the number that stands there from those who wait
 pub leaves-there : (xs : List (Option EffectiveJob)) (k : ℕ) → Once (waiting xs) → IfSome (at_place xs k) (λ x. waiting (set xs k None) ≡ without x.number (waiting xs))
 leaves-there xs k once = go (at_place xs k) refl
   where
@@ -100,7 +102,7 @@ leaves-there xs k once = go (at_place xs k) refl
     go None is = tt
     go (Some x) is = waiting-set xs k x (once x.number) is
 
--- the number of one who is found by it stands once, and so does each where no number stands twice
+-- the number of who stands at a place stands once at most, where it is one that stands once at most
 pub once-numbered : (xs : List (Option EffectiveJob)) (k n : ℕ) → Having n (waiting xs) ≤ 1 → holds (λ (j : EffectiveJob). nat_eq j.number n) (at_place xs k) ≡ true → IfSome (at_place xs k) (λ x. Having x.number (waiting xs) ≤ 1)
 once-numbered xs k n once e = go (at_place xs k) e
   where
@@ -108,11 +110,12 @@ once-numbered xs k n once e = go (at_place xs k) e
     go None h = tt
     go (Some x) h = subst (λ m. Having m (waiting xs) ≤ 1) (sym (eqb-true x.number n h)) once
 
+-- where no two have one number, the number of any job stands once at most
 pub once-there : (js : List EffectiveJob) (o : Option EffectiveJob) → Once js → IfSome o (λ x. Having x.number js ≤ 1)
 once-there js None once = tt
 once-there js (Some x) once = once x.number
 
--- nobody has the number
+-- where nobody at the places has the number, those who wait without it are all who wait
 pub without-nobody : (n : ℕ) (xs : List (Option EffectiveJob)) → NonePasses (holds (λ (j : EffectiveJob). nat_eq j.number n)) xs 0 (length xs) → waiting xs ≡ without n (waiting xs)
 without-nobody n [] none = refl
 without-nobody n (None ∷ xs) none = without-nobody n xs (λ p l u. none (suc p) (omega arith) (omega (arith, u)))
@@ -120,7 +123,6 @@ without-nobody n (Some y ∷ xs) none =
     ap (λ l. y ∷ l) (without-nobody n xs (λ p l u. none (suc p) (omega arith) (omega (arith, u))))
     ∙ sym (cond-false (nat_eq y.number n) (waiting xs) (y ∷ without n (waiting xs)) (none 0 (omega arith) (omega arith)))
 
--- who leaves a row
 pub remove-is : (js : List EffectiveJob) (k : ℕ) (x : EffectiveJob) → Once js → slice_get js k ≡ Some x → remove js k ≡ without x.number js
 remove-is [] k x once e = cc
 remove-is (y ∷ js) zero x once e =
@@ -140,12 +142,12 @@ remove-is (y ∷ js) (suc k) x once e =
 pub once-by_estimate : (js : List EffectiveJob) → Once js → Once (by_estimate js)
 once-by_estimate js once n = omega (arith, once n, sum_by-by_estimate (λ (j : EffectiveJob). cond {A = ℕ} (nat_eq j.number n) 1 0) js)
 
--- who leaves the row leaves the queue
 past-none : (js : List EffectiveJob) (k : ℕ) → slice_get js k ≡ None → length js ≤ k
 past-none [] k e = omega arith
 past-none (j ∷ js) zero e = cc
 past-none (j ∷ js) (suc k) e = omega (arith, past-none js k e)
 
+-- the candidates by estimate without the one at a place are those of the queue that this one has left
 pub candidates-leaves : (js left candidates : List EffectiveJob) (k : ℕ) → Once js → candidates ≡ by_estimate js → k < length candidates → IfSome (slice_get candidates k) (λ x. left ≡ without x.number js) → remove candidates k ≡ by_estimate left
 candidates-leaves js left candidates k once is l h = go (slice_get candidates k) refl h
   where
@@ -161,25 +163,13 @@ drop-remove zero (j ∷ js) = refl
 drop-remove (suc k) [] = refl
 drop-remove (suc k) (j ∷ js) = drop-remove k js
 
+-- once the one at a place is removed, those who stand from this place on are those who stood behind it
 pub rest-remove : (js : List EffectiveJob) (k : ℕ) → waiting (drop k (map (λ job. Some job) (remove js k))) ≡ waiting (drop (k + 1) (map (λ job. Some job) js))
 rest-remove js k =
     let more : suc k ≡ k + 1 = omega arith in
     ap waiting (drop-map (λ job. Some job) k (remove js k)) ∙ all_wait (drop k (remove js k)) ∙ drop-remove k js ∙ ap (λ n. drop n js) more
     ∙ sym (ap waiting (drop-map (λ job. Some job) (k + 1) js) ∙ all_wait (drop (k + 1) js))
 
--- one more job of the row does not pass
-pub none_more : (test : EffectiveJob → Bool) (js : List EffectiveJob) (from k : ℕ) (x : EffectiveJob) → k < length js → x ≡ get_or js k x → test x ≡ false
-    → NonePasses (holds test) (map (λ job. Some job) js) from k → NonePasses (holds test) (map (λ job. Some job) js) from (k + 1)
-none_more test js from k x l is fails none p low high =
-    ⊎_elim
-    (λ (before : p < k). none p low before)
-    (λ (after : k ≤ p).
-    let same : k ≡ p = omega (arith, after, high) in
-    let at : at_place (map (λ job. Some job) js) k ≡ Some x = at_map js k ∙ slice_get-get_or js k x l ∙ ap (λ (j : EffectiveJob). Some j) (sym is) in
-    subst (λ (i : ℕ). holds test (at_place (map (λ job. Some job) js) i) ≡ false) same (ap (holds test) at ∙ fails))
-    (cases_lt p k)
-
--- ---- who stands at a place is found by its number
 abbrev IsFound : List EffectiveJob → EffectiveJob → Type 0
 IsFound js x = find (λ (j : EffectiveJob). nat_eq j.number x.number) js ≡ Some x
 
@@ -213,10 +203,11 @@ All-at P (None ∷ xs) (suc k) x e a = All-at P xs k x e a
 All-at P (Some y ∷ xs) zero x e a = let same : y ≡ x = cc in subst P same (All-head P y (waiting xs) a)
 All-at P (Some y ∷ xs) (suc k) x e a = All-at P xs k x e (All-tail P y (waiting xs) a)
 
+-- who stands at a place of the candidates is the job that its number finds in the queue
 pub stands : (o : Order) (js : List EffectiveJob) (xs : List (Option EffectiveJob)) (k : ℕ) (x : EffectiveJob) → Once js → waiting xs ≡ in_order o js → at_place xs k ≡ Some x → find (λ (j : EffectiveJob). nat_eq j.number x.number) js ≡ Some x
 stands o js xs k x once candidates e = All-at (IsFound js) xs k x e (subst (All (IsFound js)) (sym candidates) (All-in_order (IsFound js) o js (found-all js once)))
 
--- the first is found by its number
+-- the first job is the one that its number finds
 pub first-found : (js : List EffectiveJob) (x : EffectiveJob) → slice_get js 0 ≡ Some x → find (λ (j : EffectiveJob). nat_eq j.number x.number) js ≡ Some x
 first-found [] x e = cc
 first-found (y ∷ js) x e =

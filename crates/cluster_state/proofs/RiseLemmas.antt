@@ -1,4 +1,4 @@
--- Running jobs and their numbers, in the order of the numbers.
+-- Running jobs and their numbers, in the order of the numbers: they stay so as jobs start and leave, and jobs looked up by such numbers are so.
 use Rattle.std.proofs.Common.{◌≡◌, ℕ, ◌≤◌, Bool, true, false, nat_lt, List, [], ◌∷◌, All, Option, Some, None, map, filter, refl, sym, arith, subst, ⊎_elim}
 use Rattle.std.specs.List.{filter_map, cons_option}
 use Rattle.std.specs.Option.{option_map}
@@ -13,11 +13,10 @@ use Rattle.cluster_state.specs.Snapshot.{number_of, running_numbered, NumbersRis
 use Rattle.cluster_state.proofs.StateLemmas.{All-placed}
 use Rattle.cluster_state.proofs.LookupLemmas.{job-number}
 
--- one number is not above that of a running job
 abbrev From : ℕ → Placed → Type 0
 From n x = n ≤ x.job.number
 
--- who starts is put among them
+-- jobs whose numbers do not fall stay so with one more placed among them
 pub rises-placed : (r : Placed) (rs : List Placed) → RisesByNumber rs → RisesByNumber (placed r rs)
 rises-placed r [] h = (All-nil (From r.job.number), tt)
 rises-placed r (x ∷ xs) h =
@@ -32,7 +31,7 @@ rises-placed r (x ∷ xs) h =
     (All-placed (From x.job.number) r xs (omega (arith, l)) h.0, rises-placed r xs h.1))
     (cases_Bool (nat_lt r.job.number x.job.number))
 
--- some leave
+-- of jobs whose numbers do not fall, those that pass a test are so too
 pub rises-filter : (keeps : Placed → Bool) (rs : List Placed) → RisesByNumber rs → RisesByNumber (filter keeps rs)
 rises-filter keeps [] h = tt
 rises-filter keeps (r ∷ rs) h =
@@ -40,7 +39,7 @@ rises-filter keeps (r ∷ rs) h =
     (λ _. (All-filter keeps (From r.job.number) rs h.0, rises-filter keeps rs h.1))
     (λ _. rises-filter keeps rs h.1)
 
--- their numbers, apart
+-- the numbers of such jobs, apart from the jobs, do not fall
 pub numbers-rise : (rs : List Placed) → RisesByNumber rs → NumbersRise (map number_of rs)
 numbers-rise [] h = tt
 numbers-rise (r ∷ rs) h = (each rs h.0, numbers-rise rs h.1)
@@ -50,7 +49,6 @@ numbers-rise (r ∷ rs) h = (each rs h.0, numbers-rise rs h.1)
     each (x ∷ xs) a =
         All-cons (λ (x : RunningNumber). r.job.number ≤ x.number) (number_of x) (map number_of xs) (All-head (From r.job.number) x xs a) (each xs (All-tail (From r.job.number) x xs a))
 
--- and the jobs of such numbers
 module _ (jobs : List EffectiveJob) where
   one-more : (n : ℕ) (r : RunningNumber) (o : Option EffectiveJob) (rs : List Placed) → job_numbered jobs r.number ≡ o → n ≤ r.number → All (From n) rs
       → All (From n) (cons_option (option_map (λ (job : EffectiveJob). let p : Placed = record { job = job; start = r.start } in p) o) rs)
@@ -67,6 +65,7 @@ module _ (jobs : List EffectiveJob) where
   rises-more r None rs e a h = h
   rises-more r (Some job) rs e a h = (let same = job-number jobs r.number job e in (All-weaker (From r.number) (From job.number) (λ y m. omega (arith, same, m)) rs a, h))
 
+  -- where running numbers do not fall, the numbers of the jobs that they stand for do not
   pub jobs-rise : (ns : List RunningNumber) → NumbersRise ns → RisesByNumber (filter_map (running_numbered jobs) ns)
   jobs-rise [] h = tt
   jobs-rise (r ∷ ns) h = rises-more r (job_numbered jobs r.number) (filter_map (running_numbered jobs) ns) refl (all-from r.number ns h.0) (jobs-rise ns h.1)

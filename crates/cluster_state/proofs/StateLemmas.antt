@@ -1,4 +1,4 @@
--- What the steps of a state keep.
+-- What the steps of a state keep: it stays sound as jobs arrive, start and end. And the places at which the code puts and takes a job.
 use Rattle.std.proofs.Common.{◌≡◌, ℕ, ◌+◌, ◌^◌, ◌≤◌, ◌<◌, Bool, true, false, cond, nat_eq, nat_lt, List, [], ◌∷◌, Some, None, All, IsSomeAnd, count_by, find, sum_by, filter, remove, insert, not, position, unwrap_or, length, one-add, refl, sym, ◌∙◌, ap, arith, subst, ⊎_elim}
 use Rattle.std.specs.List.{position_or_len}
 use Rattle.std.proofs.lemmas.List.Sums.{sum_by-cons, sum_by_push, prefix_len-le-length}
@@ -10,7 +10,7 @@ use Rattle.scenarios.specs.declared.placed.Placed.{Placed}
 use Rattle.scenarios.specs.Placed.{real_end}
 use Rattle.cluster_state.specs.State.{State, IsSound, arrived, busy, started, ended_until, without, placed, waiting_job, holders, free}
 
--- where nobody waits or runs
+-- a state where nobody waits or runs is sound, and no processor is held, if its machine is within the limit
 pub sound-empty : (s : State) → s.procs ≤ procs_limit → s.waiting ≡ [] → s.running ≡ [] → (busy s.running ≡ 0) × IsSound s
 sound-empty s le none idle = (
   ap busy idle,
@@ -25,7 +25,7 @@ sound-empty s le none idle = (
   },
 )
 
--- a sum with one more running job
+-- a sum with one more running job is the job's own value and the sum over the others
 pub sum_by-placed : (f : Placed → ℕ) (r : Placed) (xs : List Placed) → sum_by f (placed r xs) ≡ f r + sum_by f xs
 sum_by-placed f r [] = omega arith
 sum_by-placed f r (x ∷ xs) =
@@ -33,7 +33,7 @@ sum_by-placed f r (x ∷ xs) =
     (λ _. sum_by-cons f r (x ∷ xs))
     (λ _. sum_by-cons f x (placed r xs) ∙ omega (arith, sum_by-placed f r xs, sum_by-cons f x xs))
 
--- what holds of all, with one more running job
+-- what holds of one more running job and of all others holds of all with it
 pub All-placed : (P : Placed → Type 0) (r : Placed) (xs : List Placed) → P r → All P xs → All P (placed r xs)
 All-placed P r [] h a = All-cons P r [] h a
 All-placed P r (x ∷ xs) h a =
@@ -41,7 +41,7 @@ All-placed P r (x ∷ xs) h a =
     (λ _. All-cons P r (x ∷ xs) h a)
     (λ _. All-cons P x (placed r xs) (All-head P x xs a) (All-placed P r xs h (All-tail P x xs a)))
 
--- a sum without the job that is found
+-- a sum without the job that a number finds, and the value of this job, are the sum over all
 pub sum_by-without : (f : EffectiveJob → ℕ) (n : ℕ) (js : List EffectiveJob) (job : EffectiveJob) → find (λ (j : EffectiveJob). nat_eq j.number n) js ≡ Some job → sum_by f (without n js) + f job ≡ sum_by f js
 sum_by-without f n [] job e = cc
 sum_by-without f n (j ∷ js) job e =
@@ -50,7 +50,7 @@ sum_by-without f n (j ∷ js) job e =
       | false ↦ λ h. omega (arith, sum_by-cons f j js, sum_by-cons f j (without n js), sum_by-without f n js job h)
     ] e
 
--- what holds of all waiting jobs holds without one
+-- what holds of all jobs holds of those without the first of a number
 pub All-without : (P : EffectiveJob → Type 0) (n : ℕ) (js : List EffectiveJob) → All P js → All P (without n js)
 All-without P n [] a = a
 All-without P n (j ∷ js) a =
@@ -58,7 +58,7 @@ All-without P n (j ∷ js) a =
     (λ _. All-tail P j js a)
     (λ _. All-cons P j (without n js) (All-head P j js a) (All-without P n js (All-tail P j js a)))
 
--- what is found passes the test, and what holds of all holds of it
+-- what holds of all holds of the one that is found
 pub All-find : {X : Type 0} (P : X → Type 0) (p : X → Bool) (xs : List X) (x : X) → find p xs ≡ Some x → All P xs → P x
 All-find P p [] x e a = cc
 All-find P p (y ∷ ys) x e a =
@@ -67,6 +67,7 @@ All-find P p (y ∷ ys) x e a =
       | false ↦ λ h. All-find P p ys x h (All-tail P y ys a)
     ] e
 
+-- what is found passes the test
 pub test-find : {X : Type 0} (p : X → Bool) (xs : List X) (x : X) → find p xs ≡ Some x → p x ≡ true
 test-find p [] x e = cc
 test-find p (y ∷ ys) x e =
@@ -75,7 +76,7 @@ test-find p (y ∷ ys) x e =
     (λ h. test-find p ys x (rw h at e))
     (cases_Bool (p y))
 
--- fewer pass in a part
+-- a sum over those that pass a test is at most the sum over all
 pub sum_by-filter-le : {X : Type 0} (f : X → ℕ) (p : X → Bool) (xs : List X) → sum_by f (filter p xs) ≤ sum_by f xs
 sum_by-filter-le f p [] = omega arith
 sum_by-filter-le f p (x ∷ xs) =
@@ -83,7 +84,7 @@ sum_by-filter-le f p (x ∷ xs) =
     (λ _. omega (arith, sum_by-cons f x xs, sum_by-cons f x (filter p xs), sum_by-filter-le f p xs))
     (λ _. omega (arith, sum_by-cons f x xs, sum_by-filter-le f p xs))
 
--- one more holder of a number that nobody held
+-- with one more holder of a number that nobody held, a number has no more than one holder, where it had no more
 pub once-more : (a b : ℕ) (n m : ℕ) → (m ≡ n → a ≡ 0) → a ≤ 1 → b ≡ cond (nat_eq m n) 1 0 → a + b ≤ 1
 once-more a b n m h l e =
     ⊎_elim
@@ -91,6 +92,7 @@ once-more a b n m h l e =
     (λ (s : m ≡ n → ⊥). omega (arith, rw (ne_eqb m n s) at e))
     (cases_eq m n)
 
+-- a state stays sound as a job of a new number, within the machine and the limits, joins the queue
 pub sound-arrived : (s : State) (job : EffectiveJob) → IsSound s → holders s job.number ≡ 0 → job.size ≤ s.procs → IsWithinLimits job → IsSound (arrived s job)
 sound-arrived s job h absent fits limits = record {
   limited = h.limited;
@@ -105,6 +107,7 @@ sound-arrived s job h absent fits limits = record {
   started = h.started;
 }
 
+-- a state stays sound as a waiting job that fits starts
 pub sound-started : (s : State) (job : EffectiveJob) (now : ℕ) → IsSound s → waiting_job s job.number ≡ Some job → job.size ≤ free s → now < 2 ^ 49 → IsSound (started s job now)
 sound-started s job now h found fits early =
     let r : Placed = record { job = job; start = now } in
@@ -121,7 +124,7 @@ sound-started s job now h found fits early =
       started = All-placed (λ r. r.start < 2 ^ 49) r s.running early h.started;
     }
 
--- the same of the job that a number finds
+-- a job that a number finds and that may start has this number and fits, and the state stays sound as it starts
 pub sound-found : (s : State) (job : EffectiveJob) (n now : ℕ) → IsSound s → waiting_job s n ≡ Some job → IsSomeAnd (waiting_job s n) (λ (j : EffectiveJob). j.size ≤ free s) → now < 2 ^ 49
     → (job.number ≡ n) × (job.size ≤ free s) × IsSound (started s job now)
 sound-found s job n now h found fits early =
@@ -130,6 +133,7 @@ sound-found s job n now h found fits early =
     let fit : job.size ≤ free s = rw found at fits in
     (same, fit, sound-started s job now h (subst (λ m. waiting_job s m ≡ Some job) (sym same) found) fit early)
 
+-- a state stays sound as those leave that end by a second
 pub sound-ended : (s : State) (t : ℕ) → IsSound s → IsSound (ended_until s t)
 sound-ended s t h =
     let keeps : Placed → Bool = λ r. nat_lt t (real_end r) in
@@ -143,7 +147,6 @@ sound-ended s t h =
       started = All-filter keeps (λ r. r.start < 2 ^ 49) s.running h.started;
     }
 
--- the code's place of a job and of a running one
 pub without-at : (n : ℕ) (js : List EffectiveJob) → without n js ≡ remove js (position_or_len (λ (j : EffectiveJob). nat_eq j.number n) js)
 without-at n [] = refl
 without-at n (j ∷ js) =
@@ -152,6 +155,7 @@ without-at n (j ∷ js) =
       | false ↦ rw one-add (ap (λ l. j ∷ l) (without-at n js))
     ]
 
+-- one more running job is inserted before the first of a greater number, or behind all where there is none
 pub placed-at : (r : Placed) (rs : List Placed) → placed r rs ≡ insert rs (position_or_len (λ (x : Placed). nat_lt r.job.number x.job.number) rs) r
 placed-at r [] = refl
 placed-at r (x ∷ rs) =
@@ -164,20 +168,22 @@ pub remove_past : {X : Type 0} (xs : List X) → remove xs (length xs) ≡ xs
 remove_past [] = refl
 remove_past (x ∷ xs) = ap (λ l. x ∷ l) (remove_past xs)
 
--- what `position` answers, in the words of `position_or_len`
 pub position-is : {X : Type 0} (p : X → Bool) (xs : List X) → unwrap_or (position p xs) (length xs) ≡ position_or_len p xs
 position-is p xs =
     cond_both (nat_lt (position_or_len p xs) (length xs)) (Some (position_or_len p xs)) None (λ o. unwrap_or o (length xs) ≡ position_or_len p xs)
     (λ _. refl)
     (λ h. omega (arith, ltb-false (position_or_len p xs) (length xs) h, prefix_len-le-length (λ x. not (p x)) xs))
 
+-- without a number that has no place, all jobs are left
 pub without-none : (n : ℕ) (js : List EffectiveJob) → position (λ (j : EffectiveJob). nat_eq j.number n) js ≡ None → without n js ≡ js
 without-none n js e =
     without-at n js ∙ ap (λ i. remove js i) (sym (position-is (λ (j : EffectiveJob). nat_eq j.number n) js) ∙ ap (λ o. unwrap_or o (length js)) e) ∙ remove_past js
 
+-- without a number, the jobs are those without the one at its first place
 pub without-some : (n i : ℕ) (js : List EffectiveJob) → position (λ (j : EffectiveJob). nat_eq j.number n) js ≡ Some i → without n js ≡ remove js i
 without-some n i js e =
     without-at n js ∙ ap (λ i. remove js i) (sym (position-is (λ (j : EffectiveJob). nat_eq j.number n) js) ∙ ap (λ o. unwrap_or o (length js)) e)
 
+-- one more running job is inserted at the first place of a greater number, or behind all where none is found
 pub placed-position : (r : Placed) (rs : List Placed) → placed r rs ≡ insert rs (unwrap_or (position (λ (x : Placed). nat_lt r.job.number x.job.number) rs) (length rs)) r
 placed-position r rs = placed-at r rs ∙ ap (λ i. insert rs i r) (sym (position-is (λ (x : Placed). nat_lt r.job.number x.job.number) rs))

@@ -1,9 +1,10 @@
--- The row by estimate: a ticket for each who waits, with its place.
+-- The candidates by estimate: a ticket for each who waits, with its place. A search by sizes finds the first who fits an offer: for those in front,
+-- who are no longer than the window, what is free or extra is enough; behind, only what is extra. One comes, one leaves, and all are made anew.
 use Rattle.std.proofs.Common.{◌≡◌, ℕ, zero, suc, ◌+◌, ◌≤◌, ◌<◌, Bool, true, false, cond, nat_eq, nat_le, nat_lt, max, List, [], ◌∷◌, ◌++◌, length, take, drop, set, map, slice_get, get_or, Option, Some, None, All, refl, sym, ◌∙◌, ap, arith, subst, ⊎_elim}
 use Rattle.std.proofs.lemmas.Bool.{cond-true, cond-false, cases_Bool, cases_lt, eq-eqb, eqb-true, true≢false}
 use Rattle.std.proofs.lemmas.Bool.Decides.{nat_tests}
 use Rattle.std.proofs.lemmas.List.Elements.{All-cons, All-head, All-nil, All-tail, All-weaker, filter_map-append}
-use Rattle.std.proofs.lemmas.List.{append-nil, drop_more, get_or-set_other, take_all, take_more}
+use Rattle.std.proofs.lemmas.List.{append-nil, drop_more, get_or-set_other, take_more}
 use Rattle.blocks.specs.Light.{IsFirstLight, NoneLight, is_light}
 use Rattle.blocks.specs.Rows.{AreBefore, entered, is_at, passes, stands, without_first}
 use Rattle.scenarios.specs.Job.{EffectiveJob}
@@ -18,19 +19,21 @@ use Rattle.cluster_state.specs.Candidates.{IsKept, by_estimate, fits_offer, jobs
 use Rattle.cluster_state.proofs.PlaceLemmas.{Having, counted, counts, one, waiting-push, waiting-set}
 use Rattle.cluster_state.proofs.CandidatesLemmas.{by_estimate-arrived, candidates-started, sum_by-by_estimate}
 
+-- the estimate of a ticket's job
 abbrev pub estimate : Ticket → ℕ
 estimate t = t.job.estimate
 
+-- the place of a ticket's job among those who wait
 abbrev pub place : Ticket → ℕ
 place t = t.place
 
+-- the size of a ticket's job
 abbrev pub size : Ticket → ℕ
 size t = t.job.size
 
 abbrev pub IsPlaced : List (Option EffectiveJob) → Ticket → Type 0
 IsPlaced places t = at_place places t.place ≡ Some t.job
 
--- ---- a search by sizes finds the first who fits an offer
 fits_at : (test : EffectiveJob → Bool) (candidates : List Ticket) (k : ℕ) → holds test (at_place (map (λ job. Some job) (jobs_of candidates)) k) ≡ passes (λ t. test t.job) (slice_get candidates k)
 fits_at test [] k = refl
 fits_at test (t ∷ candidates) zero = refl
@@ -46,7 +49,6 @@ module _ (offer : Offer) (candidates : List Ticket) (longer : ℕ) (parts : AreB
   long-fits : (t : Ticket) → stands estimate place (offer.window + 1) 0 t ≡ false → fits t.job ≡ nat_le (size t) offer.extra
   long-fits t e = grind (arith, nat_tests, e)
 
-  -- where it stands in front, what is free is enough; behind, only what is extra
   in_front : (k : ℕ) → k < longer → holds fits (at_place (map (λ job. Some job) (jobs_of candidates)) k) ≡ is_light size (max offer.free offer.extra) candidates k
   in_front k lt = fits_at fits candidates k ∙ go (slice_get candidates k) (parts.front k lt)
     where
@@ -74,7 +76,6 @@ module _ (offer : Offer) (candidates : List Ticket) (longer : ℕ) (parts : AreB
   none_front : (from to : ℕ) → to ≤ longer → NoneLight size (max offer.free offer.extra) candidates from to → NonePasses (holds fits) places from to
   none_front from to le none k low high = in_front k (omega (arith, high, le)) ∙ none k low high
 
-  -- found in front
   there : (k : ℕ) → k < longer → k < length candidates
   there k lt = go (slice_get candidates k) refl (parts.front k lt)
     where
@@ -87,12 +88,13 @@ module _ (offer : Offer) (candidates : List Ticket) (longer : ℕ) (parts : AreB
       go None e h = absurd (true≢false (sym h ∙ ap (passes (stands estimate place (offer.window + 1) 0)) e))
       go (Some t) e h = within candidates k t e
 
+  -- of those in front, no longer than the window, the first that takes no more than is free or is extra is the first who fits the offer
   pub found_front : (from k : ℕ) → IsFirstLight size (max offer.free offer.extra) candidates from longer (Some k) → IsFirst (holds fits) places from (length places) (Some k)
   found_front from k found =
       let before : k < longer = found.1 in
       (found.0, omega (arith, there k before, size-places), in_front k before ∙ found.2, none_front from k (omega (arith, before)) found.3)
 
-  -- none in front: the first behind
+  -- where none in front takes so little, the first behind that takes no more than is extra, if there is one, is the first who fits the offer
   pub found_behind : (from end : ℕ) (r : Option ℕ) → IsFirstLight size (max offer.free offer.extra) candidates from longer None → end ≡ length candidates → IsFirstLight size offer.extra candidates (max from longer) end r → IsFirst (holds fits) places from (length places) r
   found_behind from end None none e rest = λ k low high.
       ⊎_elim
@@ -112,7 +114,6 @@ module _ (offer : Offer) (candidates : List Ticket) (longer : ℕ) (parts : AreB
             (cases_lt i longer),
       )
 
--- ---- one more, at a place behind all others
 entered-last : (t : Ticket) (candidates : List Ticket) → All (λ (x : Ticket). x.place < t.place) candidates → jobs_of (entered estimate place t candidates) ≡ put_last t.job (jobs_of candidates)
 entered-last t [] h = refl
 entered-last t (x ∷ candidates) h = go (stands estimate place (estimate t) (place t) x) refl (entered-last t candidates (All-tail (λ (y : Ticket). y.place < t.place) x candidates h))
@@ -144,6 +145,7 @@ at-end : (places : List (Option EffectiveJob)) (x : EffectiveJob) → at_place (
 at-end [] x = refl
 at-end (p ∷ places) x = at-end places x
 
+-- what is kept of the candidates by estimate stays so as a job comes to a new last place and its ticket enters
 pub kept-pushed : (places new : List (Option EffectiveJob)) (candidates candidates' : List Ticket) (t : Ticket) → IsKept Shortest places candidates → t.place ≡ length places → new ≡ places ++ Some t.job ∷ [] → candidates' ≡ entered estimate place t candidates → IsKept Shortest new candidates'
 kept-pushed places new candidates candidates' t kept at e f =
     let grown = places ++ Some t.job ∷ [] in
@@ -158,8 +160,6 @@ kept-pushed places new candidates candidates' t kept at e f =
       placed = All-entered (IsPlaced grown) t candidates here (All-weaker (IsPlaced places) (IsPlaced grown) (λ x (h : IsPlaced places x). (at-push places x.place (Some t.job) x.job h).0) candidates kept.placed);
     }))
 
--- ---- one leaves
--- a number stands at one place
 one_place : (xs : List (Option EffectiveJob)) (i j : ℕ) (x y : EffectiveJob) → at_place xs i ≡ Some x → at_place xs j ≡ Some y → x.number ≡ y.number → Having x.number (waiting xs) ≤ 1 → i ≡ j
 one_place [] i j x y e f same once = cc
 one_place (o ∷ xs) zero zero x y e f same once = refl
@@ -184,7 +184,6 @@ module _ (places : List (Option EffectiveJob)) (p : ℕ) (x : EffectiveJob) (at 
   abbrev left : List (Option EffectiveJob)
   left = set places p None
 
-  -- who has this place is the one who leaves it
   is_it : (t : Ticket) → IsPlaced places t → t.place ≡ p → t.job ≡ x
   is_it t h e =
       let both : Some t.job ≡ Some x = sym h ∙ ap (at_place places) e ∙ at in
@@ -217,7 +216,6 @@ module _ (places : List (Option EffectiveJob)) (p : ℕ) (x : EffectiveJob) (at 
       go true e s more = sym (cond-true (nat_eq t.job.number x.number) (jobs_of candidates) (t.job ∷ without x.number (jobs_of candidates)) (sym s ∙ e))
       go false e s more = ap (λ (l : List EffectiveJob). t.job ∷ l) more ∙ sym (cond-false (nat_eq t.job.number x.number) (jobs_of candidates) (t.job ∷ without x.number (jobs_of candidates)) (sym s ∙ e))
 
-  -- the others stand where they stood
   stays : (t : Ticket) → IsPlaced places t → nat_eq t.job.number x.number ≡ false → IsPlaced left t
   stays t h e =
       get_or-set_other places p t.place None None (λ (f : t.place ≡ p). true≢false (sym (eq-eqb t.job.number x.number (ap (λ (j : EffectiveJob). j.number) (is_it t h f))) ∙ e)) ∙ h
@@ -244,6 +242,7 @@ module _ (places : List (Option EffectiveJob)) (p : ℕ) (x : EffectiveJob) (at 
   once-candidates Arrival once = omega arith
   once-candidates Shortest once = omega (arith, once, sum_by-by_estimate (λ (j : EffectiveJob). cond {A = ℕ} (nat_eq j.number x.number) 1 0) (waiting places))
 
+  -- what is kept of the candidates stays so as a job, whose number no other has, leaves its place and its ticket the candidates
   pub kept-left : (o : Order) (candidates candidates' : List Ticket) → IsKept o places candidates → Having x.number (waiting places) ≤ 1 → candidates' ≡ without_first test candidates → IsKept o left candidates'
   kept-left o candidates candidates' kept once f =
       let n = x.number in
@@ -253,23 +252,24 @@ module _ (places : List (Option EffectiveJob)) (p : ℕ) (x : EffectiveJob) (at 
         placed = placed-left candidates once (subst (λ (js : List EffectiveJob). Having n js ≤ 1) (sym kept.jobs) (once-candidates o once)) kept.placed;
       })
 
--- who stands at a place of the row waits at the place of its ticket
+-- the job of a ticket of the candidates waits at the ticket's place
 pub placed-at : (places : List (Option EffectiveJob)) (candidates : List Ticket) (k : ℕ) (t : Ticket) → slice_get candidates k ≡ Some t → All (IsPlaced places) candidates → at_place places t.place ≡ Some t.job
 placed-at places [] k t e h = cc
 placed-at places (u ∷ candidates) zero t e h = let same : u ≡ t = cc in subst (IsPlaced places) same (All-head (IsPlaced places) u candidates h)
 placed-at places (u ∷ candidates) (suc k) t e h = placed-at places candidates k t e (All-tail (IsPlaced places) u candidates h)
 
+-- the job at a place of the candidates is that of the ticket there
 pub job-at : (candidates : List Ticket) (k : ℕ) (t : Ticket) → slice_get candidates k ≡ Some t → slice_get (jobs_of candidates) k ≡ Some t.job
 job-at [] k t e = cc
 job-at (u ∷ candidates) zero t e = let same : u ≡ t = cc in ap (λ (v : Ticket). Some v.job) same
 job-at (u ∷ candidates) (suc k) t e = job-at candidates k t e
 
--- in order of arrival there is no row
+-- in order of arrival no candidates are kept, whatever the places are
 pub none_kept : (places new : List (Option EffectiveJob)) (candidates : List Ticket) → IsKept Arrival places candidates → IsKept Arrival new candidates
 none_kept places new [] kept = record { jobs = refl; placed = All-nil (IsPlaced new) }
 none_kept places new (t ∷ candidates) kept = let e = kept.jobs in cc
 
--- ---- a row that is made anew
+-- candidates by estimate that are made anew: they have those who wait at the first k places, and there is capacity for the others
 pub record IsFilling (places : List (Option EffectiveJob)) (k capacity : ℕ) (candidates : List Ticket) : Type 0 where
   pub jobs : jobs_of candidates ≡ by_estimate (waiting (take k places))
   pub placed : All (IsPlaced places) candidates
@@ -291,6 +291,7 @@ module _ (places : List (Option EffectiveJob)) (k : ℕ) (o d : Option Effective
   from_on : waiting (drop k places) ≡ waiting (o ∷ drop (k + 1) places)
   from_on = ap waiting (drop_more places k None lt) ∙ ap (λ (q : Option EffectiveJob). waiting (q ∷ drop (k + 1) places)) read_at
 
+  -- a place at which nobody waits adds nothing to candidates that are made anew
   pub filling-none : (capacity : ℕ) (candidates : List Ticket) → o ≡ None → IsFilling places k capacity candidates → IsFilling places (k + 1) capacity candidates
   filling-none capacity candidates none f =
       let same : waiting (take (k + 1) places) ≡ waiting (take k places) = up_to ∙ ap (λ (q : Option EffectiveJob). waiting (take k places) ++ waiting (q ∷ [])) none ∙ append-nil (waiting (take k places)) in
@@ -302,6 +303,7 @@ module _ (places : List (Option EffectiveJob)) (k : ℕ) (o d : Option Effective
         enough = omega (arith, f.enough, ap length rest);
       }
 
+  -- the ticket of who waits at the next place enters candidates that are made anew, and takes up one of the capacity at most
   pub filling-one : (capacity capacity' : ℕ) (t : Ticket) (candidates candidates' : List Ticket) → o ≡ Some t.job → t.place ≡ k → IsFilling places k capacity candidates → candidates' ≡ entered estimate place t candidates → capacity ≤ capacity' + 1 → IsFilling places (k + 1) capacity' candidates'
   filling-one capacity capacity' t candidates candidates' some at f e spare =
       let same : waiting (take (k + 1) places) ≡ waiting (take k places) ++ t.job ∷ [] = up_to ∙ ap (λ (q : Option EffectiveJob). waiting (take k places) ++ waiting (q ∷ [])) some in
@@ -315,11 +317,3 @@ module _ (places : List (Option EffectiveJob)) (k : ℕ) (o d : Option Effective
         before = All-entered (λ (y : Ticket). y.place < k + 1) t candidates (omega (arith, at)) (All-weaker (λ (y : Ticket). y.place < k) (λ (y : Ticket). y.place < k + 1) (λ y (h : y.place < k). omega (arith, h)) candidates f.before);
         enough = omega (arith, f.enough, ap length rest, spare);
       })
-
-pub filled : (places : List (Option EffectiveJob)) (k capacity : ℕ) (candidates : List Ticket) → length places ≤ k → IsFilling places k capacity candidates → IsKept Shortest places candidates
-filled places k capacity candidates le f = record { jobs = f.jobs ∙ ap (λ (l : List (Option EffectiveJob)). by_estimate (waiting l)) (take_all k places le); placed = f.placed }
-
-pub filling : (places : List (Option EffectiveJob)) (capacity : ℕ) (candidates : List Ticket) → candidates ≡ [] → length (waiting places) ≤ capacity → IsFilling places 0 capacity candidates
-filling places capacity candidates none le =
-    subst (IsFilling places 0 capacity) (sym none)
-    (record { jobs = refl; placed = All-nil (IsPlaced places); before = All-nil (λ (t : Ticket). t.place < 0); enough = le })

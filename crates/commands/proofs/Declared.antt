@@ -1,4 +1,4 @@
--- The comments of a log one after another: which are kept, and which scenarios they tell of.
+-- The comments of a log one after another: which are kept, which scenarios they tell of, and each step of the loops that gather either.
 use Rattle.std.proofs.Common.{◌≡◌, ℕ, ◌+◌, ◌<◌, ◌≤◌, Bool, true, false, List, [], ◌∷◌, ◌++◌, length, get_or, take, drop, map, Option, Some, None, is_some, refl, sym, ap, ◌∙◌, arith, take-append-drop, length-append, append_assoc, eqb, eq-eqb}
 use Rattle.std.specs.Prelude.{is_none, Result, Ok, Err, IfOk}
 use Rattle.std.specs.List.{fold}
@@ -9,12 +9,10 @@ use Rattle.commands.specs.declared.comment.ScenarioLine.{ScenarioLine}
 use Rattle.commands.specs.ScenarioLine.{scenario_line}
 use Rattle.commands.specs.Opening.{kept, with_added, with_line, declared, machine_of, base_on, opened}
 
--- the next comment
 pub take_next : (xs : List (List ℕ)) (i : ℕ) (x : List ℕ) → i < length xs → get_or xs i [] ≡ x → take (i + 1) xs ≡ take i xs ++ x ∷ []
 take_next xs i x lt is = take_more xs i [] lt ∙ ap (λ (y : List ℕ). take i xs ++ y ∷ []) is
 
--- ---- the comments that are kept
-
+-- what is kept of comments and others behind them is what is kept of the former, and then of the latter
 pub kept-append : (xs ys : List (List ℕ)) → kept (xs ++ ys) ≡ kept xs ++ kept ys
 kept-append [] ys = refl
 kept-append (x ∷ xs) ys = go (is_none (scenario_line x)) refl (kept-append xs ys)
@@ -29,11 +27,11 @@ kept_one x e = rw e refl
 pub kept_none : (x : List ℕ) → is_none (scenario_line x) ≡ false → kept (x ∷ []) ≡ []
 kept_none x e = rw e refl
 
--- ---- the scenarios that are told of
-
+-- a list with the scenarios that further comments tell of, in order, as far as each can be added
 abbrev pub declared_from : Listing → List (List ℕ) → Listing
 declared_from list comments = fold (λ l comment. with_line l (scenario_line comment)) list comments
 
+-- comments and others behind them make of a list what the latter make of it once the former are done
 pub declared_from-append : (list : Listing) (xs ys : List (List ℕ)) → declared_from list (xs ++ ys) ≡ declared_from (declared_from list xs) ys
 declared_from-append list [] ys = refl
 declared_from-append list (x ∷ xs) ys = declared_from-append (with_line list (scenario_line x)) xs ys
@@ -57,7 +55,7 @@ declared_from-grows list (x ∷ xs) =
     let later = declared_from-grows (with_line list (scenario_line x)) xs in
     omega arith
 
--- where a comment adds a scenario, some stand in the end
+-- where one of the comments adds a scenario, the list that all of them make isn't empty
 pub declared_some : (xs : List (List ℕ)) (i : ℕ) (x : List ℕ) (list : Listing) → i < length xs → get_or xs i [] ≡ x → list ≡ declared (take i xs) → length (with_line list (scenario_line x)).scenarios ≡ length list.scenarios + 1 → 0 < length (declared xs).scenarios
 declared_some xs i x list lt is sofar more =
     let next : declared (take (i + 1) xs) ≡ with_line list (scenario_line x) =
@@ -68,26 +66,28 @@ declared_some xs i x list lt is sofar more =
     let all : length (declared xs).scenarios ≡ length (declared_from (declared (take (i + 1) xs)) (drop (i + 1) xs)).scenarios = ap (λ (l : Listing). length l.scenarios) whole in
     omega arith
 
+-- the list that the comments before a place make, with the scenario of the comment there, is what they make with that comment
 pub declared_next : (xs : List (List ℕ)) (i : ℕ) (x : List ℕ) (list : Listing) → i < length xs → get_or xs i [] ≡ x → list ≡ declared (take i xs) → with_line list (scenario_line x) ≡ declared (take (i + 1) xs)
 declared_next xs i x list lt is sofar =
     ap (λ (l : Listing). with_line l (scenario_line x)) sofar ∙ sym (declared_from-append empty (take i xs) (x ∷ [])) ∙ ap declared (sym (take_next xs i x lt is))
 
--- ---- loops over vectors
-
--- the text of the next item
+-- the text at a place is that of the item there
 pub item_text : {X : Type 0} (f : X → List ℕ) (xs : List X) (i : ℕ) (x : X) → i < length xs → x ≡ get_or xs i x → get_or (map f xs) i [] ≡ f x
 item_text f xs i x lt is = get_or-map f xs i x [] lt ∙ ap f (sym is)
 
+-- a place in a list is one in the list of its texts
 pub within_map : {X : Type 0} (f : X → List ℕ) (xs : List X) (i : ℕ) → i < length xs → i < length (map f xs)
 within_map f xs i lt = omega (arith, length-map xs f)
 
--- one more text
+-- an item more at the end is its text more at the end of the texts
 pub text_pushed : {X : Type 0} (f : X → List ℕ) (old new : List X) (x : X) (text : List ℕ) → new ≡ old ++ x ∷ [] → f x ≡ text → map f new ≡ map f old ++ text ∷ []
 text_pushed f old new x text is same = ap (map f) is ∙ map-append f old (x ∷ []) ∙ ap (λ (t : List ℕ). map f old ++ t ∷ []) same
 
+-- the first texts of a list, and its next one behind them, are one more of its first
 pub taken_more : (old new xs : List (List ℕ)) (i : ℕ) (x : List ℕ) → old ≡ take i xs → new ≡ old ++ x ∷ [] → i < length xs → get_or xs i [] ≡ x → new ≡ take (i + 1) xs
 taken_more old new xs i x sofar is lt there = is ∙ ap (λ (l : List (List ℕ)). l ++ x ∷ []) sofar ∙ sym (take_next xs i x lt there)
 
+-- some texts, the first of a list, and its next one behind them, are the former and one more of the list's first
 pub joined_more : (front old new xs : List (List ℕ)) (i : ℕ) (x : List ℕ) → old ≡ front ++ take i xs → new ≡ old ++ x ∷ [] → i < length xs → get_or xs i [] ≡ x → new ≡ front ++ take (i + 1) xs
 joined_more front old new xs i x sofar is lt there =
     is ∙ ap (λ (l : List (List ℕ)). l ++ x ∷ []) sofar ∙ append_assoc front (take i xs) (x ∷ []) ∙ ap (λ (l : List (List ℕ)). front ++ l) (sym (take_next xs i x lt there))
@@ -100,6 +100,7 @@ is_none-not : (o : Option ScenarioLine) → is_some o ≡ true → is_none o ≡
 is_none-not None h = absurd (cc)
 is_none-not (Some x) h = refl
 
+-- what is kept of the first comments, and the next one behind it, which tells of no scenario, is what is kept of one comment more
 pub kept_more : (old new xs : List (List ℕ)) (i : ℕ) (x : List ℕ) → old ≡ kept (take i xs) → new ≡ old ++ x ∷ [] → i < length xs → get_or xs i [] ≡ x → is_some (scenario_line x) ≡ false → new ≡ kept (take (i + 1) xs)
 kept_more old new xs i x sofar is lt there none =
     is ∙ ap (λ (l : List (List ℕ)). l ++ x ∷ []) sofar
@@ -107,6 +108,7 @@ kept_more old new xs i x sofar is lt there none =
     ∙ sym (kept-append (take i xs) (x ∷ []))
     ∙ ap kept (sym (take_next xs i x lt there))
 
+-- what is kept of the first comments is what is kept of one more, where that one tells of a scenario
 pub kept_same : (old xs : List (List ℕ)) (i : ℕ) (x : List ℕ) → old ≡ kept (take i xs) → i < length xs → get_or xs i [] ≡ x → is_some (scenario_line x) ≡ true → old ≡ kept (take (i + 1) xs)
 kept_same old xs i x sofar lt there some =
     sofar ∙ sym (append-nil (kept (take i xs)))
@@ -114,11 +116,11 @@ kept_same old xs i x sofar lt there some =
     ∙ sym (kept-append (take i xs) (x ∷ []))
     ∙ ap kept (sym (take_next xs i x lt there))
 
--- ---- the scenarios of a log
-
+-- where the comments make no scenario, a log is opened with `base` alone, on its machine, or refused for the reason that there is no `base`
 pub opened_is_base : (procs : Option ℕ) (comments : List (List ℕ)) → length (declared comments).scenarios ≡ 0 → opened procs comments ≡ base_on (machine_of procs comments)
 opened_is_base procs comments none = let test : eqb (length (declared comments).scenarios) 0 ≡ true = eq-eqb _ 0 none in rw test refl
 
+-- a value, if a result has one, is that of another result where it is that of an equal one
 pub if_ok_as : {T E : Type 0} (r : Result T E) (a b : Result T E) → a ≡ b → IfOk r (λ l. b ≡ Ok l) → IfOk r (λ l. a ≡ Ok l)
 if_ok_as (Ok x) a b same h = same ∙ h
 if_ok_as (Err e) a b same h = tt

@@ -1,4 +1,4 @@
--- The eighteen words behind `insert`.
+-- The eighteen words behind `insert`: the value of a word, the loop that reads one after another, and the entry of the values.
 use Rattle.std.proofs.Common.{◌≡◌, ℕ, zero, suc, ◌+◌, ◌*◌, ◌%◌, ◌/◌, ◌<◌, ◌≤◌, Bool, true, false, leb, List, [], ◌∷◌, ◌++◌, length, get_or, take, drop, set, Option, Some, None, Result, Ok, Err, ℤ, pos, refl, sym, ap, ◌∙◌, arith, add-one, add-zero, drop-cons, rules}
 use Rattle.std.specs.Prelude.{IfSome}
 use Rattle.std.specs.Option.{option_map}
@@ -12,8 +12,6 @@ use Rattle.swf_text.specs.Line.{value_then}
 use Rattle.swf_text.proofs.Lemmas.{Spells-number_of, number_of-Spells, onto, onto-value_then}
 use Rattle.commands.specs.Words.{job_number, job_value, may_stand, standing, entry_value, entry_values}
 
--- ---- the value of a word
-
 -- what `from_bytes` promises is the value of the word
 pub from_bytes_is : (bytes : List ℕ) (r : Option ℤ) → IfSome r (λ v. Spells bytes v) → ((v : ℤ) → Spells bytes v → r ≡ Some v) → r ≡ number_of bytes
 from_bytes_is bytes (Some v) spells only = sym (number_of-Spells bytes v spells)
@@ -23,7 +21,6 @@ from_bytes_is bytes None spells only = go (number_of bytes) refl
     go None e = sym e
     go (Some v) e = only v (Spells-number_of bytes v e) ∙ sym e
 
--- digits spell their number
 digits_spell : (word : List ℕ) → are_digits word ≡ true → digits_value word ≤ 1000000000000 → Spells word (pos (1000000 * digits_value word))
 digits_spell word digits few = record {
   parts = record { is_negative = false; whole = word; fraction = None };
@@ -40,6 +37,7 @@ le-leb a b e = grind (arith, common_steps)
 zero-leb : (a : ℕ) → leb 0 a ≡ true
 zero-leb a = grind (arith, common_steps)
 
+-- a word that is a job number has the same value read as any number
 pub job_value-is : (word : List ℕ) (n : ℕ) → job_number word ≡ Some n → number_of word ≡ job_value word
 job_value-is word n is = go (are_digits word) refl (leb (digits_value word) 1000000000000) refl (zero-leb (digits_value word)) is
   where
@@ -48,8 +46,7 @@ job_value-is word n is = go (are_digits word) refl (leb (digits_value word) 1000
     go true ea false eb least h = let wrong : None ≡ Some n = rw (ea, least, eb) at h in absurd (cc)
     go false ea b eb least h = let wrong : None ≡ Some n = rw ea at h in absurd (cc)
 
--- ---- the loop over the words
-
+-- the values before a place, the one of the word there behind them, and what the words behind it give are what all eighteen words give
 pub values_step : (words : List (List ℕ)) (values : List ℤ) (place : ℕ) (v : ℤ) → length words ≡ 18 → length values ≡ 18 → place < 18 → onto (take place values) (entry_values (place + 1) (drop place words)) ≡ entry_values 1 words → entry_value (place + 1) (get_or words place []) ≡ Some v
     → onto (take (place + 1) (set values place v)) (entry_values (place + 1 + 1) (drop (place + 1) words)) ≡ entry_values 1 words
 unfolding entry_values
@@ -63,6 +60,7 @@ values_step words values place v count sized more sofar some =
     ∙ ap (λ (ws : List (List ℕ)). onto (take place values) (entry_values (place + 1) ws)) (sym next)
     ∙ sofar
 
+-- where the words before a place have values and the one there has none, what all eighteen give is this place, counted from one
 pub values_stop : (words : List (List ℕ)) (values : List ℤ) (place : ℕ) → length words ≡ 18 → place < 18 → onto (take place values) (entry_values (place + 1) (drop place words)) ≡ entry_values 1 words → entry_value (place + 1) (get_or words place []) ≡ None
     → Err (place + 1) ≡ entry_values 1 words
 unfolding entry_values
@@ -73,6 +71,7 @@ values_stop words values place count more sofar none =
     ∙ ap (λ (ws : List (List ℕ)). onto (take place values) (entry_values (place + 1) ws)) (sym next)
     ∙ sofar
 
+-- the values of all eighteen words, once none is left, are what the words give
 pub values_end : (words : List (List ℕ)) (values : List ℤ) (place : ℕ) → length words ≡ 18 → length values ≡ 18 → 18 ≤ place → onto (take place values) (entry_values (place + 1) (drop place words)) ≡ entry_values 1 words → Ok values ≡ entry_values 1 words
 unfolding entry_values
 values_end words values place count sized done sofar =
@@ -81,9 +80,6 @@ values_end words values place count sized done sofar =
     ∙ ap (λ (ws : List (List ℕ)). onto (take place values) (entry_values (place + 1) ws)) (sym none)
     ∙ sofar
 
--- ---- the entry of the values
-
--- each value is that of the word at its place
 value_at : (place : ℕ) (words : List (List ℕ)) (values : List ℤ) → entry_values place words ≡ Ok values → (k : ℕ) → k < length words → entry_value (place + k) (get_or words k []) ≡ Some (get_or values k (pos 0))
 unfolding entry_values
 value_at place [] values h k lt = absurd (omega arith)
@@ -135,7 +131,7 @@ not_partial v h = go (is_partial v) refl h
 made_by : (values : List ℤ) (n : ℕ) → whole_number (field values 1) ≡ Some n → is_below_zero (field values 2) ≡ false → is_partial (field values 11) ≡ false → entry_made values [] ≡ Ok (record { main = values; parts = [] })
 made_by values n number submit status = rw (number, submit, status) refl
 
--- the values are an entry's
+-- eighteen values that were read of words make an entry without partial lines
 pub entry_is_made : (words : List (List ℕ)) (values : List ℤ) → length words ≡ 18 → entry_values 1 words ≡ Ok values → entry_made values [] ≡ Ok (record { main = values; parts = [] })
 entry_is_made words values count h =
     let number = number_is (get_or words 0 []) (get_or values 0 (pos 0)) (job_number (get_or words 0 [])) refl (value_at 1 words values h 0 (omega arith)) in

@@ -73,10 +73,12 @@ module _ {A : Type 0} where
   with_keyword-take None ws = refl
   with_keyword-take (Some key) ws = ap (made Some) (command_of-take key ws)
 
+  -- the first twenty words of a line give the command, the fault or none that all of its words give
   pub command_of_words-take : (ws : List (List ℕ)) → command_of_words {A = A} (take 20 ws) ≡ command_of_words ws
   command_of_words-take [] = refl
   command_of_words-take (word ∷ ws) = ap (λ r. cond (eqb (get_or word 0 0) 35) (Ok None) r) (with_keyword-take (keyword_of word) ws)
 
+-- the first twenty words behind `Scenario:` tell of the scenario that all of them tell of, or of none as they do
 pub line_of_words-take : (ws : List (List ℕ)) → line_of_words (take 20 ws) ≡ line_of_words ws
 line_of_words-take [] = refl
 line_of_words-take (a ∷ []) = refl

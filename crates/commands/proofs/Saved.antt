@@ -1,4 +1,4 @@
--- The comments that tell of scenarios, as they are written, read and kept.
+-- The comments that tell of scenarios, as they are written and read: what is written of a scenario is read as it.
 use Rattle.std.proofs.Common.{◌≡◌, ℕ, ◌<◌, ◌≤◌, true, false, ◌&&◌, ltb, leb, List, [], ◌∷◌, ◌++◌, length, Some, refl, sym, ap, ◌∙◌, arith}
 use Rattle.std.specs.List.{list_all}
 use Rattle.std.specs.Char.{is_ascii_digit}
@@ -19,15 +19,11 @@ use Rattle.scenarios.specs.Order.{order_of, order_word}
 use Rattle.commands.specs.ScenarioLine.{short_number, line_of_words, scenario_line, scenario_comment}
 use Rattle.commands.proofs.LineWords.{name_bytes}
 
--- ---- words without blanks
-
 name_solid : (b : ℕ) → is_name_byte b ≡ true → is_blank b ≡ false
 name_solid b h = grind (arith, common_steps)
 
 digit_solid : (b : ℕ) → is_ascii_digit b ≡ true → is_blank b ≡ false
 digit_solid b h = grind (arith, common_steps)
-
--- ---- numbers in digits
 
 short_decimal : (n : ℕ) → n < 100000000 → short_number (decimal_text n) ≡ Some n
 short_decimal n lt =
@@ -36,8 +32,6 @@ short_decimal n lt =
     let few : length (decimal_text n) ≤ 8 = length-decimal-le 8 n (omega arith) (omega arith) (omega arith) in
     let short : leb (length (decimal_text n)) 18 ≡ true = grind (arith, nat_tests) in
     rw (some, digits.0, short, digits.1) refl
-
--- ---- the comment of a scenario is read as it
 
 named_order : (o : Order) → (list_all is_name_byte (order_word o) ≡ true) × (0 < length (order_word o)) × (order_of (order_word o) ≡ Some o)
 named_order Arrival = (refl, omega arith, refl)
@@ -65,10 +59,11 @@ comment_fields name scenario called set =
     ∙ solid_fields is_name_byte name_solid name (32 ∷ (procs ++ 32 ∷ (factor ++ 32 ∷ order))) (name_bytes name called) (some_name name called) refl
     ∙ ap (λ (l : List (List ℕ)). name ∷ l) (fields-blank 32 (procs ++ 32 ∷ (factor ++ 32 ∷ order)) refl ∙ second)
 
--- the line of a scenario
+-- the line that tells of a scenario of this name
 abbrev pub line_for : List ℕ → ScenarioView → ScenarioLine
 line_for name scenario = record { name = name; procs = scenario.procs; factor = scenario.factor; order = scenario.order }
 
+-- the comment that is written of a scenario within the limits, under a name, is read as the line that tells of it
 pub scenario_line-comment : (name : List ℕ) (scenario : ScenarioView) → is_name name ≡ true → IsScenario scenario → scenario_line (scenario_comment name scenario) ≡ Some (line_for name scenario)
 scenario_line-comment name scenario called set =
     let p = set.procs_fit in

@@ -1,4 +1,5 @@
--- What is saved is opened as it was, and saved as it is.
+-- What is saved is opened as it was, and saved as it is: the comments of scenarios are sound, none of them is kept, each adds its
+-- scenario again, and a log in its order stays so.
 use Rattle.std.proofs.Common.{◌≡◌, ℕ, zero, suc, ◌+◌, ◌-◌, ◌<◌, ◌≤◌, Bool, true, false, cond, ◌&&◌, ◌||◌, eqb, ltb, leb, List, [], ◌∷◌, ◌++◌, length, get_or, map, Option, Some, None, is_some, refl, sym, ap, ◌∙◌, append_assoc, length-append, arith, rules}
 use Rattle.std.specs.Prelude.{is_none}
 use Rattle.std.specs.List.{AllByRecursion, list_all, list_any}
@@ -32,9 +33,6 @@ use Rattle.commands.proofs.Saved.{line_for, scenario_line-comment}
 leb_of : (a b : ℕ) → a ≤ b → leb a b ≡ true
 leb_of a b h = grind (arith, nat_tests)
 
--- ---- the comments of scenarios are sound
-
--- a space or a byte above it
 abbrev is_visible : ℕ → Bool
 is_visible b = leb 32 b
 
@@ -111,10 +109,9 @@ comments_sound : (ss : List Listed) → AllByRecursion IsListed ss → AllByRecu
 comments_sound [] h = tt
 comments_sound (s ∷ ss) h = (comment_sound s.name s.scenario h.0.called h.0.scenario, comments_sound ss h.1)
 
+-- the comments that are saved are sound, where those of the opened log are
 pub saves_sound : SavesSoundComments
 saves_sound comments entries list sound is = all_joined IsComment (kept comments) (map comment_of list.scenarios) (all_kept IsComment comments sound) (comments_sound list.scenarios is.listed)
-
--- ---- what is kept
 
 line_is_declared : (s : Listed) → IsListed s → scenario_line (comment_of s) ≡ Some (line_for s.name s.scenario)
 line_is_declared s is = scenario_line-comment s.name s.scenario is.called is.scenario
@@ -142,8 +139,6 @@ none_declared list (x ∷ xs) = go (is_none (scenario_line x)) refl (none_declar
 none_kept : (ss : List Listed) → AllByRecursion IsListed ss → kept (map comment_of ss) ≡ []
 none_kept [] h = refl
 none_kept (s ∷ ss) h = let declared_of = line_is_declared s h.0 in rw declared_of (none_kept ss h.1)
-
--- ---- what is told
 
 adds : (s : Listed) (list : Listing) → IsListed s → named s.name list.scenarios ≡ None → length list.scenarios < 64 → list.next ≤ 4294967295 → with_line list (scenario_line (comment_of s)) ≡ with_scenario s.name s.scenario list
 adds s list is new capacity last =
@@ -187,8 +182,6 @@ unfolding AllNew
 all_new [] = tt
 all_new (s ∷ ss) = (refl, all_new ss)
 
--- ---- a log in its order stays so
-
 not_before : (s t m n : ℕ) → (ltb s t || (eqb s t && ltb m n)) ≡ true → (ltb t s || (eqb t s && ltb n m)) ≡ false
 not_before s t m n h = grind (arith, nat_tests)
 
@@ -200,14 +193,13 @@ log_of-rising (e ∷ next ∷ entries) h =
     let after : comes_before next e ≡ false = not_before (submit_of e) (submit_of next) (number_of_entry e) (number_of_entry next) before in
     ap (with_entry e) (log_of-rising (next ∷ entries) h.1) ∙ rw after refl
 
--- ---- the law
-
 abbrev text_with : List (List ℕ) → List LogEntry → LogText
 text_with comments entries = record { comments = comments; entries = entries }
 
 both_same : {c d : List (List ℕ)} {e f : List LogEntry} → c ≡ d → e ≡ f → text_with c e ≡ text_with d f
 both_same {c} {d} {e} {f} p q = ap (λ (x : List (List ℕ)). text_with x e) p ∙ ap (text_with d) q
 
+-- a log that is saved with a scenario or more is opened and saved again as the same log, whatever machine is named beside it
 pub saves_same : SavesTheSame
 saves_same comments entries list table is some procs =
     let lines = map comment_of list.scenarios in

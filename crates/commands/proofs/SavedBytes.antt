@@ -1,4 +1,5 @@
--- A log that is opened and saved is read back, and saved again with the same bytes.
+-- A log that is opened and saved is read back, and saved again with the same bytes. What it is opened with is a sound list of one
+-- scenario or more.
 use Rattle.std.proofs.Common.{◌≡◌, ℕ, ◌<◌, Bool, true, false, eqb, List, [], ◌∷◌, length, Option, Some, None, is_some, refl, sym, ap, subst, ◌∙◌, arith}
 use Rattle.std.specs.Prelude.{Result, Ok, Err, codes}
 use Rattle.std.specs.List.{AllByRecursion}
@@ -24,8 +25,6 @@ use Rattle.commands.specs.Opening.{base_on, machine_of, base_of, opened, declare
 use Rattle.commands.specs.Laws.{AreSavedAgain, SavesEditedBytes, SavesTheSameBytes, saved_of}
 use Rattle.commands.proofs.SavedAgain.{saves_same, saves_sound}
 use Rattle.commands.proofs.Declared.{declared_from}
-
--- ---- the scenarios of a log are a list
 
 within_limits : (p f : ℕ) (order : Order) → are_within p f ≡ true → IsScenario (record { procs = p; factor = f; order = order })
 within_limits p f order h = record {
@@ -61,7 +60,6 @@ declared_sound list (comment ∷ comments) is = declared_sound (with_line list (
 empty_sound : IsListing empty
 empty_sound = record { listed = tt; apart = tt; ids = omega arith; capacity = omega arith; last = omega arith }
 
--- a list of scenarios that a log is opened with
 IsOpened : Result Listing OpenTextFault → Type 0
 IsOpened (Ok list) = IsListing list × (0 < length list.scenarios)
 IsOpened (Err fault) = Unit {0}
@@ -94,8 +92,6 @@ is_opened : (procs : Option ℕ) (comments : List (List ℕ)) (list : Listing) �
 unfolding IsOpened
 is_opened procs comments list e = subst IsOpened e (opened_sound procs comments)
 
--- ---- what is saved of a log is read back
-
 all_with : (P : LogEntry → Type 0) (e : LogEntry) (es : List LogEntry) → P e → AllByRecursion P es → AllByRecursion P (with_entry e es)
 all_with P e [] p h = (p, tt)
 all_with P e (x ∷ es) p h = go (comes_before x e) refl (all_with P e es p h.1)
@@ -111,11 +107,10 @@ all_log P (e ∷ es) h = all_with P e (log_of es) h.0 (all_log P es h.1)
 saved_read : (comments : List (List ℕ)) (entries : List LogEntry) (list : Listing) → AllByRecursion IsComment comments → AllByRecursion HasFields entries → IsTable entries → IsListing list → IsText (lines (text_bytes (saved_of comments entries list))) (saved_of comments entries list)
 saved_read comments entries list sound fields table listing = read_again (saved_of comments entries list) (saves_sound comments entries list sound listing) fields table.log
 
--- ---- the laws
-
 same_list : (a b : Listing) (r : Result Listing OpenTextFault) → r ≡ Ok a → r ≡ Ok b → a ≡ b
 same_list a b r p q = cc
 
+-- the bytes that are saved of a log after any edits, opened and saved again, are the same, and no others
 pub saves_edited : SavesEditedBytes
 saves_edited comments entries list sound fields table listing some procs =
     let text : LogText = saved_of comments entries list in
@@ -132,6 +127,7 @@ saves_edited comments entries list sound fields table listing some procs =
           ∙ ap text_bytes same.2,
     )
 
+-- the bytes that are saved of bytes that are opened, opened and saved again, are the same, and no others
 pub saves_bytes : SavesTheSameBytes
 saves_bytes procs bytes once is =
     let t = is.read in

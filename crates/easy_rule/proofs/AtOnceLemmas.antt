@@ -1,4 +1,5 @@
--- A job that arrives alone, starts at once, and leaves nobody who may start.
+-- A job that arrives alone, starts at once, and leaves nobody who may start: either nobody else waits, or the head waits on, and the job is the
+-- only one that may be backfilled.
 use Rattle.std.proofs.Common.{◌≡◌, ℕ, ◌+◌, ◌≤◌, Bool, true, false, cond, nat_eq, List, [], ◌∷◌, ◌++◌, length, take, Option, Some, None, IfSome, All, find, slice_get, refl, sym, ◌∙◌, ap, arith, subst, ⊎_elim, ◌⊎◌}
 use Rattle.std.specs.Option.{option_map}
 use Rattle.std.proofs.lemmas.List.Sums.{sum_by-cons, sum_by-append}
@@ -18,21 +19,19 @@ use Rattle.easy_rule.proofs.PassLemmas.{find-none, none-passes, All-in_order, ne
 use Rattle.easy_rule.proofs.BehindLemmas.{behind-is}
 use Rattle.easy_rule.proofs.Begun.{begun-none, begun-more, begun-done, head-next}
 
--- it is the only one that starts, and leaves this shadow
 pub record IsOnly (s : State) (now : ℕ) (left : Option Shadow) (job : EffectiveJob) : Type 0 where
   pub fits : job.size ≤ free s
   pub first : next (arrived s job) now ≡ Some job
   pub done : next (started (arrived s job) job now) now ≡ None
   pub shadow : IfSome left (λ w. shadow_of (started (arrived s job) job now) ≡ Some w)
 
--- nobody has its number yet
+-- where the state is sound once a job has arrived, nobody had its number before
 pub nobody-has : (s : State) (job : EffectiveJob) → IsSound (arrived s job) → holders s job.number ≡ 0
 nobody-has s job h =
     let f : EffectiveJob → ℕ = λ j. cond (nat_eq j.number job.number) 1 0 in
     let one = cond-true {A = ℕ} (nat_eq job.number job.number) 1 0 (eq-eqb job.number job.number refl) in
     omega (arith, h.once job.number, one, sum_by-append f s.waiting (job ∷ []), sum_by-cons f job [])
 
--- ---- nobody waits
 only-alone : (s : State) (now : ℕ) (job : EffectiveJob) → IsSound (arrived s job) → s.waiting ≡ [] → job.size ≤ free s → IsOnly s now None job
 only-alone s now job h queue fits =
     let none = nobody-has s job h in
@@ -45,7 +44,6 @@ only-alone s now job h queue fits =
       shadow = tt;
     }
 
--- ---- the head waits on
 front-of : (xs ys : List EffectiveJob) → take (length xs) (xs ++ ys) ≡ xs
 front-of [] ys = refl
 front-of (x ∷ xs) ys = ap (λ l. x ∷ l) (front-of xs ys)
@@ -118,20 +116,20 @@ only-behind s now w job h settled may =
       shadow = pass-shadow u now left parts.rest p';
     }
 
--- ---- either
+-- a job that may start at once as it arrives is the only one that starts, and leaves what is left of the shadow that was known
 pub only-one : (s : State) (now : ℕ) (last_shadow : Option Shadow) (job : EffectiveJob) → IsSound (arrived s job) → StartsAtOnce s now last_shadow job → IfSome last_shadow (λ w. IsSettledFront (arrived s job) now (length s.waiting) w)
     → IsOnly s now (option_map (λ w. less w now job) last_shadow) job
 only-one s now None job h starts settled = only-alone s now job h starts.0 starts.1
 only-one s now (Some w) job h starts settled = only-behind s now w job h settled starts
 
--- its start is the whole decision
+-- the start of the only job that starts is the whole decision
 pub only-decides : (old new : ClusterView) (now : ℕ) (left : Option Shadow) (job : EffectiveJob) (jobs : List EffectiveJob) → IsSound (arrived old.state job) → IsOnly old.state now left job → new.state ≡ started (arrived old.state job) job now → old.spare ≤ new.spare + 1
     → jobs ≡ job ∷ [] → IsDecision (with_arrival old job) new now jobs
 only-decides old new now left job jobs h only is spare e =
     let v = with_arrival old job in
     begun-done v new now jobs (ap (λ (z : State). next z now) is ∙ only.done) (begun-more v v new now [] jobs job h only.first is spare e (begun-none v now [] refl))
 
--- and leaves this shadow
+-- what the only job that starts leaves of the shadow that was known is the shadow of the state then
 pub only-leaves : (s new : State) (now : ℕ) (last_shadow left : Option Shadow) (job : EffectiveJob) → IsOnly s now (option_map (λ w. less w now job) last_shadow) job → new ≡ started (arrived s job) job now → left ≡ option_map (λ w. less w now job) last_shadow
     → IfSome left (λ w. shadow_of new ≡ Some w)
 only-leaves s new now last_shadow left job only is e =

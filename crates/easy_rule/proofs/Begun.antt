@@ -1,4 +1,4 @@
--- A decision that is begun: who has started, one after another, and what is left to decide.
+-- A decision that is begun: who has started, one after another, and what is left to decide. Each start leaves capacity for one start less.
 use Rattle.std.proofs.Common.{◌≡◌, ℕ, ◌+◌, ◌≤◌, ◌<◌, nat_le, nat_eq, List, [], ◌∷◌, ◌++◌, append_assoc, append-nil, length, map, Some, None, slice_get, refl, sym, ◌∙◌, ap, arith, subst}
 use Rattle.std.proofs.lemmas.List.{length_push, map-append}
 use Rattle.std.proofs.lemmas.Bool.{cond-true, le-leb}
@@ -12,7 +12,6 @@ use Rattle.easy_rule.specs.Decision.{HasCapacity, IsBegun, IsDecision}
 use Rattle.easy_rule.proofs.NextLemmas.{found-member, next-found, next-fits, length-without}
 use Rattle.easy_rule.proofs.PassLemmas.{state_after-started, starts_at-started, state_after-done, starts_at-done}
 
--- each start leaves capacity for one start less
 pub fewer-started : (s : State) (now : ℕ) (job : EffectiveJob) → IsSound s → waiting_job s job.number ≡ Some job → job.size ≤ free s → most_starts (started s job now) + 1 ≤ most_starts s
 fewer-started s now job h found fits =
     let p = λ (j : EffectiveJob). nat_eq j.number job.number in
@@ -21,11 +20,10 @@ fewer-started s now job h found fits =
     let some = (All-find IsWithinLimits p s.waiting job found h.waiting_limits).takes_some in
     omega (arith, waits, taken, some, fits)
 
--- where one is next, one can start
 pub next-some : (s : State) (now : ℕ) (job : EffectiveJob) → IsSound s → next s now ≡ Some job → most_starts (started s job now) + 1 ≤ most_starts s
 next-some s now job h e = fewer-started s now job h (next-found s now job h e) (next-fits s now job e)
 
--- and one less waits then
+-- once the job that is next has started, fewer wait
 pub next-shorter : (s t : State) (now : ℕ) (job : EffectiveJob) → IsSound s → next s now ≡ Some job → t ≡ started s job now → length t.waiting < length s.waiting
 next-shorter s t now job h e is =
     let p = λ (j : EffectiveJob). nat_eq j.number job.number in
@@ -33,6 +31,7 @@ next-shorter s t now job h e is =
     let here = ap (λ (z : State). length z.waiting) is in
     omega (arith, less, here)
 
+-- where there is capacity for all that can start, there is for the others once the next one has started and is listed
 pub capacity-then : (c d : ClusterView) (now len capacity len' capacity' : ℕ) (job : EffectiveJob) → IsSound c.state → next c.state now ≡ Some job → HasCapacity c len capacity → d.state ≡ started c.state job now → c.spare ≤ d.spare + 1 → len' ≡ len + 1 → capacity ≤ capacity' → HasCapacity d len' capacity'
 capacity-then c d now len capacity len' capacity' job h e enough is spare longer wide =
     let some = next-some c.state now job h e in
@@ -41,7 +40,6 @@ capacity-then c d now len capacity len' capacity' job h e enough is spare longer
     let list = enough.list in
     record { spare = omega (arith, some, most, had, spare); list = omega (arith, some, most, list, longer, wide) }
 
--- ---- one more has started
 can-more : (xs : List EffectiveJob) (job : EffectiveJob) (s : State) (now : ℕ) → CanStartAll s xs now → waiting_job (all_started s xs now) job.number ≡ Some job → job.size ≤ free (all_started s xs now) → CanStartAll s (xs ++ job ∷ []) now
 can-more [] job s now h found fits = (found, fits, tt)
 can-more (x ∷ xs) job s now h found fits = (h.0, h.1, can-more xs job (started s x now) now h.2 found fits)
@@ -56,12 +54,13 @@ started-more s r t now xs job h found fits e = record {
   state = e ∙ ap (λ (z : State). started z job now) h.state ∙ sym (all-more xs job s now);
 }
 
--- ---- the decision
+-- a decision is begun when nobody has started yet
 pub begun-none : (c : ClusterView) (now : ℕ) (jobs : List EffectiveJob) → jobs ≡ [] → IsBegun c c now jobs
 begun-none c now jobs e =
     subst (IsBegun c c now) (sym e)
     (record { state = refl; starts = refl; started = record { can = tt; state = refl }; capacity = omega arith; few = omega arith })
 
+-- a decision that is begun is so too once the next job has started and stands behind those that had
 pub begun-more : (old mid new : ClusterView) (now : ℕ) (jobs more : List EffectiveJob) (job : EffectiveJob) → IsSound mid.state → next mid.state now ≡ Some job → new.state ≡ started mid.state job now → mid.spare ≤ new.spare + 1
     → more ≡ jobs ++ job ∷ [] → IsBegun old mid now jobs → IsBegun old new now more
 begun-more old mid new now jobs more job h e is spare m b =
@@ -83,7 +82,7 @@ begun-more old mid new now jobs more job h e is spare m b =
       few = omega (arith, few, most, fewer-started mid.state now job h found fits, length_push jobs job);
     })
 
--- where nobody is next it is complete
+-- a decision that is begun is complete where nobody is next
 pub begun-done : (old new : ClusterView) (now : ℕ) (jobs : List EffectiveJob) → next new.state now ≡ None → IsBegun old new now jobs → IsDecision old new now jobs
 begun-done old new now jobs e b =
     let few = b.few in
@@ -95,8 +94,7 @@ begun-done old new now jobs e b =
       few = omega (arith, few);
     }
 
--- ---- the head
--- it is next where it fits
+-- the first waiting job is next where it fits
 pub head-next : (s : State) (now : ℕ) (head : EffectiveJob) → slice_get s.waiting 0 ≡ Some head → head.size ≤ free s → next s now ≡ Some head
 head-next s now head e fits = go s.waiting e
   where

@@ -1,4 +1,5 @@
--- A decision behind those who are known to wait.
+-- A decision behind those who are known to wait: where the shadow is known the first waiting job does not fit, and none of the settled ones may be
+-- backfilled.
 use Rattle.std.proofs.Common.{◌≡◌, ℕ, zero, suc, ◌≤◌, ◌<◌, false, nat_le, List, [], ◌∷◌, ◌++◌, get_or, take, drop, Some, None, All, find, refl, sym, ◌∙◌, ap, subst, ⊎_elim}
 use Rattle.std.specs.List.{list_any}
 use Rattle.std.proofs.lemmas.List.Folds.{list_any_at, list_any_none}
@@ -23,7 +24,7 @@ last_shadow-is s head rest w waits e =
     let k : Some (shadow_at s head.size) ≡ Some w = sym (cond-false (nat_le head.size (free s)) None (Some (shadow_at s head.size)) (lt-leb head.size (free s) waits)) ∙ e in
     cc
 
--- where the shadow is known, the first waiting job does not fit
+-- the first waiting job does not fit, w is what it leaves, and none of the first jobs, which are settled, may be backfilled
 pub record IsBehind (s : State) (now : ℕ) (w : Shadow) (settled : ℕ) : Type 0 where
   pub head : EffectiveJob
   pub later : List EffectiveJob
@@ -32,7 +33,6 @@ pub record IsBehind (s : State) (now : ℕ) (w : Shadow) (settled : ℕ) : Type 
   pub shadow : w ≡ shadow_at s head.size
   pub refused : All (λ j. may_backfill now (free s) w j ≡ false) (take settled s.waiting)
 
--- the settled front of a queue whose first job does not fit
 front-refused : (s : State) (now n : ℕ) (w : Shadow) (head : EffectiveJob) (rest : List EffectiveJob) → free s < head.size → w ≡ shadow_at s head.size → next_of (front s n) now (take n (head ∷ rest)) ≡ None
     → All (λ j. may_backfill now (free s) w j ≡ false) (take n (head ∷ rest))
 unfolding shadow_time
@@ -45,6 +45,7 @@ front-refused s now (suc n) w head rest waits is e =
     (All-cons (λ j. q j ≡ false) head (take n rest) (too-large now (free s) (shadow_at s head.size) head waits)
     (in_order-All (λ j. q j ≡ false) s.order (take n rest) (none-passes q (in_order s.order (take n rest)) none)))
 
+-- where w is the shadow and nobody of the first n may start, the head does not fit and leaves w, and none of these n may be backfilled
 pub behind-is : (s : State) (now n : ℕ) (w : Shadow) → IsSettledFront s now n w → IsBehind s now w n
 behind-is s now n w f = go s.waiting refl f.shadow f.settled
   where
@@ -76,7 +77,7 @@ behind-done s now n w b none =
     next-candidates s now b.head b.later b.queue b.waits ∙ ap (λ v. find (may_backfill now (free s) v) (candidates s)) (sym b.shadow)
     ∙ find-none q (candidates s) (All-in_order (λ j. q j ≡ false) s.order s.waiting all)
 
--- the pass begins behind the settled ones in order of arrival, and at the front of the row by estimate
+-- a pass may begin behind the settled ones in order of arrival, and at the front of the candidates by estimate
 pub behind-pass : (c : ClusterView) (now n place : ℕ) (w : Shadow) → AreCandidates c → (c.state.order ≡ Arrival → candidates_from c place ≡ drop n c.state.waiting) → (c.state.order ≡ Shortest → place ≡ 0) → IsBehind c.state now w n → IsPass c.state now w (candidates_from c place)
 behind-pass c now n place w stands arrival shortest b = go c.state.order refl
   where
@@ -102,7 +103,7 @@ behind-pass c now n place w stands arrival shortest b = go c.state.order refl
       refused = All-nil (λ j. may_backfill now (free c.state) w j ≡ false);
     }
 
--- and where nobody is next, none behind them may start
+-- where nobody is next, none behind the settled ones may be backfilled
 pub behind-none : (s : State) (now n : ℕ) (w : Shadow) → IsBehind s now w n → next s now ≡ None → list_any (may_backfill now (free s) w) (drop n s.waiting) ≡ false
 behind-none s now n w b e =
     let q = may_backfill now (free s) w in

@@ -1,4 +1,5 @@
--- The later job that starts next, by its place in the row.
+-- The later job that starts next, by its place among the candidates: the first from the pass on at which one may start. Where there is none nobody
+-- is next.
 use Rattle.std.proofs.Common.{◌≡◌, ◌≢◌, ℕ, ◌+◌, ◌≤◌, ◌<◌, false, List, [], ◌∷◌, ◌++◌, length, append-nil, Option, Some, None, IfSome, All, slice_get, refl, sym, ◌∙◌, ap, arith, subst, ⊎_elim}
 use Rattle.std.proofs.lemmas.List.Elements.{All-nil, All-weaker}
 use Rattle.std.proofs.lemmas.Bool.{cases_lt}
@@ -14,7 +15,7 @@ use Rattle.easy_rule.specs.Pass.{less, candidates_from, IsCandidate, IsPass}
 use Rattle.easy_rule.proofs.PassLemmas.{All-in_order, pass-over, pass-next, pass-done, pass-started}
 use Rattle.easy_rule.proofs.PlaceLemmas.{first-same, skips, passes-at, waiting-at, past}
 
--- the offer and the rule let the same jobs start
+-- where an offer and the rule let the same jobs start, the first place that fits the offer is the first at which one may start
 pub offer-first : (c : ClusterView) (now capacity : ℕ) (w : Shadow) (offer : Offer) (from : ℕ) (r : Option ℕ) → IsSound c.state → AreCandidates c → capacity ≡ free c.state
     → ((j : EffectiveJob) → IsWithinLimits j → fits_offer offer j ≡ may_backfill now capacity w j)
     → IsFirst (holds (fits_offer offer)) c.places from (length c.places) r → IsFirst (holds (may_backfill now (free c.state) w)) c.places from (length c.places) r
@@ -24,7 +25,7 @@ offer-first c now capacity w offer from r h stands is same first =
     (All-weaker IsWithinLimits (λ j. fits_offer offer j ≡ may_backfill now (free c.state) w j) (λ j l. same j l ∙ ap (λ n. may_backfill now n w j) is) (waiting c.places) limits) first
 
 module _ (c : ClusterView) (now : ℕ) (w : Shadow) (from : ℕ) (p : IsPass c.state now w (candidates_from c from)) where
-  -- the first place at which one may start
+  -- who stands at the first place from the pass on at which one may be backfilled is a candidate
   pub candidate-at : (place : ℕ) → IsFirst (holds (may_backfill now (free c.state) w)) c.places from (length c.places) (Some place) → (job : EffectiveJob) × IsCandidate c now w place job
   candidate-at place first =
       let q = may_backfill now (free c.state) w in
@@ -34,7 +35,7 @@ module _ (c : ClusterView) (now : ℕ) (w : Shadow) (from : ℕ) (p : IsPass c.s
       let here : IsPass c.state now w (x.0 ∷ candidates_from c (place + 1)) = subst (IsPass c.state now w) (waiting-at c.places place x.0 x.1) on in
       (x.0, record { stands = x.1; may = x.2; found = pass-next c.state now w x.0 (candidates_from c (place + 1)) here x.2; pass = on })
 
-  -- where there is none nobody is next
+  -- where there is no place from the pass on at which one may be backfilled, nobody is next
   pub candidate-none : IsFirst (holds (may_backfill now (free c.state) w)) c.places from (length c.places) None → next c.state now ≡ None
   candidate-none none =
       let q = may_backfill now (free c.state) w in
@@ -47,13 +48,13 @@ module _ (c : ClusterView) (now : ℕ) (w : Shadow) (from : ℕ) (p : IsPass c.s
       subst (All (λ j. q j ≡ false)) (sym (s.parts ∙ ap (λ l. s.skip ++ l) (past c.places (length c.places) (omega arith)) ∙ append-nil s.skip)) s.refused)
       (cases_lt (length c.places) from))
 
--- it is the candidate who starts at its place
+-- the job that starts from a candidate's place is the candidate
 pub candidate-starts : (c m d : ClusterView) (now : ℕ) (w : Shadow) (place : ℕ) (job : EffectiveJob) → m ≡ c → IsCandidate c now w place job → IfSome (at_place m.places place) (λ j. d.state ≡ started m.state j now) → d.state ≡ started c.state job now
 candidate-starts c m d now w place job same k is =
     subst (λ (o : Option EffectiveJob). IfSome o (λ j. d.state ≡ started c.state j now)) k.stands
     (subst (λ (v : ClusterView). IfSome (at_place v.places place) (λ j. d.state ≡ started v.state j now)) same is)
 
--- the pass goes on behind who starts
+-- the pass goes on behind the candidate that starts, with what this leaves of the shadow
 pub candidate-started : (c m d : ClusterView) (now : ℕ) (w w' : Shadow) (place from : ℕ) (job : EffectiveJob) → m ≡ c → IsSound c.state → IsCandidate c now w place job → d.state ≡ started c.state job now → candidates_from d from ≡ candidates_from m (place + 1) → w' ≡ less w now job
     → IsPass d.state now w' (candidates_from d from)
 candidate-started c m d now w w' place from job same h k e rest is =
@@ -63,7 +64,6 @@ candidate-started c m d now w w' place from job same h k e rest is =
     subst (λ (v : Shadow). IsPass d.state now v (candidates_from d from)) (sym is)
     (subst (λ (s : State). IsPass s now (less w now job) (candidates_from d from)) (sym e) (subst (IsPass (started c.state job now) now (less w now job)) (sym left) on))
 
--- ---- where a pass begins
 pub pass-first : (c : ClusterView) (now need : ℕ) (w : Shadow) (head : EffectiveJob) → AreCandidates c → slice_get c.state.waiting 0 ≡ Some head → need ≡ head.size → free c.state < need → w ≡ shadow_at c.state need → IsPass c.state now w (candidates_from c 0)
 pass-first c now need w head stands first n waits is = go c.state.waiting refl first
   where
@@ -82,6 +82,7 @@ pass-first c now need w head stands first n waits is = go c.state.waiting refl f
           refused = All-nil (λ j. may_backfill now (free c.state) w j ≡ false);
         }
 
+-- where the head does not fit, a pass begins at the front of the candidates
 pub pass-begins : (c : ClusterView) (now capacity need : ℕ) (w : Shadow) (head : EffectiveJob) → AreCandidates c → Some head ≡ slice_get c.state.waiting 0 → capacity ≡ free c.state → need ≡ head.size → capacity < need → w ≡ shadow_at c.state need → IsPass c.state now w (candidates_from c 0)
 pass-begins c now capacity need w head stands first f n waits is = pass-first c now need w head stands (sym first) n (omega (arith, f, waits)) is
 
@@ -92,6 +93,6 @@ candidate-is c d now w place job same there k =
     let is : job ≡ k.0 = cc in
     subst (IsCandidate c now w place) (sym is) k.1
 
--- ---- who starts first
+-- where there is a job there is not none
 pub some≢none : (o : Option EffectiveJob) (job : EffectiveJob) → o ≡ Some job → o ≢ None
 some≢none o job e none = let never : Some job ≡ None = sym e ∙ none in cc

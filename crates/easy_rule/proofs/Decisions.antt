@@ -1,4 +1,5 @@
--- What all the starts of one second do.
+-- What all the starts of one second do, and what stays where nobody is next: nobody is at a later second either, and whoever joins the queue leaves
+-- the shadow as it is.
 use Rattle.std.proofs.Common.{◌≡◌, ℕ, zero, suc, ◌+◌, ◌-◌, ◌^◌, ◌≤◌, ◌<◌, Bool, true, false, cond, ◌||◌, nat_eq, nat_le, List, [], ◌∷◌, ◌++◌, length, take, Option, Some, None, All, find, sum_by, count_by, refl, sym, ◌∙◌, ap, arith, subst, inl, inr, ⊎_elim, ◌⊎◌}
 use Rattle.std.proofs.lemmas.List.Sums.{sum_by-cons}
 use Rattle.std.proofs.lemmas.List.Elements.{All-head, All-nil, All-cons}
@@ -17,6 +18,7 @@ use Rattle.easy_rule.specs.Laws.{ArrivalsUnsettleNobody}
 use Rattle.easy_rule.proofs.NextLemmas.{length-without, next-facts, next-found, next-fits, decided-start, decided-stop, decisions-start, decisions-stop}
 use Rattle.easy_rule.proofs.PassLemmas.{ways, next-empty}
 
+-- an option is None or has something
 pub cases_option : {X : Type 0} (o : Option X) → (o ≡ None) ⊎ ((x : X) × (o ≡ Some x))
 cases_option None = inl refl
 cases_option (Some x) = inr (x, refl)
@@ -33,7 +35,7 @@ decided-keeps Inv now step (suc n) s h =
     (subst (λ m. Inv (decided m (started s f.0 now) now)) (let k : n ≡ suc n - 1 = omega arith in k) (decided-keeps Inv now step n (started s f.0 now) (step s f.0 f.1 h))))
     (cases_option (next s now))
 
--- after enough starts nobody is next
+-- after up to as many starts as jobs wait, or more, nobody is next
 pub decided-done : (n : ℕ) (s : State) (now : ℕ) → length s.waiting ≤ n → next (decided n s now) now ≡ None
 unfolding decided
 decided-done zero s now l = next-empty s now (omega arith)
@@ -72,7 +74,7 @@ starts-now (suc n) s now =
     (subst (λ m. P (decisions m (started s f.0 now) now)) one (starts-now n (started s f.0 now) now))))
     (cases_option (next s now))
 
--- who leaves the queue is told
+-- those of a number that start and those that wait then are together those that waited
 pub outcome : (n k : ℕ) (s : State) (now : ℕ) → now < 2 ^ 49 → IsSound s
     → count_by (λ (x : Start). nat_eq x.number n) (decisions k s now) + count_by (λ (j : EffectiveJob). nat_eq j.number n) (decided k s now).waiting ≡ count_by (λ (j : EffectiveJob). nat_eq j.number n) s.waiting
 unfolding decisions decided
@@ -97,7 +99,6 @@ outcome n (suc k) s now small h =
     omega (arith, a, b, i, sum_by-cons (λ (x : Start). cond (nat_eq x.number n) 1 0) x (decisions k s' now), sum_by-without (λ (j : EffectiveJob). cond (nat_eq j.number n) 1 0) job.number s.waiting job found))
     (cases_option (next s now))
 
--- who may not be backfilled now may not be later
 later-refused : (now later capacity : ℕ) (w : Shadow) (job : EffectiveJob) → now ≤ later → may_backfill now capacity w job ≡ false → may_backfill later capacity w job ≡ false
 later-refused now later capacity w job l no' =
     false_from_ne_true (may_backfill later capacity w job) (λ yes'.
@@ -120,7 +121,7 @@ find-weaker p q (x ∷ xs) h e =
     (λ (n : p x ≡ false). cond-false (q x) (Some x) (find q xs) (h x n) ∙ find-weaker p q xs h (sym (cond-false (p x) (Some x) (find p xs) n) ∙ e))
     (cases_Bool (p x))
 
--- nobody is next at a later second either
+-- where nobody is next at a second, nobody is at a later one of the same state
 pub next-later : (s : State) (now later : ℕ) (js : List EffectiveJob) → now ≤ later → next_of s now js ≡ None → next_of s later js ≡ None
 next-later s now later [] l e = refl
 next-later s now later (head ∷ rest) l e =
@@ -139,12 +140,12 @@ take-front : {X : Type 0} (xs ys : List X) → take (length xs) (xs ++ ys) ≡ x
 take-front [] ys = refl
 take-front (x ∷ xs) ys = ap (λ l. x ∷ l) (take-front xs ys)
 
--- who joins the queue leaves the shadow as it is
 shadow-behind : (s z : State) (queue js : List EffectiveJob) (w : Shadow) → z.procs ≡ s.procs → z.running ≡ s.running → shadow_for s queue ≡ Some w → shadow_for z (queue ++ js) ≡ Some w
 unfolding shadow_time
 shadow-behind s z [] js w m r e = cc
 shadow-behind s z (head ∷ rest) js w m r e = rw (m, r) e
 
+-- where nobody may start, whoever joins the queue lets none of those before him start, and leaves the shadow as it is
 pub arrivals-unsettle-nobody : ArrivalsUnsettleNobody
 arrivals-unsettle-nobody s js now settled =
     let is : front (joined s js) (length s.waiting) ≡ s = ap (λ (w : List EffectiveJob). let z : State = record { procs = s.procs; order = s.order; waiting = w; running = s.running } in z) (take-front s.waiting js) in

@@ -52,5 +52,6 @@ easy-conserves = record {
   outcome = λ n s now small h. outcome n (length s.waiting) s now small h;
 }
 
+-- EASY backfilling is a rule: it settles, keeps and conserves
 pub easy-is-a-rule : EasyIsARule
 easy-is-a-rule = record { settles = easy-settles; keeps = easy-keeps; conserves = easy-conserves }

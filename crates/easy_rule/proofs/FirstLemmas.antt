@@ -21,7 +21,6 @@ All-at P [] m other a e = cc
 All-at P (j ∷ js) zero other a e = let same : j ≡ other = cc in subst P same (All-head P j js a)
 All-at P (j ∷ js) (suc m) other a e = All-at P js m other (All-tail P j js a) e
 
--- one more that passes: it is found, or a shorter one is
 find-put-passes : (q : EffectiveJob → Bool) (j : EffectiveJob) (xs : List EffectiveJob) (job : EffectiveJob) → q j ≡ true → RisesByEstimate xs → find q (put j xs) ≡ Some job
     → ((j ≡ job) × All (λ x. q x ≡ true → j.estimate ≤ x.estimate) xs) ⊎ ((find q xs ≡ Some job) × (job.estimate < j.estimate))
 find-put-passes q j [] job y r e =

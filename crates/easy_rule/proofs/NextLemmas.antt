@@ -13,11 +13,12 @@ use Rattle.scenarios.specs.declared.order.Order.TheVariants.{Arrival, Shortest}
 use Rattle.easy_rule.specs.declared.shadow_time.Shadow.{Shadow}
 use Rattle.easy_rule.specs.Rule.{next, next_of, may_backfill, shadow_at, decided, decisions}
 
--- it is one of these
+-- the job is one of these
 abbrev pub Member : List EffectiveJob → EffectiveJob → Type 0
 Member [] job = ⊥
 Member (j ∷ js) job = (j ≡ job) ⊎ Member js job
 
+-- the job that is found is one of those searched
 pub found-member : (q : EffectiveJob → Bool) (js : List EffectiveJob) (job : EffectiveJob) → find q js ≡ Some job → Member js job
 found-member q [] job e = cc
 found-member q (j ∷ js) job e =
@@ -35,7 +36,7 @@ count-member (j ∷ js) job m =
     (λ (later : Member js job). omega (arith, e, count-member js job later))
     m
 
--- where a number stands once, it finds its job
+-- one of these jobs is the one that its number finds, where the number stands once at most
 pub find-member : (js : List EffectiveJob) (job : EffectiveJob) → Member js job → count_by (λ (j : EffectiveJob). nat_eq j.number job.number) js ≤ 1 → find (λ (j : EffectiveJob). nat_eq j.number job.number) js ≡ Some job
 find-member [] job m l = absurd m
 find-member (j ∷ js) job m l =
@@ -51,7 +52,7 @@ find-member (j ∷ js) job m l =
     (cases_Bool (nat_eq j.number job.number)))
     m
 
--- what is found passes the test
+-- the job that is found passes the test
 pub found-passes : (q : EffectiveJob → Bool) (js : List EffectiveJob) (job : EffectiveJob) → find q js ≡ Some job → q job ≡ true
 found-passes q [] job e = cc
 found-passes q (j ∷ js) job e =
@@ -60,7 +61,6 @@ found-passes q (j ∷ js) job e =
     (λ (h : q j ≡ false). found-passes q js job (rw h at e))
     (cases_Bool (q j))
 
--- the order takes nobody in
 put-member : (j : EffectiveJob) (xs : List EffectiveJob) (job : EffectiveJob) → Member (put j xs) job → Member (j ∷ xs) job
 put-member j [] job m = m
 put-member j (x ∷ xs) job m =
@@ -79,11 +79,12 @@ by_estimate-member [] job m = m
 by_estimate-member (j ∷ js) job m =
     ⊎_elim (λ (same : j ≡ job). inl same) (λ (later : Member (by_estimate js) job). inr (by_estimate-member js job later)) (put-member j (by_estimate js) job m)
 
+-- who stands in the order is one of the jobs that it orders
 pub in_order-member : (o : Order) (js : List EffectiveJob) (job : EffectiveJob) → Member (in_order o js) job → Member js job
 in_order-member Arrival js job m = m
 in_order-member Shortest js job m = by_estimate-member js job m
 
--- the next job waits and fits
+-- the job of these that is next is one of them, and fits
 pub next-facts : (s : State) (now : ℕ) (job : EffectiveJob) (js : List EffectiveJob) → next_of s now js ≡ Some job → Member js job × (job.size ≤ free s)
 next-facts s now job [] e = cc
 next-facts s now job (head ∷ rest) e =
@@ -100,9 +101,11 @@ next-facts s now job (head ∷ rest) e =
     (inr (in_order-member s.order rest job (found-member q candidates job k)), leb-true job.size (free s) (and_parts _ _ p).0))
     (cases_Bool (nat_le head.size (free s)))
 
+-- the job that is next in a sound state is the waiting one of its number
 pub next-found : (s : State) (now : ℕ) (job : EffectiveJob) → IsSound s → next s now ≡ Some job → waiting_job s job.number ≡ Some job
 next-found s now job h e = find-member s.waiting job (next-facts s now job s.waiting e).0 (omega (arith, h.once job.number))
 
+-- the job that is next fits into the free processors
 pub next-fits : (s : State) (now : ℕ) (job : EffectiveJob) → next s now ≡ Some job → job.size ≤ free s
 next-fits s now job e = (next-facts s now job s.waiting e).1
 
@@ -110,7 +113,7 @@ next-fits s now job e = (next-facts s now job s.waiting e).1
 pub too-large : (now capacity : ℕ) (w : Shadow) (job : EffectiveJob) → capacity < job.size → may_backfill now capacity w job ≡ false
 too-large now capacity w job l = ap (λ b. b && (nat_le (now + job.estimate) w.time || nat_le job.size w.extra)) (lt-leb job.size capacity l)
 
--- with a head that does not fit, the search goes over the whole row, the head among them
+-- where the head does not fit, the next one is the first of all candidates, the head among them, that may be backfilled
 pub next-candidates : (s : State) (now : ℕ) (head : EffectiveJob) (rest : List EffectiveJob) → s.waiting ≡ head ∷ rest → free s < head.size → next s now ≡ find (may_backfill now (free s) (shadow_at s head.size)) (in_order s.order s.waiting)
 next-candidates s now head rest queue l =
     let q = may_backfill now (free s) (shadow_at s head.size) in
@@ -118,18 +121,20 @@ next-candidates s now head rest queue l =
     ∙ cond-false (nat_le head.size (free s)) (Some head) (find q (in_order s.order rest)) (lt-leb head.size (free s) l)
     ∙ sym (ap (λ js. find q (in_order s.order js)) queue ∙ find-in_order q s.order head rest (too-large now (free s) (shadow_at s head.size) head l))
 
--- a step of the fold
+-- the state after up to n starts, where one is next, is that after this start and up to n - 1 more
 pub decided-start : (n : ℕ) (s : State) (job : EffectiveJob) (now : ℕ) → 0 < n → next s now ≡ Some job → decided n s now ≡ decided (n - 1) (started s job now) now
 unfolding decided
 decided-start zero s job now l e = absurd (omega arith)
 decided-start (suc n) s job now l e =
     ap (λ o. option_map_or (λ job. decided n (started s job now) now) o s) e ∙ ap (λ m. decided m (started s job now) now) (let k : n ≡ suc n - 1 = omega arith in k)
 
+-- where nobody is next, the state is as it was
 pub decided-stop : (n : ℕ) (s : State) (now : ℕ) → next s now ≡ None → decided n s now ≡ s
 unfolding decided
 decided-stop zero s now e = refl
 decided-stop (suc n) s now e = ap (λ o. option_map_or (λ job. decided n (started s job now) now) o s) e
 
+-- up to n starts, where one is next, are this start and up to n - 1 more
 pub decisions-start : (n : ℕ) (s : State) (job : EffectiveJob) (now : ℕ) → 0 < n → next s now ≡ Some job → decisions n s now ≡ record { number = job.number; at = now } ∷ decisions (n - 1) (started s job now) now
 unfolding decisions
 decisions-start zero s job now l e = absurd (omega arith)
@@ -137,6 +142,7 @@ decisions-start (suc n) s job now l e =
     ap (λ o. option_map_or (λ (job : EffectiveJob). record { number = job.number; at = now } ∷ decisions n (started s job now) now) o []) e
     ∙ ap (λ m. record { number = job.number; at = now } ∷ decisions m (started s job now) now) (let k : n ≡ suc n - 1 = omega arith in k)
 
+-- where nobody is next there are no starts
 pub decisions-stop : (n : ℕ) (s : State) (now : ℕ) → next s now ≡ None → decisions n s now ≡ []
 unfolding decisions
 decisions-stop zero s now e = refl
@@ -148,7 +154,6 @@ All-member P [] job m a = absurd m
 All-member P (j ∷ js) job m a =
     ⊎_elim (λ (same : j ≡ job). subst P same (All-head P j js a)) (λ (later : Member js job). All-member P js job later (All-tail P j js a)) m
 
--- the next job takes a processor at least
 pub next-takes : (s : State) (now : ℕ) (job : EffectiveJob) → IsSound s → next s now ≡ Some job → 1 ≤ job.size
 next-takes s now job h e = (All-member IsWithinLimits s.waiting job (next-facts s now job s.waiting e).0 h.waiting_limits).takes_some
 
@@ -160,7 +165,7 @@ next-full s now h full = none-or (next s now) (λ job e. let l = next-takes s no
     none-or None k = refl
     none-or (Some job) k = absurd (k job refl)
 
--- one job fewer waits
+-- without the number of one of these jobs they are one fewer
 pub length-without : (js : List EffectiveJob) (job : EffectiveJob) → Member js job → length (without job.number js) + 1 ≡ length js
 length-without [] job m = absurd m
 length-without (j ∷ js) job m =

@@ -1,4 +1,5 @@
--- One pass over the row, against the search that begins again after each start.
+-- One pass over the candidates, against the search that begins again after each start: a backfilled job leaves the head its time, and takes from the
+-- extra processors where it runs past it; who was refused stays refused.
 use Rattle.std.proofs.Common.{◌≡◌, ℕ, ◌+◌, ◌-◌, ◌≤◌, ◌<◌, Bool, true, false, cond, ◌||◌, nat_le, nat_eq, List, [], ◌∷◌, ◌++◌, append_assoc, length, Some, None, All, find, count_by, sum_by, refl, sym, ◌∙◌, ap, arith, subst, inl, inr, ⊎_elim, ◌⊎◌}
 use Rattle.std.proofs.lemmas.List.Sums.{sum_by-cons, sum_by-append}
 use Rattle.std.proofs.lemmas.List.Elements.{All-head, All-tail, All-nil, All-cons, All-append, All-weaker}
@@ -17,13 +18,12 @@ use Rattle.easy_rule.specs.Pass.{less, candidates, IsPass}
 use Rattle.easy_rule.proofs.RuleLemmas.{shadow_time-IsLeast, back_by-le}
 use Rattle.easy_rule.proofs.NextLemmas.{next-facts, next-found, next-candidates, length-without, decided-start, decisions-start, decided-stop, decisions-stop}
 
--- what a start changes of what is available
 pub available-started : (s : State) (job : EffectiveJob) (now t : ℕ) → busy s.running ≤ s.procs → job.size ≤ free s → available (started s job now) t + job.size ≡ available s t + back_by t (record { job = job; start = now })
 available-started s job now t fits small =
     let r : Placed = record { job = job; start = now } in
     omega (arith, sum_by-placed (back_by t) r s.running, sum_by-placed (λ (x : Placed). x.job.size) r s.running)
 
--- the two ways to be backfilled
+-- who may be backfilled fits, and is expected to end by the shadow time or takes no more than the extra processors
 pub ways : (now capacity : ℕ) (w : Shadow) (job : EffectiveJob) → may_backfill now capacity w job ≡ true → (job.size ≤ capacity) × ((now + job.estimate ≤ w.time) ⊎ (job.size ≤ w.extra))
 ways now capacity w job h =
     let p = and_parts (nat_le job.size capacity) (nat_le (now + job.estimate) w.time || nat_le job.size w.extra) h in (
@@ -34,7 +34,7 @@ ways now capacity w job h =
           (or_cases (nat_le (now + job.estimate) w.time) (nat_le job.size w.extra) p.1),
     )
 
--- a backfilled job leaves the head its time
+-- a backfilled job leaves the head its shadow time
 pub time-kept : (s : State) (need now : ℕ) (job : EffectiveJob) → busy s.running ≤ s.procs → need ≤ s.procs → may_backfill now (free s) (shadow_at s need) job ≡ true → shadow_time (started s job now) need ≡ shadow_time s need
 time-kept s need now job fits within may =
     let r : Placed = record { job = job; start = now } in
@@ -56,7 +56,6 @@ time-kept s need now job fits within may =
     let up : t ≤ t' = old.least t' (omega (arith, at', back_by-le t' r, new.holds)) in
     omega arith
 
--- and takes from the extra processors where it runs past it
 pub shadow-kept : (s : State) (need now : ℕ) (job : EffectiveJob) → busy s.running ≤ s.procs → need ≤ s.procs → may_backfill now (free s) (shadow_at s need) job ≡ true → shadow_at (started s job now) need ≡ less (shadow_at s need) now job
 shadow-kept s need now job fits within may =
     let r : Placed = record { job = job; start = now } in
@@ -79,7 +78,7 @@ shadow-kept s need now job fits within may =
     let P : ℕ → ℕ → Shadow = λ a b. record { time = a; extra = b } in
     ap (λ x. P x (available s' x - need)) same ∙ ap (P t) extra
 
--- who was refused stays refused
+-- who may not be backfilled may not either where no more is free, no more is extra, and the shadow time is no later
 pub still-refused : (now capacity capacity' : ℕ) (w w' : Shadow) (job : EffectiveJob) → capacity' ≤ capacity → w'.time ≤ w.time → w'.extra ≤ w.extra → may_backfill now capacity w job ≡ false → may_backfill now capacity' w' job ≡ false
 still-refused now capacity capacity' w w' job a b c no' =
     false_from_ne_true (may_backfill now capacity' w' job) (λ yes'.
@@ -94,6 +93,7 @@ still-refused now capacity capacity' w w' job a b c no' =
     let again : may_backfill now capacity w job ≡ true = and_from (nat_le job.size capacity) (t || x) (le-leb job.size capacity (let z = v.0 in omega arith)) either in
     true≢false (sym again ∙ no'))
 
+-- a start leaves no more extra processors than there were
 pub less-extra : (w : Shadow) (now : ℕ) (job : EffectiveJob) → (less w now job).extra ≤ w.extra
 less-extra w now job = cond_both (nat_le (now + job.estimate) w.time) w.extra (w.extra - job.size) (λ x. x ≤ w.extra) (λ _. omega arith) (λ _. omega arith)
 
@@ -106,6 +106,7 @@ find-behind : {X : Type 0} (q : X → Bool) (xs ys : List X) → All (λ x. q x 
 find-behind q [] ys a = refl
 find-behind q (x ∷ xs) ys a = cond-false (q x) (Some x) (find q (xs ++ ys)) (All-head (λ x. q x ≡ false) x xs a) ∙ find-behind q xs ys (All-tail (λ x. q x ≡ false) x xs a)
 
+-- where none is found none passes
 pub none-passes : {X : Type 0} (q : X → Bool) (xs : List X) → find q xs ≡ None → All (λ x. q x ≡ false) xs
 none-passes q [] e = All-nil (λ x. q x ≡ false)
 none-passes q (x ∷ xs) e =
@@ -114,12 +115,11 @@ none-passes q (x ∷ xs) e =
     (λ (n : q x ≡ false). All-cons (λ x. q x ≡ false) x xs n (none-passes q xs (sym (cond-false (q x) (Some x) (find q xs) n) ∙ e)))
     (cases_Bool (q x))
 
--- sums over the queue are those over the row
 pub sum_by-in_order : (f : EffectiveJob → ℕ) (o : Order) (js : List EffectiveJob) → sum_by f (in_order o js) ≡ sum_by f js
 sum_by-in_order f Arrival js = refl
 sum_by-in_order f Shortest js = sum_by-by_estimate f js
 
--- what holds of the queue holds of the row
+-- what holds of all jobs holds of all in the order in which they are looked at
 pub All-in_order : (P : EffectiveJob → Type 0) (o : Order) (js : List EffectiveJob) → All P js → All P (in_order o js)
 All-in_order P Arrival js a = a
 All-in_order P Shortest js a = All-by_estimate P js a
@@ -128,7 +128,6 @@ pub without-in_order : (n : ℕ) (o : Order) (js : List EffectiveJob) → count_
 without-in_order n Arrival js once = refl
 without-in_order n Shortest js once = without-by_estimate n js once
 
--- a job whose number stands once leaves its own place
 without-unique : (job : EffectiveJob) (xs ys : List EffectiveJob) → count_by (λ (j : EffectiveJob). nat_eq j.number job.number) (xs ++ job ∷ ys) ≤ 1 → without job.number (xs ++ job ∷ ys) ≡ xs ++ ys
 without-unique job [] ys once = cond-true (nat_eq job.number job.number) ys (job ∷ without job.number ys) (eq-eqb job.number job.number refl)
 without-unique job (x ∷ xs) ys once =
@@ -143,31 +142,33 @@ without-unique job (x ∷ xs) ys once =
     cond-false (nat_eq x.number job.number) (xs ++ job ∷ ys) (x ∷ without job.number (xs ++ job ∷ ys)) h ∙ ap (λ l. x ∷ l) (without-unique job xs ys (omega (arith, once, all))))
     (cases_Bool (nat_eq x.number job.number))
 
--- the decision goes on after the next start
+-- the state after all starts of a second is the same once the next one has started
 pub state_after-started : (s : State) (now : ℕ) (job : EffectiveJob) → next s now ≡ Some job → state_after (started s job now) now ≡ state_after s now
 state_after-started s now job e =
     let n = length-without s.waiting job (next-facts s now job s.waiting e).0 in
     let k : length s.waiting - 1 ≡ length (without job.number s.waiting) = omega (arith, n) in
     sym (decided-start (length s.waiting) s job now (omega (arith, n)) e ∙ ap (λ m. decided m (started s job now) now) k)
 
+-- the starts of a second are that of the next job and those from the state that it leaves
 pub starts_at-started : (s : State) (now : ℕ) (job : EffectiveJob) → next s now ≡ Some job → starts_at s now ≡ record { number = job.number; at = now } ∷ starts_at (started s job now) now
 starts_at-started s now job e =
     let n = length-without s.waiting job (next-facts s now job s.waiting e).0 in
     let k : length s.waiting - 1 ≡ length (without job.number s.waiting) = omega (arith, n) in
     decisions-start (length s.waiting) s job now (omega (arith, n)) e ∙ ap (λ m. record { number = job.number; at = now } ∷ decisions m (started s job now) now) k
 
--- nothing more is decided
+-- where nobody is next a decision leaves the state as it was
 pub state_after-done : (s : State) (now : ℕ) → next s now ≡ None → state_after s now ≡ s
 state_after-done s now e = decided-stop (length s.waiting) s now e
 
+-- where nobody is next nobody starts
 pub starts_at-done : (s : State) (now : ℕ) → next s now ≡ None → starts_at s now ≡ []
 starts_at-done s now e = decisions-stop (length s.waiting) s now e
 
+-- where nobody waits nobody is next
 pub next-empty : (s : State) (now : ℕ) → length s.waiting < 1 → next s now ≡ None
 next-empty s now l = ap (λ js. next_of s now js) (nil_from_length s.waiting (omega arith))
 
--- ---- the pass
--- it goes over those who may not start
+-- a pass goes over those who may not start
 pub pass-over : (s : State) (now : ℕ) (w : Shadow) (left skip rest : List EffectiveJob) → IsPass s now w left → left ≡ skip ++ rest → All (λ j. may_backfill now (free s) w j ≡ false) skip → IsPass s now w rest
 pass-over s now w left skip rest p e refused = record {
   head = p.head;
@@ -185,19 +186,19 @@ pass-candidates s now w left p =
     let q = may_backfill now (free s) w in
     next-candidates s now p.head p.later p.queue p.waits ∙ ap (λ v. find (may_backfill now (free s) v) (candidates s)) (sym p.shadow) ∙ ap (find q) p.parts ∙ find-behind q p.passed left p.refused
 
--- who may start is next
+-- the first that is left of a pass is next where it may be backfilled
 pub pass-next : (s : State) (now : ℕ) (w : Shadow) (job : EffectiveJob) (rest : List EffectiveJob) → IsPass s now w (job ∷ rest) → may_backfill now (free s) w job ≡ true → next s now ≡ Some job
 pass-next s now w job rest p may = pass-candidates s now w (job ∷ rest) p ∙ cond-true (may_backfill now (free s) w job) (Some job) (find (may_backfill now (free s) w) rest) may
 
--- and nobody is where none of those that are left may
+-- nobody is next where none that is left of a pass may be backfilled
 pub pass-done : (s : State) (now : ℕ) (w : Shadow) (left : List EffectiveJob) → IsPass s now w left → All (λ j. may_backfill now (free s) w j ≡ false) left → next s now ≡ None
 pass-done s now w left p refused = pass-candidates s now w left p ∙ find-none (may_backfill now (free s) w) left refused
 
+-- the shadow of a pass is the state's
 pub pass-shadow : (s : State) (now : ℕ) (w : Shadow) (left : List EffectiveJob) → IsPass s now w left → shadow_of s ≡ Some w
 pass-shadow s now w left p =
     ap (shadow_for s) p.queue ∙ cond-false (nat_le p.head.size (free s)) None (Some (shadow_at s p.head.size)) (lt-leb p.head.size (free s) p.waits) ∙ ap Some (sym p.shadow)
 
--- a job that fits where the head does not is another job
 other-job : (s : State) (head job : EffectiveJob) (rest : List EffectiveJob) → s.waiting ≡ head ∷ rest → free s < head.size → job.size ≤ free s → waiting_job s job.number ≡ Some job → nat_eq head.number job.number ≡ false
 other-job s head job rest queue waits small found =
     false_from_ne_true (nat_eq head.number job.number) (λ same.
@@ -206,7 +207,6 @@ other-job s head job rest queue waits small found =
     let sizes = ap (λ (j : EffectiveJob). j.size) k in
     omega arith)
 
--- who starts leaves the row
 candidates-started : (s : State) (now : ℕ) (job : EffectiveJob) (passed rest : List EffectiveJob) → IsSound s → candidates s ≡ passed ++ job ∷ rest → candidates (started s job now) ≡ passed ++ rest
 candidates-started s now job passed rest h e =
     let p : EffectiveJob → ℕ = λ j. cond (nat_eq j.number job.number) 1 0 in
@@ -214,7 +214,7 @@ candidates-started s now job passed rest h e =
     sym (without-in_order job.number s.order s.waiting once) ∙ ap (without job.number) e
     ∙ without-unique job passed rest (omega (arith, once, sum_by-in_order p s.order s.waiting, ap (sum_by p) e))
 
--- it goes on behind one who starts
+-- a pass goes on behind the first that is left, once it has started, with what it leaves of the shadow
 pub pass-started : (s : State) (now : ℕ) (w : Shadow) (job : EffectiveJob) (rest : List EffectiveJob) → IsSound s → IsPass s now w (job ∷ rest) → may_backfill now (free s) w job ≡ true
     → IsPass (started s job now) now (less w now job) rest
 pass-started s now w job rest h p may =

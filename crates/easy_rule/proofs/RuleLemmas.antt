@@ -1,4 +1,4 @@
--- The least second at which enough is available.
+-- The least second at which enough is available, and that it is one of the expected ends, seen one after another.
 use Rattle.std.proofs.Common.{◌≡◌, ℕ, zero, suc, ◌+◌, ◌≤◌, ◌<◌, Bool, true, false, nat_le, List, [], ◌∷◌, length, take, get_or, All, sum_by, refl, sym, ◌∙◌, ap, arith, subst, inl, inr, ⊎_elim, ◌⊎◌}
 use Rattle.std.proofs.lemmas.List.Sums.{sum_by-cons}
 use Rattle.std.proofs.lemmas.List.Elements.{All-cons, All-head, All-tail, All-nil, All-more, All-weaker}
@@ -9,7 +9,6 @@ use Rattle.scenarios.specs.Placed.{expected_end}
 use Rattle.cluster_state.specs.State.{State, IsSound, free, busy, back_by, available}
 use Rattle.easy_rule.specs.Rule.{first_from, shadow_time, IsLeast}
 
--- the first number that passes does pass, and is the least
 pub passes-first_from : (p : ℕ → Bool) (n t : ℕ) → p (t + n) ≡ true → p (first_from p n t) ≡ true
 unfolding first_from
 passes-first_from p zero t h = subst (λ m. p m ≡ true) (let e : t + 0 ≡ t = omega arith in e) h
@@ -30,16 +29,18 @@ first_from-le p (suc n) t u l h =
     true_false : true ≡ false → ⊥
     true_false e = cc
 
+-- a running job has given back no more than its size
 pub back_by-le : (t : ℕ) (r : Placed) → back_by t r ≤ r.job.size
 back_by-le t r = cond_both (nat_le (expected_end r) t) r.job.size 0 (λ x. x ≤ r.job.size) (λ _. omega arith) (λ _. omega arith)
 
--- what comes back is at most what is held, and all of it in the end
+-- what running jobs have given back is at most what they hold
 pub back-le-busy : (t : ℕ) (rs : List Placed) → sum_by (back_by t) rs ≤ busy rs
 back-le-busy t [] = omega arith
 back-le-busy t (r ∷ rs) =
     let one = cond_both (nat_le (expected_end r) t) r.job.size 0 (λ x. x ≤ r.job.size) (λ _. omega arith) (λ _. omega arith) in
     omega (arith, one, sum_by-cons (back_by t) r rs, sum_by-cons (λ (x : Placed). x.job.size) r rs, back-le-busy t rs)
 
+-- running jobs that are all expected to end by a second have given back all that they hold
 pub back-each : (t : ℕ) (rs : List Placed) → All (λ r. expected_end r ≤ t) rs → sum_by (back_by t) rs ≡ busy rs
 back-each t [] a = refl
 back-each t (r ∷ rs) a =
@@ -56,7 +57,7 @@ back-all t (r ∷ rs) l =
     let others = back-all t rs (omega (arith, e)) in
     omega (arith, one, others, sum_by-cons (back_by t) r rs, sum_by-cons (λ (x : Placed). x.job.size) r rs)
 
--- the least second at which so much is available
+-- the shadow time is the least second at which so many processors are available, if the machine has them
 pub shadow_time-IsLeast : (s : State) (need : ℕ) → busy s.running ≤ s.procs → need ≤ s.procs → IsLeast (λ t. need ≤ available s t) (shadow_time s need)
 unfolding shadow_time
 shadow_time-IsLeast s need fits within =
@@ -68,7 +69,6 @@ shadow_time-IsLeast s need fits within =
       least = λ u h. first_from-le p bound 0 u (omega arith) (le-leb need (available s u) h);
     }
 
--- one ends at u, or none does
 split : (P : Placed → Type 0) (u : ℕ) (rs : List Placed) → All P rs → ((r : Placed) × (expected_end r ≡ u) × P r) ⊎ All (λ r. expected_end r ≡ u → ⊥) rs
 split P u [] a = inr (All-nil (λ r. expected_end r ≡ u → ⊥))
 split P u (r ∷ rs) a =
@@ -96,7 +96,6 @@ back-suc v (r ∷ rs) a =
     (cases_lt (expected_end r) (suc v)) in
     omega (arith, one, sum_by-cons (back_by (suc v)) r rs, sum_by-cons (back_by v) r rs, back-suc v rs (All-tail (λ r. expected_end r ≡ suc v → ⊥) r rs a))
 
--- what is at most each expected end at which enough is available, is at most each such second
 pub ends-suffice : (rs : List Placed) (now need best u : ℕ) → now < need → need ≤ now + sum_by (back_by u) rs
     → All (λ r. need ≤ now + sum_by (back_by (expected_end r)) rs → best ≤ expected_end r) rs → best ≤ u
 ends-suffice rs now need best zero short enough all =
@@ -113,7 +112,7 @@ ends-suffice rs now need best (suc v) short enough all =
     let below : best ≤ v = ends-suffice rs now need best v short (omega (arith, back-suc v rs none)) all in omega arith)
     (split (λ r. need ≤ now + sum_by (back_by (expected_end r)) rs → best ≤ expected_end r) (suc v) rs all)
 
--- the shadow time is a number that the code can write
+-- the shadow time of a sound state is less than 2^64, if the machine has so many processors
 pub shadow_time-small : (s : State) (need : ℕ) → IsSound s → need ≤ s.procs → shadow_time s need ≤ 18446744073709551615
 shadow_time-small s need h within =
     let ends : All (λ r. expected_end r ≤ 18446744073709551615) s.running =
@@ -121,7 +120,8 @@ shadow_time-small s need h within =
     let all = back-each 18446744073709551615 s.running ends in
     (shadow_time-IsLeast s need h.fits within).least 18446744073709551615 (omega (arith, all, h.fits))
 
--- one more running job is seen, the one that stands at place i
+-- a second is no later than each expected end, of the jobs seen, at which enough is available; one that is no later than it, nor than such
+-- an end of the next job, is so with this job seen too
 pub seen-more : (s : State) (need time time' i : ℕ) (r : Placed) (rs : List Placed) → i < length rs → time' ≤ time → r ≡ get_or rs i r
     → All (λ r. need ≤ available s (expected_end r) → time ≤ expected_end r) (take i rs)
     → (need ≤ available s (expected_end r) → time' ≤ expected_end r)
@@ -132,7 +132,7 @@ seen-more s need time time' i r rs l less is all here =
     (All-weaker (λ r. need ≤ available s (expected_end r) → time ≤ expected_end r) P (λ r h e. let k = h e in omega arith) (take i rs) all)
     (subst P is here)
 
--- once all are seen
+-- once all are seen, a second no earlier than the shadow time, nor later than any expected end at which enough is available, is this time
 pub seen-all : (s : State) (need time i : ℕ) → IsSound s → free s < need → need ≤ s.procs → length s.running ≤ i → shadow_time s need ≤ time
     → All (λ r. need ≤ available s (expected_end r) → time ≤ expected_end r) (take i s.running)
     → time ≡ shadow_time s need
@@ -142,5 +142,6 @@ seen-all s need time i h wants within past low all =
     let up = ends-suffice s.running (free s) need time (shadow_time s need) wants least.holds every in
     omega arith
 
+-- no more is available than the machine has
 pub available-le : (s : State) (t : ℕ) → IsSound s → available s t ≤ s.procs
 available-le s t h = omega (arith, back-le-busy t s.running, h.fits)

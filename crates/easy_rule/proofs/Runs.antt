@@ -16,7 +16,7 @@ unfolding run_from before starts_before
 run_from-before plan zero t = ap (starts_before plan) (let e : t ≡ 0 + t = omega arith in e)
 run_from-before plan (suc n) t = run_from-before plan n (suc t) ∙ ap (starts_before plan) (let e : n + suc t ≡ suc n + t = omega arith in e)
 
--- a whole simulation in one go
+-- a simulation is all its seconds run one after another, from an empty machine on
 pub sim-run_from : (plan : Plan) → sim plan ≡ run_from plan (bound plan + 1) 0 (empty plan.procs plan.order) []
 unfolding before starts_before
 sim-run_from plan = ap (starts_before plan) (let e : bound plan + 1 ≡ bound plan + 1 + 0 = omega arith in e) ∙ sym (run_from-before plan (bound plan + 1) 0)

@@ -1,4 +1,5 @@
--- The walk over the running jobs in the order of their expected ends.
+-- The walk over the running jobs in the order of their expected ends. Where enough has come back, and the others are expected to end later, its
+-- second is the shadow time, and it has read at most a block but one of the ends, beside those at that second.
 use Rattle.std.proofs.Common.{◌≡◌, ℕ, ◌+◌, ◌-◌, ◌^◌, ◌≤◌, ◌<◌, cond, nat_eq, nat_le, zero, suc, List, [], ◌∷◌, ◌++◌, length, take, length-append, All, sum_by, count_by, append_assoc, refl, sym, ◌∙◌, ap, arith, subst, inl, inr, ⊎_elim, ◌⊎◌}
 use Rattle.std.proofs.lemmas.List.{length_push}
 use Rattle.std.proofs.lemmas.List.Sums.{sum_by-append, sum_by-cons, sum_by_push}
@@ -15,7 +16,6 @@ use Rattle.easy_rule.specs.Rule.{shadow_time, shadow_at, ends_read, IsLeast}
 use Rattle.easy_rule.specs.Walk.{ends_at}
 use Rattle.easy_rule.proofs.RuleLemmas.{shadow_time-IsLeast, back-each, back-le-busy}
 
--- nothing of those that are expected to end later has come back
 back-none : (t : ℕ) (rs : List Placed) → All (λ r. t < expected_end r) rs → sum_by (back_by t) rs ≡ 0
 back-none t [] a = refl
 back-none t (r ∷ rs) a =
@@ -30,7 +30,6 @@ all-back : (P : Placed → Type 0) (xs ys : List Placed) → All P (xs ++ ys) �
 all-back P [] ys a = a
 all-back P (x ∷ xs) ys a = all-back P xs ys (All-tail P x (xs ++ ys) a)
 
--- nobody in front of one is expected to end later than it, and nobody behind it earlier
 around : (xs ys : List Placed) (r : Placed) → NoneEndsSooner (xs ++ r ∷ ys) → All (λ x. expected_end x ≤ expected_end r) xs × All (λ x. expected_end r ≤ expected_end x) ys
 around [] ys r h = (All-nil (λ x. expected_end x ≤ expected_end r), All-weaker (NotLater r) (λ x. expected_end r ≤ expected_end x) (λ x n. end-le r x n) ys h.0)
 around (x ∷ xs) ys r h =
@@ -38,17 +37,14 @@ around (x ∷ xs) ys r h =
     let before : expected_end x ≤ expected_end r = end-le x r (All-head (NotLater x) r ys (all-back (NotLater x) xs (r ∷ ys) h.0)) in
     (All-cons (λ y. expected_end y ≤ expected_end r) x xs before rest.0, rest.1)
 
--- as many run as hold a processor at least
 few : (rs : List Placed) → All (λ r. IsWithinLimits r.job) rs → length rs ≤ busy rs
 few [] a = omega arith
 few (r ∷ rs) a =
     let one = (All-head (λ (x : Placed). IsWithinLimits x.job) r rs a).takes_some in
     omega (arith, one, few rs (All-tail (λ (x : Placed). IsWithinLimits x.job) r rs a), sum_by-cons (λ (x : Placed). x.job.size) r rs)
 
--- What the walk knows, of which the others are left: who is behind it, and so what is free once these have ended. Where that
--- is enough they are expected to have ended by its second. The others are not expected to end before it, and before that
--- second too little is available. It has read at most one end for each behind it. Enough has come back with what is left of a block;
--- where it has, the walk has read at most a block but one, beside those that are expected to end at its second.
+-- what the walk knows, of which these are left: what is free once those behind it have ended, and where that is enough they have by its second;
+-- none left is expected to end before it, and before it too little is available; how many ends are read, and that the rest of a block gives enough
 pub record IsWalk (s : State) (need capacity time reads : ℕ) (rest : List Placed) : Type 0 where
   pub behind : List Placed
   pub order : by_end s.running ≡ behind ++ rest
@@ -60,7 +56,7 @@ pub record IsWalk (s : State) (need capacity time reads : ℕ) (rest : List Plac
   pub near : need ≤ capacity + busy (take (block_limit - reads) rest)
   pub early : need ≤ capacity → reads + 1 ≤ block_limit + count_by (λ r. nat_eq (expected_end r) time) behind
 
--- a walk that begins behind some first ones
+-- a walk may begin behind some first ones with which too little is free, where it is enough with a block of the others
 pub walk-begins : {s : State} {need capacity : ℕ} {rest : List Placed} → IsPast s need capacity rest → need ≤ capacity + busy (take block_limit rest) → IsWalk s need capacity 0 0 rest
 walk-begins p most =
     record {
@@ -75,7 +71,6 @@ walk-begins p most =
       early = λ enough. absurd (let few = p.short in omega (arith, enough, few));
     }
 
--- the first of those that are left, and one fewer of the others
 first-gives : (n : ℕ) (r : Placed) (after : List Placed) → busy (take n (r ∷ after)) ≤ r.job.size + busy (take (n - 1) after)
 first-gives zero r after = omega arith
 first-gives (suc n) r after =
@@ -86,21 +81,18 @@ none-holds : (rs : List Placed) → busy (take 0 rs) ≡ 0
 none-holds [] = refl
 none-holds (r ∷ rs) = refl
 
--- one that ends at this second joins those that do
 one-ends : (t : ℕ) (rs : List Placed) (r : Placed) → expected_end r ≡ t → count_by (λ x. nat_eq (expected_end x) t) (rs ++ r ∷ []) ≡ count_by (λ x. nat_eq (expected_end x) t) rs + 1
 one-ends t rs r e =
     let f : Placed → ℕ = λ x. cond (nat_eq (expected_end x) t) 1 0 in
     omega (arith, sum_by_push f rs r, cond-true {A = ℕ} (nat_eq (expected_end r) t) 1 0 (eq-eqb (expected_end r) t e))
 
 module _ {s : State} {need capacity time reads : ℕ} {rest : List Placed} (w : IsWalk s need capacity time reads rest) where
-  -- what is available, by the place of the walk
   available-at : (t : ℕ) → available s t ≡ free s + sum_by (back_by t) w.behind + sum_by (back_by t) rest
   available-at t = omega (arith, sum_by-by_end (back_by t) s.running, ap (sum_by (back_by t)) w.order, sum_by-append (back_by t) w.behind rest)
 
   held : busy s.running ≡ busy w.behind + busy rest
   held = sym (sum_by-by_end (λ (r : Placed). r.job.size) s.running) ∙ ap busy w.order ∙ sum_by-append (λ (r : Placed). r.job.size) w.behind rest
 
-  -- ---- at one that is left
   module _ {r : Placed} {after : List Placed} (next : rest ≡ r ∷ after) where
     order_here : by_end s.running ≡ w.behind ++ r ∷ after
     order_here = w.order ∙ ap (λ (l : List Placed). w.behind ++ l) next
@@ -111,7 +103,6 @@ module _ {s : State} {need capacity time reads : ℕ} {rest : List Placed} (w : 
     held_here : busy s.running ≡ busy w.behind + (r.job.size + busy after)
     held_here = held ∙ ap (λ (l : List Placed). busy w.behind + busy l) next ∙ ap (λ (n : ℕ). busy w.behind + n) (sum_by-cons (λ (x : Placed). x.job.size) r after)
 
-    -- where too little has come back, nobody who is left gives anything before this one ends
     too_little : capacity < need → (u : ℕ) → u < expected_end r → available s u < need
     too_little m u lt =
         let from : All (λ x. u < expected_end x) rest = subst (All (λ (x : Placed). u < expected_end x)) (sym next)
@@ -122,7 +113,6 @@ module _ {s : State} {need capacity time reads : ℕ} {rest : List Placed} (w : 
         let gives = w.gives in
         omega (arith, none, some, all, gives, m)
 
-    -- what is left of a block gives enough, and so no whole block is behind where too little has come back
     near_here : need ≤ capacity + r.job.size + busy (take (block_limit - (reads + 1)) after)
     near_here =
         let near = w.near in
@@ -153,6 +143,7 @@ module _ {s : State} {need capacity time reads : ℕ} {rest : List Placed} (w : 
         omega (arith, so_far, joins, ap (λ (t : ℕ). count_by (λ x. nat_eq (expected_end x) t) w.behind) same))
         (cases_lt capacity need)
 
+    -- a walk goes on past the next one where too little has come back, or where this one is expected to end by the walk's second
     pub walk-more : (capacity < need) ⊎ (expected_end r ≤ time) → IsWalk s need (capacity + r.job.size) (expected_end r) (reads + 1) after
     walk-more why =
         record {
@@ -167,21 +158,21 @@ module _ {s : State} {need capacity time reads : ℕ} {rest : List Placed} (w : 
           early = λ _. early_here why;
         }
 
-    -- where the one there is expected to end later, so are all that are left
+    -- where the next one is expected to end after the walk's second, so are all that are left
     pub walk-stops : time < expected_end r → All (λ x. time < expected_end x) rest
     walk-stops later =
         subst (All (λ (x : Placed). time < expected_end x)) (sym next)
         (All-cons (λ x. time < expected_end x) r after later (All-weaker (λ x. expected_end r ≤ expected_end x) (λ x. time < expected_end x) (λ x h. omega (arith, later, h)) after near.1))
 
-    -- the capacity stays within the machine
+    -- what is free once the next one has ended too is no more than the machine has
     pub walk-capacity : IsSound s → capacity + r.job.size ≤ s.procs
     walk-capacity h = let gives = w.gives in let fits = h.fits in omega (arith, gives, fits, held_here)
 
+    -- the start of the next one is within the limit on seconds
     pub early-end : IsSound s → r.start < 2 ^ 49
     early-end h = All-head (λ (x : Placed). x.start < 2 ^ 49) r after (all-back (λ (x : Placed). x.start < 2 ^ 49) w.behind (r ∷ after) (subst (All (λ (x : Placed). x.start < 2 ^ 49)) order_here (All-by_end (λ (x : Placed). x.start < 2 ^ 49) s.running h.started)))
 
-  -- ---- at the end of the row
-  -- all has come back
+  -- where none is left enough has come back, if the machine has so much
   pub walk-ends : IsSound s → need ≤ s.procs → rest ≡ [] → (need ≤ capacity) × All (λ x. time < expected_end x) rest
   walk-ends h within none =
       let gives = w.gives in
@@ -189,16 +180,14 @@ module _ {s : State} {need capacity time reads : ℕ} {rest : List Placed} (w : 
       let left : busy rest ≡ 0 = ap busy none in
       (omega (arith, gives, fits, held, left, within), subst (All (λ (x : Placed). time < expected_end x)) (sym none) (All-nil (λ x. time < expected_end x)))
 
-  -- as many ends are read as jobs run, at most
+  -- a walk reads no more ends than the machine has processors
   pub walk-few : IsSound s → reads ≤ s.procs
   walk-few h =
       let counted = w.counted in
       let fits = h.fits in
       omega (arith, counted, fits, few s.running h.running_limits, length-by_end s.running, ap (λ (l : List Placed). length l) w.order, length-append w.behind rest)
 
-  -- ---- where enough has come back, and the others are expected to end later
   module _ (enough : need ≤ capacity) (late : All (λ r. time < expected_end r) rest) where
-    -- that is the shadow
     done : IsSound s → need ≤ s.procs → (available s time ≡ capacity) × (time ≡ shadow_time s need)
     done h within =
         let a = available-at time in
@@ -215,6 +204,7 @@ module _ {s : State} {need capacity time reads : ℕ} {rest : List Placed} (w : 
               (cases_lt (shadow_time s need) time),
         )
 
+    -- where enough has come back, and the others end later, the second of the walk and what is over then are the shadow
     pub walk-shadow : (extra : ℕ) → IsSound s → need ≤ s.procs → extra ≡ capacity - need → let v : Shadow = record { time = time; extra = extra } in v ≡ shadow_at s need
     walk-shadow extra h within e =
         let f = done h within in
@@ -222,10 +212,10 @@ module _ {s : State} {need capacity time reads : ℕ} {rest : List Placed} (w : 
         let over : extra ≡ available s time - need = omega (arith, e, f.0) in
         ap (P time) over ∙ ap (λ x. P x (available s x - need)) f.1
 
+    -- where enough has come back, and the others end later, the second of the walk is the least at which enough is available
     pub walk-least : IsSound s → need ≤ s.procs → IsLeast (λ t. need ≤ available s t) time
     walk-least h within = subst (IsLeast (λ t. need ≤ available s t)) (sym (done h within).1) (shadow_time-IsLeast s need h.fits within)
 
--- ---- how many ends are read
 count-all : (t : ℕ) (rs : List Placed) → All (λ r. expected_end r ≤ t) rs → count_by (λ r. nat_le (expected_end r) t) rs ≡ length rs
 count-all t [] a = refl
 count-all t (r ∷ rs) a =
@@ -235,7 +225,6 @@ count-all t (r ∷ rs) a =
     omega (arith, one, k, l)
 
 module _ {s : State} {need capacity time reads : ℕ} {rest : List Placed} (w : IsWalk s need capacity time reads rest) (enough : need ≤ capacity) where
-  -- those behind the walk end by its second
   walk-counts : length w.behind ≤ count_by (λ r. nat_le (expected_end r) time) s.running
   walk-counts =
       let f : Placed → ℕ = λ r. cond (nat_le (expected_end r) time) 1 0 in
@@ -244,15 +233,15 @@ module _ {s : State} {need capacity time reads : ℕ} {rest : List Placed} (w : 
   all_run : length s.running ≡ length w.behind + length rest
   all_run = sym (length-by_end s.running) ∙ ap (λ (l : List Placed). length l) w.order ∙ length-append w.behind rest
 
-  -- the walk that stops at one has read its end too
+  -- where enough has come back, the ends read and that of the next one are no more than a walk up to this second reads at most
   pub walk-reads : {r : Placed} {after : List Placed} → rest ≡ r ∷ after → reads + 1 ≤ ends_read s time
   walk-reads next = let counted = w.counted in let some : 1 ≤ length rest = subst (λ (l : List Placed). 1 ≤ length l) (sym next) (omega arith) in omega (arith, walk-counts, all_run, counted, some)
 
-  -- the walk to the end of the row
+  -- where enough has come back, the ends read are no more than a walk up to this second reads at most
   pub walk-reads-all : reads ≤ ends_read s time
   walk-reads-all = let counted = w.counted in omega (arith, walk-counts, all_run, counted)
 
-  -- the walk reads at most a block but one, those that end at its second, and one past them
+  -- where enough has come back, the ends read and one more are no more than those of a block and those at this second
   pub walk-early : reads + 1 ≤ block_limit + ends_at s time
   walk-early =
       let f : Placed → ℕ = λ r. cond (nat_eq (expected_end r) time) 1 0 in

@@ -1,4 +1,5 @@
--- The responses to a session at a desk are responses along the history of the desk, once that has all its calls.
+-- The responses to a session at a desk are responses along the history of the desk, once that has all its calls: where none is missing in the
+-- end, none was missing before, and none came between.
 use Rattle.std.proofs.Common.{◌≡◌, ℕ, ◌+◌, ◌≤◌, true, List, length, Result, Err, refl, sym, ap, subst, ◌∙◌, arith, inl, inr}
 use mathlib.Core.List.{IsPrefix}
 use Rattle.scenarios.specs.ScenarioList.{id_of}
@@ -39,16 +40,12 @@ IsFitting who s = (s.number ≡ who) × (s.front.kept ≡ true → length s.list
 abbrev pub IsWhole : ℕ → SessionView → Type 0
 IsWhole who s = (s.front.kept ≡ true) × (length s.list ≡ length (own who s.front.events))
 
--- ---- calls
-
--- what a listed call says, with the session's number
 called : (opening : Machine) (who : ℕ) (old new : SessionView) (call : BookCall) (answer : Answer) → IsListed opening old call answer new → old.number ≡ who → new.front.kept ≡ true
     → (old.front.kept ≡ true) × ((before : List Happened) × IsPrefix old.front.events before × CalledAt opening before (caller.Session who) call answer new.front.events)
 called opening who old new call answer l is kept =
     let h = l.history kept in
     (h.0, (h.1.0, h.1.1, subst (λ (n : ℕ). CalledAt opening h.1.0 (caller.Session n) call answer new.front.events) is h.1.2))
 
--- where no call is missing in the end, none was before, and none came between
 unmissed : (opening : Machine) (who : ℕ) (old new : SessionView) (call : BookCall) (answer : Answer) (before : List Happened)
     → length new.list ≡ length old.list + noted answer → length old.list ≤ length (own who old.front.events)
     → IsPrefix old.front.events before → CalledAt opening before (caller.Session who) call answer new.front.events
@@ -82,9 +79,6 @@ pub does_leads : (opening : Machine) (who : ℕ) (old new : SessionView) (call :
     → Leads (IsFitting who) (IsWhole who) old new (Makes opening who (place_of old) call answer (place_of new))
 does_leads opening who old new call answer l fits = (call_fits opening who old new call answer l fits, λ whole. call_whole opening who old new call answer l fits whole)
 
--- ---- views
-
--- what a book shows where the machine stands is true there
 true_there : (opening : Machine) (before after : List Happened) (who id seen : ℕ) (outcome : Result PublishedView (Refusal ViewFault))
     → CalledAt opening before (caller.Session who) (View id seen) (view_answer outcome) after → IsShownAt (state_after opening before) id seen outcome → IsTrueOf (state_after opening before) id outcome
 true_there opening before after who id seen outcome at (inl short) = subst (λ (t : Result PublishedView (Refusal ViewFault)). IsTrueOf (state_after opening before) id t) (sym short) tt
@@ -113,9 +107,6 @@ views_leads opening who old new id outcome v fits =
           ),
     )
 
--- ---- readings
-
--- the session stands as it did, but for what it knows of the history
 stays_fitting : (who : ℕ) (old new : SessionView) → new ≡ record old { front = new.front } → (new.front.kept ≡ true → (old.front.kept ≡ true) × IsPrefix old.front.events new.front.events) → IsFitting who old → IsFitting who new
 stays_fitting who old new same on fits = (
   ap (λ (s : SessionView). s.number) same ∙ fits.0,
@@ -155,13 +146,13 @@ settles_leads opening who old new outcome r fits = (
       (so.0, record { goes = so.1; settled = h.2; seen = ap (λ (s : SessionView). s.seen) r.1 }),
 )
 
--- how a wait ended, by the state
+-- a wait of a session that ended in the history as the returned state says is one by the rules of the desk
 pub outcome_by : (opening : Machine) (mine old new : SessionView) (ended : Settled) (outcome : SettleState) → mine ≡ old → ended ≡ ended_by outcome
     → Settles opening mine.front mine.seen ended new.front → new ≡ record mine { front = new.front } → (desk_rules opening).settles old outcome new
 outcome_by opening mine old new ended outcome is so s same = subst (λ (v : SessionView). (desk_rules opening).settles v outcome new) is (subst (λ (e : Settled). Settles opening mine.front mine.seen e new.front) so s, same)
 
--- ---- all of them
-
+-- each rule of the desk leads to that along the history, from where a session stands: it stays fitting, and where it is whole in the end,
+-- it was whole before
 pub desk_lifts : (opening : Machine) (who : ℕ) → Lifts (desk_rules opening) (rules_along opening who) place_of (IsFitting who) (IsWhole who)
 desk_lifts opening who = record {
   does = does_leads opening who;

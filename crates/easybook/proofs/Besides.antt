@@ -1,4 +1,5 @@
--- What the program does with scripts that are named, by what is written of them side by side.
+-- What the program does with scripts that are named, by what is written of them side by side: scripts and a log that are within their limits
+-- are read whole.
 use Rattle.std.proofs.Common.{◌≡◌, ℕ, ◌+◌, ◌++◌, ◌≤◌, ◌<◌, Bor, Global, get_or, arith, true, ◌&&◌, nat_le, List, [], ◌∷◌, length, map, take, Option, Some, None, IfSome, Result, Ok, Err, inl, inr, refl, sym, ap, subst, ◌∙◌}
 use Rattle.std.proofs.lemmas.Bool.{leb-true}
 use Rattle.std.proofs.lemmas.List.{get_or-map, length-map, take_more}
@@ -14,7 +15,6 @@ use Rattle.easybook.specs.declared.fault.ProgramFault.TheVariants as faults
 use Rattle.swf_text.proofs.Lemmas.{and_first, and_second}
 use Rattle.easybook.proofs.Inputs.{all_of_front, known_all}
 
--- scripts that are within their limit are read whole
 pub whole_scripts : (sources : Sources) (names : List Text) (fronts : List (List ℕ)) → AreWithin fronts → AreFronts sources names fronts → AreOf sources names fronts
 whole_scripts sources [] fronts within none = none
 whole_scripts sources (name ∷ names) fronts within h =
@@ -23,7 +23,6 @@ whole_scripts sources (name ∷ names) fronts within h =
     let others : are_within h.1 ≡ true = and_second (nat_le (length h.0) script_limit) (are_within h.1) both in
     (h.0, h.1, h.2, known_all (sources name) h.0 script_limit h.3 few, whole_scripts sources names h.1 others h.4)
 
--- so is a log
 whole_log : (known : Option (List ℕ)) (front : List ℕ) → length front ≤ log_limit → IfSome known (IsFront front) → IfSome known (λ all. front ≡ all)
 whole_log None front few is = tt
 whole_log (Some all) front few is = elim is [
@@ -31,6 +30,7 @@ whole_log (Some all) front few is = elim is [
   | inr read ↦ all_of_front all front log_limit read few
 ]
 
+-- a result, with what was written, for what is read of a log and of scripts is one for the log and the scripts, as far as they are known
 pub beside_ends : {X : Type 0} (sources : Sources) (names : List Text) (procs : Option ℕ) (known old new : Option (List ℕ)) (log : List ℕ) (fronts : List (List ℕ)) (result : Result X ProgramFault) → IfSome known (IsFront log) → AreFronts sources names fronts → RunsShared Global log procs fronts old new result → EndsOnScripts sources names procs known old new result
 beside_ends sources names procs known old new log fronts (Ok x) is are h = (log, whole_log known log h.1.1.is_opened.within is, (fronts, whole_scripts sources names fronts h.0 are, h))
 beside_ends sources names procs known old new log fronts (Err faults.Write) is are h = (log, whole_log known log h.1.1.is_opened.within is, (fronts, whole_scripts sources names fronts h.0 are, h))
@@ -42,12 +42,11 @@ beside_ends sources names procs known old new log fronts (Err faults.NoMachine) 
 beside_ends sources names procs known old new log fronts (Err faults.BadMachine) is are h = (log, whole_log known log h.1.within is, (fronts, whole_scripts sources names fronts h.0 are, h))
 beside_ends sources names procs known old new log fronts (Err (faults.Close f)) is are h = h
 
--- what is read of one more
 fronts_more : (sources : Sources) (names : List Text) (name : Text) (fronts : List (List ℕ)) (front : List ℕ) → AreFronts sources names fronts → IfSome (sources name) (λ all. front ≡ take (script_limit + 1) all) → AreFronts sources (names ++ name ∷ []) (fronts ++ front ∷ [])
 fronts_more sources [] name fronts front none is = (front, [], ap (λ (fs : List (List ℕ)). fs ++ front ∷ []) none, is, refl)
 fronts_more sources (n ∷ ns) name fronts front h is = (h.0, h.1 ++ front ∷ [], ap (λ (fs : List (List ℕ)). fs ++ front ∷ []) h.2, h.3, fronts_more sources ns name h.1 front h.4 is)
 
--- what is read of the names up to this place, and of the one that stands there
+-- what is read of the names up to a place, and then of the name there, is what is read of the names up to the next place
 pub fronts_next : (sources : Sources) (names : List (Bor Text)) (place : ℕ) (fronts : List (List ℕ)) (front : List ℕ) (d : Bor Text) → place < length names → AreFronts sources (take place (map (λ n. n.now) names)) fronts → IfSome (sources (get_or names place d).now) (λ all. front ≡ take (script_limit + 1) all) → AreFronts sources (take (place + 1) (map (λ n. n.now) names)) (fronts ++ front ∷ [])
 fronts_next sources names place fronts front d lt so_far is =
     let texts : List Text = map (λ n. n.now) names in
@@ -56,11 +55,12 @@ fronts_next sources names place fronts front d lt so_far is =
     let known : IfSome (sources (get_or texts place [])) (λ all. front ≡ take (script_limit + 1) all) = subst (λ (t : Text). IfSome (sources t) (λ all. front ≡ take (script_limit + 1) all)) (sym there) is in
     subst (λ (ns : List Text). AreFronts sources ns (fronts ++ front ∷ [])) (sym (take_more texts place [] within)) (fronts_more sources (take place texts) (get_or texts place []) fronts front so_far known)
 
--- a log that is read up to one byte past its limit, and one that is read whole
+-- what was had up to one byte past a log's limit, a front and the rest, is what is read of a log
 pub begun-file : (known : Option (List ℕ)) (p : Progress) (rest : List ℕ) → IsBegunUpTo (log_limit + 1) known p rest → IsBegunLog known p rest
 begun-file None p rest b = record { front = b.front; is_front = b.is_front; whole = tt }
 begun-file (Some all) p rest b = record { front = b.front; is_front = b.is_front; whole = inr b.whole }
 
+-- all that was had, a front and the rest, is what is read of a log
 pub begun-whole : (known : Option (List ℕ)) (p : Progress) (rest : List ℕ) → IsBegun known p rest → IsBegunLog known p rest
 begun-whole None p rest b = record { front = b.front; is_front = b.is_front; whole = tt }
 begun-whole (Some all) p rest b = record { front = b.front; is_front = b.is_front; whole = inl (sym b.whole) }

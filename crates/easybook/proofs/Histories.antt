@@ -1,4 +1,4 @@
--- The responses to the sessions side by side stand in the one history of their desk.
+-- The responses to the sessions side by side stand in the one history of their desk: those to one session, to all of them, and to one more.
 use Rattle.std.proofs.Common.{◌≡◌, ◌⊎◌, ℕ, zero, suc, ◌+◌, ◌≤◌, ◌<◌, true, List, [], ◌∷◌, ◌++◌, length, Some, refl, sym, ap, subst, ◌∙◌, arith, inl, inr, length-append}
 use Rattle.std.specs.Prelude.{slice_get}
 use Rattle.std.specs.List.{All}
@@ -21,9 +21,7 @@ use Rattle.easybook.specs.DeskRules.{AreAtDesk, IsAnsweredAtDesk, IsWorkedAtDesk
 use Rattle.easybook.proofs.Alongs.{IsFitting, IsWhole, desk_lifts, place_of}
 use Rattle.easybook.proofs.Own.{goes_by_others, own, own_grows}
 
--- ---- one session
-
--- a new session that worked the script of its number to its end produced what was written
+-- where a new session worked the script of its number to the end, all that was written is what it produced for the script
 pub worked_new : (A : Type 0) (opening : Machine) (comments scripts shown : List (List ℕ)) (first last session : SessionView) (script before text : List ℕ)
     → IsNewSession first → slice_get scripts first.number ≡ Some script → shown ≡ comments → before ≡ [] → last ≡ session → IsWorkedAtDesk A opening shown first script last before text
     → IsAnsweredAtDesk A opening comments scripts (record { session = session; text = text })
@@ -39,7 +37,6 @@ worked_new A opening comments scripts shown first last session script before tex
           (subst (λ (out : List ℕ). LinesBy (desk_rules opening) A shown first (looked_at A (lines script)) 1 out last) (sym all) w.1));
     }
 
--- the script of the session's number, where the history has its calls
 along_its_number : (A : Type 0) (comments scripts : List (List ℕ)) (opening : Machine) (events : List Happened) (s : SessionView) (text script : List ℕ) (a : IsAnsweredAtDesk A opening comments scripts (record { session = s; text = text }))
     → (s.front.kept ≡ true) × IsPrefix s.front.events events → slice_get scripts a.first.number ≡ Some script → s.list ≡ own a.first.number events
     → IsAnsweredAlong A comments opening events a.first.number script text
@@ -61,7 +58,6 @@ along_its_number A comments scripts opening events s text script a seen is mine 
       ends = goes_by_others who s.front.events events seen.1 (omega (arith, few, grown, all));
     }
 
--- a session keeps its number
 keeps_number : (A : Type 0) (comments scripts : List (List ℕ)) (opening : Machine) (s : SessionView) (text : List ℕ) (a : IsAnsweredAtDesk A opening comments scripts (record { session = s; text = text })) → s.number ≡ a.first.number
 keeps_number A comments scripts opening s text a =
     let who : ℕ = a.first.number in
@@ -79,9 +75,6 @@ along_one A comments scripts opening events k s text script is_k a seen is mine 
     let list : s.list ≡ own a.first.number events = mine ∙ ap (λ (n : ℕ). own n events) number in
     subst (λ (n : ℕ). IsAnsweredAlong A comments opening events n script text) same (along_its_number A comments scripts opening events s text script a seen at list)
 
--- ---- all of them
-
--- what holds of each holds of the one at a place
 at_place : {X : Type 0} (P : X → Type 0) (xs : List X) (k : ℕ) (x : X) → All P xs → slice_get xs k ≡ Some x → P x
 at_place P xs k x all is = subst P (get_or_from_slice_get xs k x x is) (all k x (slice_get_within xs k x is))
 
@@ -91,6 +84,8 @@ has_place [] (z ∷ ys) k y same is = absurd (omega (arith, same))
 has_place (x ∷ xs) (z ∷ ys) zero y same is = (x, refl)
 has_place (x ∷ xs) (z ∷ ys) (suc k) y same is = has_place xs ys k y (omega (arith, same)) is
 
+-- texts that sessions at a desk produced answer their scripts along the one history in which all sessions stand, where there are as many
+-- texts as scripts and the callers' lists are its notes
 pub all_along : (A : Type 0) (comments scripts : List (List ℕ)) (opening : Machine) (sessions : List SessionView) (texts : List (List ℕ)) (workers : List WorkerView) (notes : List Noted)
     → AreAtDesk A opening comments scripts sessions texts → StandInOne opening sessions notes → IsAnswered sessions workers notes → length texts ≡ length scripts
     → AreAnsweredAlong A comments opening scripts texts
@@ -108,17 +103,16 @@ all_along A comments scripts opening sessions texts workers notes desk one outco
       along_one A comments scripts opening one.0 k s text script h.0 h.1 seen is_script there;
 }
 
--- the same of what is equal
+-- texts that answer scripts along one history answer equal scripts, with equal comments, from an equal state on
 pub along_as : (A : Type 0) (comments comments' scripts scripts' : List (List ℕ)) (opening opening' : Machine) (texts : List (List ℕ)) → comments ≡ comments' → opening ≡ opening' → scripts ≡ scripts'
     → AreAnsweredAlong A comments opening scripts texts → AreAnsweredAlong A comments' opening' scripts' texts
 along_as A comments comments' scripts scripts' opening opening' texts cs os ss h =
     subst (λ (c : List (List ℕ)). AreAnsweredAlong A c opening' scripts' texts) cs (subst (λ (o : Machine). AreAnsweredAlong A comments o scripts' texts) os (subst (λ (s : List (List ℕ)). AreAnsweredAlong A comments opening s texts) ss h))
 
--- ---- one after another
-
 no_parts : (A : Type 0) (opening : Machine) (comments scripts : List (List ℕ)) → AreAtDesk A opening comments scripts [] []
 no_parts A opening comments scripts = record { as_many = refl; each = λ k s text is at. absurd (cc is) }
 
+-- no sessions, with no texts, are sessions at a desk with the texts that they produced
 pub no_parts_of : (A : Type 0) (opening : Machine) (comments scripts : List (List ℕ)) (sessions : List SessionView) (texts : List (List ℕ)) → sessions ≡ [] → texts ≡ [] → AreAtDesk A opening comments scripts sessions texts
 no_parts_of A opening comments scripts sessions texts none empty =
     subst (λ (ss : List SessionView). AreAtDesk A opening comments scripts ss texts) (sym none) (subst (λ (ts : List (List ℕ)). AreAtDesk A opening comments scripts [] ts) (sym empty) (no_parts A opening comments scripts))
@@ -132,7 +126,6 @@ got_push (z ∷ xs) y (suc k) x is = elim (got_push xs y k x is) [
   | inr h ↦ inr (omega (arith, h.0), h.1)
 ]
 
--- where each stands that is found behind one more
 either_place : (A : Type 0) (opening : Machine) (comments scripts : List (List ℕ)) (sessions : List SessionView) (texts : List (List ℕ)) (s : SessionView) (text : List ℕ)
     → AreAtDesk A opening comments scripts sessions texts → s.number ≡ length texts → IsAnsweredAtDesk A opening comments scripts (record { session = s; text = text })
     → (k : ℕ) (x : SessionView) (y : List ℕ) → (slice_get sessions k ≡ Some x) ⊎ ((k ≡ length sessions) × (s ≡ x)) → (slice_get texts k ≡ Some y) ⊎ ((k ≡ length texts) × (text ≡ y))
@@ -156,6 +149,7 @@ one_more A opening comments scripts sessions texts s text desk number a = record
   each = λ k x y is at. either_place A opening comments scripts sessions texts s text desk number a k x y (got_push sessions s k x is) (got_push texts text k y at);
 }
 
+-- sessions at a desk with the texts that they produced, and one more of the next number with its text, are sessions with their texts
 pub one_more_of : (A : Type 0) (opening : Machine) (comments scripts : List (List ℕ)) (sessions : List SessionView) (texts : List (List ℕ)) (s : SessionView) (text : List ℕ) (more : List SessionView) (longer : List (List ℕ))
     → AreAtDesk A opening comments scripts sessions texts → s.number ≡ length texts → IsAnsweredAtDesk A opening comments scripts (record { session = s; text = text })
     → more ≡ sessions ++ s ∷ [] → longer ≡ texts ++ text ∷ [] → AreAtDesk A opening comments scripts more longer

@@ -1,4 +1,4 @@
--- What a conversation leaves written, and what the program does with it.
+-- What a conversation leaves written, and what the program does with it: of a log past its limit only the length is reported.
 use Rattle.std.proofs.Common.{◌≡◌, ℕ, ◌+◌, ◌<◌, false, eqb, List, [], length, take, Option, Some, None, IfSome, Result, Ok, Err, inl, inr, sym, ap, subst, ◌∙◌, arith}
 use Rattle.std.proofs.lemmas.Bool.{cases_lt, ne_eqb}
 use Rattle.std.specs.Io.Buffered.{reader_buffer, reader_capacity, reader_inner, reader_remaining}
@@ -20,13 +20,13 @@ use Rattle.easybook.proofs.Inputs.{all_of_front, more_of_front}
 use Rattle.easybook.proofs.Programs.{of_all}
 use Rattle.easybook.proofs.Sessions.{keeps}
 
--- a buffer that holds nothing has the bytes of the reader behind it
+-- a buffer of 8192 bytes that holds none has left what the reader behind it has left
 pub fresh : {T A : Type 0} (remaining : T → Option (List ℕ)) (r : BufReader T A) (inner : T) → reader_inner r ≡ inner → reader_buffer r ≡ [] → reader_capacity r ≡ 8192 → reader_remaining remaining r ≡ remaining inner
 fresh remaining r inner is empty capacity =
     let test : eqb (reader_capacity r) 0 ≡ false = ne_eqb (reader_capacity r) 0 (λ none. omega (arith, none, capacity)) in
     rw (test, empty) (prepend_known-nil (remaining (reader_inner r)) ∙ ap remaining is)
 
--- a conversation that was held on the book of a log
+-- a conversation from the book of a log on, with the log's comments, is one that was held on the log
 pub held : {X : Type 0} (A : Type 0) (log : List ℕ) (procs : Option ℕ) (spacing : ℕ) (comments shown : List (List ℕ)) (book : BookView) (known heard left old new : Option (List ℕ)) (result : Result X LiveFault)
     → IsBookOf log procs spacing comments book → shown ≡ comments → heard ≡ known → Talks A shown (record { machine = machine_of book; seen = 0 }) heard left old new result → IsHeld A log procs known old new result
 held A log procs spacing comments shown book known heard left old new result b same is t =
@@ -41,7 +41,7 @@ held A log procs spacing comments shown book known heard left old new result b s
       talks = subst (λ (m : Machine). Talks A comments (record { machine = m; seen = 0 }) known left old new result) b.begins of_known;
     }
 
--- and that ended before its input did
+-- where a conversation that was held ended before its input did, the program's fault for that is a result for the conversation
 pub ended_so : {X : Type 0} (A : Type 0) (log : List ℕ) (procs : Option ℕ) (known old new : Option (List ℕ)) (fault : LiveFault) (outcome : Result X ProgramFault) → outcome ≡ Err (fault_of_talk fault) → IsHeld {X = X} A log procs known old new (Err fault) → RunsLive A log procs known old new outcome
 ended_so {X} A log procs known old new fault outcome is h = subst (λ (r : Result X ProgramFault). RunsLive A log procs known old new r) (sym is) (go fault h) where
   go : (f : LiveFault) → IsHeld {X = X} A log procs known old new (Err f) → RunsLive {X = X} A log procs known old new (Err (fault_of_talk f))
@@ -49,13 +49,12 @@ ended_so {X} A log procs known old new fault outcome is h = subst (λ (r : Resul
   go live.Write h = h
   go live.Memory h = (tt, h.talks.1)
 
--- no conversation began for lack of memory
+-- out of memory, with nothing written, is a result for any conversation on a log
 pub no_capacity : {X : Type 0} (A : Type 0) (log : List ℕ) (procs : Option ℕ) (known old : Option (List ℕ)) (outcome : Result X ProgramFault) → outcome ≡ Err faults.Memory → RunsLive A log procs known old old outcome
 no_capacity {X} A log procs known old outcome is =
     let short : RunsLive {X = X} A log procs known old old (Err faults.Memory) = (tt, keeps old) in
     subst (λ (r : Result X ProgramFault). RunsLive A log procs known old old r) (sym is) short
 
--- of a log beyond its limit only the length is reported
 past : {X : Type 0} (A : Type 0) (front all : List ℕ) (procs : Option ℕ) (known old new : Option (List ℕ)) (result : Result X ProgramFault) → log_limit < length front → log_limit < length all → RunsLive A front procs known old new result → RunsLive A all procs known old new result
 past A front all procs known old new (Ok x) many more h = let within = h.is_opened.within in absurd (omega arith)
 past A front all procs known old new (Err faults.Write) many more h = let within = h.is_opened.within in absurd (omega arith)
@@ -73,6 +72,7 @@ of_log A procs known old new result front all is h = elim (cases_lt log_limit (l
   | inr few ↦ subst (λ (log : List ℕ). RunsLive A log procs known old new result) (all_of_front all front log_limit is few) h
 ]
 
+-- a result for a conversation on a log's bytes up to one past its limit is one for a conversation on the log in the file
 pub talk_ends : {X : Type 0} (A : Type 0) (file : Option (List ℕ)) (procs : Option ℕ) (known old new : Option (List ℕ)) (log : List ℕ) (result : Result X ProgramFault) → IfSome file (λ all. log ≡ take (log_limit + 1) all) → RunsLive A log procs known old new result → EndsOnTalk A file procs known old new result
 talk_ends {X} A file procs known old new log (Ok x) is h = of_all file log (λ l. RunsLive A l procs known old new (Ok x)) (λ all. of_log A procs known old new (Ok x) log all) is h
 talk_ends {X} A file procs known old new log (Err faults.Read) is h = inr (of_all file log (λ l. RunsLive {X = X} A l procs known old new (Err faults.Read)) (λ all. of_log {X = X} A procs known old new (Err faults.Read) log all) is h)
@@ -84,11 +84,11 @@ talk_ends {X} A file procs known old new log (Err faults.NoMachine) is h = of_al
 talk_ends {X} A file procs known old new log (Err faults.BadMachine) is h = of_all file log (λ l. RunsLive {X = X} A l procs known old new (Err faults.BadMachine)) (λ all. of_log {X = X} A procs known old new (Err faults.BadMachine) log all) is h
 talk_ends {X} A file procs known old new log (Err (faults.Close f)) is h = of_all file log (λ l. RunsLive {X = X} A l procs known old new (Err (faults.Close f))) (λ all. of_log {X = X} A procs known old new (Err (faults.Close f)) log all) is h
 
--- what is said of all that a source has, once it is opened, is said of the bytes that are known under its name
 of_source : (file named : Option (List ℕ)) (P : List ℕ → Type 0) → IfSome named (λ bytes. file ≡ Some bytes) → OfAll file P → OfAll named P
 of_source file None P is o = (o.0, tt, o.2)
 of_source file (Some bytes) P is o = (o.0, subst (λ (f : Option (List ℕ)). IfSome f (λ b. o.0 ≡ b)) is o.1, o.2)
 
+-- a result for a conversation on a source that was opened is one for a conversation on the bytes that are known under its name
 pub talk_from : {X : Type 0} (A : Type 0) (file named : Option (List ℕ)) (procs : Option ℕ) (known old new : Option (List ℕ)) (result : Result X ProgramFault) → IfSome named (λ bytes. file ≡ Some bytes) → EndsOnTalk A file procs known old new result → EndsOnTalk A named procs known old new result
 talk_from {X} A file named procs known old new (Ok x) is h = of_source file named (λ l. RunsLive A l procs known old new (Ok x)) is h
 talk_from {X} A file named procs known old new (Err faults.Read) is h = elim h [
@@ -103,7 +103,7 @@ talk_from {X} A file named procs known old new (Err faults.NoMachine) is h = of_
 talk_from {X} A file named procs known old new (Err faults.BadMachine) is h = of_source file named (λ l. RunsLive {X = X} A l procs known old new (Err faults.BadMachine)) is h
 talk_from {X} A file named procs known old new (Err (faults.Close f)) is h = of_source file named (λ l. RunsLive {X = X} A l procs known old new (Err (faults.Close f))) is h
 
--- a log that is not opened
+-- a fault of a log that is not opened, with nothing written, is a result for a conversation on it
 pub refused : {X : Type 0} (A : Type 0) (log : List ℕ) (procs : Option ℕ) (known old : Option (List ℕ)) (fault : ProgramFault) (outcome : Result X ProgramFault) → outcome ≡ Err fault → IsFaultOf log procs fault → RunsLive A log procs known old old outcome
 refused {X} A log procs known old fault outcome is h = subst (λ (r : Result X ProgramFault). RunsLive A log procs known old old r) (sym is) (go fault h) where
   go : (f : ProgramFault) → IsFaultOf log procs f → RunsLive {X = X} A log procs known old old (Err f)

@@ -16,7 +16,7 @@ use Rattle.workers.specs.History.{CalledAt}
 use Rattle.workers.specs.Lists.{ListedView, Gains, listed_view, listed_by, part_of, same_caller}
 use Rattle.easybook.specs.Along.{Goes}
 
--- the session's calls among these events
+-- the session's calls among these events, each with its reply
 abbrev pub own : ℕ → List Happened → List ListedView
 own who events = part_of (caller.Session who) (notes_of events)
 
@@ -32,36 +32,37 @@ own_append who xs ys =
 own_length : (who : ℕ) (xs ys : List Happened) → length (own who (xs ++ ys)) ≡ length (own who xs) + length (own who ys)
 own_length who xs ys = ap length (own_append who xs ys) ∙ length-append (own who xs) (own who ys)
 
--- its call is one more
 one : (who : ℕ) (call : BookCall) (reply : Reply) → length (own who (Called (note_of (caller.Session who) call reply) ∷ [])) ≡ 1
 one who call reply =
     let same : (who == who) ≡ true = (Decides-eqb who who).1 refl in
     rw same refl
 
--- how many calls an answer notes
+-- how many calls an answer notes: one if it is a reply, otherwise none
 abbrev pub noted : Answer → ℕ
 noted full = 0
 noted memory = 0
 noted (outcome reply) = 1
 
+-- a list that gained a call by its answer has as many calls more as the answer notes
 pub list_noted : (old new : List ListedView) (call : BookCall) (answer : Answer) → Gains old new call answer → length new ≡ length old + noted answer
 list_noted old new call full g = omega (arith, ap length g)
 list_noted old new call memory g = omega (arith, ap length g)
 list_noted old new call (outcome reply) g = ap length g ∙ length-append old (listed_view call reply ∷ [])
 
+-- a history in which a session made a call has as many of the session's calls more as the answer notes
 pub own_noted : (opening : Machine) (who : ℕ) (before : List Happened) (call : BookCall) (answer : Answer) (after : List Happened) → CalledAt opening before (caller.Session who) call answer after → length (own who after) ≡ length (own who before) + noted answer
 own_noted opening who before call full after h = omega (arith, ap (λ (es : List Happened). length (own who es)) h.1)
 own_noted opening who before call memory after h = omega (arith, ap (λ (es : List Happened). length (own who es)) h)
 own_noted opening who before call (outcome reply) after h =
     ap (λ (es : List Happened). length (own who es)) h.2 ∙ (own_length who before (Called (note_of (caller.Session who) call reply) ∷ []) ∙ ap (λ (n : ℕ). length (own who before) + n) (one who call reply))
 
--- a beginning has no more of them
+-- a beginning of a history has no more of a session's calls than the history
 pub own_grows : (who : ℕ) (old new : List Happened) → IsPrefix old new → length (own who old) ≤ length (own who new)
 own_grows who old new p =
     let parts : length (own who new) ≡ length (own who old) + length (own who p.0) = ap (λ (es : List Happened). length (own who es)) (sym p.1) ∙ own_length who old p.0 in
     omega (arith, parts)
 
--- where a beginning has as many of them as the whole, the rest has none
+-- where a beginning of a history has as many of a session's calls as the whole, the history goes on by no call of the session
 pub goes_by_others : (who : ℕ) (old new : List Happened) → IsPrefix old new → length (own who new) ≤ length (own who old) → Goes who old new
 goes_by_others who old new p few =
     let parts : length (own who new) ≡ length (own who old) + length (own who p.0) = ap (λ (es : List Happened). length (own who es)) (sym p.1) ∙ own_length who old p.0 in

@@ -10,6 +10,7 @@ use Rattle.easybook.specs.Input.{IsInputFault}
 use Rattle.easybook.specs.declared.fault.ProgramFault.{ProgramFault}
 use Rattle.easybook.specs.declared.fault.ProgramFault.TheVariants as faults
 
+-- where nothing is written, what was written before is kept
 pub keeps : (old : Option (List ℕ)) → Keeps old old
 keeps None = tt
 keeps (Some xs) = refl
@@ -17,7 +18,7 @@ keeps (Some xs) = refl
 pub opens : (log : List ℕ) (procs : Option ℕ) (spacing : ℕ) (comments : List (List ℕ)) (book : BookView) → IsBookOf log procs spacing comments book → CanBeOpened log procs
 opens log procs spacing comments book b = (comments, b.table, b.scenarios, b.is_opened)
 
--- the log is opened, and the script is not had
+-- where a log is opened and its script is not had, the reason, with nothing written, is a result for the two
 pub unread : {X : Type 0} (A : Type 0) (log : List ℕ) (procs : Option ℕ) (spacing : ℕ) (comments : List (List ℕ)) (book : BookView) (known old : Option (List ℕ)) (fault : ProgramFault) (outcome : Result X ProgramFault) → IsBookOf log procs spacing comments book → IsInputFault known script_limit fault → outcome ≡ Err fault → RunsAlone A log procs known old old outcome
 unread {X} A log procs spacing comments book known old fault outcome b h is = subst (λ (r : Result X ProgramFault). RunsAlone A log procs known old old r) (sym is) (go fault h) where
   go : (f : ProgramFault) → IsInputFault known script_limit f → RunsAlone {X = X} A log procs known old old (Err f)
@@ -30,7 +31,6 @@ unread {X} A log procs spacing comments book known old fault outcome b h is = su
   go faults.NoMachine h = absurd h
   go faults.BadMachine h = absurd h
 
--- a transcript of the script that was read, from the book on, is one of the log and the script
 answered : (A : Type 0) (log : List ℕ) (procs : Option ℕ) (spacing : ℕ) (comments : List (List ℕ)) (book : BookView) (script text : List ℕ) → IsBookOf log procs spacing comments book → length script ≤ script_limit → IsTranscriptOf A comments (record { machine = machine_of book; seen = 0 }) script text → IsAnswered A log procs script text
 answered A log procs spacing comments book script text b few t = record {
   comments = comments;
@@ -41,7 +41,7 @@ answered A log procs spacing comments book script text b few t = record {
   transcript = subst (λ (m : Machine). IsTranscriptOf A comments (record { machine = m; seen = 0 }) script text) b.begins t;
 }
 
--- the writer failed
+-- where the writer failed, a beginning of a transcript of the script that was read is what was written of the log and the script
 pub cut_off : {X : Type 0} (A : Type 0) (log : List ℕ) (procs : Option ℕ) (spacing : ℕ) (held shown : List (List ℕ)) (book : BookView) (known old new : Option (List ℕ)) (bytes script text : List ℕ) (n : ℕ) (outcome : Result X ProgramFault) → IsBookOf log procs spacing held book → shown ≡ held → IfSome known (λ all. bytes ≡ all) → length script ≤ script_limit → script ≡ bytes → IsTranscriptOf A shown (record { machine = machine_of book; seen = 0 }) script text → Appends old new (take n text) → outcome ≡ Err faults.Write → RunsAlone A log procs known old new outcome
 cut_off {X} A log procs spacing held shown book known old new bytes script text n outcome b same all few read t wrote is =
     let over_held = subst (λ (comments : List (List ℕ)). IsTranscriptOf A comments (record { machine = machine_of book; seen = 0 }) script text) same t in

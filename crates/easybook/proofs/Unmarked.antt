@@ -20,10 +20,10 @@ or-right : (a b : Bool) → a || b ≡ false → b ≡ false
 or-right false b h = h
 or-right true b h = absurd cc
 
+-- where two are false, the disjunction of the two is false
 pub both : (a b : Bool) → a ≡ false → b ≡ false → a || b ≡ false
 both a b p q = rw p q
 
--- a line that begins with another byte
 other : (x : ℕ) (line : List ℕ) → is_byte 37 x ≡ false → is_mark (x ∷ line) ≡ false
 other x line plain = rw plain refl
 
@@ -52,7 +52,7 @@ end-unmarked (p ∷ next ∷ parts) h =
 no-percent : (xs : List ℕ) → IsFirstByte (is_byte 37) xs None → All (λ x. is_byte 37 x ≡ false) xs
 no-percent xs none i d lt = fails_before_first (is_byte 37) xs i d (omega (arith, position_or_len_is (is_byte 37) xs (length xs) 0 (omega arith) (λ j low. false_from_ne_true _ (λ found. none j (omega arith) low found)) (λ below. absurd (omega arith))))
 
--- whole lines without a mark, and behind them no percent sign
+-- whole lines without a mark, and behind them no percent sign, are an input of which no line is a mark
 pub none-behind : (input : List ℕ) (at : ℕ) (rest : List ℕ) → IsWhole (take at input) → IsRest input at rest → IsFirstByte (is_byte 37) rest None → list_any is_mark (lines input) ≡ false
 none-behind input at rest w is none =
     ap (list_any is_mark) (ap lines (input_is input at rest is) ∙ w.before rest) ∙ list_any-append is_mark (lines (take at input)) (lines rest)

@@ -1,4 +1,5 @@
--- The transcript of a script on a log where no memory is refused.
+-- The transcript of a script on a log where no memory is refused: there is at most one, since a log is opened in one way, and the plain run's
+-- schedule is what a script yields.
 use Rattle.std.proofs.Common.{◌≡◌, ℕ, List, ◌++◌, Option, Result, Ok, refl, sym, ◌∙◌, ap, subst}
 use Rattle.swf_text.specs.Entry.{LogEntry}
 use Rattle.swf_text.specs.Log.{log_of}
@@ -11,8 +12,6 @@ use Rattle.scripts.specs.Transcript.{IsUnrefused, begun}
 use Rattle.scripts.proofs.Lemmas.{one-unrefused, schedules_first, unrefused-too}
 use Rattle.easybook.specs.Opened.{IsOpened}
 use Rattle.easybook.specs.Unrefused.{ItIsAnAnswer, PlainRunsAreScripts, ThereIsOneAnswer}
-
--- ---- a log is opened in one way
 
 record AreOne (comments others : List (List ℕ)) (table entries : List LogEntry) (scenarios list : Listing) : Type 0 where
   comments_same : comments ≡ others
@@ -31,6 +30,7 @@ opened-once log procs comments others table entries scenarios list o p =
       scenarios_same = one-listing (opened procs o.read.comments) scenarios list o.opened_with (ap (λ (t : LogText). opened procs t.comments) (sym read) ∙ p.opened_with);
     }
 
+-- two transcripts of the same log, options and script in which no memory is refused are the same
 pub there_is_one_answer : (A : Type 0) → ThereIsOneAnswer A
 there_is_one_answer A log procs script text other f g =
     let same = opened-once log procs g.comments f.comments g.table f.table g.scenarios f.scenarios g.is_opened f.is_opened in
@@ -39,6 +39,7 @@ there_is_one_answer A log procs script text other f g =
     let over_list = subst (λ (list : Listing). IsUnrefused A f.comments (begun f.table list.scenarios) script other) same.scenarios_same over_table in
     one-unrefused A f.comments (begun f.table f.scenarios.scenarios) script text other f.transcript over_list
 
+-- a transcript in which no memory is refused is one of those that a script within its limit may have
 pub it_is_an_answer : (A : Type 0) → ItIsAnAnswer A
 it_is_an_answer A log procs script text few f = record {
   comments = f.comments;
@@ -49,8 +50,8 @@ it_is_an_answer A log procs script text few f = record {
   transcript = unrefused-too A f.comments (begun f.table f.scenarios.scenarios) script text f.transcript;
 }
 
--- ---- the plain run
-
+-- the plain run's schedule of a log, behind the line `settled 0`, is what the lines `settle` and `schedule NAME` yield, with the name of the
+-- log's first scenario
 pub plain_runs_are_scripts : (A : Type 0) → PlainRunsAreScripts A
 plain_runs_are_scripts A log procs text script s asks =
     let table = log_of s.read.entries in

@@ -1,4 +1,4 @@
--- No line of a log is a mark.
+-- No line of a log is a mark: a mark is one word that begins with a percent sign, so it is no blank line, no comment and no job.
 use Rattle.std.proofs.Common.{◌≡◌, ℕ, Bool, true, false, ◌||◌, List, [], ◌∷◌, length, Some, refl, sym, subst, ◌∙◌, inl, inr, ◌⊎◌, arith}
 use Rattle.std.specs.Prelude.{slice_get}
 use Rattle.std.specs.List.{list_all, list_any}
@@ -24,7 +24,6 @@ mark-is line h = go (bytes_eq line (37 ∷ [])) refl
     go true e = inl ((bytes_eq-Decides line (37 ∷ [])).0 e)
     go false e = inr ((bytes_eq-Decides line (37 ∷ 13 ∷ [])).0 (or-else (bytes_eq line (37 ∷ [])) (bytes_eq line (37 ∷ 13 ∷ [])) e h))
 
--- a line that is one word and begins with a percent sign
 record IsPercent (line : List ℕ) : Type 0 where
   filled : list_all is_blank (without_returns line) ≡ false
   first : slice_get (from_first (without_returns line)) 0 ≡ Some 37
@@ -36,7 +35,6 @@ no-semicolon a b p q same = let e : a ≡ b = cc in absurd (omega (arith, p, q, 
 not-eighteen : (n : ℕ) → n ≡ 1 → n ≡ 18 → ⊥
 not-eighteen n one many = absurd (omega (arith, one, many))
 
--- it is no blanks, no comment, and not eighteen words
 adds-nothing : (line : List ℕ) → IsPercent line → (t u : LogText) (r : LineRead) → IsReadAs line r → AddsRead t line r u → ⊥
 adds-nothing line p t u read.Blank is adds = true≢false (sym is.1 ∙ p.filled)
 adds-nothing line p t u read.Comment is adds = no-semicolon 37 59 refl refl (sym p.first ∙ is.1)
@@ -58,6 +56,6 @@ text-unmarked [] t u h = refl
 text-unmarked (line ∷ ls) t u h =
     both (is_mark line) (list_any is_mark ls) (false_from_ne_true _ (λ m. mark-adds t h.0 line (mark-is line m) h.1)) (text-unmarked ls h.0 u h.2)
 
--- a log has no mark
+-- no line of a log that is read as a text is a mark
 pub unmarked : (log : List ℕ) (t : LogText) → IsText (lines log) t → list_any is_mark (lines log) ≡ false
 unmarked log t h = text-unmarked (lines log) empty t h

@@ -1,4 +1,4 @@
--- A job that arrives alone.
+-- A job that arrives alone: the first of the row, where the next one is not of its second.
 use Rattle.std.proofs.Common.{◌≡◌, ◌≢◌, ℕ, ◌+◌, ◌≤◌, ◌<◌, List, [], ◌∷◌, drop, slice_get, Option, Some, None, IfSome, All, refl, sym, ◌∙◌, ap, arith, subst, ⊎_elim}
 use Rattle.std.proofs.lemmas.List.Elements.{All-nil, All-head, All-tail, All-weaker}
 use Rattle.std.proofs.lemmas.Bool.{cases_lt}
@@ -16,7 +16,6 @@ first-of (j ∷ js) job e = ap (λ (k : EffectiveJob). k ∷ js) (same j job e)
     same : (a b : EffectiveJob) → ◌≡◌ {A = Option EffectiveJob} (Some a) (Some b) → a ≡ b
     same a b e = cc
 
--- where the first of them is not of second t, all are of later ones
 rest-later : (t : ℕ) (js : List EffectiveJob) → NonFalling js → All (λ (j : EffectiveJob). t ≤ j.submit) js → first_submit js ≢ Some t → All (λ (j : EffectiveJob). t < j.submit) js
 rest-later t [] r a other = All-nil (λ (j : EffectiveJob). t < j.submit)
 rest-later t (j ∷ js) r a other =
@@ -28,7 +27,6 @@ rest-later t (j ∷ js) r a other =
     here : (j : EffectiveJob) (js : List EffectiveJob) → All (λ (j : EffectiveJob). t ≤ j.submit) (j ∷ js) → j.submit ≤ t → j.submit ≡ t
     here j js a l = let from : t ≤ j.submit = All-head (λ (j : EffectiveJob). t ≤ j.submit) j js a in omega (arith, from, l)
 
--- it is the only one of its second, and then the others come
 pub record IsAlone (c : NextJobs) (t : ℕ) (jobs : List EffectiveJob) (job : EffectiveJob) : Type 0 where
   pub only : at_second t jobs ≡ job ∷ []
   pub rest : IsUpcoming (without_first c) (t + 1) jobs
@@ -49,11 +47,11 @@ alone-at c t jobs job r h l at first other =
           refl;
     }
 
--- so for the job that is found, where one is
 pub record IsAloneIf (c : NextJobs) (t : ℕ) (jobs : List EffectiveJob) (o : Option EffectiveJob) : Type 0 where
   pub only : IfSome o (λ job. at_second t jobs ≡ job ∷ [])
   pub rest : IfSome o (λ job. IsUpcoming (without_first c) (t + 1) jobs)
 
+-- where the first of the row is submitted at t, the next is not, and those behind come later, it alone is of t, and without it the row has those from t + 1 on
 pub alone-if : (c : NextJobs) (t : ℕ) (jobs : List EffectiveJob) (o : Option EffectiveJob) → NonFalling jobs → IsUpcoming c t jobs → IfSome c.later (λ u. t < u) → IfSome o (λ job. (job.submit ≡ t) × (slice_get c.row 0 ≡ Some job)) → IfSome o (λ _. first_submit (drop 1 c.row) ≢ Some t)
     → IsAloneIf c t jobs o
 alone-if c t jobs None r h l first other = record { only = tt; rest = tt }

@@ -1,4 +1,5 @@
--- Event seconds, by what the code knows at a position.
+-- Event seconds, by what the code knows at a position: the next one is the earlier of the next submit second and the least end, and nothing
+-- changes before it.
 use Rattle.std.proofs.Common.{◌≡◌, ◌≢◌, ℕ, zero, suc, ◌+◌, ◌-◌, ◌^◌, ◌≤◌, ◌<◌, Bool, false, nat_eq, List, [], ◌∷◌, length, All, Any, Option, Some, None, MatchOption, IfSome, IsNone, min, filter, refl, sym, ◌∙◌, ap, arith, subst, inl, inr, ⊎_elim, ◌⊎◌}
 use Rattle.std.proofs.lemmas.List.{length-append, take_all}
 use Rattle.std.proofs.lemmas.List.Elements.{All-head, All-tail, All-nil, All-cons, All-weaker}
@@ -22,15 +23,11 @@ use Rattle.event_loop.proofs.ToCome.{non-falling, at_second, at-in, at-from, at-
 use Rattle.scenarios.proofs.Lemmas.{from-in, from-out}
 use Rattle.event_loop.proofs.Rows.{upcoming-on}
 
--- ---- the next submit second
-
--- a job of a later second shows that the second is no quiet one
 pub submitted-first : (plan : Plan) (a : ℕ) (j : EffectiveJob) (js : List EffectiveJob) → from_on a plan.jobs ≡ j ∷ js → a ≤ j.submit → submitted plan j.submit ≢ []
 submitted-first plan a j js e l none =
     let k : j ∷ at_second j.submit js ≡ [] = sym (sym (at-from a j.submit plan.jobs l) ∙ ap (at_second j.submit) e ∙ at-in j.submit j js refl) ∙ none in
     cc
 
--- what holds of those from a second on
 from-holds : (a : ℕ) (P : EffectiveJob → Type 0) (js : List EffectiveJob) → All P (from_on a js) → All (λ (j : EffectiveJob). a ≤ j.submit → P j) js
 from-holds a P [] h = All-nil (λ (j : EffectiveJob). a ≤ j.submit → P j)
 from-holds a P (j ∷ js) h =
@@ -41,10 +38,10 @@ from-holds a P (j ∷ js) h =
     All-cons (λ (j : EffectiveJob). a ≤ j.submit → P j) j js (λ _. All-head P j (from_on a js) h') (from-holds a P js (All-tail P j (from_on a js) h')))
     (cases_lt j.submit a)
 
--- the next submit second, as a least one
 abbrev pub IsNextSubmit : Plan → ℕ → Option ℕ → Type 0
 IsNextSubmit plan a o = MatchOption o (All (λ (j : EffectiveJob). j.submit < a) plan.jobs) (λ t. (a ≤ t) × (submitted plan t ≢ []) × All (λ (j : EffectiveJob). a ≤ j.submit → t ≤ j.submit) plan.jobs)
 
+-- the submit second of the first job from a on is the least one from a on; without such a job all are submitted before a
 pub next-submit : (plan : Plan) (a : ℕ) (o : Option ℕ) → IsPlan plan → o ≡ first_submit (from_on a plan.jobs) → IsNextSubmit plan a o
 next-submit plan a o p is = subst (IsNextSubmit plan a) (sym is) (go (from_on a plan.jobs) refl)
   where
@@ -63,7 +60,6 @@ next-submit plan a o p is = subst (IsNextSubmit plan a) (sym is) (go (from_on a 
           from-holds a (λ (k : EffectiveJob). j.submit ≤ k.submit) plan.jobs (subst (All (λ (k : EffectiveJob). j.submit ≤ k.submit)) (sym e) (All-cons (λ (k : EffectiveJob). j.submit ≤ k.submit) j js (omega arith) falling.0)),
         )
 
--- over quiet seconds the same jobs are to come
 from-quiet : (plan : Plan) (a t : ℕ) → a ≤ t → IsQuiet plan a t → IsPlan plan → from_on a plan.jobs ≡ from_on t plan.jobs
 from-quiet plan a t l quiet p = go (from_on a plan.jobs) refl
   where
@@ -80,11 +76,10 @@ from-quiet plan a t l quiet p = go (from_on a plan.jobs) refl
         ∙ ap (from_on t) (sym e) ∙ from-later a t plan.jobs l)
         (cases_lt j.submit t)
 
--- so an engine knows them still
+-- over quiet seconds the same jobs are to come, in the same row
 pub upcoming-quiet : (plan : Plan) (upcoming : NextJobs) (a t : ℕ) → a ≤ t → IsQuiet plan a t → IsPlan plan → IsUpcoming upcoming a plan.jobs → IsUpcoming upcoming t plan.jobs
 upcoming-quiet plan upcoming a t l quiet p h = upcoming-on upcoming a t plan.jobs (from-quiet plan a t l quiet p) h
 
--- ---- who runs ends at the position or later
 pub lasting-before : (plan : Plan) (t : ℕ) → IsPlan plan → All (λ r. t ≤ real_end r) (before plan t).running
 lasting-before plan t p =
     ⊎_elim
@@ -110,7 +105,6 @@ none-submitted plan a b v h l m =
         subst (All (λ (j : EffectiveJob). v < j.submit)) (sym (from-in a j js k)) (All-cons (λ (j : EffectiveJob). v < j.submit) j (from_on a js) (omega arith) rest))
         (cases_lt j.submit a)
 
--- nothing happens before b
 quiet-front : (plan : Plan) (a b n : ℕ) → All (λ r. b ≤ real_end r) (before plan a).running → All (λ (j : EffectiveJob). a ≤ j.submit → b ≤ j.submit) plan.jobs → a + n ≤ b → IsQuiet plan a (a + n)
 quiet-front plan a b zero ends submits q v p r event = omega arith
 quiet-front plan a b (suc n) ends submits q v p r event =
@@ -137,7 +131,6 @@ quiet-until plan a b ends submits u l m event =
     let whole : a + n ≡ b = omega arith in
     quiet-front plan a b n ends submits (omega arith) u l (omega arith) event
 
--- the next event second, by the least submit second and the least end
 pub next-some : (plan : Plan) (a t : ℕ) (s : State) → s ≡ before plan a → a ≤ t → All (λ (j : EffectiveJob). a ≤ j.submit → t ≤ j.submit) plan.jobs → All (λ r. t ≤ real_end r) s.running
     → ((submitted plan t ≢ []) ⊎ Any (λ r. real_end r ≡ t) s.running) → (a ≤ t) × IsEvent plan t × IsQuiet plan a t
 next-some plan a t s is l submits ends why =
@@ -163,6 +156,7 @@ after-end plan a s t p is (k, x, l, at, here) =
     let e = ap (λ (r : Placed). real_end r) at in
     omega (arith, h, e, here)
 
+-- the earlier of the next submit second and the least end is the next event second; where there is neither, none is left
 pub next-earlier : (plan : Plan) (a : ℕ) (s : State) (o e : Option ℕ) → IsPlan plan → s ≡ before plan a → IsNextSubmit plan a o
     → (IsNone e → s.running ≡ []) → IfSome e (λ t. Any (λ r. real_end r ≡ t) s.running) → IfSome e (λ t. All (λ r. t ≤ real_end r) s.running)
     → IsNextEvent plan a (earlier o e)
@@ -196,16 +190,17 @@ event-by-bound plan t p (inr (k, x, l, at, here)) =
     let a = all-end-by-the-bound plan t p k x l in
     omega (arith, a, e, here)
 
--- ---- an engine at its next event second
 pub record Ready (plan : Plan) (s : State) (upcoming : NextJobs) (a t : ℕ) : Type 0 where
   pub is : s ≡ before plan t
   pub small : t < 2 ^ 49 - 1
   pub first : a ≤ t
   pub next : IsUpcoming upcoming t plan.jobs
 
+-- what is seen of an engine with this plan, position, count of event seconds and failure
 abbrev pub seen : Plan → ℕ → ℕ → Bool → Progress
 seen plan a h f = record { plan = plan; position = a; handled = h; failed = f }
 
+-- an engine that has not failed has at its next event second t the state before t, and knows the jobs that come from t on
 pub ready-at : (now : Progress) (plan : Plan) (s : State) (upcoming : NextJobs) (last_shadow : Option Shadow) (a h t : ℕ) (f : Bool) → seen plan a h f ≡ now → IsEngine plan s upcoming last_shadow a h f → now.failed ≡ false → IsNextEvent now.plan now.position (Some t) → Ready plan s upcoming a t
 ready-at now plan s upcoming last_shadow a h t f view engine going next =
     let next' : IsNextEvent plan a (Some t) = subst (λ (p : Progress). IsNextEvent p.plan p.position (Some t)) (sym view) next in
@@ -217,7 +212,6 @@ ready-at now plan s upcoming last_shadow a h t f view engine going next =
       next = upcoming-quiet plan upcoming a t next'.0 next'.2 engine.is_plan (engine.upcoming_is going');
     }
 
--- where no job ends at second t, the queue of before is a settled front of the state of t, and the shadow of before is that state's
 pub stands-at : (plan : Plan) (s ready' : State) (t : ℕ) → s ≡ before plan t → ready' ≡ ready plan (before plan t) t → All (λ r. t < real_end r) s.running
     → (next (front ready' (length s.waiting)) t ≡ None) × ((w : Shadow) → shadow_of s ≡ Some w → shadow_of ready' ≡ Some w)
 stands-at plan s ready' t is at later =
@@ -231,7 +225,7 @@ stands-at plan s ready' t is at later =
       λ w last_shadow. ap shadow_of at ∙ law.1 w (ap shadow_of (sym is) ∙ last_shadow),
     )
 
--- so for the shadow that is known, where it stands
+-- where a shadow is known and no job ends by t, who waited before is a settled front of the state of t, by that shadow
 pub last_shadow-front : (plan : Plan) (s ready' : State) (t n : ℕ) (last_shadow o : Option Shadow) → s ≡ before plan t → ready' ≡ ready plan (before plan t) t → n ≡ length s.waiting → IfSome last_shadow (λ w. shadow_of s ≡ Some w) → IfSome o (λ w. last_shadow ≡ Some w) → IfSome o (λ _. All (λ r. t < real_end r) s.running)
     → IfSome o (λ w. IsSettledFront ready' t n w)
 last_shadow-front plan s ready' t n last_shadow None is at many holds same later = tt
@@ -251,7 +245,7 @@ sound-ready plan s s' t p small is f =
     subst (λ (js : List EffectiveJob). IsSound (joined s' (filter (λ (j : EffectiveJob). nat_eq j.submit t) js))) (take_all (length plan.jobs) plan.jobs (omega arith))
     (sound-arrivals plan s s' t (length plan.jobs) (omega arith) p is f)
 
--- who runs where the work on an event second was given up
+-- where the work on the next event second is given up after its ends, who runs is who may in an engine that has failed
 pub midway-at : (now : Progress) (plan : Plan) (s ended new : State) (upcoming : NextJobs) (last_shadow : Option Shadow) (a h t : ℕ) (f : Bool) → seen plan a h f ≡ now → IsEngine plan s upcoming last_shadow a h f → now.failed ≡ false → IsNextEvent now.plan now.position (Some t) → ended ≡ ended_until s t
     → new.running ≡ ended.running → IsMidway plan a new.running
 midway-at now plan s ended new upcoming last_shadow a h t f view engine going next end same =

@@ -11,7 +11,6 @@ use Rattle.easy_rule.specs.Simulation.{before}
 use Rattle.timeline.specs.Closed.{waits_before}
 use Rattle.timeline.proofs.Lemmas.{states-follow-from-starts}
 
--- each running job holds a processor at least
 one-each : (rs : List Placed) → All (λ r. IsWithinLimits r.job) rs → length rs ≤ busy rs
 one-each [] h = omega arith
 one-each (r ∷ rs) h =
@@ -20,9 +19,11 @@ one-each (r ∷ rs) h =
     let rest = one-each rs (All-tail (λ r. IsWithinLimits r.job) r rs h) in
     omega (arith, size, rest, sum_by-cons (λ (r : Placed). r.job.size) r rs)
 
+-- no more jobs run in a sound state than it has processors
 pub few-running : (s : State) → IsSound s → length s.running ≤ s.procs
 few-running s h = let a = one-each s.running h.running_limits in let b = h.fits in omega (arith, a, b)
 
+-- no more jobs wait before a second than the plan has
 pub few-waiting : (plan : Plan) (t : ℕ) → IsPlan plan → length (before plan t).waiting ≤ length plan.jobs
 few-waiting plan t p =
     let e = ap (λ (s : State). length s.waiting) (states-follow-from-starts plan t p) in

@@ -49,6 +49,7 @@ of-plan-ready plan s t p h = record {
   running = All-filter (λ (r : Placed). not (nat_eq (real_end r) t)) (λ r. job_numbered plan.jobs r.job.number ≡ Some r.job) s.running h.running;
 }
 
+-- the state before each second has the plan's machine and order, and each of its jobs is the plan's of its number
 pub before-of-plan : (plan : Plan) (t : ℕ) → IsPlan plan → IsOfPlan (before plan t) plan
 unfolding before
 before-of-plan plan zero p = record {
@@ -60,13 +61,12 @@ before-of-plan plan zero p = record {
 before-of-plan plan (suc t) p =
     decided-keeps (λ z. IsOfPlan z plan) t (of-plan-started plan t) (length (ready plan (before plan t) t).waiting) (ready plan (before plan t) t) (of-plan-ready plan (before plan t) t p (before-of-plan plan t p))
 
--- what holds of all who wait holds of those who start
 started-hold : (P : EffectiveJob → Type 0) (js : List EffectiveJob) (s : State) (now : ℕ) → CanStartAll s js now → All P s.waiting → All P js
 started-hold P [] s now can a = All-nil P
 started-hold P (j ∷ js) s now can a =
     All-cons P j js (All-find P (λ (k : EffectiveJob). nat_eq k.number j.number) s.waiting j can.0 a) (started-hold P js (started s j now) now can.2 (All-without P j.number s.waiting a))
 
--- who starts at a second is the plan's job of its number, too
+-- the jobs that are started at a second are its starts in the simulation, each of them the plan's job of its number
 pub start-in : (plan : Plan) (s s' : State) (t : ℕ) (js : List EffectiveJob) → IsPlan plan → s ≡ ready plan (before plan t) t → AreStarted s t js s' → map (start_at t) js ≡ starts_at s t → StartIn plan t js
 start-in plan s s' t js p is h e =
     let waiting : All (Own plan) s.waiting = subst (λ (z : State). All (Own plan) z.waiting) (sym is) (of-plan-ready plan (before plan t) t p (before-of-plan plan t p)).waiting in

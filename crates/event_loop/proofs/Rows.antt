@@ -1,4 +1,5 @@
--- The jobs that come next, in a row, and those behind them.
+-- The jobs that come next, in a row, and those behind them: at a position, after those of its second have arrived, and in the loop that takes
+-- jobs up.
 use Rattle.std.proofs.Common.{◌≡◌, ◌≢◌, ℕ, ◌+◌, ◌≤◌, ◌<◌, nat_le, List, [], ◌∷◌, ◌++◌, append-nil, append_assoc, Option, Some, None, IfSome, All, refl, sym, ◌∙◌, ap, arith, subst, ⊎_elim}
 use Rattle.std.proofs.lemmas.List.Elements.{All-nil, All-cons, All-head, All-tail, All-weaker, All-append, All-filter, filter-append}
 use Rattle.std.proofs.lemmas.Bool.{cases_lt}
@@ -31,7 +32,6 @@ from-none t (j ∷ js) a =
 from-append : (t : ℕ) (xs ys : List EffectiveJob) → from_on t (xs ++ ys) ≡ from_on t xs ++ from_on t ys
 from-append t xs ys = filter-append (λ (j : EffectiveJob). nat_le t j.submit) xs ys
 
--- those from the first of them on are all
 from-first : (t : ℕ) (jobs : List EffectiveJob) (j : EffectiveJob) (js : List EffectiveJob) → NonFalling jobs → from_on t jobs ≡ j ∷ js → from_on j.submit jobs ≡ j ∷ js
 from-first t jobs j js r e =
     let falling : NonFalling (j ∷ js) = subst NonFalling e (from-falling t jobs r) in
@@ -39,9 +39,7 @@ from-first t jobs j js r e =
     sym (from-later t j.submit jobs from) ∙ ap (from_on j.submit) e
     ∙ from-same j.submit (j ∷ js) (All-cons (λ (k : EffectiveJob). j.submit ≤ k.submit) j js (omega arith) falling.0)
 
--- ---- at a position
-
--- none in the row
+-- with none in the row, the submit second of the first job from t on tells what comes next from t on
 pub upcoming-first : (t : ℕ) (jobs : List EffectiveJob) (later : Option ℕ) → NonFalling jobs → later ≡ first_submit (from_on t jobs) → IsUpcoming (upcoming_of [] later) t jobs
 upcoming-first t jobs later r e = subst (λ (o : Option ℕ). IsUpcoming (upcoming_of [] o) t jobs) (sym e) (go (from_on t jobs) refl)
   where
@@ -55,7 +53,7 @@ upcoming-first t jobs later r e = subst (λ (o : Option ℕ). IsUpcoming (upcomi
           before = All-nil (λ (k : EffectiveJob). k.submit < j.submit);
         }
 
--- the submit second of the next
+-- the submit second of the next job is that of the first job from the position on
 pub next-is : (c : NextJobs) (t : ℕ) (jobs : List EffectiveJob) → IsUpcoming c t jobs → next_of c ≡ first_submit (from_on t jobs)
 next-is c t jobs h = go c.row refl
   where
@@ -64,17 +62,18 @@ next-is c t jobs h = go c.row refl
     go (j ∷ js) e =
         ap (λ (js : List EffectiveJob). next_of (upcoming_of js c.later)) e ∙ ap (λ (js : List EffectiveJob). first_submit (js ++ from_any c.later jobs)) (sym e) ∙ ap first_submit (sym h.all)
 
--- the same at another position, from which on the same jobs come
+-- the same jobs come next at another position, from which on the same jobs come
 pub upcoming-on : (c : NextJobs) (a b : ℕ) (jobs : List EffectiveJob) → from_on a jobs ≡ from_on b jobs → IsUpcoming c a jobs → IsUpcoming c b jobs
 upcoming-on c a b jobs e h = record { all = sym e ∙ h.all; first = h.first; before = h.before }
 
--- the row is in order, and from the position on
+-- in the row no later job is submitted earlier
 pub row-falling : (c : NextJobs) (t : ℕ) (jobs : List EffectiveJob) → NonFalling jobs → IsUpcoming c t jobs → NonFalling c.row
 row-falling c t jobs r h = falling-front c.row (from_any c.later jobs) (subst NonFalling h.all (from-falling t jobs r))
 
 all-from : (c : NextJobs) (t : ℕ) (jobs : List EffectiveJob) → IsUpcoming c t jobs → All (λ (j : EffectiveJob). t ≤ j.submit) (c.row ++ from_any c.later jobs)
 all-from c t jobs h = subst (All (λ (j : EffectiveJob). t ≤ j.submit)) h.all (from-All t jobs)
 
+-- the jobs of the row are submitted at the position or later
 pub row-from : (c : NextJobs) (t : ℕ) (jobs : List EffectiveJob) → IsUpcoming c t jobs → All (λ (j : EffectiveJob). t ≤ j.submit) c.row
 row-from c t jobs h = All-front (λ (j : EffectiveJob). t ≤ j.submit) c.row (from_any c.later jobs) (all-from c t jobs h)
 
@@ -89,7 +88,7 @@ row-none c t jobs h at = go c.row (row-from c t jobs h) (subst (λ (o : Option �
         let m = All-head (λ (j : EffectiveJob). j.submit < t) j js b in
         absurd (omega (arith, l, m))
 
--- where none of them is, they are submitted later
+-- where the first job behind the row, if there is one, is not submitted at the position, it is submitted later
 pub behind-later : (c : NextJobs) (t : ℕ) (jobs : List EffectiveJob) → IsUpcoming c t jobs → c.later ≢ Some t → IfSome c.later (λ u. t < u)
 behind-later c t jobs h other = go c.later (from_any c.later jobs) h.first (All-back (λ (j : EffectiveJob). t ≤ j.submit) c.row (from_any c.later jobs) (all-from c t jobs h)) other
   where
@@ -104,8 +103,6 @@ behind-later c t jobs h other = go c.later (from_any c.later jobs) h.first (All-
         some-same : (a b : ℕ) → ◌≡◌ {A = Option ℕ} (Some a) (Some b) → a ≡ b
         some-same a b e = cc
 
--- ---- the jobs of the position arrive from the row
-
 behind-none : (t : ℕ) (later : Option ℕ) (jobs : List EffectiveJob) → IfSome later (λ u. t < u) → at_second t (from_any later jobs) ≡ []
 behind-none t None jobs l = refl
 behind-none t (Some u) jobs l =
@@ -116,13 +113,13 @@ behind-stays t None jobs l = refl
 behind-stays t (Some u) jobs l =
     from-same (t + 1) (from_on u jobs) (All-weaker (λ (j : EffectiveJob). u ≤ j.submit) (λ (j : EffectiveJob). t + 1 ≤ j.submit) (λ j m. omega (arith, l, m)) (from_on u jobs) (from-All u jobs))
 
--- they all stand in it
+-- where the jobs behind the row come later than t, all jobs of second t stand in the row
 pub row-has : (c : NextJobs) (t : ℕ) (jobs : List EffectiveJob) → IsUpcoming c t jobs → IfSome c.later (λ u. t < u) → at_second t c.row ≡ at_second t jobs
 row-has c t jobs h l =
     sym (append-nil (at_second t c.row)) ∙ ap (λ (js : List EffectiveJob). at_second t c.row ++ js) (sym (behind-none t c.later jobs l))
     ∙ sym (filter-append _ c.row (from_any c.later jobs)) ∙ ap (at_second t) (sym h.all) ∙ at-from t t jobs (omega arith)
 
--- and the others come from the next second on
+-- where the jobs behind the row come later than t, the row without those of t tells what comes next from t + 1 on
 pub upcoming-after : (c d : NextJobs) (t : ℕ) (jobs : List EffectiveJob) → IsUpcoming c t jobs → IfSome c.later (λ u. t < u) → d.row ≡ from_on (t + 1) c.row → d.later ≡ c.later → IsUpcoming d (t + 1) jobs
 upcoming-after c d t jobs h l row later =
     subst (λ (o : Option ℕ). IsUpcoming (upcoming_of d.row o) (t + 1) jobs) (sym later)
@@ -137,9 +134,7 @@ upcoming-after c d t jobs h l row later =
     kept None a = tt
     kept (Some u) a = All-filter (λ (j : EffectiveJob). nat_le (t + 1) j.submit) (λ (j : EffectiveJob). j.submit < u) c.row a
 
--- ---- the loop that takes jobs up
-
--- what it knows: those that it took and those that are left, where `last` is the second of the last that it took
+-- the jobs from t on are those that a loop took and those that are left, where the former are submitted by `last` and the latter no earlier
 pub record Taking (t last : ℕ) (row left jobs : List EffectiveJob) : Type 0 where
   pub all : from_on t jobs ≡ row ++ left
   pub since : t ≤ last
@@ -147,6 +142,7 @@ pub record Taking (t last : ℕ) (row left jobs : List EffectiveJob) : Type 0 wh
   pub from : All (λ (j : EffectiveJob). last ≤ j.submit) left
   pub falling : NonFalling left
 
+-- before the loop takes any, all from t on are left, and `last` is t
 pub taking-first : (t : ℕ) (row left jobs : List EffectiveJob) → NonFalling jobs → row ≡ [] → left ≡ from_on t jobs → Taking t t row left jobs
 taking-first t row left jobs r none e =
     subst (λ (js : List EffectiveJob). Taking t t js left jobs) (sym none) (subst (λ (js : List EffectiveJob). Taking t t [] js jobs) (sym e) (record {
@@ -157,6 +153,7 @@ taking-first t row left jobs r none e =
       falling = from-falling t jobs r;
     }))
 
+-- when the loop takes the first that is left, `last` is its submit second
 pub taking-more : (t last : ℕ) (row row' left rest jobs : List EffectiveJob) (job : EffectiveJob) → Taking t last row left jobs → left ≡ job ∷ rest → row' ≡ row ++ job ∷ [] → Taking t job.submit row' rest jobs
 taking-more t last row row' left rest jobs job h e is =
     let h' = subst (λ (js : List EffectiveJob). Taking t last row js jobs) e h in
@@ -171,7 +168,7 @@ taking-more t last row row' left rest jobs job h e is =
       falling = h'.falling.1;
     })
 
--- it stops before a job of a later second
+-- where the loop stops before a job that is submitted later than `last`, what it took and that job's second tell what comes next from t on
 pub taking-stop : (t last : ℕ) (row left rest jobs : List EffectiveJob) (job : EffectiveJob) → Taking t last row left jobs → left ≡ job ∷ rest → last < job.submit → IsUpcoming (upcoming_of row (Some job.submit)) t jobs
 taking-stop t last row left rest jobs job h e later =
     let h' = subst (λ (js : List EffectiveJob). Taking t last row js jobs) e h in

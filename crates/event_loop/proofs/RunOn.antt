@@ -1,4 +1,4 @@
--- An engine that goes on.
+-- An engine that goes on: by an event second, over quiet seconds, and until no event second is left.
 use Rattle.std.proofs.Common.{◌≡◌, ◌≢◌, ℕ, zero, suc, ◌+◌, ◌-◌, ◌≤◌, ◌<◌, Bool, true, false, cond, nat_eq, List, [], ◌∷◌, ◌++◌, add-one, add-zero, append_assoc, length, get_or, Option, Some, None, count_by, refl, sym, ◌∙◌, ap, arith, subst, inl, inr, ⊎_elim, ◌⊎◌}
 use Rattle.std.proofs.lemmas.List.{get_or_default}
 use Rattle.std.proofs.lemmas.List.Sums.{sum_by-cons}
@@ -18,11 +18,11 @@ use Rattle.event_loop.specs.Going.{IsFurther, IsRunOn, IsLast}
 use Rattle.timeline.proofs.Lemmas.{short-plan, starts_before-more, quiet-seconds-change-nothing}
 use Rattle.event_loop.proofs.EventLemmas.{event-by-bound, upcoming-quiet, seen}
 
+-- the event seconds before t + 1 are those before t, and t if it is one
 pub events_before-more : (plan : Plan) (t : ℕ) → events_before plan (t + 1) ≡ events_before plan t + cond (has_event plan t) 1 0
 unfolding events_before
 events_before-more plan t = rw add-one
 
--- one that passes is counted
 counted-some : {X : Type 0} (p : X → Bool) (xs : List X) (k : ℕ) (d : X) → k < length xs → p (get_or xs k d) ≡ true → 1 ≤ count_by p xs
 counted-some p [] k d l e = absurd (omega arith)
 counted-some p (x ∷ xs) zero d l e = let f = sum_by-cons (λ y. cond {A = ℕ} (p y) 1 0) x xs in let g = cond-true {A = ℕ} (p x) 1 0 e in omega (arith, f, g)
@@ -48,7 +48,7 @@ length-some : {X : Type 0} (xs : List X) → 1 ≤ length xs → xs ≢ []
 length-some [] l e = omega arith
 length-some (x ∷ xs) l e = cc
 
--- the test says what an event second is
+-- the test holds at an event second
 pub has-event : (plan : Plan) (t : ℕ) → IsEvent plan t → has_event plan t ≡ true
 has-event plan t (inl ne) = lt-ltb 0 (length (submitted plan t) + count_by (λ r. nat_eq (real_end r) t) (before plan t).running) (let l = some-length (submitted plan t) ne in omega (arith, l))
 has-event plan t (inr (k, x, l, at, here)) =
@@ -56,6 +56,7 @@ has-event plan t (inr (k, x, l, at, here)) =
     let yes' : p (get_or (before plan t).running k x) ≡ true = eq-eqb (real_end (get_or (before plan t).running k x)) t (ap (λ (r : Placed). real_end r) at ∙ here) in
     lt-ltb 0 (length (submitted plan t) + count_by p (before plan t).running) (let c = counted-some p (before plan t).running k x l yes' in omega (arith, c))
 
+-- the test fails at a second that is none
 pub no-event : (plan : Plan) (t : ℕ) → (IsEvent plan t → ⊥) → has_event plan t ≡ false
 no-event plan t no' =
     let p : Placed → Bool = λ r. nat_eq (real_end r) t in
@@ -85,7 +86,6 @@ events-quiet plan a (suc n) quiet =
     let e = ap (events_before plan) one in
     omega (arith, i, g, m, e)
 
--- over quiet seconds nothing changes
 pub quiet-between : (plan : Plan) (a b : ℕ) → a ≤ b → IsQuiet plan a b → (before plan b ≡ before plan a) × (starts_before plan b ≡ starts_before plan a) × (events_before plan b ≡ events_before plan a)
 quiet-between plan a b l quiet =
     let n = b - a in
@@ -94,7 +94,7 @@ quiet-between plan a b l quiet =
     let k = quiet-seconds-change-nothing plan a b l quiet in
     (k.0, k.1, ap (events_before plan) (sym whole) ∙ events-quiet plan a n quiet')
 
--- one event second more
+-- an engine that went on and then works its next event second has gone on, with the starts there behind those before
 pub run-on-step : (old now new : Progress) (xs ys : List Start) (t : ℕ) → IsRunOn old now xs → IsNextEvent now.plan now.position (Some t) → ys ≡ starts_in now.plan t → new ≡ record now { position = t + 1; handled = now.handled + 1 }
     → IsRunOn old new (xs ++ ys)
 run-on-step old now new xs ys t h next is e =
@@ -120,7 +120,7 @@ run-on-step old now new xs ys t h next is e =
           ∙ sym (starts_before-more q t) ∙ ap (starts_before q) (sym pos);
     }
 
--- to the end of quiet seconds
+-- an engine that went on and then stands at the end of quiet seconds has gone on, with the same starts
 pub run-on-quiet : (old now new : Progress) (xs : List Start) (b : ℕ) → IsRunOn old now xs → now.position ≤ b → IsQuiet old.plan now.position b → new ≡ record now { position = b } → IsRunOn old new xs
 run-on-quiet old now new xs b h l quiet e =
     let k = quiet-between old.plan now.position b l quiet in
@@ -138,7 +138,7 @@ run-on-quiet old now new xs b h l quiet e =
       outcome = h.outcome ∙ sym k.1 ∙ ap (starts_before old.plan) (sym pos);
     }
 
--- what a failure keeps
+-- an engine that went on and then fails has gone on as far, with the same count of event seconds
 pub further-failed : (old now new : Progress) → IsFurther old now → new ≡ record now { failed = true } → IsFurther old new
 further-failed old now new h e =
     let pos : new.position ≡ now.position = ap (λ (p : Progress). p.position) e in
@@ -150,7 +150,7 @@ further-failed old now new h e =
       counted = let c = h.counted in omega (arith, c, hand, at);
     }
 
--- once no event second is left, all starts were told
+-- where no event second is left, the starts before are all starts
 pub outcome-all : (plan : Plan) (a : ℕ) → IsPlan plan → ((u : ℕ) → a ≤ u → IsEvent plan u → ⊥) → starts_before plan a ≡ sim plan
 outcome-all plan a p none =
     let b = bound plan + 1 in
@@ -159,15 +159,17 @@ outcome-all plan a p none =
     (λ (l : b ≤ a). (quiet-between plan b a l (λ u x y e. let k = event-by-bound plan u p e in omega (arith, k, x))).1)
     (cases_lt a b)
 
+-- an engine that worked its next event second stands one past an event second
 pub last-step : (old now new : Progress) (xs : List Start) (t : ℕ) → IsRunOn old now xs → IsNextEvent now.plan now.position (Some t) → new ≡ record now { position = t + 1; handled = now.handled + 1 } → IsLast old new
 last-step old now new xs t h next e =
     inr (t, ap (λ (p : Progress). p.position) e, subst (λ (p : Plan). IsEvent p t) h.further.plan next.1)
 
+-- where the position stays, it is still what it was at first, or one past an event second
 pub last-same : (old now new : Progress) → IsLast old now → new.position ≡ now.position → IsLast old new
 last-same old now new (inl e) k = inl (k ∙ e)
 last-same old now new (inr (t, e, v)) k = inr (t, k ∙ e, v)
 
--- an engine at the end of quiet seconds
+-- what an engine holds at a position it holds at the end of the quiet seconds behind it
 pub engine-on : (old now : Progress) (plan : Plan) (s : State) (upcoming : NextJobs) (last_shadow : Option Shadow) (a h b : ℕ) (f : Bool) → seen plan a h f ≡ now → IsEngine plan s upcoming last_shadow a h f → now.plan ≡ old.plan → now.failed ≡ false → IsQuiet old.plan now.position b → now.position ≤ b
     → IsEngine plan s upcoming last_shadow b h f
 engine-on old now plan s upcoming last_shadow a h b f view e same going quiet le =
@@ -184,7 +186,7 @@ engine-on old now plan s upcoming last_shadow a h b f view e same going quiet le
       failed_is = λ g. absurd (true≢false (sym g ∙ ap (λ (p : Progress). p.failed) view ∙ going));
     }
 
--- no event second is left
+-- where all seconds from the position on are quiet up to 2^64 - 1, no event second is left
 pub none-left : (old now : Progress) → IsPlan old.plan → now.plan ≡ old.plan → IsQuiet old.plan now.position 18446744073709551615 → IsNextEvent now.plan now.position None
 none-left old now p same quiet = λ u l v.
     let v' : IsEvent old.plan u = subst (λ (p : Plan). IsEvent p u) same v in

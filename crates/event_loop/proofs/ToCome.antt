@@ -1,4 +1,4 @@
--- Which jobs are still to come.
+-- Which jobs are still to come, and what the loop knows over those that arrive.
 use Rattle.std.proofs.Common.{◌≡◌, ◌≢◌, ℕ, ◌+◌, ◌≤◌, ◌<◌, true, false, cond, nat_eq, nat_le, List, [], ◌∷◌, ◌++◌, append-nil, Option, Some, All, filter, refl, sym, ◌∙◌, ap, arith, subst, inl, inr, ⊎_elim}
 use Rattle.std.proofs.lemmas.List.Sums.{sum_by-cons, sum_by-append}
 use Rattle.std.proofs.lemmas.List.Elements.{All-nil, All-cons, All-head, All-tail, All-weaker, All-filter}
@@ -11,16 +11,18 @@ use Rattle.scenarios.specs.SoundPlan as sound
 use Rattle.scenarios.proofs.Lemmas.{Lex, Lex-true, from-in, from-out}
 use Rattle.event_loop.specs.Upcoming.{NonFalling, first_submit}
 
--- those of second t
+-- the jobs that are submitted at second t
 abbrev pub at_second : ℕ → List EffectiveJob → List EffectiveJob
 at_second t js = filter (λ (j : EffectiveJob). nat_eq j.submit t) js
 
+-- a first job that is submitted at t is the first of those of t
 pub at-in : (t : ℕ) (j : EffectiveJob) (js : List EffectiveJob) → j.submit ≡ t → at_second t (j ∷ js) ≡ j ∷ at_second t js
 at-in t j js e = cond-true (nat_eq j.submit t) (j ∷ at_second t js) (at_second t js) (eq-eqb j.submit t e)
 
 pub at-out : (t : ℕ) (j : EffectiveJob) (js : List EffectiveJob) → (j.submit ≡ t → ⊥) → at_second t (j ∷ js) ≡ at_second t js
 at-out t j js e = cond-false (nat_eq j.submit t) (j ∷ at_second t js) (at_second t js) (ne_eqb j.submit t e)
 
+-- where each job comes before the next, no later one is submitted earlier
 pub non-falling : (js : List EffectiveJob) → sound.IsRising js → NonFalling js
 non-falling [] r = tt
 non-falling (j ∷ []) r = (All-nil (λ (k : EffectiveJob). j.submit ≤ k.submit), tt)
@@ -33,6 +35,7 @@ non-falling (j ∷ k ∷ js) r =
     low (inl m) = omega arith
     low (inr m) = let n = m.0 in omega (arith, n)
 
+-- those from t on are submitted at t or later
 pub from-All : (t : ℕ) (js : List EffectiveJob) → All (λ (j : EffectiveJob). t ≤ j.submit) (from_on t js)
 from-All t [] = All-nil (λ (j : EffectiveJob). t ≤ j.submit)
 from-All t (j ∷ js) =
@@ -41,6 +44,7 @@ from-All t (j ∷ js) =
     (λ (l : t ≤ j.submit). subst (λ xs. All (λ (j : EffectiveJob). t ≤ j.submit) xs) (sym (from-in t j js l)) (All-cons (λ (j : EffectiveJob). t ≤ j.submit) j (from_on t js) l (from-All t js)))
     (cases_lt j.submit t)
 
+-- where no later job is submitted earlier, so it is among those from t on
 pub from-falling : (t : ℕ) (js : List EffectiveJob) → NonFalling js → NonFalling (from_on t js)
 from-falling t [] r = tt
 from-falling t (j ∷ js) r =
@@ -77,12 +81,14 @@ at-from t u (j ∷ js) le =
     ])
     (cases_lt j.submit t)
 
+-- where all are submitted later than t, none is of second t
 pub at-none : (t : ℕ) (js : List EffectiveJob) → All (λ (j : EffectiveJob). t < j.submit) js → at_second t js ≡ []
 at-none t [] a = refl
 at-none t (j ∷ js) a =
     let l : t < j.submit = All-head (λ (j : EffectiveJob). t < j.submit) j js a in
     at-out t j js (λ e. omega arith) ∙ at-none t js (All-tail (λ (j : EffectiveJob). t < j.submit) j js a)
 
+-- where all are submitted at t or later, those from t on are all
 pub from-same : (t : ℕ) (js : List EffectiveJob) → All (λ (j : EffectiveJob). t ≤ j.submit) js → from_on t js ≡ js
 from-same t [] a = refl
 from-same t (j ∷ js) a =
@@ -92,15 +98,13 @@ from-same t (j ∷ js) a =
 pub later-all : (t : ℕ) (j : EffectiveJob) (js : List EffectiveJob) → t < j.submit → NonFalling (j ∷ js) → All (λ (k : EffectiveJob). t < k.submit) (j ∷ js)
 later-all t j js l r = All-cons (λ (k : EffectiveJob). t < k.submit) j js l (All-weaker (λ (k : EffectiveJob). j.submit ≤ k.submit) (λ (k : EffectiveJob). t < k.submit) (λ k m. omega arith) js r.0)
 
--- ---- the loop over those that arrive
-
 abbrev with_queue : State → List EffectiveJob → State
 with_queue s js = record { procs = s.procs; order = s.order; waiting = js; running = s.running }
 
 pub joined-none : (s : State) → joined s [] ≡ s
 joined-none s = ap (with_queue s) (append-nil s.waiting)
 
--- what the loop knows: with those that are left the state will be the wanted one
+-- while the jobs of t arrive: with those of t that are left the state will be the wanted one, and the same jobs come after t as at first
 pub record Arriving (s z : State) (t : ℕ) (jobs left : List EffectiveJob) : Type 0 where
   pub state : joined z (at_second t left) ≡ joined s (at_second t jobs)
   pub later : from_on (t + 1) left ≡ from_on (t + 1) jobs
@@ -130,7 +134,7 @@ can-arrive s z t jobs left rest job h e low sound =
     behind [] ys a = a
     behind (x ∷ xs) ys a = behind xs ys (All-tail (λ (j : EffectiveJob). j.size ≤ z.procs) x (xs ++ ys) a)
 
--- where the first that is left is none of second t
+-- where the first that is left is none of second t, all of t have arrived, and those from t + 1 on are left
 pub arriving-done : (s z : State) (t : ℕ) (jobs left : List EffectiveJob) → Arriving s z t jobs left → first_submit left ≢ Some t
     → (z ≡ joined s (at_second t jobs)) × (left ≡ from_on (t + 1) jobs)
 arriving-done s z t jobs [] h other = (sym (joined-none z) ∙ h.state, h.later)

@@ -1,4 +1,5 @@
--- Items in the order of their keys: a stable sort gives them, and which stand at a place doesn't depend on it.
+-- Items in the order of their keys: there is one such order that leaves those of one key as they stand, so a stable sort gives it, and which
+-- items stand at a place doesn't depend on it.
 use Rattle.std.proofs.Common.{◌≡◌, ℕ, suc, ◌≤◌, ◌<◌, Bool, true, false, cond, not, ◌&&◌, nat_eq, nat_le, List, [], ◌∷◌, length, map, filter, slice_index_or, All, refl, sym, ap, arith, ◌∙◌, ⊎_elim}
 use Rattle.std.specs.List.Sorted.{IsNonDecreasingBy, IsStableByKey, ties}
 use Rattle.std.specs.Ordering.{nat_cmp, is_lt}
@@ -7,7 +8,6 @@ use Rattle.std.proofs.lemmas.List.Elements.{All-nil, All-cons, All-filter, All-f
 use Rattle.frames.specs.declared.stretch.Stretch.{Stretch}
 use Rattle.frames.specs.Frames.{by_key, stands, standing_at, with_key}
 
--- ---- filters
 pub filter_agree : {X : Type 0} (p q : X → Bool) → ((x : X) → p x ≡ q x) → (xs : List X) → filter p xs ≡ filter q xs
 filter_agree p q h [] = refl
 filter_agree p q h (x ∷ xs) = ap (λ b. cond b (x ∷ filter p xs) (filter p xs)) (h x) ∙ ap (λ l. cond (q x) (x ∷ l) l) (filter_agree p q h xs)
@@ -28,7 +28,6 @@ filter_both {X} p q (x ∷ xs) = go (p x) (q x) refl refl (filter_both p q xs)
     go false true pe qe later = with_p false pe ∙ later
     go false false pe qe later = later
 
--- neither key comes before the other where they are the same
 same_key : (m n : ℕ) → (not (is_lt (nat_cmp n m)) && not (is_lt (nat_cmp m n))) ≡ nat_eq m n
 same_key m n =
     ⊎_elim
@@ -41,11 +40,9 @@ same_key m n =
     (cases_lt m n)
 
 module _ {X : Type 0} (key : X → ℕ) where
-  -- those of this key
   abbrev mine : ℕ → X → Bool
   mine n x = nat_eq (key x) n
 
-  -- no key is smaller than one in front of it
   abbrev pub Rises : List X → Type 0
   Rises [] = Unit {0}
   Rises (x ∷ xs) = All (λ y. key x ≤ key y) xs × Rises xs
@@ -85,7 +82,6 @@ module _ {X : Type 0} (key : X → ℕ) where
   rises_by [] = tt
   rises_by (x ∷ xs) = rises_with x (by_key key xs) (rises_by xs)
 
-  -- those of one key stay as they stand
   mine_with : (n : ℕ) (x : X) (ys : List X) → filter (mine n) (with_key key x ys) ≡ filter (mine n) (x ∷ ys)
   mine_with n x [] = refl
   mine_with n x (y ∷ ys) =
@@ -104,7 +100,6 @@ module _ {X : Type 0} (key : X → ℕ) where
   mine_by n [] = refl
   mine_by n (x ∷ xs) = mine_with n x (by_key key xs) ∙ ap (λ l. cond (mine n x) (x ∷ l) l) (mine_by n xs)
 
-  -- ---- there is one such order
   front : (x : X) (xs : List X) (n : ℕ) → key x ≡ n → filter (mine n) (x ∷ xs) ≡ x ∷ filter (mine n) xs
   front x xs n e = ap (λ (b : Bool). cond b (x ∷ filter (mine n) xs) (filter (mine n) xs)) (eq-eqb (key x) n e)
 
@@ -150,20 +145,17 @@ module _ {X : Type 0} (key : X → ℕ) where
       let others : us ≡ bs = unique us bs ra.1 rb.1 (λ s. strip a b (filter (mine (key s)) us) (filter (mine (key s)) bs) (mine (key s) a) (mine (key s) b) (ap (λ (k : ℕ). nat_eq k (key s)) same) (h s)) in
       ap (λ (x : X). x ∷ us) one ∙ ap (λ (l : List X). b ∷ l) others
 
-  -- a stable sort moves none of one key past another of it
   mine_sorted : (xs ys : List X) → IsStableByKey key nat_cmp xs ys → (s : X) → filter (mine (key s)) ys ≡ filter (mine (key s)) xs
   mine_sorted xs ys stable s =
       let by : X → Bool = ties (λ x y. is_lt (nat_cmp (key x) (key y))) s in
       let agree : (zs : List X) → filter by zs ≡ filter (mine (key s)) zs = filter_agree by (mine (key s)) (λ x. same_key (key x) (key s)) in
       sym (agree ys) ∙ stable s ∙ agree xs
 
-  -- those that pass, of a list in the order of keys
   pub passing : (p : X → Bool) (xs ys : List X) → Rises ys → IsStableByKey key nat_cmp xs ys → filter p ys ≡ by_key key (filter p xs)
   passing p xs ys rises stable =
       unique (filter p ys) (by_key key (filter p xs)) (rises_filter p ys rises) (rises_by (filter p xs))
       (λ s. filter_both (mine (key s)) p ys ∙ ap (filter p) (mine_sorted xs ys stable s) ∙ filter_both p (mine (key s)) xs ∙ sym (mine_by (key s) (filter p xs)))
 
--- ---- items by what is read of them
 map_with : {X Y : Type 0} (key : Y → ℕ) (f : X → Y) (x : X) (ys : List X) → map f (with_key (λ z. key (f z)) x ys) ≡ with_key key (f x) (map f ys)
 map_with {X} {Y} key f x [] = refl
 map_with {X} {Y} key f x (y ∷ ys) = go (nat_le (key (f x)) (key (f y))) (map_with key f x ys)

@@ -11,42 +11,44 @@ never true = refl
 never false = refl
 
 module _ {X : Type 0} where
-  -- the first stretch has an item that stands there, or none
+  -- where the first of the stretches to come stands at the place, its item is the next of those that stand there
   pub here : (place : ℕ) (all rest behind : List (Stretch X)) (s : Stretch X) → standing_at place rest ≡ standing_at place all → rest ≡ s ∷ behind → stands place s ≡ true → standing_at place all ≡ s.item ∷ standing_at place behind
   here place all rest behind s h is e =
       sym h ∙ ap (standing_at place) is ∙ ap (λ (b : Bool). map (λ (x : Stretch X). x.item) (cond b (s ∷ filter (stands place) behind) (filter (stands place) behind))) e
 
+  -- where the first of the stretches to come doesn't stand at the place, those behind it have all items of these that do
   pub elsewhere : (place : ℕ) (all rest behind : List (Stretch X)) (s : Stretch X) → standing_at place rest ≡ standing_at place all → rest ≡ s ∷ behind → stands place s ≡ false → standing_at place behind ≡ standing_at place all
   elsewhere place all rest behind s h is e =
       sym (ap (standing_at place) is ∙ ap (λ (b : Bool). map (λ (x : Stretch X). x.item) (cond b (s ∷ filter (stands place) behind) (filter (stands place) behind))) e) ∙ h
 
-  -- one of the items passes, or the first of those to come doesn't
+  -- where the first of the items to come passes the test, and those to come have all that pass, at least one of all passes
   pub one_there : (test : X → Bool) (all rest behind : List X) (x : X) → count_by test rest ≡ count_by test all → rest ≡ x ∷ behind → test x ≡ true → 1 ≤ count_by test all
   one_there test all rest behind x h is e =
       let first = ap (count_by test) is ∙ sum_by-cons (λ (y : X). cond {A = ℕ} (test y) 1 0) x behind ∙ ap (λ (b : Bool). cond {A = ℕ} b 1 0 + count_by test behind) e in
       omega (arith, h, first)
 
+  -- where the first of the items to come doesn't pass the test, as many pass of those behind it as of all
   pub none_here : (test : X → Bool) (all rest behind : List X) (x : X) → count_by test rest ≡ count_by test all → rest ≡ x ∷ behind → test x ≡ false → count_by test behind ≡ count_by test all
   none_here test all rest behind x h is e =
       let first = ap (count_by test) is ∙ sum_by-cons (λ (y : X). cond {A = ℕ} (test y) 1 0) x behind ∙ ap (λ (b : Bool). cond {A = ℕ} b 1 0 + count_by test behind) e in
       omega (arith, h, first)
 
-  -- how many stand there
+  -- as many items stand at a place as stretches do
   pub counted : (place n : ℕ) (ss : List (Stretch X)) → n ≡ count_by (stands place) ss → n ≡ length (standing_at place ss)
   counted place n ss e = e ∙ sym (length-filter (stands place) ss) ∙ sym (length-map (filter (stands place) ss) (λ (s : Stretch X). s.item))
 
-  -- items that stand at place 0 alone
+  -- items that stand at place 0 alone all stand there
   pub alone_first : (xs : List X) → standing_at 0 (map once xs) ≡ xs
   alone_first [] = refl
   alone_first (x ∷ xs) = ap (λ l. x ∷ l) (alone_first xs)
 
+  -- no items that stand at place 0 alone stand at a later place
   pub alone_later : (n : ℕ) (xs : List X) → 1 ≤ n → standing_at n (map once xs) ≡ []
   alone_later n [] l = refl
   alone_later n (x ∷ xs) l =
       let after : stands n (once x) ≡ false = ap (λ (b : Bool). nat_le 0 n && b) (le-ltb n 1 l) ∙ never (nat_le 0 n) in
       sym (elsewhere n (map once (x ∷ xs)) (map once (x ∷ xs)) (map once xs) (once x) refl refl after) ∙ alone_later n xs l
 
-  -- a stretch that stands nowhere stands at no place
   nowhere : (place : ℕ) (s : Stretch X) → stands_somewhere s ≡ false → stands place s ≡ false
   nowhere place s e =
       let l = ltb-false s.from s.to e in
@@ -55,6 +57,7 @@ module _ {X : Type 0} where
       (λ (m : s.from ≤ place). ap (λ (b : Bool). nat_le s.from place && b) (le-ltb place s.to (omega (arith, l, m))) ∙ never (nat_le s.from place))
       (cases_lt place s.from)
 
+  -- stretches that stand nowhere leave what stands at each place
   pub without-empty : EmptyStretchesStandNowhere X
   without-empty place [] = refl
   without-empty place (s ∷ ss) =

@@ -1,4 +1,5 @@
--- Accepted edits make logs.
+-- Accepted edits make logs: an edit without a fault keeps a table a table, and so each version is one.
+-- A change keeps its entry sound, since it leaves field 1 alone and its value is one that the field may have.
 use Rattle.std.proofs.Common.{◌≡◌, ◌≢◌, ℕ, zero, suc, ◌-◌, ◌≤◌, List, [], ◌∷◌, Option, Some, None, Bool, true, false, ◌==◌, ◌&&◌, ◌||◌, nat_lt, nat_le, length, take, ℤ, pos, negsuc, ◌≤ℤ◌, is_some, refl, ap, sym, subst, ◌∙◌, arith, rules, inl, inr, ◌*◌, if◌then◌else◌}
 use Rattle.std.specs.Prelude.{nat_abs}
 use Rattle.std.proofs.Math.ListN.{set}
@@ -14,7 +15,6 @@ use Rattle.job_table.proofs.Tables.{table-left, table-moved}
 use Rattle.job_table.proofs.Lookups.{found-sound}
 use Rattle.job_table.proofs.Edited.{table-more, log-more, log-less, log-changed, number-stays}
 
--- what a change without a fault may be
 record MayChange (place : ℕ) (value : ℤ) : Type 0 where
   low : 2 ≤ place
   high : place ≤ 18
@@ -32,14 +32,12 @@ may-change place value h = go (nat_lt place 2) (nat_lt 18 place) (place == 2 && 
     go false false false true p q r s k = cc
     go false false false false p q r s k = record { low = ltb-false place 2 p; high = ltb-false 18 place q; early = r; status = s }
 
--- a field after a change
 same-field : (main : List ℤ) (place : ℕ) (value : ℤ) → 2 ≤ place → place ≤ 18 → length main ≡ 18 → field (set main (place - 1) value) place ≡ value
 same-field main place value low high all = get_or-set_same main (place - 1) value (pos 0) (omega arith)
 
 other-field : (main : List ℤ) (place other : ℕ) (value : ℤ) → 2 ≤ place → 1 ≤ other → other ≢ place → field (set main (place - 1) value) other ≡ field main other
 other-field main place other value low some ne = get_or-set_other main (place - 1) (other - 1) value (pos 0) (λ e. ne (omega (arith, e)))
 
--- a fact of a field that holds of the value too
 field-kept : (P : ℤ → Type 0) (main : List ℤ) (place other : ℕ) (value : ℤ) → 2 ≤ place → place ≤ 18 → length main ≡ 18 → 1 ≤ other → (place ≡ other → P value) → P (field main other) → P (field (set main (place - 1) value) other)
 field-kept P main place other value low high all some here there = elim (cases_eq place other) [
   | inl e ↦ subst P (sym (ap (field (set main (place - 1) value)) (sym e) ∙ same-field main place value low high all)) (here e)
@@ -66,7 +64,6 @@ changed-sound place value e m small h = record {
   parts = h.parts;
 }
 
--- an accepted edit makes a log
 insertion-sound : (e : LogEntry) (log : List LogEntry) → IsTable log → IsEntry e → fault_of (Insert e) log ≡ None → IsTable (applied (Insert e) log)
 insertion-sound e log t h k = go (entry_of (number_of_entry e) log) refl (nat_le 4194304 (length log)) refl k
   where
@@ -89,16 +86,17 @@ change-sound n place value log t small k = go (entry_of n log) refl k
         let sound : IsEntry now = changed-sound place value was may small (found-sound n IsEntry log was t.log.sound p) in
         subst IsTable (log-changed n place value log was now may.low t p refl) (table-moved n was now log t p sound (number-stays n place value log was now may.low p refl))
 
+-- a table stays a table after an edit that has no fault
 pub accepted-sound : (log : List LogEntry) (edit : LogEdit) → IsTable log → IsEdit edit → fault_of edit log ≡ None → IsTable (applied edit log)
 accepted-sound log (Insert e) t h k = insertion-sound e log t h k
 accepted-sound log (Remove n) t h k = removal-sound n log t
 accepted-sound log (Change n place value) t h k = change-sound n place value log t h k
 
--- and so does each version
 after-sound : (v : ℕ) (log : List LogEntry) (edits : List LogEdit) → IsTable log → AreAccepted log edits → IsTable (log_after log (take v edits))
 after-sound zero log edits t a = t
 after-sound (suc v) log [] t a = t
 after-sound (suc v) log (edit ∷ edits) t a = after-sound v (applied edit log) edits (accepted-sound log edit t a.0 a.1) a.2
 
+-- each version of a table is a table, where each edit is accepted after those before it
 pub versions-sound : (opening : List LogEntry) (accepted : List LogEdit) → IsTable opening → AreAccepted opening accepted → (version : ℕ) → IsTable (log_at opening accepted version)
 versions-sound opening accepted t a version = after-sound version opening accepted t a

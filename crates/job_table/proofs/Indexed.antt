@@ -1,4 +1,4 @@
--- The index of some entries: their pairs, sorted by number.
+-- The index of some entries: their pairs, sorted by number. In any arrangement of them, a number has the same pair.
 use Rattle.std.proofs.Common.{◌≡◌, ◌≢◌, ℕ, ◌+◌, ◌≤◌, List, [], ◌∷◌, Option, Some, None, Bool, true, false, ◌==◌, nat_eq, cond, map, find, get_or, option_map, inl, inr, refl, ap, sym, subst, ◌∙◌, arith, if◌then◌else◌}
 use Rattle.std.specs.List.Sorted.{IsPermutation, IsNonDecreasingBy}
 use Rattle.std.proofs.lemmas.Bool.Decides.{nat_tests}
@@ -33,7 +33,6 @@ pairs-give q (e ∷ es) = go (number_of_entry e == q) (pairs-give q es)
     go true i = refl
     go false i = i
 
--- ---- the pair of a number, in any arrangement
 In-differs : (n : ℕ) (z : Numbered) (xs : List Numbered) → Lacks number_in number_in n xs → In z xs → number_in z ≢ n
 In-differs n z [] l i = absurd i
 In-differs n z (x ∷ xs) l (inl e) = subst (λ (w : Numbered). number_in w ≢ n) e l.0
@@ -71,6 +70,7 @@ found-same q xs ys p a b = go (found number_in number_in q ys) refl (found numbe
     go None s None t = refl
     go None s (Some z) t = sym s ∙ moved ys xs (IsPermutation-sym xs ys p) b z t
 
+-- where no two entries have one number, their pairs, sorted by number, are an index of them
 pub index-sorted : (es : List LogEntry) (sorted : List Numbered) → IsDistinct es → IsPermutation (map pair_of es) sorted → IsNonDecreasingBy number_in sorted → IsIndex sorted es
 index-sorted es sorted d p up =
     let few : (n : ℕ) → numbered number_in n (map pair_of es) ≤ 1 = λ n. subst (λ (k : ℕ). k ≤ 1) (sym (numbered-pairs n es)) (d n) in

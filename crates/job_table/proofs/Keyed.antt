@@ -1,4 +1,6 @@
--- Lists whose elements rise by two numbers of each, the second of which no two share.
+-- Lists whose elements rise by two numbers of each, the second of which no two share: which element has a number (found, Lacks, Apart)
+-- and where it stands, the list with an element put behind those that come before it (placed), without the element of a number (left),
+-- or with that element changed (turned), and maps that give the first number of each element by its second (Indexes).
 use Rattle.std.proofs.Common.{◌≡◌, ◌≢◌, ℕ, zero, suc, ◌<◌, ◌≤◌, ◌+◌, List, [], ◌∷◌, Option, Some, None, Bool, true, false, ◌==◌, not, map, find, filter, length, get_or, option_map, refl, ap, sym, ◌∙◌, arith, if◌then◌else◌, insert, remove, slice_get, slice_set, cond}
 use Rattle.std.specs.List.Sorted.{IsPartitionedBy, IsPartitionPoint}
 use Rattle.std.specs.List.{position_or_len}
@@ -11,16 +13,18 @@ use Rattle.job_table.proofs.Arrangement.{comes, comes-trans, comes-itself, comes
 one_more : (k : ℕ) → 1 + k ≡ suc k
 one_more k = omega arith
 
+-- numbers that the test finds equal are equal
 pub same_number : (a n : ℕ) → (a == n) ≡ true → a ≡ n
 same_number a n h = grind (arith, nat_tests)
 
+-- numbers that the test does not find equal differ
 pub other_number : (a n : ℕ) → (a == n) ≡ false → a ≢ n
 other_number a n h = grind (arith, nat_tests)
 
+-- the test does not find numbers equal that differ
 pub number_differs : (a n : ℕ) → a ≢ n → (a == n) ≡ false
 number_differs a n h = grind (arith, nat_tests)
 
--- the pair (t, m) comes before (s, n)
 abbrev pub test : ℕ → ℕ → ℕ → ℕ → Bool
 test s n t m = comes t m s n
 
@@ -41,9 +45,11 @@ module _ {X : Type 0} (at num : X → ℕ) where
   abbrev pub stands : ℕ → ℕ → X → Bool
   stands s n e = test s n (at e) (num e)
 
+  -- the element comes before each of these
   abbrev pub Lead : X → List X → Type 0
   Lead x xs = Leads at num x xs
 
+  -- each element comes before all later ones
   abbrev pub Rise : List X → Type 0
   Rise xs = Rises at num xs
 
@@ -52,13 +58,16 @@ module _ {X : Type 0} (at num : X → ℕ) where
   Lacks n [] = Unit {0}
   Lacks n (y ∷ ys) = (num y ≢ n) × Lacks n ys
 
+  -- no two of these have the same number
   abbrev pub Apart : List X → Type 0
   Apart [] = Unit {0}
   Apart (x ∷ xs) = Lacks (num x) xs × Apart xs
 
+  -- the first of these with the number, if any
   abbrev pub found : ℕ → List X → Option X
   found n xs = find (λ e. num e == n) xs
 
+  -- these without those that have the number
   abbrev pub left : ℕ → List X → List X
   left n xs = filter (λ e. not (num e == n)) xs
 
@@ -67,6 +76,7 @@ module _ {X : Type 0} (at num : X → ℕ) where
   placed e [] = e ∷ []
   placed e (x ∷ xs) = if comes (at x) (num x) (at e) (num e) then x ∷ placed e xs else e ∷ x ∷ xs
 
+  -- these put one after another, the last first, each behind those that come before it
   abbrev pub arranged : List X → List X
   arranged [] = []
   arranged (x ∷ xs) = placed x (arranged xs)
@@ -76,6 +86,7 @@ module _ {X : Type 0} (at num : X → ℕ) where
   Leads-at x (y ∷ ys) h zero d lt = h.0
   Leads-at x (y ∷ ys) h (suc j) d lt = Leads-at x ys h.1 j d (omega arith)
 
+  -- in a rising list, the elements that stand before the pair (s, n) stand before all others
   pub parted : (s n : ℕ) (xs : List X) → Rise xs → IsPartitionedBy (stands s n) xs
   parted s n [] r i j d le lt t = absurd (omega arith)
   parted s n (x ∷ xs) r zero zero d le lt t = t
@@ -87,6 +98,7 @@ module _ {X : Type 0} (at num : X → ℕ) where
   placed_at d s n xs i le h =
       sym (position_or_len_is (λ e. not (stands s n e)) xs i d le (λ k lt. ap not (h.0 k d (omega arith) lt)) (λ lt. ap not (h.1 i d (omega arith) lt)))
 
+  -- the element found by a number has the number
   pub found-number : (n : ℕ) (xs : List X) (e : X) → found n xs ≡ Some e → (num e) ≡ n
   found-number n [] e h = cc
   found-number n (x ∷ xs) e h = go ((num x) == n) refl h (found-number n xs e)
@@ -103,7 +115,6 @@ module _ {X : Type 0} (at num : X → ℕ) where
       go true k r = let same : y ≡ e = cc in rw (← same) l.0
       go false k r = r k
 
-  -- where the entry of a number stands
   pub place-found : (n : ℕ) (xs : List X) (e : X) → Rise xs → found n xs ≡ Some e → position_or_len (λ x. not (stands (at e) n x)) xs ≡ position_or_len (λ x. (num x) == n) xs
   place-found n [] e r h = refl
   place-found n (x ∷ xs) e r h = go ((num x) == n) refl h r.0 (place-found n xs e r.1)
@@ -117,11 +128,11 @@ module _ {X : Type 0} (at num : X → ℕ) where
           let at : stands (at e) n x ≡ true = rw (sym (found-number n xs e k)) (Leads-found n x xs e lead k) in
           rw (t, at) (ap (λ i. 1 + i) (r k))
 
+  -- a list that lacks the number is the same without those that have it
   pub without-Lacks : (n : ℕ) (xs : List X) → Lacks n xs → left n xs ≡ xs
   without-Lacks n [] l = refl
   without-Lacks n (x ∷ xs) l = rw (number_differs (num x) n l.0) (ap (λ ys. x ∷ ys) (without-Lacks n xs l.1))
 
-  -- taking out the entry of a number
   pub remove-found : (n : ℕ) (xs : List X) → Apart xs → remove xs (position_or_len (λ x. (num x) == n) xs) ≡ left n xs
   remove-found n [] d = refl
   remove-found n (x ∷ xs) d = go ((num x) == n) refl d.0 (remove-found n xs d.1)
@@ -151,6 +162,7 @@ module _ {X : Type 0} (at num : X → ℕ) where
   Leads-trans x y [] b l = tt
   Leads-trans x y (z ∷ zs) b l = (test-trans (at z) (num z) (at y) (num y) (at x) (num x) l.0 b, Leads-trans x y zs b l.1)
 
+  -- a rising list rises with an element put in whose number it lacks
   pub rising-placed : (e : X) (xs : List X) → Rise xs → Lacks (num e) xs → Rise (placed e xs)
   rising-placed e [] r l = (tt, tt)
   rising-placed e (x ∷ xs) r l = go (stands (at e) (num e) x) refl (rising-placed e xs r.1 l.1)
@@ -169,6 +181,7 @@ module _ {X : Type 0} (at num : X → ℕ) where
       go true t r = rw t (l.0, r)
       go false t r = rw t (b, l)
 
+  -- a list where no two have the same number is such a list with an element put in whose number it lacks
   pub distinct-placed : (e : X) (xs : List X) → Apart xs → Lacks (num e) xs → Apart (placed e xs)
   distinct-placed e [] d l = (tt, tt)
   distinct-placed e (x ∷ xs) d l = go (stands (at e) (num e) x) refl (distinct-placed e xs d.1 l.1)
@@ -177,6 +190,7 @@ module _ {X : Type 0} (at num : X → ℕ) where
       go true t k = rw t (Lacks-placed (num x) e xs (λ q. l.0 (sym q)) d.0, k)
       go false t k = rw t (l, d)
 
+  -- a list lacks a number by which nothing is found in it
   pub Lacks-from_none : (n : ℕ) (xs : List X) → found n xs ≡ None → Lacks n xs
   Lacks-from_none n [] h = tt
   Lacks-from_none n (x ∷ xs) h = go ((num x) == n) refl h (Lacks-from_none n xs)
@@ -185,19 +199,21 @@ module _ {X : Type 0} (at num : X → ℕ) where
       go true t k r = cc
       go false t k r = (other_number (num x) n t, r k)
 
+  -- nothing is found in a list by a number that it lacks
   pub found-Lacks : (n : ℕ) (xs : List X) → Lacks n xs → found n xs ≡ None
   found-Lacks n [] l = refl
   found-Lacks n (x ∷ xs) l = rw (number_differs (num x) n l.0) (found-Lacks n xs l.1)
 
-  -- the log of a log, with one more
   pub placed-first : (x : X) (xs : List X) → Lead x xs → placed x xs ≡ x ∷ xs
   placed-first x [] l = refl
   placed-first x (y ∷ ys) l = rw (test-asym (at y) (num y) (at x) (num x) l.0) refl
 
+  -- a rising list is as its elements are put one after another
   pub arranged-rising : (xs : List X) → Rise xs → arranged xs ≡ xs
   arranged-rising [] r = refl
   arranged-rising (x ∷ xs) r = rw (arranged-rising xs r.1) (placed-first x xs r.0)
 
+  -- with an element put in whose number the list lacks, that element is found by its number, and by each other number what was found before
   pub found-placed : (q : ℕ) (e : X) (xs : List X) → Lacks (num e) xs → found q (placed e xs) ≡ (if (num e) == q then Some e else found q xs)
   found-placed q e [] l = refl
   found-placed q e (x ∷ xs) l = go (stands (at e) (num e) x) refl (found-placed q e xs l.1)
@@ -220,6 +236,7 @@ module _ {X : Type 0} (at num : X → ℕ) where
       go true t r = rw t r
       go false t r = rw t (l.0, r)
 
+  -- a rising list rises without those that have a number
   pub rising-without : (n : ℕ) (xs : List X) → Rise xs → Rise (left n xs)
   rising-without n [] l = tt
   rising-without n (y ∷ ys) l = go ((num y) == n) refl (rising-without n ys l.1)
@@ -236,6 +253,7 @@ module _ {X : Type 0} (at num : X → ℕ) where
       go true t r = rw t r
       go false t r = rw t (l.0, r)
 
+  -- a list where no two have the same number is such a list without those that have a number
   pub distinct-without : (n : ℕ) (xs : List X) → Apart xs → Apart (left n xs)
   distinct-without n [] l = tt
   distinct-without n (y ∷ ys) l = go ((num y) == n) refl (distinct-without n ys l.1)
@@ -244,6 +262,7 @@ module _ {X : Type 0} (at num : X → ℕ) where
       go true t r = rw t r
       go false t r = rw t (Lacks-without (num y) n ys l.0, r)
 
+  -- without those that have a number, nothing is found by it, and by each other number what was found before
   pub found-without : (q n : ℕ) (xs : List X) → found q (left n xs) ≡ (if n == q then None else found q xs)
   found-without q n [] = both (n == q)
     where
@@ -262,6 +281,7 @@ module _ {X : Type 0} (at num : X → ℕ) where
       go false false true u v w r = rw (u, v, w) (rw w at r)
       go false false false u v w r = rw (u, v, w) (rw w at r)
 
+  -- in a rising list, where the element found by n has s as its first number, it stands at the place of (s, n)
   pub get_place : (n s : ℕ) (xs : List X) → Rise xs → Some s ≡ option_map at (found n xs) → slice_get xs (position_or_len (λ x. not (stands s n x)) xs) ≡ found n xs
   get_place n s xs r h = go (found n xs) refl h
     where
@@ -271,6 +291,7 @@ module _ {X : Type 0} (at num : X → ℕ) where
           let same : s ≡ (at e) = cc in
           rw same (ap (slice_get xs) (place-found n xs e r t) ∙ sym (find_at (λ x. (num x) == n) xs))
 
+  -- where the element found by n has s as its first number, a rising list without what stands at the place of (s, n) is that without those that have n
   pub remove_place : (n s : ℕ) (xs : List X) → Rise xs → Apart xs → Some s ≡ option_map at (found n xs) → remove xs (position_or_len (λ x. not (stands s n x)) xs) ≡ left n xs
   remove_place n s xs r d h = go (found n xs) refl h
     where
@@ -286,7 +307,6 @@ module _ {X : Type 0} (at num : X → ℕ) where
       let after : stands (at e) (num e) y ≡ false = rw (← a, ← b) (test-asym (at y) (num y) (at x) (num x) l.0) in
       rw after refl
 
-  -- another element with the two numbers of one, in its place
   set-placed : (e : X) (xs : List X) (was : X) → Rise xs → Apart xs → found (num e) xs ≡ Some was → at was ≡ at e
       → slice_set xs (position_or_len (λ x. (num x) == num e) xs) e ≡ placed e (left (num e) xs)
   set-placed e [] was r d h s = cc
@@ -304,6 +324,8 @@ module _ {X : Type 0} (at num : X → ℕ) where
           let before : stands (at e) (num e) x ≡ true = rw (← s, sym (found-number (num e) xs was k)) (Leads-found (num e) x xs was r.0 k) in
           rw (t, one_more, before) (ap (λ ys. x ∷ ys) (i k))
 
+  -- where the element found by a number has the same first number as e, whose number it is, e set at its place in a rising list gives
+  -- the list without those of the number and with e put in
   pub set_place : (e : X) (xs : List X) → Rise xs → Apart xs → Some (at e) ≡ option_map at (found (num e) xs)
       → slice_set xs (position_or_len (λ x. not (stands (at e) (num e) x)) xs) e ≡ placed e (left (num e) xs)
   set_place e xs r d h = go (found (num e) xs) refl h
@@ -319,7 +341,6 @@ module _ {X : Type 0} (at num : X → ℕ) where
   submit_if true o p = refl
   submit_if false o p = refl
 
-  -- a map by number that gives the first number of each element
   abbrev pub Indexes : (ℕ → Option ℕ) → List X → Type 0
   Indexes look xs = (q : ℕ) → look q ≡ option_map at (found q xs)
 
@@ -327,11 +348,12 @@ module _ {X : Type 0} (at num : X → ℕ) where
       → ((q : ℕ) → new q ≡ cond (num e == q) (Some (at e)) (old q)) → Indexes new (placed e xs)
   indexes-placed e xs old new i l u q = u q ∙ rw (i q, found-placed q e xs l) (sym (submit_if (num e == q) (Some e) (found q xs)))
 
+  -- a map of the list that gives nothing for a number, and for each other what it gave before, is the map of the list without those that have the number
   pub indexes-without : (n : ℕ) (xs : List X) (old new : ℕ → Option ℕ) → Indexes old xs
       → ((q : ℕ) → new q ≡ cond (n == q) None (old q)) → Indexes new (left n xs)
   indexes-without n xs old new i u q = u q ∙ rw (i q, found-without q n xs) (sym (submit_if (n == q) None (found q xs)))
 
-  -- as the code has them
+  -- where an element with the number n is found, and the list has it at i, i is within the list
   pub at_within : (n s : ℕ) (xs : List X) (i : ℕ) → Some s ≡ option_map at (found n xs) → slice_get xs i ≡ found n xs → i < length xs
   at_within n s xs i h k = go (found n xs) refl h
     where
@@ -339,6 +361,7 @@ module _ {X : Type 0} (at num : X → ℕ) where
       go None t m = cc
       go (Some e) t m = slice_get_within xs i e (k ∙ t)
 
+  -- where the element found by a number has no first number, there is none
   pub none_there : (n : ℕ) (xs : List X) → None ≡ option_map at (found n xs) → found n xs ≡ None
   none_there n xs h = go (found n xs) refl h
     where
@@ -346,6 +369,7 @@ module _ {X : Type 0} (at num : X → ℕ) where
       go None t m = t
       go (Some e) t m = cc
 
+  -- a map of the list with the two numbers of an element more, whose number the list lacks, is the map of the list with that element put in
   pub indexes_at : (e : X) (xs : List X) (old new : ℕ → Option ℕ) (k v : ℕ) → Indexes old xs → Lacks (num e) xs → k ≡ num e → v ≡ at e
       → ((q : ℕ) → new q ≡ cond (k == q) (Some v) (old q)) → Indexes new (placed e xs)
   indexes_at e xs old new k v i l a b u = indexes-placed e xs old new i l (λ q. u q ∙ rw (a, b) refl)
@@ -360,7 +384,6 @@ module _ {X : Type 0} (at num : X → ℕ) where
           let first : placed e ys ≡ e ∷ ys = placed-first e ys (Leads-trans e x ys after l) in
           rw (t, first, after) (ap (λ zs. e ∷ zs) (placed-first x ys l))
 
-  -- the list, the element of a number changed
   abbrev pub turned : ℕ → (X → X) → List X → List X
   turned n f xs = map (λ e. if num e == n then f e else e) xs
 
@@ -368,6 +391,8 @@ module _ {X : Type 0} (at num : X → ℕ) where
   turned-Lacks n f [] l = refl
   turned-Lacks n f (x ∷ xs) l = rw (number_differs (num x) n l.0) (ap (λ ys. x ∷ ys) (turned-Lacks n f xs l.1))
 
+  -- a rising list of distinct numbers, of which the element found by n is turned and keeps its number, put one after another, is the list
+  -- without that one and with the turned element put in
   pub arranged-turned : (n : ℕ) (f : X → X) (keeps : (e : X) → num (f e) ≡ num e) (xs : List X) (e : X) → Rise xs → Apart xs → found n xs ≡ Some e → arranged (turned n f xs) ≡ placed (f e) (left n xs)
   arranged-turned n f keeps [] e r d h = cc
   arranged-turned n f keeps (x ∷ xs) e r d h = go (num x == n) refl h r d (arranged-turned n f keeps xs e r.1 d.1)
@@ -383,6 +408,7 @@ module _ {X : Type 0} (at num : X → ℕ) where
           let differs : num (f e) ≢ num x = λ q. other_number (num x) n t (sym q ∙ keeps e ∙ found-number n xs e k) in
           rw (t, ih k) (placed_over x (f e) (left n xs) (Leads-without n x xs rr.0) differs)
 
+  -- without those that have a number, the list lacks the number
   pub Lacks-itself : (n : ℕ) (xs : List X) → Lacks n (left n xs)
   Lacks-itself n [] = tt
   Lacks-itself n (x ∷ xs) = go (num x == n) refl (Lacks-itself n xs)
@@ -391,6 +417,8 @@ module _ {X : Type 0} (at num : X → ℕ) where
       go true t r = rw t r
       go false t r = rw t (other_number (num x) n t, r)
 
+  -- a map of the list that gives for n the first number of an element with n, and for each other what it gave before, is the map of the list
+  -- without those that have n and with that element put in
   pub indexes-moved : (n v : ℕ) (xs : List X) (e : X) (old new : ℕ → Option ℕ) → Indexes old xs → num e ≡ n → v ≡ at e
       → ((q : ℕ) → new q ≡ cond (n == q) (Some v) (old q)) → Indexes new (placed e (left n xs))
   indexes-moved n v xs e old new i same is u q =

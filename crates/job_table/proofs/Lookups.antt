@@ -7,6 +7,7 @@ use Rattle.job_table.specs.Edit.{entry_of}
 use Rattle.job_table.specs.Table.{IsTable}
 use Rattle.job_table.proofs.Tables.{table-drop}
 
+-- what holds of all entries holds of the one that is found by its number
 pub found-sound : (n : ℕ) (P : LogEntry → Type 0) (xs : List LogEntry) (e : LogEntry) → AllByRecursion P xs → entry_of n xs ≡ Some e → P e
 found-sound n P [] e a h = cc
 found-sound n P (x ∷ xs) e a h = go (number_of_entry x == n) h (found-sound n P xs e a.1)
@@ -15,11 +16,11 @@ found-sound n P (x ∷ xs) e a h = go (number_of_entry x == n) h (found-sound n 
     go true k i = let same : x ≡ e = cc in subst P same a.0
     go false k i = i k
 
--- the entries after the first
+-- the entries of a table after the first are a table
 pub next-table : (es rest : List LogEntry) (e : LogEntry) → es ≡ e ∷ rest → IsTable es → IsTable rest
 next-table es rest e h t = table-drop 1 (e ∷ rest) (subst IsTable h t)
 
--- two lists of which one has come to its end
+-- where one of two lists has come to its end, they are equal exactly if the other has too
 pub same-end : (some others all-some all-others : List LogEntry) (p : Option (Bor LogEntry)) (r : Bool) → some ≡ [] → option_copied p ≡ slice_get others 0 → is_some p ≡ not r
     → (some ≡ others → all-some ≡ all-others) × (all-some ≡ all-others → some ≡ others) → (IsTrue r → all-some ≡ all-others) × (all-some ≡ all-others → IsTrue r)
 same-end some [] a b None true e p k inv = ((λ t. inv.0 e), (λ t. refl))

@@ -1,4 +1,5 @@
--- Pairs that rise by job number: where one stands, and what they give after an edit.
+-- Pairs that rise by job number: where one stands, and what they give after an edit, which puts a pair in, takes one out, or gives
+-- a number another second.
 use Rattle.std.proofs.Common.{◌≡◌, ℕ, suc, ◌+◌, ◌<◌, ◌≤◌, List, [], ◌∷◌, Option, Some, None, Bool, true, false, ◌==◌, find, length, option_map, is_some, insert, remove, slice_get, slice_set, refl, ap, sym, subst, ◌∙◌, arith, if◌then◌else◌}
 use Rattle.std.specs.List.Sorted.{IsPartitionedBy}
 use Rattle.std.proofs.lemmas.Bool.Decides.{nat_tests}
@@ -11,7 +12,6 @@ use Rattle.job_table.proofs.Keyed.{Rise, Apart, Lacks, found, left, placed, part
 one_more : (k : ℕ) → 1 + k ≡ suc k
 one_more k = omega arith
 
--- the pairs rise by their numbers
 abbrev pub Up : List Numbered → Type 0
 Up pairs = Rise number_in number_in pairs
 
@@ -36,10 +36,12 @@ pub up-from : (ps : List Numbered) → NumbersRise ps → Up ps
 up-from [] h = tt
 up-from (p ∷ ps) h = (leads-below p ps h.0, up-from ps h.1)
 
+-- pairs of which each comes before all later ones by number have rising numbers
 pub rise-from : (ps : List Numbered) → Up ps → NumbersRise ps
 rise-from [] h = tt
 rise-from (p ∷ ps) h = (below-leads p ps h.0, rise-from ps h.1)
 
+-- of pairs with rising numbers, those below a number stand before all others
 pub parted-numbers : (n : ℕ) (ps : List Numbered) → NumbersRise ps → IsPartitionedBy (stands number_in number_in n n) ps
 parted-numbers n ps h = parted number_in number_in n n ps (up-from ps h)
 
@@ -55,7 +57,6 @@ apart-from : (ps : List Numbered) → NumbersRise ps → Apart number_in number_
 apart-from [] h = tt
 apart-from (p ∷ ps) h = (lacks-below (number_in p) ps h.0, apart-from ps h.1)
 
--- ---- whether a number is there
 abbrev pub has : ℕ → Option Numbered → Bool
 has n None = false
 has n (Some p) = number_in p == n
@@ -76,10 +77,10 @@ has-is n (p ∷ ps) h = go (stands number_in number_in n n p) refl (number_in p 
         let le : n ≤ number_in p = comes-not (number_in p) n t in
         rw (t, u) (sym (none-below n ps (below-down n (number_in p) ps le h.0)))
 
+-- the pair at the place of a number has the number exactly if the pairs give it a second
 pub has-copied : (n : ℕ) (ps : List Numbered) (o : Option Numbered) → NumbersRise ps → o ≡ slice_get ps (place_in number_in number_in n n ps) → has n o ≡ is_some (second_of ps n)
 has-copied n ps o h e = ap (has n) e ∙ has-is n ps h
 
--- what is told of a number by the pair at its place
 abbrev pub outcome : ℕ → Option Numbered → Option ℕ
 outcome n None = None
 outcome n (Some p) = if number_in p == n then Some (second_in p) else None
@@ -98,10 +99,10 @@ outcome-is n (p ∷ ps) h = go (stands number_in number_in n n p) refl (number_i
         let none : second_of ps n ≡ None = ap (λ (o : Option Numbered). option_map second_in o) (found-Lacks number_in number_in n ps (lacks-below n ps (below-down n (number_in p) ps le h.0))) in
         rw (t, u) (sym none)
 
+-- a pair with the number at its place has the second that the pairs give it; where there is no such pair, they give none
 pub outcome-copied : (n : ℕ) (ps : List Numbered) (o : Option Numbered) → NumbersRise ps → o ≡ slice_get ps (place_in number_in number_in n n ps) → outcome n o ≡ second_of ps n
 outcome-copied n ps o h e = ap (outcome n) e ∙ outcome-is n ps h
 
--- ---- a number more
 given : (b : Bool) (p : Numbered) (o : Option Numbered) → option_map second_in (if b then Some p else o) ≡ (if b then Some (second_in p) else option_map second_in o)
 given true p o = refl
 given false p o = refl
@@ -110,15 +111,16 @@ module _ (pair : Numbered) (ps new : List Numbered) (h : NumbersRise ps) where
   lacks-new : second_of ps (number_in pair) ≡ None → Lacks number_in number_in (number_in pair) ps
   lacks-new e = Lacks-from_none number_in number_in (number_in pair) ps (none_there second_in number_in (number_in pair) ps (sym e))
 
+  -- pairs that rise by number rise with a pair put in at its place, where they give no second to its number
   pub more-rises : second_of ps (number_in pair) ≡ None → new ≡ insert ps (place_in number_in number_in (number_in pair) (number_in pair) ps) pair → NumbersRise new
   more-rises e f = subst NumbersRise (sym (f ∙ insert-placed number_in number_in pair ps)) (rise-from (placed number_in number_in pair ps) (rising-placed number_in number_in pair ps (up-from ps h) (lacks-new e)))
 
+  -- with a pair of a new number put in at its place, the pairs give its number its second, and each other number what they gave before
   pub more-gives : second_of ps (number_in pair) ≡ None → new ≡ insert ps (place_in number_in number_in (number_in pair) (number_in pair) ps) pair → (q : ℕ) → second_of new q ≡ (if number_in pair == q then Some (second_in pair) else second_of ps q)
   more-gives e f q =
       ap (λ (l : List Numbered). second_of l q) (f ∙ insert-placed number_in number_in pair ps)
       ∙ ap (λ (o : Option Numbered). option_map second_in o) (found-placed number_in number_in q pair ps (lacks-new e)) ∙ given (number_in pair == q) pair (found number_in number_in q ps)
 
--- ---- a number that is there
 pub number-there : (n : ℕ) (ps : List Numbered) → is_some (second_of ps n) ≡ true → Some n ≡ option_map number_in (found number_in number_in n ps)
 number-there n ps h = go (found number_in number_in n ps) refl h
   where
@@ -126,6 +128,7 @@ number-there n ps h = go (found number_in number_in n ps) refl h
     go None t k = cc
     go (Some p) t k = ap (λ (m : ℕ). Some m) (sym (found-number number_in number_in n ps p t))
 
+-- the place of a number to which rising pairs give a second is within them
 pub number-within : (n : ℕ) (ps : List Numbered) → NumbersRise ps → is_some (second_of ps n) ≡ true → place_in number_in number_in n n ps < length ps
 number-within n ps h k = at_within number_in number_in n n ps (place_in number_in number_in n n ps) (number-there n ps k) (get_place number_in number_in n n ps (up-from ps h) (number-there n ps k))
 
@@ -133,9 +136,11 @@ module _ (n : ℕ) (ps new : List Numbered) (h : NumbersRise ps) (k : is_some (s
   fewer : new ≡ left number_in number_in n ps
   fewer = f ∙ remove_place number_in number_in n n ps (up-from ps h) (apart-from ps h) (number-there n ps k)
 
+  -- pairs that rise by number rise without the pair of a number to which they give a second
   pub fewer-rises : NumbersRise new
   fewer-rises = subst NumbersRise (sym fewer) (rise-from (left number_in number_in n ps) (rising-without number_in number_in n ps (up-from ps h)))
 
+  -- without the pair of a number, the pairs give that number no second, and each other number what they gave before
   pub fewer-gives : (q : ℕ) → second_of new q ≡ (if n == q then None else second_of ps q)
   fewer-gives q = ap (λ (l : List Numbered). second_of l q) fewer ∙ ap (λ (o : Option Numbered). option_map second_in o) (found-without number_in number_in q n ps) ∙ gone (n == q) (found number_in number_in q ps)
     where
@@ -143,7 +148,6 @@ module _ (n : ℕ) (ps new : List Numbered) (h : NumbersRise ps) (k : is_some (s
       gone true o = refl
       gone false o = refl
 
--- ---- another second for a number
 module _ (pair : Numbered) where
   abbrev pub spot : List Numbered → ℕ
   spot ps = place_in number_in number_in (number_in pair) (number_in pair) ps
@@ -208,8 +212,10 @@ module _ (pair : Numbered) where
           cc
 
   module _ (ps new : List Numbered) (h : NumbersRise ps) (k : is_some (second_of ps (number_in pair)) ≡ true) (f : new ≡ slice_set ps (spot ps) pair) where
+    -- pairs that rise by number rise with another second at the place of a number that they have
     pub other-rises : NumbersRise new
     other-rises = subst NumbersRise (sym f) (set-rises ps h k)
 
+    -- they give that number the other second, and each other number what they gave before
     pub other-gives : (q : ℕ) → second_of new q ≡ (if number_in pair == q then Some (second_in pair) else second_of ps q)
     other-gives q = ap (λ (l : List Numbered). second_of l q) f ∙ set-gives ps h k q

@@ -10,7 +10,6 @@ use Rattle.std.proofs.lemmas.Slice.Eq.{slice_eq-Decides}
 use Rattle.swf_text.specs.declared.line.Fields.{Fields}
 use Rattle.swf_text.specs.Entry.{LogEntry, values}
 
--- the test of two lines
 abbrev pub same_line : Fields → Fields → Bool
 same_line a b = pointwise int_eq a.0 b.0
 
@@ -22,7 +21,6 @@ line-Decides a b =
     let d = slice_eq-Decides Decides-int_eq a.0 b.0 (same_line a b) refl in
     ((λ t. line-from a b (d.0 t)), (λ e. d.1 (ap values e)))
 
--- the test of two lists up to a place, with the next two
 equal-next : (k : ℕ) (xs ys : List ℤ) (x y : ℤ) → k < length xs → k < length ys → pointwise int_eq (take (suc k) xs) (take (suc k) ys) ≡ (pointwise int_eq (take k xs) (take k ys) && int_eq (slice_index_or xs k x) (slice_index_or ys k y))
 equal-next k [] ys x y l m = absurd (omega (arith, l))
 equal-next k (a ∷ xs) [] x y l m = absurd (omega (arith, m))
@@ -31,6 +29,7 @@ equal-next (suc k) (a ∷ xs) (b ∷ ys) x y l m =
     ap (λ (t : Bool). int_eq a b && t) (equal-next k xs ys x y (omega (arith, l)) (omega (arith, m)))
     ∙ sym (and_assoc (int_eq a b) (pointwise int_eq (take k xs) (take k ys)) (int_eq (slice_index_or xs k x) (slice_index_or ys k y)))
 
+-- the tests of two lists of values up to a place, and of the next two values, are the test up to the next place
 pub equal-more : (k : ℕ) (xs ys : List ℤ) (x y : ℤ) (same next : Bool) → k < length xs → length xs ≡ length ys → same ≡ pointwise int_eq (take k xs) (take k ys) → x ≡ slice_index_or xs k x → y ≡ slice_index_or ys k y → next ≡ int_eq x y
     → (same && next) ≡ pointwise int_eq (take (k + 1) xs) (take (k + 1) ys)
 equal-more k xs ys x y same next l m e p q f =
@@ -38,13 +37,13 @@ equal-more k xs ys x y same next l m e p q f =
     let pair : next ≡ int_eq (slice_index_or xs k x) (slice_index_or ys k y) = f ∙ ap (λ (z : ℤ). int_eq z y) p ∙ ap (int_eq (slice_index_or xs k x)) q in
     ap (λ (t : Bool). t && next) e ∙ ap (λ (t : Bool). pointwise int_eq (take k xs) (take k ys) && t) pair ∙ sym (equal-next k xs ys x y l (omega (arith, l, m))) ∙ ap (λ (n : ℕ). pointwise int_eq (take n xs) (take n ys)) (sym after)
 
--- once all are tested
+-- once all values of two lists of one length are tested, the test holds exactly if the lists are equal
 pub equal-all : (k : ℕ) (xs ys : List ℤ) (same : Bool) → length xs ≤ k → length xs ≡ length ys → same ≡ pointwise int_eq (take k xs) (take k ys) → IsTrue same ↔ (xs ≡ ys)
 equal-all k xs ys same l m e =
     let whole : same ≡ pointwise int_eq xs ys = e ∙ ap (λ (zs : List ℤ). pointwise int_eq zs (take k ys)) (take_all k xs l) ∙ ap (pointwise int_eq xs) (take_all k ys (omega (arith, l, m))) in
     slice_eq-Decides Decides-int_eq xs ys same whole
 
--- of other lengths they differ
+-- lists of different lengths are not equal
 pub other-lengths : (xs ys : List ℤ) → (length xs ≡ length ys → ⊥) → IsTrue false ↔ (xs ≡ ys)
 other-lengths xs ys n = ((λ f. absurd (true≢false (sym f))), (λ e. absurd (n (ap length e))))
 

@@ -13,6 +13,7 @@ use Rattle.job_table.proofs.LogOrder.{log_of-permutes, log_of-rises}
 use Rattle.job_table.proofs.Keyed.{arranged}
 use Rattle.job_table.proofs.Tables.{log-counted, table-from, Apart-counted, all-placed, arranged-is}
 
+-- the submit second and the job number of an entry
 abbrev pub key : LogEntry → ℕ × ℕ
 key e = (submit_of e, number_of_entry e)
 
@@ -20,7 +21,7 @@ all-arranged : (P : LogEntry → Type 0) (es : List LogEntry) → AllByRecursion
 all-arranged P [] a = tt
 all-arranged P (e ∷ es) a = all-placed submit_of number_of_entry P e (arranged submit_of number_of_entry es) a.0 (all-arranged P es a.1)
 
--- the log of a collection with distinct numbers stands in its order
+-- the log of entries that may stand together is a table
 pub log-table : (es : List LogEntry) → IsLog es → IsTable (log_of es)
 log-table es l =
     table-from (log_of es) (subst (AllByRecursion IsEntry) (arranged-is es) (all-arranged IsEntry es l.sound))

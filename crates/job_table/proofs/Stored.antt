@@ -1,4 +1,4 @@
--- What a table stores, after an edit.
+-- What a table stores, after an edit; what is read of it, and what the counts of an edit take from it.
 use Rattle.std.proofs.Common.{◌≡◌, ℕ, ◌+◌, ◌-◌, ◌<◌, ◌≤◌, List, [], ◌∷◌, Option, Some, None, Bool, true, false, ◌==◌, not, length, Bor, option_map, option_copied, is_some, IsSome, IfSome, IsTrue, refl, ap, sym, subst, ◌∙◌, arith, if◌then◌else◌}
 use Rattle.std.specs.List.{position_or_len}
 use Rattle.std.proofs.lemmas.Bool.Decides.{nat_tests}
@@ -12,7 +12,6 @@ use Rattle.job_table.proofs.Tables.{table-apart, table-placed, table-left, table
 use Rattle.job_table.proofs.Lookups.{found-sound}
 use Rattle.job_table.proofs.Edited.{log-more}
 
--- one element less
 pub length-less : (n : ℕ) (es : List LogEntry) (e : LogEntry) → Apart submit_of number_of_entry es → entry_of n es ≡ Some e → length (without n es) + 1 ≡ length es
 length-less n [] e a h = cc
 length-less n (x ∷ es) e a h = go (number_of_entry x == n) refl h (length-less n es e a.1)
@@ -25,6 +24,8 @@ length-less n (x ∷ es) e a h = go (number_of_entry x == n) refl h (length-less
     go false t k i = rw t (omega (arith, i k))
 
 module _ (old new : List LogEntry) (ps qs : List Numbered) (len : ℕ) (st : IsStored old ps len) where
+  -- a table that is not full, with a sound entry of a new number put in, is stored with one more as length, and with pairs that rise by number
+  -- and give its number its second, and each other number what they gave before
   pub stored-more : (e : LogEntry) (n s : ℕ) → IsEntry e → entry_of (number_of_entry e) old ≡ None → length old < 4194304 → new ≡ with_entry e old → n ≡ number_of_entry e → s ≡ submit_of e
       → NumbersRise qs → ((q : ℕ) → second_of qs q ≡ (if n == q then Some s else second_of ps q)) → IsStored new qs (len + 1)
   stored-more e n s h none capacity f a b up u =
@@ -39,6 +40,8 @@ module _ (old new : List LogEntry) (ps qs : List Numbered) (len : ℕ) (st : IsS
         count = omega (arith, st.count, length-placed submit_of number_of_entry e old, ap length put);
       }
 
+  -- a table without the entry of a number is stored with one less as length, and with pairs that rise by number and give that number
+  -- no second, and each other number what they gave before
   pub stored-less : (n : ℕ) (e : LogEntry) → entry_of n old ≡ Some e → new ≡ without n old
       → NumbersRise qs → ((q : ℕ) → second_of qs q ≡ (if n == q then None else second_of ps q)) → IsStored new qs (len - 1)
   stored-less n e there f up u = record {
@@ -50,6 +53,8 @@ module _ (old new : List LogEntry) (ps qs : List Numbered) (len : ℕ) (st : IsS
     count = omega (arith, st.count, length-less n old e (table-apart old st.table) there, ap length f);
   }
 
+  -- a table whose entry of a number makes way for another sound one of that number is stored with the same length, and with pairs that rise
+  -- by number and give that number the new second, and each other number what they gave before
   pub stored-moved : (n s : ℕ) (was now : LogEntry) → entry_of n old ≡ Some was → IsEntry now → number_of_entry now ≡ n → new ≡ with_entry now (without n old) → s ≡ submit_of now
       → NumbersRise qs → ((q : ℕ) → second_of qs q ≡ (if n == q then Some s else second_of ps q)) → IsStored new qs len
   stored-moved n s was now there h same f at up u =
@@ -63,7 +68,7 @@ module _ (old new : List LogEntry) (ps qs : List Numbered) (len : ℕ) (st : IsS
         count = omega (arith, st.count, length-less n old was (table-apart old st.table) there, length-placed submit_of number_of_entry now (without n old), ap length put);
       }
 
--- what an index tells of each number, where it tells this second of one
+-- to give a number the second that pairs give it already changes nothing that they give
 pub tells-again : (n s : ℕ) (ps : List Numbered) → Some s ≡ second_of ps n → (q : ℕ) → second_of ps q ≡ (if n == q then Some s else second_of ps q)
 tells-again n s ps h q = go (n == q) refl
   where
@@ -71,7 +76,7 @@ tells-again n s ps h q = go (n == q) refl
     go true t = ap (second_of ps) (sym (same_number n q t)) ∙ sym h
     go false t = refl
 
--- the entry that the index tells of
+-- where there is a submit second of a number, there is an entry with the number
 pub entry-there : (n s : ℕ) (es : List LogEntry) → Some s ≡ option_map submit_of (entry_of n es) → (e : LogEntry) × (entry_of n es ≡ Some e)
 entry-there n s es h = go (entry_of n es) refl h
   where
@@ -79,18 +84,21 @@ entry-there n s es h = go (entry_of n es) refl h
     go None t k = cc
     go (Some e) t k = (e, t)
 
--- ---- what is read of it
+-- an entry that a look-up by a number returns has the number
 pub get-numbered : (n : ℕ) (es : List LogEntry) (r : Option (Bor LogEntry)) → option_copied r ≡ entry_of n es → IfSome r (λ e. number_of_entry e.now ≡ n)
 get-numbered n es None h = tt
 get-numbered n es (Some e) h = found-number submit_of number_of_entry n es e.now (sym h)
 
+-- an entry that a look-up in a table returns is sound
 pub get-sound : (n : ℕ) (es : List LogEntry) (r : Option (Bor LogEntry)) → IsTable es → option_copied r ≡ entry_of n es → IfSome r (λ e. IsEntry e.now)
 get-sound n es None t h = tt
 get-sound n es (Some e) t h = found-sound n IsEntry es e.now t.log.sound (sym h)
 
+-- the entries of a table from a second on are a table
 pub from-table : (s : ℕ) (es : List LogEntry) → IsTable es → IsTable (entries_from s es)
 from-table s es t = subst IsTable (dropped-from submit_of number_of_entry s es (table-rising es t)) (table-drop (position_or_len (λ e. not (stands submit_of number_of_entry s 0 e)) es) es t)
 
+-- an index gives a number a second exactly if an entry has the number
 pub known-is : (n : ℕ) (es old : List LogEntry) (ps : List Numbered) → IsIndex ps es → es ≡ old → is_some (second_of ps n) ≡ holds n old
 known-is n es old ps i e = ap is_some (i.gives n) ∙ go (entry_of n es) ∙ ap (holds n) e
   where
@@ -98,19 +106,20 @@ known-is n es old ps i e = ap is_some (i.gives n) ∙ go (entry_of n es) ∙ ap 
     go None = refl
     go (Some x) = refl
 
--- ---- an entry more
 module _ (e copy : LogEntry) (es old : List LogEntry) (ps : List Numbered) (t : IsTable es) (i : IsIndex ps es) (view : es ≡ old) (same : copy ≡ e) (new : entry_of (number_of_entry e) old ≡ None) where
+  -- a table without an entry of a number has none of the number of a copy of an entry with that number
   pub lacks-it : entry_of (number_of_entry copy) es ≡ None
   lacks-it = ap (λ (x : LogEntry). entry_of (number_of_entry x) es) same ∙ ap (entry_of (number_of_entry e)) view ∙ new
 
+  -- the index of a table without an entry of a number gives that number no second
   pub second-new : (n : ℕ) → n ≡ number_of_entry copy → second_of ps n ≡ None
   second-new n h = ap (second_of ps) h ∙ i.gives (number_of_entry copy) ∙ ap (option_map submit_of) lacks-it
 
+  -- a table with a copy of an entry put in, whose number it lacks, is the log of the entry and the table's
   pub log-with : (rows : List LogEntry) → rows ≡ with_entry copy es → rows ≡ log_of (e ∷ old)
   log-with rows h =
       h ∙ sym (placed-is copy es) ∙ log-more copy es t ∙ ap (λ (x : LogEntry). with_entry x (log_of es)) same ∙ ap (λ (l : List LogEntry). with_entry e (log_of l)) view
 
--- ---- what an edit counts
 -- an index has a pair where there is an entry
 pub index-some : (ps : List Numbered) (es : List LogEntry) → IsIndex ps es → 1 ≤ length es → 1 ≤ length ps
 index-some ps [] i h = absurd (omega (arith, h))
@@ -131,6 +140,7 @@ left-some n s es left t k e h = let there = entry-there n s es k in omega (arith
 pub outcome-of : (n : ℕ) (es old : List LogEntry) (ps : List Numbered) → IsIndex ps es → es ≡ old → IsTrue (holds n old) → is_some (second_of ps n) ≡ true
 outcome-of n es old ps i e h = known-is n es old ps i e ∙ h
 
+-- a look-up of a number that an entry has returns an entry
 pub entry-outcome : (n : ℕ) (es old : List LogEntry) (r : Option (Bor LogEntry)) → option_copied r ≡ entry_of n es → es ≡ old → IsTrue (holds n old) → IsSome r
 entry-outcome n es old r e v h = go r (ap is_some e ∙ ap (holds n) v ∙ h)
   where

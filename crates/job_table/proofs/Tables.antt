@@ -1,4 +1,5 @@
--- Logs in their order: what holds of one after an edit.
+-- Logs in their order: what holds of one after an edit. Numbers counted at most once are distinct; lengths, soundness and order are
+-- kept with an entry put in its place, taken out, or moved, and from a second on.
 use Rattle.std.proofs.Common.{◌≡◌, ◌≢◌, ℕ, zero, suc, ◌+◌, ◌<◌, ◌≤◌, List, [], ◌∷◌, Some, Bool, true, false, ◌==◌, nat_eq, nat_le, not, cond, filter, length, drop, count_by, refl, ap, sym, subst, ◌∙◌, arith, if◌then◌else◌}
 use Rattle.std.specs.List.{AllByRecursion, position_or_len}
 use Rattle.std.proofs.lemmas.Bool.{eq-eqb, cond-true}
@@ -12,7 +13,6 @@ use Rattle.job_table.proofs.Arrangement.{numbered, comes}
 use Rattle.job_table.proofs.LogOrder.{Rises-IsRising, IsRising-Rises}
 use Rattle.job_table.proofs.Keyed.{Rise, Apart, Lacks, Lead, stands, found, left, placed, arranged, same_number, number_differs, rising-placed, rising-without, distinct-placed, distinct-without, arranged-rising, Lacks-itself}
 
--- ---- counts and lists without equal numbers
 module _ {X : Type 0} (at num : X → ℕ) where
   numbered-one : (n : ℕ) (x : X) (xs : List X) → numbered num n (x ∷ xs) ≡ cond (nat_eq (num x) n) 1 0 + numbered num n xs
   numbered-one n x xs = sum_by-cons (λ z. cond (nat_eq (num z) n) 1 0) x xs
@@ -24,6 +24,7 @@ module _ {X : Type 0} (at num : X → ℕ) where
       differs : num x ≢ n
       differs e = let one = cond-true {A = ℕ} (nat_eq (num x) n) 1 0 (eq-eqb (num x) n e) in omega (arith, numbered-one n x xs, one, h)
 
+  -- no two have the same number where at most one has each number
   pub Apart-counted : (xs : List X) → ((n : ℕ) → numbered num n xs ≤ 1) → Apart at num xs
   Apart-counted [] h = tt
   Apart-counted (x ∷ xs) h = (
@@ -49,7 +50,7 @@ module _ {X : Type 0} (at num : X → ℕ) where
           let one : cond {A = ℕ} (nat_eq (num x) n) 1 0 ≡ 0 = ap (λ b. cond {A = ℕ} b 1 0) t in
           omega (arith, numbered-one n x xs, one, i)
 
-  -- ---- lengths
+  -- a list with an element put in has one more
   pub length-placed : (e : X) (xs : List X) → length (placed at num e xs) ≡ length xs + 1
   length-placed e [] = refl
   length-placed e (x ∷ xs) = go (comes (at x) (num x) (at e) (num e)) (length-placed e xs)
@@ -75,7 +76,7 @@ module _ {X : Type 0} (at num : X → ℕ) where
       go true k i ih = omega (arith, i)
       go false k i ih = omega (arith, ih k)
 
-  -- ---- what holds of each element
+  -- what holds of all elements and of one more holds of all with that one put in
   pub all-placed : (P : X → Type 0) (e : X) (xs : List X) → P e → AllByRecursion P xs → AllByRecursion P (placed at num e xs)
   all-placed P e [] p a = (p, tt)
   all-placed P e (x ∷ xs) p a = go (comes (at x) (num x) (at e) (num e)) (all-placed P e xs p a.1)
@@ -92,7 +93,6 @@ module _ {X : Type 0} (at num : X → ℕ) where
       go true i = i
       go false i = (a.0, i)
 
-  -- ---- from a number on
   late : (s : ℕ) (x : X) (xs : List X) → s ≤ at x → Lead at num x xs → filter (λ e. nat_le s (at e)) xs ≡ xs
   late s x [] h l = refl
   late s x (y ∷ ys) h l =
@@ -102,6 +102,7 @@ module _ {X : Type 0} (at num : X → ℕ) where
       after : (s a n b m : ℕ) → s ≤ a → comes a n b m ≡ true → nat_le s b ≡ true
       after s a n b m h k = grind (arith, nat_tests)
 
+  -- a rising list without those that stand before the pair (s, 0) at its front is its elements from s on
   pub dropped-from : (s : ℕ) (xs : List X) → Rise at num xs → drop (position_or_len (λ e. not (stands at num s 0 e)) xs) xs ≡ filter (λ e. nat_le s (at e)) xs
   dropped-from s [] r = refl
   dropped-from s (x ∷ xs) r = go (stands at num s 0 x) refl (dropped-from s xs r.1)
@@ -143,7 +144,6 @@ length-rest zero xs = omega arith
 length-rest (suc k) [] = omega arith
 length-rest (suc k) (x ∷ xs) = omega (arith, length-rest k xs)
 
--- ---- the numbers of entries
 number-is : (e : LogEntry) → IsEntry e → whole_number (field e.main 1) ≡ Some (number_of_entry e)
 number-is e h =
     let w : whole_number (field e.main 1) ≡ Some h.number = exact_number (field e.main 1) h.number h.numbered in
@@ -166,15 +166,19 @@ Rising es = Rise submit_of number_of_entry es
 abbrev pub Distinct : List LogEntry → Type 0
 Distinct es = Apart submit_of number_of_entry es
 
+-- in a table each entry comes before all later ones
 pub table-rising : (es : List LogEntry) → IsTable es → Rising es
 table-rising es t = Rises-IsRising es t.rising
 
+-- of a log at most one entry has a number
 pub log-counted : (es : List LogEntry) → IsLog es → (n : ℕ) → numbered number_of_entry n es ≤ 1
 log-counted es l n = subst (λ k. k ≤ 1) (counts n es l.sound) (l.distinct n)
 
+-- no two entries of a table have one number
 pub table-apart : (es : List LogEntry) → IsTable es → Distinct es
 table-apart es t = Apart-counted submit_of number_of_entry es (log-counted es t.log)
 
+-- sound entries with distinct numbers, each before all later ones, no more than a log may have, are a table
 pub table-from : (es : List LogEntry) → AllByRecursion IsEntry es → Distinct es → length es ≤ 4194304 → Rising es → IsTable es
 table-from es a d few r = record {
   log = record {
@@ -185,35 +189,40 @@ table-from es a d few r = record {
   rising = IsRising-Rises es r;
 }
 
--- ---- the same in the words of the log
+-- an entry put behind those that come before it is put as the log has it
 pub placed-is : (e : LogEntry) (es : List LogEntry) → placed submit_of number_of_entry e es ≡ with_entry e es
 placed-is e [] = refl
 placed-is e (x ∷ es) = ap (λ (ys : List LogEntry). if comes_before x e then x ∷ ys else e ∷ x ∷ es) (placed-is e es)
 
+-- entries, put one after another behind those that come before them, are the log
 pub arranged-is : (es : List LogEntry) → arranged submit_of number_of_entry es ≡ log_of es
 arranged-is [] = refl
 arranged-is (e ∷ es) = ap (placed submit_of number_of_entry e) (arranged-is es) ∙ placed-is e (log_of es)
 
+-- entries of which each comes before all later ones are their own log
 pub log_of-rising : (es : List LogEntry) → Rising es → log_of es ≡ es
 log_of-rising es r = sym (arranged-is es) ∙ arranged-rising submit_of number_of_entry es r
 
--- ---- tables after an edit
+-- a table that is not full, with a sound entry of a new number put in its place, is a table
 pub table-placed : (e : LogEntry) (es : List LogEntry) → IsTable es → IsEntry e → Lacks submit_of number_of_entry (number_of_entry e) es → length es < 4194304 → IsTable (placed submit_of number_of_entry e es)
 table-placed e es t h l capacity =
     table-from (placed submit_of number_of_entry e es) (all-placed submit_of number_of_entry IsEntry e es h t.log.sound) (distinct-placed submit_of number_of_entry e es (table-apart es t) l)
     (omega (arith, length-placed submit_of number_of_entry e es)) (rising-placed submit_of number_of_entry e es (table-rising es t) l)
 
+-- a table without the entry of a number is a table
 pub table-left : (n : ℕ) (es : List LogEntry) → IsTable es → IsTable (left submit_of number_of_entry n es)
 table-left n es t =
     table-from (left submit_of number_of_entry n es) (all-left submit_of number_of_entry IsEntry n es t.log.sound) (distinct-without submit_of number_of_entry n es (table-apart es t))
     (omega (arith, length-left submit_of number_of_entry n es, t.log.capacity)) (rising-without submit_of number_of_entry n es (table-rising es t))
 
+-- a table is a table with its entry of a number taken out and another sound entry of that number put in its place
 pub table-moved : (n : ℕ) (was e : LogEntry) (es : List LogEntry) → IsTable es → found submit_of number_of_entry n es ≡ Some was → IsEntry e → number_of_entry e ≡ n → IsTable (placed submit_of number_of_entry e (left submit_of number_of_entry n es))
 table-moved n was e es t there h same =
     table-placed e (left submit_of number_of_entry n es) (table-left n es t) h
     (subst (λ m. Lacks submit_of number_of_entry m (left submit_of number_of_entry n es)) (sym same) (Lacks-itself submit_of number_of_entry n es))
     (omega (arith, length-moved submit_of number_of_entry n was es there, t.log.capacity))
 
+-- a table without its first entries is a table
 pub table-drop : (k : ℕ) (es : List LogEntry) → IsTable es → IsTable (drop k es)
 table-drop k es t =
     table-from (drop k es) (all-drop IsEntry k es t.log.sound) (Apart-drop submit_of number_of_entry k es (table-apart es t))

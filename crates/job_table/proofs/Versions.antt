@@ -8,5 +8,6 @@ next-of log [] v edit h = cc
 next-of log (e ∷ es) zero edit h = let same : e ≡ edit = cc in ap (λ (x : LogEdit). applied x log) same
 next-of log (e ∷ es) (suc v) edit h = next-of (applied e log) es v edit h
 
+-- the version after one is that version with the next accepted edit applied
 pub next-version : (opening : List LogEntry) (accepted : List LogEdit) (version : ℕ) (edit : LogEdit) → slice_get accepted version ≡ Some edit → log_at opening accepted (version + 1) ≡ applied edit (log_at opening accepted version)
 next-version opening accepted version edit h = rw (add-one) (next-of opening accepted version edit h)

@@ -19,17 +19,21 @@ length_small p h = omega arith
 slowdown_small : (p : Placed) → IsPlaced p → slowdown p ≤ 2 ^ 60
 slowdown_small p h = let d = div-le_self ((wait p + p.job.length) * 1000) (max p.job.length 10) in omega (arith, d)
 
+-- a job within the limits takes at most 2^60 processor-seconds
 pub busy_small : (p : Placed) → IsPlaced p → busy p ≤ 2 ^ 60
 busy_small p h = let d : busy p ≤ 16777216 * 100000000 = mul-le-mul h.fits_some h.within_limit in omega (arith, d)
 
+-- a job within the limits takes at most 2^60 processor-seconds in a day
 pub busy_in_small : (q : ℕ) (p : Placed) → IsPlaced p → busy_in q p ≤ 2 ^ 60
 busy_in_small q p h =
     let o : overlap q p ≤ 100000000 = omega arith in
     let d : busy_in q p ≤ 16777216 * 100000000 = mul-le-mul h.fits_some o in omega (arith, d)
 
+-- a measure that is at most 2^60 for each job within the limits adds up to at most 2^60 times their number
 pub small_sum : (f : Placed → ℕ) (ps : List Placed) → ((p : Placed) → IsPlaced p → f p ≤ 2 ^ 60) → All IsPlaced ps → sum_by f ps ≤ length ps * 2 ^ 60
 small_sum f ps s h = sum_by-le f (2 ^ 60) ps (λ k d l. s _ (h k d l))
 
+-- the sums over two lists of jobs, no more together than a log may have, fit their types when they are joined
 pub totals_fit : (xs ys : List Placed) → All IsPlaced xs → All IsPlaced ys → length xs + length ys ≤ 4194304 → FitsJoined (totals xs) (totals ys)
 totals_fit xs ys h k l = record {
   count = omega arith;
@@ -43,6 +47,7 @@ totals_fit xs ys h k l = record {
 own_few : (u : ℤ) (ps : List Placed) → length (filter (is_of u) ps) ≤ length ps
 own_few u ps = let a = length-filter (is_of u) ps in let b = count_by-le-length (is_of u) ps in omega (arith, a, b)
 
+-- a user's sums over two lists of jobs, no more together than a log may have, fit their types when they are added
 pub sums_fit : (u : ℤ) (xs ys : List Placed) → All IsPlaced xs → All IsPlaced ys → length xs + length ys ≤ 4194304 → CanAdd (sums_of u xs) (sums_of u ys)
 sums_fit u xs ys h k l =
     let m = own_few u xs in let n = own_few u ys in
@@ -54,5 +59,6 @@ sums_fit u xs ys h k l =
       busy = let a = small_sum busy _ busy_small i in let b = small_sum busy _ busy_small j in omega (arith, a, b, m, n);
     }
 
+-- the processor-seconds of a day in two lists of jobs, no more together than a log may have, are less than 2^128 together
 pub days_fit : (q : ℕ) (xs ys : List Placed) → All IsPlaced xs → All IsPlaced ys → length xs + length ys ≤ 4194304 → busy_on q xs + busy_on q ys < 2 ^ 128
 days_fit q xs ys h k l = let a = small_sum (busy_in q) xs (busy_in_small q) h in let b = small_sum (busy_in q) ys (busy_in_small q) k in omega (arith, a, b)

@@ -1,4 +1,4 @@
--- Sums as the code keeps them, and a part's entries.
+-- Sums as the code keeps them, and a part's entries: what adds up to nothing has no entry.
 use Rattle.std.proofs.Common.{◌≡◌, ℕ, ℤ, ◌<◌, ◌==◌, get_or, Bool, true, false, cond, List, [], ◌∷◌, filter, length, refl, ap, sym, ◌∙◌, arith, subst, Option, Some, None, unwrap_or}
 use Rattle.std.specs.Ordering.{int_cmp, nat_cmp}
 use Rattle.std.specs.BTreeMap.{is_at}
@@ -19,7 +19,6 @@ use Rattle.metrics.proofs.RisingLists.{some_is_none, found}
 use Rattle.metrics.proofs.UserLists.{user_total_is, user_filled}
 use Rattle.metrics.proofs.DayLists.{day_total_is, day_filled}
 
--- sums with no entry that says nothing are those of their entry
 sums_kept : (o : Option UserSums) (s : UserSums) → unwrap_or o no_sums ≡ s → ((unwrap_or o no_sums).count ≡ 0 → o ≡ None) → o ≡ sums_entry s
 sums_kept o s e f = let P : UserSums → Type 0 = λ t. o ≡ sums_entry t in subst P e (own o f)
   where
@@ -42,7 +41,6 @@ busy_kept o n e f = let P : ℕ → Type 0 = λ t. o ≡ busy_entry t in subst P
     own None f = refl
     own (Some x) f = some_kept x (x == 0) refl f
 
--- the sums over no job
 none_of_nobody : (ps : List Placed) → length ps ≡ 0 → sums ps ≡ no_sums
 none_of_nobody [] h = refl
 none_of_nobody (p ∷ ps) h = absurd (omega (arith, h))
@@ -61,7 +59,7 @@ entry_busy n = go (n == 0) refl
     go true t = grind (arith, common_steps, t)
     go false t = refl
 
--- sums of jobs are their part
+-- sums of jobs as the code makes them are the part of these jobs
 pub part_from : (ps : List Placed) (v : PartSums) → IsTallyOf ps v → IsPartOf ps v
 part_from ps v h = record {
   totals = h.totals;
@@ -71,7 +69,6 @@ part_from ps v h = record {
   days = λ q. busy_kept (lookup (is_at (nat_cmp q)) v.days) (busy_on q ps) (sym (day_total_is q v.days h.day_list.rise) ∙ h.days q) (day_filled q v.days h.day_list.some);
 }
 
--- what stands for some sums is over a job
 entry_some : (o : Option UserSums) (s x : UserSums) → o ≡ sums_entry s → o ≡ Some x → 0 < x.count
 entry_some o s x e f = go (s.count == 0) refl (sym e ∙ f)
   where
@@ -86,7 +83,7 @@ entry_above o n x e f = go (n == 0) refl (sym e ∙ f)
     go true t h = absurd (some_is_none x (sym h))
     go false t h = let c = ap (λ w. unwrap_or w n) h in grind (arith, common_steps, t, c)
 
--- a part's entries are sums
+-- the part of some jobs is sums of them as the code makes them
 pub tally_from : (ps : List Placed) (v : PartSums) → IsPartOf ps v → IsTallyOf ps v
 tally_from ps v h = record {
   totals = h.totals;
@@ -96,9 +93,11 @@ tally_from ps v h = record {
   days = λ q. day_total_is q v.days h.days_rise ∙ ap (λ o. unwrap_or o 0) (h.days q) ∙ entry_busy (busy_on q ps);
 }
 
+-- a part is sums of some jobs within the limits
 pub is_tally_from : (v : PartSums) → IsPart v → IsTally v
 is_tally_from v h = record { jobs = h.jobs; limited = h.limited; same = tally_from h.jobs v h.same }
 
+-- sums of some jobs within the limits are a part
 pub is_part_from : (v : PartSums) → IsTally v → IsPart v
 is_part_from v h = record { jobs = h.jobs; limited = h.limited; same = part_from h.jobs v h.same }
 
@@ -106,9 +105,10 @@ no_tally : IsTallyOf [] (record { totals = no_totals; users = []; days = [] })
 unfolding IsStrictlySortedBy
 no_tally = record { totals = refl; user_list = record { rise = tt; some = All-nil (λ (e : ℤ × UserSums). 0 < e.1.count) }; users = λ u. refl; day_list = record { rise = tt; some = All-nil (λ (e : ℕ × ℕ). 0 < e.1) }; days = λ d. refl }
 
--- the sums over no job
+-- sums that count nothing and have no entries are those over no job
 pub empty_tally : (v : PartSums) → v.totals ≡ no_totals → v.users ≡ [] → v.days ≡ [] → IsTallyOf [] v
 empty_tally v t u d = subst (IsTallyOf []) (λ i. record { totals = sym t i; users = sym u i; days = sym d i }) no_tally
 
+-- the sums over no job are a part
 pub empty_part : (v : PartSums) → IsTallyOf [] v → IsPart v
 empty_part v h = record { jobs = []; limited = record { each = All-nil IsPlaced; few = omega arith }; same = part_from [] v h }

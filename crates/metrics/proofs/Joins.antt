@@ -33,6 +33,7 @@ greatest_end-append : (xs ys : List Placed) → greatest_end (xs ++ ys) ≡ late
 greatest_end-append [] ys = refl
 greatest_end-append (x ∷ xs) ys = ap (later_of (Some (real_end x))) (greatest_end-append xs ys) ∙ later-assoc (real_end x) (greatest_end xs) (greatest_end ys)
 
+-- the sums over all jobs of two lists are those over the one joined with those over the other
 pub totals-append : (xs ys : List Placed) → totals (xs ++ ys) ≡ joined (totals xs) (totals ys)
 totals-append xs ys =
     let a = length-append xs ys in
@@ -54,18 +55,22 @@ sums-append xs ys =
     let f = sum_by-append busy xs ys in
     λ i. record { count = a i; wait = c i; slowdown = e i; busy = f i }
 
+-- a user's sums over two lists of jobs are those over the one and over the other, added
 pub sums_of-append : (u : ℤ) (xs ys : List Placed) → sums_of u (xs ++ ys) ≡ plus (sums_of u xs) (sums_of u ys)
 sums_of-append u xs ys = ap sums (filter-append (is_of u) xs ys) ∙ sums-append (filter (is_of u) xs) (filter (is_of u) ys)
 
+-- the processor-seconds that two lists of jobs take in a day are those of the one and of the other
 pub busy_on-append : (q : ℕ) (xs ys : List Placed) → busy_on q (xs ++ ys) ≡ busy_on q xs + busy_on q ys
 busy_on-append q xs ys = sum_by-append (busy_in q) xs ys
 
+-- the sums over a list of one job are the job's own
 pub totals-one : (p : Placed) → totals (p ∷ []) ≡ totals_alone p
 totals-one p =
     let w : max (wait p) 0 ≡ wait p = omega arith in
     let n : (m : ℕ) → 0 + m ≡ m = λ m. omega arith in
     λ i. record { count = 1; killed = n (cond p.job.killed 1 0) i; wait = n (wait p) i; length = n p.job.length i; slowdown = n (slowdown p) i; busy = n (busy p) i; greatest_wait = w i; least_submit = Some p.job.submit; greatest_end = Some (real_end p) }
 
+-- a user's sums over a list of one job are the job's own where it is the user's, and otherwise none
 pub sums_of-one : (u : ℤ) (p : Placed) → sums_of u (p ∷ []) ≡ cond (is_of u p) (alone p) no_sums
 sums_of-one u p = elim (is_of u p) as (λ b. sums (cond b (p ∷ []) []) ≡ cond b (alone p) no_sums) [
   | true ↦ let n : (m : ℕ) → 0 + m ≡ m = λ m. omega arith in λ i. record { count = 1; wait = n (wait p) i; slowdown = n (slowdown p) i; busy = n (busy p) i }

@@ -1,4 +1,5 @@
--- Lists of entries whose keys rise: what they add up to at a key, and their order.
+-- Lists of entries whose keys rise: what they add up to at a key, their order with an entry changed or added, and what a binary search among them
+-- finds.
 use Rattle.std.proofs.Common.{◌≡◌, ℕ, ◌+◌, ◌-◌, ◌<◌, ◌≤◌, eqb, Result, Ok, Err, Bool, true, false, cond, List, [], ◌∷◌, length, take, drop, set, get_or, refl, ap, sym, ◌∙◌, arith, unwrap_or, inl, inr, Option, Some, None, All, subst, zero, suc, Ordering, Less, Equal, Greater}
 use Rattle.std.specs.Ordering.{is_lt, ordering_reverse}
 use Rattle.std.specs.BTreeMap.{is_at}
@@ -26,10 +27,11 @@ abbrev stands : {X : Type 0} → Option X → Type 0
 stands None = ⊥
 stands (Some x) = Unit {0}
 
+-- where there is something there is not none
 pub some_is_none : {X : Type 0} (x : X) → Some x ≡ None → ⊥
 some_is_none {X} x e = let P : Option X → Type 0 = stands in subst P e tt
 
--- what holds of each element and of one more
+-- what holds of each element and of one more holds of all with it inserted
 pub All-insert : {X : Type 0} (P : X → Type 0) (xs : List X) (i : ℕ) (y : X) → All P xs → P y → All P (insert xs i y)
 All-insert P xs i y h p = All-append P (take i xs) (y ∷ drop i xs) (All-take P i xs h) (All-cons P y (drop i xs) p (All-drop P i xs h))
 
@@ -47,11 +49,11 @@ module _ {K X : Type 0} {R : K → K → Ordering} (o : IsTotalOrder R) where
     | inr d ↦ rw d (let ih = total_is n q es (sorted_tail R e.0 (keys_of es) h) in omega (arith, ih))
   ]
 
-  -- another value at the key that stands there
+  -- keys that rise do so with another value at one of them
   pub rises-set : (es : List (K × X)) (i : ℕ) (d w : K × X) → w.0 ≡ (get_or es i d).0 → IsStrictlySortedBy R (keys_of es) → IsStrictlySortedBy R (keys_of (set es i w))
   rises-set es i d w same s = subst (IsStrictlySortedBy R) (sym (map-set_same (λ (x : K × X). x.0) es i w d same)) s
 
-  -- a key more, behind those below it and before those above
+  -- keys that rise do so with one more, behind those below it and before those above
   pub rises-insert : (es : List (K × X)) (i : ℕ) (y : K × X) → i ≤ length es → AllWithin (λ (e : K × X). R e.0 y.0 ≡ Less) es 0 i → AllWithin (λ (e : K × X). R e.0 y.0 ≡ Greater) es i (length es) → IsStrictlySortedBy R (keys_of es) → IsStrictlySortedBy R (keys_of (insert es i y))
   unfolding IsStrictlySortedBy
   rises-insert es zero y l low high s = (first es (λ k d m. let g = high k d (omega arith) m in o.antisymm y.0 (get_or es k d).0 ∙ ap ordering_reverse g), s)
@@ -67,7 +69,7 @@ module _ {K X : Type 0} {R : K → K → Ordering} (o : IsTotalOrder R) where
       front [] (suc j) h = (low 0 e (omega arith) (omega arith), tt)
       front (x ∷ xs) (suc j) h = (h.0, front xs j h.1)
 
-  -- what a list adds up to with more at a key
+  -- with more at an entry, a list adds up to as much more at its key, and to what it did at others
   pub total-set : (n : X → ℕ) (q : K) (es : List (K × X)) (i : ℕ) (d w : K × X) (m : ℕ) → i < length es → w.0 ≡ (get_or es i d).0 → n w.1 ≡ n (get_or es i d).1 + m → total_at (is_at (R q)) n (set es i w) ≡ total_at (is_at (R q)) n es + cond (is_at (R q) w.0) m 0
   total-set n q es i d w m l same more =
       let f : K × X → ℕ = λ x. cond (is_at (R q) x.0) (n x.1) 0 in
@@ -79,11 +81,11 @@ module _ {K X : Type 0} {R : K → K → Ordering} (o : IsTotalOrder R) where
       both true = sym more
       both false = refl
 
-  -- each entry is found at its key
+  -- where keys rise, each entry is found at its key
   pub found : (es : List (K × X)) → IsStrictlySortedBy R (keys_of es) → All (λ e. lookup (is_at (R e.0)) es ≡ Some e.1) es
   found es s k d l = let e : K × X = get_or es k d in lookup_from_place (eq_by_cmp_equiv o) es k e.0 e.1 (IsDistinct-from_sorted R (keys_of es) s) (slice_get-get_or es k d l)
 
-  -- where the last key is below another, all are
+  -- where keys rise and the last is below another, all are
   pub below_last : (es : List (K × X)) (k : K) (last : K × X) → IsStrictlySortedBy R (keys_of es) → Some last ≡ slice_get es (length es - 1) → R last.0 k ≡ Less → AllWithin (λ (e : K × X). R e.0 k ≡ Less) es 0 (length es)
   below_last es k last s e h i d m l =
       let n = length-map es (λ (x : K × X). x.0) in
@@ -97,7 +99,7 @@ module _ {K X : Type 0} {R : K → K → Ordering} (o : IsTotalOrder R) where
             o.trans (get_or es i d).0 last.0 k ((λ j. R (sym a j) (sym (z ∙ ap (λ (x : K × X). x.0) end) j)) ∙ r) h
       ]
 
-  -- a binary search among keys that rise
+  -- a binary search among keys that rise answers the place of the key's entry, or else the place behind all lesser keys
   pub search_finds : (es : List (K × X)) (k : K) (r : Result ℕ ℕ) → IsStrictlySortedBy R (keys_of es) → IsSearchInRange r (length es) → IsBinarySearchResult (λ (e : K × X). R e.0 k) es r → IsFound R k es r
   search_finds es k (Ok i) s b p = (b, p)
   search_finds es k (Err i) s b p = (
@@ -110,19 +112,19 @@ module _ {K X : Type 0} {R : K → K → Ordering} (o : IsTotalOrder R) where
         ap is_lt (o.antisymm (get_or es (j + 1) d).0 (get_or es j d).0 ∙ ap ordering_reverse ((λ i. R (sym a i) (sym z i)) ∙ r)))),
   )
 
-  -- what a search finds is what stands at the key
+  -- where keys rise, the value of an entry is what stands at a key that is equal to its own
   pub found_at : CmpEqualImpliesEq R → (es : List (K × X)) (k : K) (i : ℕ) (e : K × X) → IsStrictlySortedBy R (keys_of es) → slice_get es i ≡ Some e → R e.0 k ≡ Equal → lookup (is_at (R k)) es ≡ Some e.1
   found_at x es k i e s at same =
       let there = lookup_from_place (eq_by_cmp_equiv o) es i e.0 e.1 (IsDistinct-from_sorted R (keys_of es) s) at in
       subst (λ q. lookup (is_at (R q)) es ≡ Some e.1) (x e.0 k same) there
 
-  -- and where it finds none, none stands there
+  -- where a search among keys that rise finds no entry at a key, none stands there
   pub missed_at : (es : List (K × X)) (k : K) (i : ℕ) → IsStrictlySortedBy R (keys_of es) → IsFound R k es (Err i) → lookup (is_at (R k)) es ≡ None
   missed_at es k i s (l, sides) =
       lookup_at_gap o k es i s
       (λ j e m at. let w = slice_get_within es j e at in o.antisymm k e.0 ∙ ap ordering_reverse (ap (λ (y : K × X). R y.0 k) (sym (get_or_from_slice_get es j e e at)) ∙ sides.0 j e (omega arith) m))
       (λ e at. let w = slice_get_within es i e at in o.antisymm k e.0 ∙ ap ordering_reverse (ap (λ (y : K × X). R y.0 k) (sym (get_or_from_slice_get es i e e at)) ∙ sides.1 i e (omega arith) w))
 
--- a search of the same list
+-- what a search answers in a list it answers in the same list
 pub found_in : {K X : Type 0} (R : K → K → Ordering) (k : K) (es fs : List (K × X)) (r : Result ℕ ℕ) → es ≡ fs → IsFound R k es r → IsFound R k fs r
 found_in R k es fs r e h = subst (λ xs. IsFound R k xs r) e h

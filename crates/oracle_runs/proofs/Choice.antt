@@ -1,4 +1,4 @@
--- Who starts next.
+-- Who starts next: in order of estimate, which of a job and later ones is the first that passes.
 use Rattle.std.proofs.Common.{◌≡◌, ℕ, ◌+◌, ◌≤◌, ◌<◌, Bool, true, false, nat_le, List, [], ◌∷◌, Some, None, find, sym, ◌∙◌, ap, arith, subst, ⊎_elim}
 use Rattle.std.proofs.lemmas.Bool.{cond-true, cond-false, cases_Bool, cases_lt, lt-leb}
 use Rattle.scenarios.specs.Job.{EffectiveJob}
@@ -8,7 +8,6 @@ use Rattle.easy_rule.specs.Rule.{next, next_of, may_backfill, shadow_at}
 use Rattle.cluster_state.specs.Candidates.{put, by_estimate, in_order}
 use Rattle.cluster_state.proofs.Lemmas.{All-find, RisesByEstimate, put-before, put-behind, rises-by_estimate, find-put}
 
--- a shorter one is found before one more that passes
 put-shorter : (q : EffectiveJob → Bool) (j b : EffectiveJob) (xs : List EffectiveJob) → RisesByEstimate xs → find q xs ≡ Some b → b.estimate < j.estimate → find q (put j xs) ≡ Some b
 put-shorter q j b [] r e l = cc
 put-shorter q j b (x ∷ xs) r e l =
@@ -24,7 +23,6 @@ put-shorter q j b (x ∷ xs) r e l =
     ap (find q) (put-behind j x xs (omega (arith, up, l))) ∙ cond-false (q x) (Some x) (find q (put j xs)) n ∙ put-shorter q j b xs r.1 k l)
     (cases_Bool (q x))
 
--- one more that passes is found where no shorter one is
 put-found : (q : EffectiveJob → Bool) (j : EffectiveJob) (xs : List EffectiveJob) → q j ≡ true → ((b : EffectiveJob) → find q xs ≡ Some b → j.estimate ≤ b.estimate) → find q (put j xs) ≡ Some j
 put-found q j [] y h = cond-true (q j) (Some j) None y
 put-found q j (x ∷ xs) y h =
@@ -38,22 +36,25 @@ put-found q j (x ∷ xs) y h =
     (cases_Bool (q x)))
     (cases_lt j.estimate (x.estimate + 1))
 
--- a job and later ones: it may not start, none of them may, a shorter one may, or none that is shorter
+-- in order of estimate, a job more that does not pass leaves the first that does
 pub shortest-passed : (q : EffectiveJob → Bool) (j : EffectiveJob) (js : List EffectiveJob) → q j ≡ false → find q (by_estimate (j ∷ js)) ≡ find q (by_estimate js)
 shortest-passed q j js n = find-put q j (by_estimate js) n
 
+-- a job that passes is the first in order of estimate, where no later one passes
 pub shortest-alone : (q : EffectiveJob → Bool) (j : EffectiveJob) (js : List EffectiveJob) → q j ≡ true → find q (by_estimate js) ≡ None → find q (by_estimate (j ∷ js)) ≡ Some j
 shortest-alone q j js y e = put-found q j (by_estimate js) y (λ b k. cc)
 
+-- in order of estimate, the first of the later ones that passes stays the first, where its estimate is less than that of the job
 pub shortest-later : (q : EffectiveJob → Bool) (j b : EffectiveJob) (js : List EffectiveJob) → find q (by_estimate js) ≡ Some b → b.estimate < j.estimate → find q (by_estimate (j ∷ js)) ≡ Some b
 shortest-later q j b js e l = put-shorter q j b (by_estimate js) (rises-by_estimate js) e l
 
+-- a job that passes is the first in order of estimate, where the first of the later ones that does has no smaller estimate
 pub shortest-first : (q : EffectiveJob → Bool) (j b : EffectiveJob) (js : List EffectiveJob) → q j ≡ true → find q (by_estimate js) ≡ Some b → j.estimate ≤ b.estimate → find q (by_estimate (j ∷ js)) ≡ Some j
 shortest-first q j b js y e l =
     put-found q j (by_estimate js) y
     (λ x k. let m : Some b ≡ Some x = sym e ∙ k in let same : b ≡ x = cc in subst (λ (z : EffectiveJob). j.estimate ≤ z.estimate) same l)
 
--- with a head that does not fit, who starts next is found among the later jobs
+-- with a head that does not fit, who starts next is found among the later jobs, in the order
 pub next-later : (s : State) (now : ℕ) (head : EffectiveJob) (rest : List EffectiveJob) (o : Order) → s.waiting ≡ head ∷ rest → free s < head.size → s.order ≡ o
     → next s now ≡ find (may_backfill now (free s) (shadow_at s head.size)) (in_order o rest)
 next-later s now head rest o queue waits e =

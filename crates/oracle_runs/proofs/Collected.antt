@@ -1,4 +1,4 @@
--- The jobs of a log, and those of its entries in another order.
+-- The jobs of a log, and those of its entries in another order: they are the same, and in the log none comes before an earlier one.
 use Rattle.std.proofs.Common.{◌≡◌, ℕ, suc, subst, append-nil, ◌+◌, ◌*◌, ◌/◌, ◌%◌, ◌≤◌, ◌<◌, List, [], ◌∷◌, ◌++◌, Bool, true, false, nat_lt, nat_eq, cond, length, take, get_or, All, Option, Some, None, Ok, Err, IfSome, count_by, pos, refl, ap, sym, ◌∙◌, arith, ◌||◌}
 use Rattle.std.specs.List.{cons_option}
 use Rattle.std.specs.Option.{option_to_list}
@@ -25,16 +25,16 @@ at job = job.submit
 abbrev num : EffectiveJob → ℕ
 num job = job.number
 
--- what has been collected of these entries
+-- the jobs of these entries under a scenario: they are within the limits, and no number comes more often than among the entries
 pub record IsCollected (es : List LogEntry) (s : ScenarioView) (jobs : List EffectiveJob) : Type 0 where
   pub are : jobs ≡ jobs_of es s
   pub limits : All IsWithinLimits jobs
   pub numbered : (n : ℕ) → count_by (λ j. nat_eq j.number n) jobs ≤ count_by (has_number n) es
 
+-- of no entries no jobs are collected
 pub collected-none : (s : ScenarioView) → IsCollected [] s []
 collected-none s = record { are = refl; limits = All-nil IsWithinLimits; numbered = λ n. omega arith }
 
--- one more entry
 counts : (n : ℕ) (e : LogEntry) (job : EffectiveJob) → HasNumber e.main job.number → cond {A = ℕ} (nat_eq job.number n) 1 0 ≤ cond {A = ℕ} (has_number n e) 1 0
 counts n e job h =
     let w : whole_number (field e.main 1) ≡ Some job.number = ap whole_number h ∙ whole job.number in
@@ -50,6 +50,7 @@ counts n e job h =
     one true e = rw (e, eq-eqb n job.number (sym (eqb-true job.number n e))) (omega arith)
     one false e = rw e (omega arith)
 
+-- with the job of one more entry behind them, if it has one, the jobs of one more entry are collected
 pub collected-more : (es : List LogEntry) (s : ScenarioView) (jobs : List EffectiveJob) (i : ℕ) (e : LogEntry) (o : Option EffectiveJob) → i < length es → e ≡ get_or es i e
     → o ≡ result_ok (effective e s) → IfSome o IsWithinLimits → IfSome o (λ job. HasNumber e.main job.number)
     → IsCollected (take i es) s jobs → IsCollected (take (i + 1) es) s (jobs ++ option_to_list o)
@@ -69,7 +70,6 @@ collected-more es s jobs i e o l at is limits numbered c =
       numbered = λ n. omega (arith, c.numbered n, counts n e job m, sum_by_push (λ x. cond {A = ℕ} (has_number n x) 1 0) (take i es) e, sum_by_push (λ (j : EffectiveJob). cond {A = ℕ} (nat_eq j.number n) 1 0) jobs job);
     }
 
--- ---- what an effective job takes from its entry
 record Takes (e : LogEntry) (s : ScenarioView) (job : EffectiveJob) : Type 0 where
   submit : job.submit ≡ submit_of e
   number : job.number ≡ number_of_entry e
@@ -99,7 +99,6 @@ takes e s job h = by_size (size_of e.main) h
     by_size None h = cc
     by_size (Some size) h = by_run size (run_of e.main) h
 
--- ---- the entries in another order
 with-option : (o : Option EffectiveJob) (xs ys : List EffectiveJob) → IsPermutation xs ys → IsPermutation (cons_option o xs) (cons_option o ys)
 with-option None xs ys p = p
 with-option (Some job) xs ys p = IsPermutation-cons job xs ys p
@@ -123,6 +122,7 @@ placed-permutes s e (x ∷ es) = go (comes_before x e) (placed-permutes s e es)
         (with-option (kept s x) (cons_option (kept s e) (jobs_of es s)) (jobs_of (with_entry e es) s) i)
     go false i = IsPermutation-refl (cons_option (kept s e) (cons_option (kept s x) (jobs_of es s)))
 
+-- the jobs of the log are those of the entries in another order
 pub log-permutes : (s : ScenarioView) (es : List LogEntry) → IsPermutation (jobs_of es s) (jobs_of (log_of es) s)
 log-permutes s [] = IsPermutation-refl []
 log-permutes s (e ∷ es) =
@@ -130,7 +130,6 @@ log-permutes s (e ∷ es) =
     (with-option (kept s e) (jobs_of es s) (jobs_of (log_of es) s) (log-permutes s es))
     (placed-permutes s e (log_of es))
 
--- ---- the jobs of a log do not fall
 Opens-jobs : (s : ScenarioView) (e : LogEntry) (job : EffectiveJob) (es : List LogEntry) → kept s e ≡ Some job → Opens submit_of number_of_entry e es → Opens at num job (jobs_of es s)
 Opens-jobs s e job [] h o = tt
 Opens-jobs s e job (x ∷ es) h o = go (kept s x) refl (Opens-jobs s e job es h o.1)
@@ -150,10 +149,11 @@ Climbs-jobs s (e ∷ es) c = go (kept s e) refl (Climbs-jobs s es c.1)
     go None k i = i
     go (Some job) k i = (Opens-jobs s e job es k c.0, i)
 
+-- in the jobs of the log, by submit second and number, no later one comes before an earlier one
 pub Climbs-log-jobs : (s : ScenarioView) (es : List LogEntry) → Climbs at num (jobs_of (log_of es) s)
 Climbs-log-jobs s es = Climbs-jobs s (log_of es) (Climbs-log es)
 
--- ---- sizes and lengths of lists
+-- no job of these entries is larger than the machine
 pub jobs_of-fit : (s : ScenarioView) (es : List LogEntry) → All (λ j. j.size ≤ s.procs) (jobs_of es s)
 jobs_of-fit s [] = All-nil (λ (j : EffectiveJob). j.size ≤ s.procs)
 jobs_of-fit s (e ∷ es) = go (kept s e) refl (jobs_of-fit s es)
@@ -162,6 +162,7 @@ jobs_of-fit s (e ∷ es) = go (kept s e) refl (jobs_of-fit s es)
     go None k i = i
     go (Some job) k i = All-cons (λ (j : EffectiveJob). j.size ≤ s.procs) job (jobs_of es s) (takes e s job k).fits i
 
+-- there are no more jobs than entries
 pub length-jobs_of : (s : ScenarioView) (es : List LogEntry) → length (jobs_of es s) ≤ length es
 length-jobs_of s [] = omega arith
 length-jobs_of s (e ∷ es) = go (kept s e) (length-jobs_of s es)

@@ -11,6 +11,7 @@ use Rattle.scenarios.specs.Plan.{Plan}
 use Rattle.scenarios.specs.SoundPlan.{IsPlan}
 use Rattle.timeline.proofs.Lemmas.{run-before, ended-is}
 
+-- a sound state stays sound when those leave that end at a second
 pub sound-ended : (s : State) (t : ℕ) → IsSound s → IsSound (ended s t)
 sound-ended s t h =
     let keeps : Placed → Bool = λ r. not (nat_eq (real_end r) t) in
@@ -24,7 +25,7 @@ sound-ended s t h =
       started = All-filter keeps (λ r. r.start < 2 ^ 49) s.running h.started;
     }
 
--- before second t nobody has stayed past its end
+-- of the state before t, to let go those that end at t is to let go those that end by t
 pub ended-until-is : (plan : Plan) (s s' : State) (t : ℕ) → t ≤ 2 ^ 49 → IsPlan plan → s ≡ before plan t → s' ≡ ended s t → s' ≡ ended_until s t
 ended-until-is plan s s' t small p e f =
     f ∙ sym (ended-is s t (subst (λ (z : State). All (λ r. t ≤ real_end r) z.running) (sym e) (run-before plan t small p).lasting))

@@ -18,6 +18,7 @@ at job = job.submit
 abbrev num : EffectiveJob → ℕ
 num job = job.number
 
+-- a job's submit second and number
 abbrev pub key : EffectiveJob → ℕ × ℕ
 key job = (job.submit, job.number)
 
@@ -36,7 +37,7 @@ pub rises : (es : List LogEntry) (s : ScenarioView) (jobs sorted : List Effectiv
     → IsSortedByKey key (λ x y. ordering_then (nat_cmp x.0 y.0) (nat_cmp x.1 y.1)) sorted → Rises at num sorted
 rises es s jobs sorted l c p up = Rises-Climbs at num sorted (λ n. omega (arith, once es s jobs l c n, numbered-permutation num jobs sorted p n)) (Climbs-sorted sorted up)
 
--- the sorted jobs are those of the log
+-- what is collected of a log's entries, sorted by submit second and number, are the jobs of the log
 pub sorted-is : (es : List LogEntry) (s : ScenarioView) (jobs sorted : List EffectiveJob) → IsLog es → IsCollected es s jobs → IsPermutation jobs sorted
     → IsSortedByKey key (λ x y. ordering_then (nat_cmp x.0 y.0) (nat_cmp x.1 y.1)) sorted → sorted ≡ jobs_of (log_of es) s
 sorted-is es s jobs sorted l c p up =
@@ -44,7 +45,7 @@ sorted-is es s jobs sorted l c p up =
     arrangement-unique at num jobs sorted (jobs_of (log_of es) s) p q (rises es s jobs sorted l c p up)
     (Rises-Climbs at num (jobs_of (log_of es) s) (λ n. omega (arith, once es s jobs l c n, numbered-permutation num jobs (jobs_of (log_of es) s) q n)) (Climbs-log-jobs s es))
 
--- and make a plan
+-- a plan with the scenario's processors and what is collected of a log's entries, sorted so, is sound
 pub plan-sound : (es : List LogEntry) (s : ScenarioView) (jobs : List EffectiveJob) (plan : Plan) → IsLog es → IsScenario s → IsCollected es s jobs → plan.procs ≡ s.procs → IsPermutation jobs plan.jobs
     → IsSortedByKey key (λ x y. ordering_then (nat_cmp x.0 y.0) (nat_cmp x.1 y.1)) plan.jobs → IsPlan plan
 plan-sound es s jobs plan l within c e p up = record {

@@ -1,4 +1,4 @@
--- Lines that are added to a text which others led to.
+-- Lines that are added to a text which others led to: line after line of a batch, and batch after batch.
 use Rattle.std.proofs.Common.{◌≡◌, ℕ, zero, suc, ◌+◌, ◌-◌, ◌*◌, ◌<◌, ◌≤◌, List, [], ◌∷◌, ◌++◌, length, get_or, take, drop, Result, Ok, Err, refl, sym, ap, subst, ◌∙◌, append_assoc, arith}
 use Rattle.std.proofs.lemmas.List.{take_more, take-append-drop, length-take-le, length-drop, get_or-map, length-append, length-map, map-append}
 use Rattle.std.specs.List.{before_first, after_first}
@@ -16,8 +16,6 @@ use Rattle.swf_text.specs.Reading.{with_line, with_lines, with_read, at_line, Fa
 use Rattle.swf_text.proofs.Lemmas.{with_lines-append, lines_fault, reached, lines-next, at_end}
 use Rattle.parallel_reader.specs.Adding.{texts, read_texts, CanReach, AddsLines}
 
--- ---- lines behind others
-
 -- what others add behind lines
 pub lines_after : (number : ℕ) (t u : LogText) (xs ys : List (List ℕ)) → with_lines number t xs ≡ Ok u → with_lines number t (xs ++ ys) ≡ with_lines (number + length xs) u ys
 unfolding with_lines
@@ -34,7 +32,6 @@ lines_after number t u (x ∷ xs) ys h = after_first (with_line t x) refl (λ v 
         let place : number + 1 + length xs ≡ number + length (x ∷ xs) = omega arith in
         ap (λ (r : Result LogText FaultKind). at_line number r (λ w. with_lines (number + 1) w (xs ++ ys))) e ∙ later v rest ∙ ap (λ (n : ℕ). with_lines n u ys) place
 
--- a fault among lines is that of the lines with others behind them
 pub lines_refused : (number : ℕ) (t : LogText) (fault : SwfFault) (xs ys : List (List ℕ)) → with_lines number t xs ≡ Err fault → with_lines number t (xs ++ ys) ≡ Err fault
 unfolding with_lines
 lines_refused number t fault [] ys h = absurd cc
@@ -60,8 +57,6 @@ fails_more kinds.BadSubmit line number t xs ys h = lines_refused number t _ xs y
 fails_more kinds.OrphanPartial line number t xs ys h = lines_refused number t _ xs ys h
 fails_more kinds.DuplicateJob line number t xs ys h = lines_refused number t _ xs ys h
 fails_more kinds.TooManyJobs line number t xs ys h = lines_refused number t _ xs ys h
-
--- ---- a line of a batch
 
 -- a line and its reading, by their place
 pub step_at : (t : LogText) (ls : List (Bor (List ℕ))) (readings : List LineRead) (k : ℕ) (d : Bor (List ℕ)) (read : LineRead) → k < length ls → readings ≡ read_texts ls → read ≡ get_or readings k read → with_read t (get_or ls k d).now read ≡ with_line t (get_or (texts ls) k [])
@@ -94,14 +89,11 @@ line_refused kind first old t ls k lt done fails =
       },
     )
 
--- ---- a batch of lines behind others
-
 module _ (first : ℕ) (old : LogText) (all front rest : List (List ℕ)) (t : LogText) (line : ℕ) (whole : all ≡ front ++ rest) (place : line ≡ first + length front) (done : with_lines first old front ≡ Ok t) where
-  -- what is left to be read
+  -- what is left to be read behind the lines that were added
   pub left_over : with_lines first old all ≡ with_lines line t rest
   left_over = ap (with_lines first old) whole ∙ lines_after first old t front rest done ∙ ap (λ (n : ℕ). with_lines n t rest) (sym place)
 
-  -- a line of the rest can be reached
   reached_behind : (number : ℕ) → CanReach line t rest number → CanReach first old all number
   reached_behind number can = record {
     front = front ++ can.front;
@@ -114,13 +106,13 @@ module _ (first : ℕ) (old : LogText) (all front rest : List (List ℕ)) (t : L
   }
 
   module _ (batch others : List (List ℕ)) (split : rest ≡ batch ++ others) where
-    -- a fault in the batch is one of all
+    -- a fault in the batch is one of all lines
     pub batch_refused : (fault : SwfFault) → FailsAt fault.kind fault.line (with_lines line t batch) → FailsAt fault.kind fault.line (with_lines first old all)
     batch_refused fault fails =
         let behind : with_lines first old all ≡ with_lines line t (batch ++ others) = left_over ∙ ap (with_lines line t) split in
         subst (FailsAt fault.kind fault.line) (sym behind) (fails_more fault.kind fault.line line t batch others fails)
 
-    -- a line of the batch can be reached
+    -- a line of the batch that can be reached behind these is one of all lines that can be
     pub batch_reached : (number : ℕ) → CanReach line t batch number → CanReach first old all number
     batch_reached number can =
         reached_behind number
@@ -134,10 +126,11 @@ module _ (first : ℕ) (old : LogText) (all front rest : List (List ℕ)) (t : L
           added = can.added;
         })
 
-    -- the batch was added
+    -- the batch was added behind those that were
     pub batch_added : (u : LogText) → with_lines line t batch ≡ Ok u → with_lines first old (front ++ batch) ≡ Ok u
     batch_added u is = lines_after first old t front batch done ∙ ap (λ (n : ℕ). with_lines n t batch) (sym place) ∙ is
 
+    -- all lines are those added, with the batch, and others behind it
     pub batch_split : all ≡ (front ++ batch) ++ others
     batch_split = whole ∙ ap (λ (ls : List (List ℕ)). front ++ ls) split ∙ sym (append_assoc front batch others)
 
@@ -163,8 +156,6 @@ pub none_added : (first : ℕ) (t : LogText) → with_lines first t [] ≡ Ok t
 unfolding with_lines
 none_added first t = refl
 
--- ---- the lines of a batch
-
 -- a line more is taken
 pub taken_more : (old new : List (Bor (List ℕ))) (front : Bor (List ℕ)) (rest after bytes : List ℕ) → 0 < length rest → front.now ≡ before_first is_feed rest → after ≡ after_first is_feed rest → new ≡ old ++ front ∷ [] → texts old ++ lines rest ≡ lines bytes → texts new ++ lines after ≡ lines bytes
 taken_more old new front rest after bytes some line others is sofar =
@@ -180,13 +171,10 @@ pub some_taken : (taken : List (Bor (List ℕ))) (rest bytes : List ℕ) → len
 some_taken taken [] bytes none is some = omega (arith, length-map taken (λ (l : Bor (List ℕ)). l.now), length-append (texts taken) (lines []), ap length is, ap length (lines-next bytes some))
 some_taken taken (b ∷ bs) bytes none is some = absurd (omega arith)
 
--- ---- what is answered that hands a fault on
-
+-- to hand on a fault that these lines have, at a line that can be reached, is an answer to adding them
 pub adds_same : (r : Result (Unit {0}) SwfFault) (fault : SwfFault) (first : ℕ) (old : LogText) (ls : List (List ℕ)) (new : LogText) → IsErrAnd r (λ e. e ≡ fault) → FailsAt fault.kind fault.line (with_lines first old ls) → CanReach first old ls fault.line → AddsLines first old ls new r
 adds_same (Ok done) fault first old ls new is fails can = absurd is
 adds_same (Err e) fault first old ls new is fails can = subst (λ (f : SwfFault). FailsAt f.kind f.line (with_lines first old ls) × CanReach first old ls f.line) (sym is) (fails, can)
-
--- ---- the loop over batches
 
 -- bytes have a line
 pub lines_some : (bytes : List ℕ) → 0 < length bytes → 0 < length (lines bytes)

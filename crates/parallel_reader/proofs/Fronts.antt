@@ -1,4 +1,5 @@
--- The front of a log, and what stands behind it.
+-- The front of a log, and what stands behind it: whole lines, a piece that is filled, a front that grows by a piece, and what a log is read
+-- as.
 use Rattle.std.proofs.Common.{◌≡◌, ℕ, zero, suc, ◌+◌, ◌-◌, ◌<◌, ◌≤◌, List, [], ◌∷◌, ◌++◌, length, get_or, take, drop, Option, Some, None, Result, Ok, Err, refl, sym, ap, subst, ◌∙◌, append_assoc, arith, inl, inr, IfErr, IfOk, Bool, true, false, map}
 use Rattle.std.proofs.lemmas.Bool.{eqb-true}
 use Rattle.std.proofs.lemmas.List.{append-nil, take_more, take-append-drop, length-append, length-take-le, take-take, drop-append-le, drop_at, take_at, take-append-le}
@@ -26,8 +27,7 @@ use Rattle.parallel_reader.specs.Jobs.{AddsAll}
 use Rattle.parallel_reader.proofs.Adding.{lines_after, lines_some, none_added, reached_so, reached_first}
 use Rattle.parallel_reader.proofs.Jobs.{cut_lines}
 
--- ---- whole lines
-
+-- the lines of whole lines, and those of what follows, are the lines of both
 pub lines_whole : (front rest : List ℕ) → EndsLine front → lines (front ++ rest) ≡ lines front ++ lines rest
 lines_whole front rest (inl none) = ap (λ (f : List ℕ). lines (f ++ rest)) none ∙ sym (ap (λ (f : List ℕ). lines f ++ lines rest) none)
 lines_whole front rest (inr p) =
@@ -37,11 +37,9 @@ pub ends_more : (a b : List ℕ) → EndsLine a → EndsLine b → EndsLine (a +
 ends_more a b ends (inl none) = subst EndsLine (sym (ap (λ (l : List ℕ). a ++ l) none ∙ append-nil a)) ends
 ends_more a b ends (inr p) = inr (a ++ p.0, ap (λ (l : List ℕ). a ++ l) p.1 ∙ sym (append_assoc a p.0 (10 ∷ [])))
 
--- the bytes up to the last line feed
 pub ends_at : (bytes : List ℕ) (last : ℕ) → IsLastByte (is_byte 10) bytes (Some last) → EndsLine (take (last + 1) bytes)
 ends_at bytes last h = inr (take last bytes, take_more bytes last 0 h.0.high ∙ ap (λ (b : ℕ). take last bytes ++ b ∷ []) (eqb-true (get_or bytes last 0) 10 h.1))
 
--- there are no more lines than bytes
 few : (n : ℕ) (xs : List ℕ) → length xs ≤ n → length (lines xs) ≤ length xs
 few n [] le = omega arith
 few zero (b ∷ bs) le = absurd (omega arith)
@@ -51,10 +49,9 @@ few (suc n) (b ∷ bs) le =
     let rest = few n (after_first is_feed (b ∷ bs)) (omega (arith, shorter, le)) in
     omega (arith, ap length (lines-next (b ∷ bs) some), rest, shorter)
 
+-- there are no more lines than bytes
 pub lines_few : (xs : List ℕ) → length (lines xs) ≤ length xs
 lines_few xs = few (length xs) xs (omega arith)
-
--- ---- a piece that is filled
 
 -- what was read into a part of a buffer stands behind its front
 pub read_in_place : {E : Type 0} (a b : Option (List ℕ)) (r : Result ℕ E) (front part rest : List ℕ) (at : ℕ) → length front ≡ at → ReadsAtMost r part → ReadConsumes a b r part → IfOk r (λ n. Consumes a b (take n (drop at (front ++ (part ++ rest)))))
@@ -67,14 +64,14 @@ filled_so bytes front more filled whole is within =
     let sum : whole + (filled - whole) ≡ filled = omega arith in
     sym (take-add whole (filled - whole) bytes) ∙ ap (λ (n : ℕ). take n bytes) sum ∙ is
 
--- a read that failed
+-- where a read failed, a buffer holds what was given before
 pub filled_same : (a b c : Option (List ℕ)) (old new : List ℕ) (at filled : ℕ) → take filled new ≡ take filled old → Consumes a b (drop at (take filled old)) → Keeps b c → Consumes a c (drop at (take filled new))
 filled_same a b c old new at filled is given kept = subst (λ (l : List ℕ). Consumes a c (drop at l)) (sym is) (Consumes-kept a b c (drop at (take filled old)) given kept)
 
--- the bytes that were put before those that were read
 pub put_before : (bytes front : List ℕ) (at filled : ℕ) → take at bytes ≡ front → at ≤ filled → take filled bytes ≡ front ++ drop at (take filled bytes)
 put_before bytes front at filled is low = sym (take-append-drop at (take filled bytes)) ∙ ap (λ (l : List ℕ). l ++ drop at (take filled bytes)) (take-take at filled bytes low ∙ is)
 
+-- a buffer that is the same up to a place is the same up to each place before it
 pub front_kept : (old new : List ℕ) (at filled : ℕ) → at ≤ filled → take filled new ≡ take filled old → take at new ≡ take at old
 front_kept old new at filled low is = sym (take-take at filled new low) ∙ ap (take at) is ∙ take-take at filled old low
 
@@ -85,6 +82,7 @@ filled_on a b c old new at filled n low within is first second =
     ap (drop at) (take-add filled n new) ∙ drop-append-le at (take filled new) (take n (drop filled new)) (omega (arith, length-take-le filled new within)) ∙ ap (λ (l : List ℕ). drop at l ++ take n (drop filled new)) is in
     subst (Consumes a c) (sym more) (Consumes-trans a b c (drop at (take filled old)) (take n (drop filled new)) first second)
 
+-- a buffer that was filled from a place on has the bytes before the place, and behind them what the reader gave
 pub given_before : {E : Type 0} (a b : Option (List ℕ)) (bytes front : List ℕ) (at : ℕ) (r : Result ℕ E) → IfOk r (λ filled. at ≤ filled) → IfOk r (λ filled. Consumes a b (drop at (take filled bytes))) → take at bytes ≡ front → IfOk r (λ filled. (more : List ℕ) × Consumes a b more × (take filled bytes ≡ front ++ more))
 given_before a b bytes front at (Ok filled) low given is = (drop at (take filled bytes), given, put_before bytes front at filled is low)
 given_before a b bytes front at (Err e) low given is = tt
@@ -92,8 +90,6 @@ given_before a b bytes front at (Err e) low given is = tt
 -- a vector whose slice was written
 pub whole_slice : (len : ℕ) (bytes rest : List ℕ) → length bytes ≡ len → take len (bytes ++ rest) ≡ bytes
 whole_slice len bytes rest is = ap (λ (n : ℕ). take n (bytes ++ rest)) (sym is) ∙ take_at bytes rest (length bytes) refl
-
--- ---- a front that grows
 
 -- lines behind a front
 pub front_more : (front more : List ℕ) (p q : Progress) (count size : ℕ) → IsFront front p → EndsLine more → AddsAll p.text.entries (lines more) q.text.entries → count ≡ length (lines more) → size ≡ length more → q.text.comments ≡ p.text.comments → q.lines ≡ p.lines + count → q.bytes ≡ p.bytes + size → IsFront (front ++ more) q
@@ -127,12 +123,11 @@ no_jobs_in bytes jobs none empty_jobs = record {
   read = λ place d lt. absurd (omega arith);
 }
 
--- what is answered by two clauses
+-- what follows of a value from two properties holds of a value that is returned, if both do
 pub ok_by : {X E : Type 0} (P Q S : X → Type 0) (r : Result X E) → ((x : X) → P x → Q x → S x) → IfOk r P → IfOk r Q → IfOk r S
 ok_by P Q S (Ok x) step p q = step x p q
 ok_by P Q S (Err e) step p q = tt
 
--- the front of what was read is longer
 pub moved : (had a b : List ℕ) (old new : Option (List ℕ)) (p q : Progress) → IsReadBehind had old new p (a ++ b) → ((front : List ℕ) → IsFront front p → IsFront (front ++ a) q) → IsReadBehind had old new q b
 moved had a b old new p q is grows = record {
   front = is.front ++ a;
@@ -142,7 +137,6 @@ moved had a b old new p q is grows = record {
   whole = is.whole ∙ sym (append_assoc is.front a b);
 }
 
--- more was read
 pub read_more : (had a b c more : List ℕ) (old mid new : Option (List ℕ)) (p : Progress) → IsReadBehind had old mid p (a ++ b) → Consumes mid new more → c ≡ b ++ more → IsReadBehind had old new p (a ++ c)
 read_more had a b c more old mid new p is given behind = record {
   front = is.front;
@@ -154,7 +148,7 @@ read_more had a b c more old mid new p is given behind = record {
       ∙ ap (λ (l : List ℕ). is.front ++ l) (append_assoc a b more ∙ ap (λ (l : List ℕ). a ++ l) (sym behind));
 }
 
--- the same of what is equal
+-- what was read behind a front, by an equal progress and an equal rest
 pub returned : (had unread rest : List ℕ) (old new : Option (List ℕ)) (p q : Progress) → IsReadBehind had old new p unread → q ≡ p → rest ≡ unread → IsReadBehind had old new q rest
 returned had unread rest old new p q is same_front same_rest =
     subst (λ (x : Progress). IsReadBehind had old new x rest) (sym same_front) (subst (IsReadBehind had old new p) (sym same_rest) is)
@@ -180,11 +174,10 @@ read_whole had first rest old mid new p given same is = record {
 pub read_none : (first rest : List ℕ) (old new : Option (List ℕ)) (p : Progress) → IsFront [] p → Consumes old new first → rest ≡ first → IsReadBehind [] old new p rest
 read_none first rest old new p is given same = record { front = []; is_front = is; more = first; given = given; whole = sym same }
 
+-- what follows of a value from a property holds of a value that is returned, if the property does
 pub ok_map : {X E : Type 0} (P S : X → Type 0) (r : Result X E) → ((x : X) → P x → S x) → IfOk r P → IfOk r S
 ok_map P S (Ok x) step p = step x p
 ok_map P S (Err e) step p = tt
-
--- ---- what a log is read as
 
 pub reading_of : (log : List ℕ) (result : Result LogText SwfFault) → Gives result (text_of log) → IfErr result (λ f. HasReached (lines log) f.line) → IsReading log result
 reading_of log result gives reached = record {
@@ -198,7 +191,6 @@ reading_of log result gives reached = record {
 pub log_of_text : (log : List ℕ) (text : LogText) → text_of log ≡ Ok text → IsLog text.entries
 log_of_text log text read = (text_sound log text (gives_text (Ok text) (lines log) read)).log
 
--- the bytes behind a front, as they are read
 pub behind_front : (front bytes : List ℕ) (p : Progress) → IsFront front p → text_of (front ++ bytes) ≡ with_lines (p.lines + 1) p.text (lines bytes)
 behind_front front bytes p is =
     let place : 1 + length (lines front) ≡ p.lines + 1 = omega (arith, is.counted) in
@@ -214,13 +206,14 @@ pub one_reading : (front bytes : List ℕ) (p : Progress) (r : Result LogText Sw
 one_reading [] bytes p r is none reading = reading
 one_reading (b ∷ bs) bytes p r is none reading = absurd (omega (arith, is.size, none))
 
--- job lines behind a front
 pub rising_read : (front bytes : List ℕ) (p : Progress) (entries : List LogEntry) → IsFront front p → AddsAll p.text.entries (lines bytes) entries → text_of (front ++ bytes) ≡ Ok (record { comments = p.text.comments; entries = entries })
 rising_read front bytes p entries is added = behind_front front bytes p is ∙ added (p.lines + 1) p.text.comments
 
+-- the entries of a front with those that lines behind it add are those of a log
 pub rising_log : (front bytes : List ℕ) (p : Progress) (entries : List LogEntry) → IsFront front p → AddsAll p.text.entries (lines bytes) entries → IsLog entries
 rising_log front bytes p entries is added = log_of_text (front ++ bytes) (record { comments = p.text.comments; entries = entries }) (rising_read front bytes p entries is added)
 
+-- a text is the record of its comments and its entries
 pub same_text : (r : LogText) (comments : List (List ℕ)) (entries : List LogEntry) → r.comments ≡ comments → r.entries ≡ entries → record { comments = comments; entries = entries } ≡ r
 same_text r comments entries p q = ap (with_comments entries) (sym p) ∙ ap (with_entries r.comments) (sym q)
   where
@@ -230,6 +223,7 @@ same_text r comments entries p q = ap (with_comments entries) (sym p) ∙ ap (wi
     with_entries : List (List ℕ) → List LogEntry → LogText
     with_entries cs es = record { comments = cs; entries = es }
 
+-- a log is read as the comments of its front and the entries that the lines behind it lead to
 pub rising_reading : (front bytes : List ℕ) (p : Progress) (r : LogText) (entries : List LogEntry) → IsFront front p → AddsAll p.text.entries (lines bytes) entries → r.comments ≡ p.text.comments → r.entries ≡ entries → IsReading (front ++ bytes) (Ok r)
 rising_reading front bytes p r entries is added comments those =
     reading_of (front ++ bytes) (Ok r) (rising_read front bytes p entries is added ∙ ap Ok (same_text r p.text.comments entries comments those)) tt
@@ -247,8 +241,6 @@ memory_reading front bytes some =
     let all : List ℕ = front ++ bytes in
     let filled : 0 < length (lines all) = lines_some all (omega (arith, some, length-append front bytes)) in
     reading_of all (Err (record { line = 1; kind = kinds.Memory })) tt (reached_so [] (lines all) empty 0 1 (none_added 1 empty) refl (reached_first 1 empty (lines all) filled))
-
--- ---- the entries of a front, added once more
 
 -- a summary line adds an entry, if it adds anything
 pub job_adds : (t u : LogText) (job : List ℤ) → is_partial (field job 11) ≡ false → with_job t job ≡ Ok u → u ≡ record t { entries = t.entries ++ record { main = job; parts = [] } ∷ [] }
@@ -270,6 +262,7 @@ job_adds t u job summary h = go (whole_number (field job 1)) h
     go None e = absurd cc
     go (Some number) e = second number (is_below_zero (field job 2)) (sym (rw summary refl) ∙ e)
 
+-- a result holds one text
 pub one_text : (r : Result LogText SwfFault) (t u : LogText) → r ≡ Ok t → r ≡ Ok u → t ≡ u
 one_text r t u p q = cc
 
@@ -280,6 +273,7 @@ whole_entry entry main same none = ap (made []) same ∙ ap (λ (ps : List (List
     made : List (List ℤ) → List ℤ → LogEntry
     made ps m = record { main = m; parts = ps }
 
+-- a list that was made of an empty one is empty
 pub no_parts : {X : Type 0} (f : X → List ℤ) (xs : List X) (parts : List (List ℤ)) → map f xs ≡ parts → length xs ≡ 0 → parts ≡ []
 no_parts f [] parts same none = sym same
 no_parts f (x ∷ xs) parts same none = absurd (omega arith)
@@ -289,17 +283,19 @@ pub entries_next : (front items : List LogEntry) (k : ℕ) (x y : LogEntry) → 
 entries_next front items k x y lt is same =
     append_assoc front (take k items) (y ∷ []) ∙ ap (λ (l : List LogEntry). front ++ l) (ap (λ (e : LogEntry). take k items ++ e ∷ []) (same ∙ is) ∙ sym (take_more items k x lt))
 
--- ---- a front that begins
-
+-- no bytes are read as the empty text
 pub no_text : text_of [] ≡ Ok empty
 no_text = none_added 1 empty
 
+-- no bytes are a front that has no comments, no entries, no lines and no bytes
 pub front_none : (q : Progress) → q.text.comments ≡ [] → q.text.entries ≡ [] → q.lines ≡ 0 → q.bytes ≡ 0 → IsFront [] q
 front_none q comments entries counted size = record { whole = inl refl; read = no_text ∙ ap Ok (same_text q.text [] [] comments entries); counted = counted; size = size }
 
+-- bytes whose lines are a text are read as the comments and entries of the text
 pub head_text : (head : List ℕ) (text : LogText) (comments : List (List ℕ)) (entries : List LogEntry) → IsText (lines head) text → comments ≡ text.comments → entries ≡ text.entries → text_of head ≡ Ok (record { comments = comments; entries = entries })
 head_text head text comments entries is same those = text_read 1 empty (lines head) text is ∙ ap Ok (same_text (record { comments = comments; entries = entries }) text.comments text.entries same those)
 
+-- whole lines that are a text are a front, with the comments and entries of the text and as many lines and bytes as they have
 pub front_read : (head : List ℕ) (text : LogText) (q : Progress) → EndsLine head → IsText (lines head) text → q.text.comments ≡ text.comments → q.text.entries ≡ text.entries → q.lines ≡ length (lines head) → q.bytes ≡ length head → IsFront head q
 front_read head text q ends is comments entries counted size = record {
   whole = ends;

@@ -1,35 +1,31 @@
--- Job lines that are read apart from those before them.
-use Rattle.std.proofs.Common.{◌≡◌, ℕ, ◌+◌, ◌-◌, ◌<◌, ◌≤◌, Bool, true, false, ◌||◌, List, [], ◌∷◌, ◌++◌, length, get_or, take, drop, map, Option, Some, None, Result, Ok, Err, refl, sym, ap, subst, ◌∙◌, append_assoc, arith, inl, inr}
-use Rattle.std.specs.Prelude.{unwrap_or, if◌then◌else◌, IfSome}
-use Rattle.std.specs.List.{list_any, before_first, after_first, position_or_len, slice_split, onto_first}
-use Rattle.std.proofs.lemmas.Bool.{cases_Bool, cases_lt, eqb-true, false_from_ne_true}
+-- Job lines that are read apart from those before them: the entries that they add, portions of a log that are cut behind line feeds, and
+-- what portion after portion adds.
+use Rattle.std.proofs.Common.{◌≡◌, ℕ, ◌+◌, ◌-◌, ◌<◌, ◌≤◌, true, false, ◌||◌, List, [], ◌∷◌, ◌++◌, length, get_or, take, drop, map, Option, Some, None, Result, Ok, Err, refl, sym, ap, subst, ◌∙◌, append_assoc, arith, inl, inr}
+use Rattle.std.specs.Prelude.{if◌then◌else◌, IfSome}
+use Rattle.std.specs.List.{before_first, after_first, position_or_len, slice_split, onto_first}
+use Rattle.std.proofs.lemmas.Bool.{cases_Bool, cases_lt, eqb-true}
 use Rattle.std.proofs.Math.ListN.{drop_of_length-le}
 use Rattle.std.proofs.lemmas.List.{append-nil, take_more, take_all, take_at, drop_at, length-append, take-append-drop, map-append}
 use Rattle.std.proofs.lemmas.List.Sums.{split_at_first, passes_at_first}
 use Rattle.std.proofs.lemmas.List.Splits.{slice_split-cons_yes, slice_split-cons_no, length-slice_split}
-use Rattle.std.proofs.lemmas.List.Folds.{list_any-append}
 use Rattle.std.proofs.lemmas.Grind.{flat_map-append}
 use denote.Ref.{Bor}
 use Rattle.swf_text.specs.declared.fault.FaultKind.{FaultKind}
 use Rattle.swf_text.specs.declared.line.Fields.{Fields}
 use Rattle.swf_text.specs.declared.packed.PackedLine.{PackedLine}
-use Rattle.swf_text.specs.Packed.{unpacked}
 use Rattle.swf_text.specs.declared.line.LineRead.{LineRead}
 use Rattle.swf_text.specs.declared.line.LineRead.TheVariants as read
-use Rattle.swf_text.specs.Entry.{LogEntry, field, whole_number, is_partial, is_some_number, has_number, number_of_entry}
-use Rattle.swf_text.specs.Number.{is_below_zero}
+use Rattle.swf_text.specs.Entry.{LogEntry}
 use Rattle.swf_text.specs.Line.{line_of}
 use Rattle.swf_text.specs.Text.{LogText, lines, is_feed, without_empty_end}
 use Rattle.swf_text.specs.Reading.{with_job, with_line, with_lines, with_read, at_line}
-use Rattle.swf_text.proofs.Lemmas.{job_more, lines-next}
+use Rattle.swf_text.proofs.Lemmas.{lines-next}
 use Rattle.parallel_reader.specs.Adding.{texts}
 use Rattle.parallel_reader.specs.declared.portion.Counts.{Counts}
 use Rattle.parallel_reader.specs.declared.portion.JobLines.{JobLines}
 use Rattle.parallel_reader.specs.Fronts.{AreJobsIn}
 use Rattle.parallel_reader.specs.Jobs.{BeginsJobs, AreCounted, AreJobs, AreRead, IsReadOf, job_of, after_job, with_jobs, AddsJobs, AddsAll, Below, Extends, portion_lines}
 use Rattle.parallel_reader.proofs.Adding.{lines_after}
-
--- ---- what is read of lines by themselves
 
 jobs_append : (xs ys : List (List ℕ)) (js ks : List Fields) → AreJobs xs js → AreJobs ys ks → AreJobs (xs ++ ys) (js ++ ks)
 jobs_append [] ys js ks h k = subst (λ (l : List Fields). AreJobs ys (l ++ ks)) (sym h) k
@@ -41,17 +37,17 @@ jobs_append (x ∷ xs) ys js ks h k = go (λ l b. jobs_append xs ys l ks b k) (l
     go later (read.Job job) b = (b.0 ++ ks, ap (λ (l : List Fields). l ++ ks) b.1, later b.0 b.2)
     go later (read.Fault fault) b = absurd b
 
+-- a blank line more adds no job line
 pub blank_more : (ls : List (List ℕ)) (line : List ℕ) (jobs : List Fields) → AreJobs ls jobs → line_of line ≡ read.Blank → AreJobs (ls ++ line ∷ []) jobs
 blank_more ls line jobs h is =
     let one : AreJobs (line ∷ []) [] = subst (λ (r : LineRead). BeginsJobs r (AreJobs []) []) (sym is) refl in
     subst (AreJobs (ls ++ line ∷ [])) (append-nil jobs) (jobs_append ls (line ∷ []) jobs [] h one)
 
+-- a job line more is the last of the job lines
 pub job_line_more : (ls : List (List ℕ)) (line : List ℕ) (jobs : List Fields) (job : Fields) → AreJobs ls jobs → line_of line ≡ read.Job job → AreJobs (ls ++ line ∷ []) (jobs ++ job ∷ [])
 job_line_more ls line jobs job h is =
     let one : AreJobs (line ∷ []) (job ∷ []) = subst (λ (r : LineRead). BeginsJobs r (AreJobs []) (job ∷ [])) (sym is) ([], refl, refl) in
     jobs_append ls (line ∷ []) jobs (job ∷ []) h one
-
--- ---- what job lines add
 
 job_step : (number : ℕ) (u : LogText) (ls : List (List ℕ)) (rest : List Fields) → ((v : LogText) → with_jobs v rest ≡ Ok u → with_lines (number + 1) v ls ≡ Ok u) → (r : Result LogText FaultKind) → after_job r (λ next. with_jobs next rest) ≡ Ok u → at_line number r (λ next. with_lines (number + 1) next ls) ≡ Ok u
 job_step number u ls rest later (Err kind) e = absurd cc
@@ -91,6 +87,7 @@ jobs_next old t new jobs k d lt h step =
     let more : map job_of (take (k + 1) jobs) ≡ map job_of (take k jobs) ++ job_of (get_or jobs k d) ∷ [] = ap (map job_of) (take_more jobs k d lt) ∙ map-append job_of (take k jobs) (get_or jobs k d ∷ []) in
     subst (λ (js : List Fields). AddsJobs old js new) (sym more) (jobs_then old t new (map job_of (take k jobs)) (job_of (get_or jobs k d) ∷ []) h step)
 
+-- no lines lead from entries to the same entries
 pub all_none : (old : List LogEntry) → AddsAll old [] old
 unfolding with_lines
 all_none old = λ number comments. refl
@@ -98,50 +95,16 @@ all_none old = λ number comments. refl
 pub all_then : (a b c : List LogEntry) (xs ys : List (List ℕ)) → AddsAll a xs b → AddsAll b ys c → AddsAll a (xs ++ ys) c
 all_then a b c xs ys h k = λ number comments. lines_after number _ _ xs ys (h number comments) ∙ k (number + length xs) comments
 
--- the portion behind those that were added
 pub portions_next : (old t new : List LogEntry) (ps : List (List ℕ)) (k : ℕ) → k < length ps → AddsAll old (portion_lines (take k ps)) t → AddsAll t (lines (get_or ps k [])) new → AddsAll old (portion_lines (take (k + 1) ps)) new
 portions_next old t new ps k lt h step =
     let one : portion_lines (get_or ps k [] ∷ []) ≡ lines (get_or ps k []) = append-nil (lines (get_or ps k [])) in
     let more : portion_lines (take (k + 1) ps) ≡ portion_lines (take k ps) ++ lines (get_or ps k []) = ap portion_lines (take_more ps k [] lt) ∙ flat_map-append lines (take k ps) (get_or ps k [] ∷ []) ∙ ap (λ (l : List (List ℕ)). portion_lines (take k ps) ++ l) one in
     subst (λ (ls : List (List ℕ)). AddsAll old ls new) (sym more) (all_then old t new (portion_lines (take k ps)) (lines (get_or ps k [])) h step)
 
--- ---- an entry
-
-is_number : (n : ℕ) (o : Option ℕ) → is_some_number n o ≡ true → n ≡ unwrap_or o 0
-is_number n None h = absurd cc
-is_number n (Some m) h = eqb-true n m h
-
-pub below_more : (next later : ℕ) (entries : List LogEntry) (entry : LogEntry) → Below next entries → next ≤ later → number_of_entry entry < later → Below later (entries ++ entry ∷ [])
-below_more next later entries entry below le lt n there = go (list_any (has_number n) entries) refl (has_number n entry) refl (sym (list_any-append (has_number n) entries (entry ∷ [])) ∙ there)
-  where
-    go : (a : Bool) → list_any (has_number n) entries ≡ a → (b : Bool) → has_number n entry ≡ b → (a || (b || false)) ≡ true → n < later
-    go true p b q t = omega (arith, below n p)
-    go false p true q t = omega (arith, is_number n (whole_number (field entry.main 1)) q)
-    go false p false q t = absurd cc
-
+-- where there are no entries, all job numbers are below 0
 pub below_none : Below 0 []
 below_none n there = absurd cc
 
--- the entry of a packed summary line, whose number is at least one above all others
-module _ (old : List LogEntry) (job : PackedLine) (next number : ℕ) (below : Below next old) (numbered : whole_number (field (unpacked job) 1) ≡ Some number) (le : next ≤ number) where
-  abbrev pub made : LogEntry
-  made = record { main = unpacked job; parts = [] }
-
-  pub entry_added : is_partial (field (unpacked job) 11) ≡ false → is_below_zero (field (unpacked job) 2) ≡ false → length old < 4194304 → AddsJobs old (job_of job ∷ []) (old ++ made ∷ [])
-  entry_added summary submit fits =
-      let new : list_any (has_number number) old ≡ false = false_from_ne_true (list_any (has_number number) old) (λ there. omega (arith, below number there)) in
-      λ comments.
-      let t : LogText = record { comments = comments; entries = old } in
-      ap (λ (r : Result LogText FaultKind). after_job r (λ later. with_jobs later [])) (job_more t (unpacked job) number numbered summary submit new fits)
-
-  pub entry_below : Below (number + 1) (old ++ made ∷ [])
-  entry_below =
-      let own : number_of_entry made ≡ number = ap (λ (o : Option ℕ). unwrap_or o 0) numbered in
-      below_more next (number + 1) old made below (omega arith) (omega (arith, own))
-
--- ---- whole lines
-
--- the lines of bytes that a line feed follows, before an empty one
 abbrev closed : List ℕ → List (List ℕ)
 closed [] = [] ∷ []
 closed (b ∷ xs) = if is_feed b then [] ∷ closed xs else onto_first b (closed xs)
@@ -185,6 +148,7 @@ end_behind (l ∷ k ∷ ls) behind some = ap (λ (ms : List (List ℕ)). l ∷ m
 lines_closed : (p r : List ℕ) → lines (p ++ 10 ∷ r) ≡ closed p ++ lines r
 lines_closed p r = ap without_empty_end (split_closed p r) ∙ end_behind (closed p) (slice_split is_feed r) (omega (arith, length-slice_split is_feed r))
 
+-- the lines up to a line feed, and those behind it, are the lines of all bytes
 pub cut_lines : (p r : List ℕ) → lines (p ++ 10 ∷ []) ++ lines r ≡ lines (p ++ 10 ∷ r)
 cut_lines p r =
     let alone : lines (p ++ 10 ∷ []) ≡ closed p = lines_closed p [] ∙ append-nil (closed p) in
@@ -216,8 +180,6 @@ whole_lines bytes after k is = elim (cases_lt (position_or_len is_feed (drop k b
       ∙ append-nil (lines bytes)
 ]
 
--- ---- portions of a log
-
 -- a portion behind those that were taken
 pub portion_taken : (taken new : List (Bor (List ℕ))) (front : Bor (List ℕ)) (rest after bytes : List ℕ) → new ≡ taken ++ front ∷ [] → lines front.now ++ lines after ≡ lines rest → portion_lines (texts taken) ++ lines rest ≡ lines bytes → portion_lines (texts new) ++ lines after ≡ lines bytes
 portion_taken taken new front rest after bytes is cut whole =
@@ -225,8 +187,7 @@ portion_taken taken new front rest after bytes is cut whole =
     let more : portion_lines (texts new) ≡ portion_lines (texts taken) ++ lines front.now = ap portion_lines seen ∙ flat_map-append lines (texts taken) (front.now ∷ []) ∙ ap (λ (ls : List (List ℕ)). portion_lines (texts taken) ++ ls) (append-nil (lines front.now)) in
     ap (λ (ls : List (List ℕ)). ls ++ lines after) more ∙ append_assoc (portion_lines (texts taken)) (lines front.now) (lines after) ∙ ap (λ (ls : List (List ℕ)). portion_lines (texts taken) ++ ls) cut ∙ whole
 
--- ---- the lines of a portion, one after another
-
+-- the first line of the rest stands behind the lines that were taken, and those of the new rest behind it
 pub line_taken : (all front : List (List ℕ)) (rest line after : List ℕ) → 0 < length rest → line ≡ before_first is_feed rest → after ≡ after_first is_feed rest → all ≡ front ++ lines rest → all ≡ (front ++ line ∷ []) ++ lines after
 line_taken all front rest line after some line_is after_is whole =
     whole ∙ ap (λ (ls : List (List ℕ)). front ++ ls) (lines-next rest some)
@@ -234,15 +195,14 @@ line_taken all front rest line after some line_is after_is whole =
     ∙ ap (λ (l : List ℕ). front ++ line ∷ lines l) (sym after_is)
     ∙ sym (append_assoc front (line ∷ []) (lines after))
 
--- ---- portions that were read
-
 pub read_counted : (ls : List (List ℕ)) (jobs : List PackedLine) (o : Option Counts) (counts : Counts) → IsReadOf ls jobs o → o ≡ Some counts → AreCounted ls jobs counts
 read_counted ls jobs o counts h is = subst (IsReadOf ls jobs) is h
 
--- one above the number of each entry that was looked at
+-- a number that all job numbers of the first entries are below is one that all are below, if these entries are all
 pub below_all : (next : ℕ) (entries : List LogEntry) (k : ℕ) → length entries ≤ k → Below next (take k entries) → Below next entries
 below_all next entries k le below = subst (Below next) (take_all k entries le) below
 
+-- lines that were read as so many job lines lead to the entries to which these job lines lead
 pub portion_read : (old new : List LogEntry) (jobs : List PackedLine) (o : Option Counts) (counts : Counts) (result : Option ℕ) → o ≡ Some counts → (m : ℕ) → (counts.jobs ≤ length jobs → m ≡ counts.jobs) → IfSome result (λ later. AddsJobs old (map job_of (take m jobs)) new) → IfSome result (λ later. (ls : List (List ℕ)) → IsReadOf ls jobs o → AddsAll old ls new)
 portion_read old new jobs o counts None is m same added = tt
 portion_read old new jobs o counts (Some later) is m same added = λ ls h.
@@ -266,6 +226,7 @@ portions_all old new jobs k le done ls are =
     let all : take k are.portions ≡ are.portions = take_all k are.portions (omega (arith, le, are.count)) in
     subst (λ (l : List (List ℕ)). AddsAll old l new) (ap portion_lines all ∙ are.whole) (done are.portions are.count are.read)
 
+-- the count of the lines of the first portions is that of all lines, if these portions are all
 pub counted_all : (jobs : List JobLines) (k n : ℕ) → length jobs ≤ k
     → ((ps : List (List ℕ)) → length jobs ≡ length ps → AreRead ps jobs → n ≡ length (portion_lines (take k ps)))
     → (ls : List (List ℕ)) → AreJobsIn ls jobs → n ≡ length ls
@@ -273,19 +234,17 @@ counted_all jobs k n le done ls are =
     let all : take k are.portions ≡ are.portions = take_all k are.portions (omega (arith, le, are.count)) in
     done are.portions are.count are.read ∙ ap length (ap portion_lines all ∙ are.whole)
 
--- ---- entries behind others
-
+-- entries are themselves with none behind them
 pub extends_none : (old : List LogEntry) → Extends old old
 extends_none old = ([], sym (append-nil old))
 
+-- entries with others behind them, and more behind these, are the first ones with others behind them
 pub extends_then : (a b c : List LogEntry) → Extends a b → Extends b c → Extends a c
 extends_then a b c p q = (p.0 ++ q.0, q.1 ∙ ap (λ (l : List LogEntry). l ++ q.0) p.1 ∙ append_assoc a p.0 q.0)
 
--- those that were there before
+-- of entries with others behind them, as many first ones as there were are those that were there before
 pub cut_back : (old new : List LogEntry) → Extends old new → take (length old) new ≡ old
 cut_back old new p = ap (take (length old)) p.1 ∙ take_at old p.0 (length old) refl
-
--- ---- lines, portion after portion
 
 -- what is added of the portion at hand
 pub portion_behind : (old t new : List LogEntry) (all front ls : List (List ℕ)) (rest : List ℕ) → all ≡ front ++ lines rest → AddsAll old front t → AddsAll t ls new → (after : List ℕ) → ls ++ lines after ≡ lines rest → (all ≡ (front ++ ls) ++ lines after) × AddsAll old (front ++ ls) new

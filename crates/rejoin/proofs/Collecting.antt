@@ -36,7 +36,6 @@ contains-one m n (suc k, l, e) = absurd (omega (arith, l))
 contains-this : (m n : ℕ) → m ≡ n → Contains (m ∷ []) n
 contains-this m n e = (0, omega arith, e)
 
--- one edit more
 names-more : (xs : List LogEdit) (e : LogEdit) (n : ℕ) → Contains (map named (xs ++ e ∷ [])) n → Contains (map named xs) n ⊎ (named e ≡ n)
 names-more xs e n h = go (Contains-append_cases (map named xs) (named e ∷ []) n (subst (λ (l : List ℕ). Contains l n) (map-append named xs (e ∷ [])) h))
   where
@@ -64,7 +63,6 @@ collected-same p q xs ys e m ns more is same c = record {
     go n d (inl h) = c.whole n h d
     go n d (inr h) = absurd (same (subst (IsTouched p q) (sym (is ∙ h)) d))
 
--- a number is that of an edit, or of none
 named-or-not : (edits : List LogEdit) (n : ℕ) → Contains (map named edits) n ⊎ All (λ edit. named edit ≢ n) edits
 named-or-not [] n = inr (All-nil (λ edit. named edit ≢ n))
 named-or-not (e ∷ es) n = by_cases (ℕ_discrete (named e) n) (λ same. inl (0, omega arith, same)) (λ other. go other (named-or-not es n))
@@ -83,7 +81,6 @@ collected-all log edits now s ns table accepted is c = record {
     go n d (inl h) = c.whole n h d
     go n d (inr none) = absurd (others-are-untouched log edits s n table accepted none (subst (λ (l : List LogEntry). IsTouched (plan_of log s) (plan_of l s) n) is d))
 
--- ---- submit seconds
 submit-is : (o : Option EffectiveJob) (t : ℕ) → Contains (submit_in o) t → IsSomeAnd o (λ j. j.submit ≡ t)
 submit-is None t h = absurd (contains-nil t h)
 submit-is (Some j) t h = contains-one j.submit t h
@@ -103,7 +100,6 @@ submits-have : (p q : Plan) (n t : ℕ) → IsSubmit p n t ⊎ IsSubmit q n t �
 submits-have p q n t (inl h) = Contains-append_left (submit_in (job_numbered p.jobs n)) (submit_in (job_numbered q.jobs n)) t (submit-has (job_numbered p.jobs n) t h)
 submits-have p q n t (inr h) = Contains-append_right (submit_in (job_numbered p.jobs n)) (submit_in (job_numbered q.jobs n)) t (submit-has (job_numbered q.jobs n) t h)
 
--- what stands in a piece stands in all pieces, and the other way round
 pieces-have : (p q : Plan) (ns : List ℕ) (n t : ℕ) → Contains ns n → Contains (submits_of p q n) t → Contains (flat_map (submits_of p q) ns) t
 pieces-have p q [] n t c h = absurd (contains-nil n c)
 pieces-have p q (m ∷ ms) n t (zero, l, e) h =
@@ -119,6 +115,7 @@ pieces-are p q (m ∷ ms) t all h = go (pieces-are p q ms t (All-tail (IsTouched
     go later (inl c) = (m, All-head (IsTouched p q) m ms all, submits-are p q m t c)
     go later (inr c) = later c
 
+-- the submit seconds of all touched numbers, in both plans, are all seconds at which touched numbers are submitted
 pub submits-all : (p q : Plan) (ns ts : List ℕ) → AreThose (IsTouched p q) ns → ts ≡ flat_map (submits_of p q) ns → AreThose (IsTouchedSubmit p q) ts
 submits-all p q ns ts those is = record {
   each = subst (All (IsTouchedSubmit p q)) (sym is) (All-all (flat_map (submits_of p q) ns) (λ t h. pieces-are p q ns t those.each h));
@@ -128,10 +125,10 @@ submits-all p q ns ts those is = record {
     All-all : (ts : List ℕ) → ((t : ℕ) → Contains ts t → IsTouchedSubmit p q t) → All (IsTouchedSubmit p q) ts
     All-all ts h = All-weaker (Contains ts) (IsTouchedSubmit p q) h ts (All-contains_itself ts)
 
--- so many of them come before a second
 count-append : (t : ℕ) (xs ys : List ℕ) → count_before t (xs ++ ys) ≡ count_before t xs + count_before t ys
 count-append t xs ys = sum_by-append (λ (s : ℕ). cond {A = ℕ} (nat_lt s t) 1 0) xs ys
 
+-- of the submit seconds of some numbers in two plans as many come before second t as numbers are submitted before it in one and in the other
 pub submits-count : (p q : Plan) (ns : List ℕ) (t : ℕ) → count_before t (flat_map (submits_of p q) ns) ≡ submitted_of ns p t + submitted_of ns q t
 submits-count p q [] t = refl
 submits-count p q (n ∷ ns) t =
@@ -143,18 +140,21 @@ submits-count p q (n ∷ ns) t =
     let rest = submits-count p q ns t in
     omega (arith, whole, both, one, was, is, rest)
 
--- a loop over the edits
 module _ {X : Type 0} (f : X → LogEdit) where
+  -- the first i + 1 edits of a list are its first i and the next one
   pub front-more : (xs : List X) (i : ℕ) (d : X) → i < length xs → map f (take (i + 1) xs) ≡ map f (take i xs) ++ f (get_or xs i d) ∷ []
   front-more xs i d l = ap (map f) (take_more xs i d l) ∙ map-append f (take i xs) (get_or xs i d ∷ [])
 
+  -- where the next edit's number is touched, and is put to those collected of the first i edits, they are those of the first i + 1
   pub touched-more : (p q : Plan) (xs : List X) (i : ℕ) (d : X) (m : ℕ) (ns ms : List ℕ) → i < length xs → m ≡ named (f (get_or xs i d)) → IsTouched p q m → ms ≡ ns ++ m ∷ [] → Collected p q (map f (take i xs)) ns → Collected p q (map f (take (i + 1) xs)) ms
   touched-more p q xs i d m ns ms l is touched put c = collected-more p q (map f (take i xs)) (map f (take (i + 1) xs)) (f (get_or xs i d)) m ns ms (front-more xs i d l) is put touched c
 
+  -- where the next edit's number is not touched, those collected of the first i edits are those of the first i + 1
   pub untouched-more : (p q : Plan) (xs : List X) (i : ℕ) (d : X) (m : ℕ) (ns ms : List ℕ) → i < length xs → m ≡ named (f (get_or xs i d)) → (IsTouched p q m → ⊥) → ms ≡ ns → Collected p q (map f (take i xs)) ns → Collected p q (map f (take (i + 1) xs)) ms
   untouched-more p q xs i d m ns ms l is same put c =
       subst (Collected p q (map f (take (i + 1) xs))) (sym put) (collected-same p q (map f (take i xs)) (map f (take (i + 1) xs)) (f (get_or xs i d)) m ns (front-more xs i d l) is same c)
 
+  -- the numbers collected of edits that are accepted, up to the last one, are all touched numbers of the two logs' plans
   pub touched-all : (log now : List LogEntry) (s : ScenarioView) (xs : List X) (i : ℕ) (ns : List ℕ) → length xs ≤ i → IsTable log → AreAccepted log (map f xs) → now ≡ log_after log (map f xs) → Collected (plan_of log s) (plan_of now s) (map f (take i xs)) ns
       → AreThose (IsTouched (plan_of log s) (plan_of now s)) ns
   touched-all log now s xs i ns l table accepted is c =

@@ -1,4 +1,4 @@
--- Edits that are applied one after another.
+-- Edits that are applied one after another, up to the last one or the first that is refused.
 use Rattle.std.proofs.Common.{◌≡◌, ℕ, ◌+◌, ◌≤◌, ◌<◌, List, [], ◌∷◌, ◌++◌, ◌⊎◌, inl, inr, map, take, drop, length, get_or, None, Some, refl, sym, ◌∙◌, ap, subst}
 use Rattle.std.proofs.lemmas.List.{take_more, take_all, drop_more, take-append-drop, map-append}
 use Rattle.swf_text.specs.Entry.{LogEntry}
@@ -21,12 +21,10 @@ accepted-more : (log : List LogEntry) (edits : List LogEdit) (e : LogEdit) → A
 accepted-more log [] e a is ok = (is, ok, tt)
 accepted-more log (x ∷ xs) e (y, z, a) is ok = (y, z, accepted-more (applied x log) xs e a is ok)
 
--- the edits before it were accepted, and this one is refused
 first-refusal : (log : List LogEntry) (front rest : List LogEdit) (e : LogEdit) (fault : EditFault) → AreAccepted log front → fault_of e (log_after log front) ≡ Some fault → IsFirstRefusal fault log (front ++ e ∷ rest)
 first-refusal log [] rest e fault a h = inl h
 first-refusal log (x ∷ xs) rest e fault (y, z, a) h = inr (z, first-refusal (applied x log) xs rest e fault a h)
 
--- out of memory, or that fault
 refusal-is : (fault : EditFault) (e : LogEdit) (log : List LogEntry) → IsRefusal fault e log → (fault ≡ faults.Memory) ⊎ (fault_of e log ≡ Some fault)
 refusal-is faults.Memory e log h = inl refl
 refusal-is faults.DuplicateJob e log h = inr h
@@ -36,6 +34,7 @@ refusal-is faults.BadField e log h = inr h
 refusal-is faults.BadValue e log h = inr h
 
 module _ {X : Type 0} (f : X → LogEdit) where
+  -- where the next edit is accepted, and applied to the log after the first i, this is the log after the first i + 1
   pub edited-more : (log now new : List LogEntry) (xs : List X) (i : ℕ) (d : X) (e : LogEdit) → i < length xs → e ≡ f (get_or xs i d) → IsEdit e → fault_of e now ≡ None → new ≡ applied e now → Edited log (map f (take i xs)) now → Edited log (map f (take (i + 1) xs)) new
   edited-more log now new xs i d e l is sound ok put h =
       let more : map f (take i xs) ++ e ∷ [] ≡ map f (take (i + 1) xs) = ap (λ (x : LogEdit). map f (take i xs) ++ x ∷ []) is ∙ sym (ap (map f) (take_more xs i d l) ∙ map-append f (take i xs) (get_or xs i d ∷ [])) in
@@ -45,6 +44,7 @@ module _ {X : Type 0} (f : X → LogEdit) where
         after = put ∙ ap (applied e) h.after ∙ sym (log_after-more log (map f (take i xs)) e);
       })
 
+  -- where the next edit is refused, it was out of memory, or its fault is that of the first refusal
   pub edited-refused : (log now : List LogEntry) (xs : List X) (i : ℕ) (d : X) (e : LogEdit) (fault : EditFault) → i < length xs → e ≡ f (get_or xs i d) → IsRefusal fault e now → Edited log (map f (take i xs)) now
       → (fault ≡ faults.Memory) ⊎ IsFirstRefusal fault log (map f xs)
   edited-refused log now xs i d e fault l is refused h =
@@ -60,5 +60,6 @@ module _ {X : Type 0} (f : X → LogEdit) where
       go (inr first) whole =
           inr (subst (IsFirstRefusal fault log) whole (first-refusal log (map f (take i xs)) (map f (drop (i + 1) xs)) e fault h.accepted (subst (λ (l' : List LogEntry). fault_of e l' ≡ Some fault) h.after first)))
 
+  -- the log after the edits up to the end is the log after all
   pub edited-all : (log now : List LogEntry) (xs : List X) (i : ℕ) → length xs ≤ i → Edited log (map f (take i xs)) now → Edited log (map f xs) now
   edited-all log now xs i l h = subst (λ (ys : List X). Edited log (map f ys) now) (take_all i xs l) h

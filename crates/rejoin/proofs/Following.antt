@@ -1,4 +1,4 @@
--- The starts of touched numbers, as a simulation goes on.
+-- The starts of touched numbers, as a simulation goes on: how many there are, and from which second on all of them have ended.
 use Rattle.std.proofs.Common.{◌≡◌, ℕ, ◌+◌, ◌-◌, ◌≤◌, ◌<◌, ◌^◌, ◌↔◌, min, Bool, true, false, cond, nat_eq, count_by, if◌then◌else◌, All, List, [], ◌∷◌, ◌++◌, length, take, get_or, Option, Some, None, refl, sym, ◌∙◌, ap, subst, arith, append-nil, append_assoc}
 use Rattle.std.specs.Prelude.{IfSome}
 use Rattle.std.proofs.lemmas.Bool.{cond-true, eq-eqb, eqb-true}
@@ -14,16 +14,16 @@ use Rattle.rejoin.specs.Rejoining.{ChangeView}
 use Rattle.rejoin.specs.Started.{among, starts_of, EachHasEnded, HaveEnded}
 use Rattle.rejoin.proofs.Noting.{no-count, start-push}
 
--- what is noted of some more starts
+-- what is noted of some more starts: how many of them are those of these numbers, and from which second on they have ended too
 pub record IsMore (ns : List ℕ) (jobs : List EffectiveJob) (ys : List Start) (started started' ended ended' : ℕ) : Type 0 where
   pub count : started' ≡ min (started + starts_of ns ys) (2 ^ 64 - 1)
   pub tells : All (λ (y : Start). y.at < 2 ^ 49) ys → (t : ℕ) → (ended' ≤ t) ↔ ((ended ≤ t) × EachHasEnded ns jobs ys t)
 
+-- what holds of all of two lists, one after the other, holds of all of the second
 pub All-back : (P : Start → Type 0) (xs ys : List Start) → All P (xs ++ ys) → All P ys
 All-back P [] ys all = all
 All-back P (x ∷ xs) ys all = All-back P xs ys (All-tail P x (xs ++ ys) all)
 
--- ---- all that have started have ended
 abbrev HasEnded : List ℕ → List EffectiveJob → Start → ℕ → Type 0
 HasEnded ns jobs y t = among ns y.number ≡ true → IfSome (job_numbered jobs y.number) (λ job. y.at + job.length < t)
 
@@ -73,6 +73,7 @@ module _ (ns : List ℕ) (jobs : List EffectiveJob) where
         (λ (h, all). rest.1 (one.1 (h, All-head (λ x. HasEnded ns jobs x t) y ys all), All-tail (λ x. HasEnded ns jobs x t) y ys all)),
       )
 
+  -- numbers that have ended before a second have ended before a later one
   pub ended-later : (xs : List Start) (a t : ℕ) → a ≤ t → HaveEnded ns jobs xs a → HaveEnded ns jobs xs t
   ended-later xs a t l h n among-is = go (start_of xs n) (h n among-is)
     where
@@ -87,7 +88,7 @@ module _ (ns : List ℕ) (jobs : List EffectiveJob) where
 starts-append : (ns : List ℕ) (xs ys : List Start) → starts_of ns (xs ++ ys) ≡ starts_of ns xs + starts_of ns ys
 starts-append ns xs ys = sum_by-append (λ (x : Start). cond {A = ℕ} (among ns x.number) 1 0) xs ys
 
--- the new simulation goes on
+-- with the next starts of the new plan noted, the touched starts of both plans are still counted, and told to have ended or not
 pub follows-new : (from to : ℕ) (c : ChangeView) (f a b started started' ended ended' : ℕ) (ys : List Start) → from ≤ to → starts_before c.is b ≡ starts_before c.is a ++ ys → ((n : ℕ) → count_by (λ (x : Start). nat_eq x.number n) (starts_before c.is a ++ ys) ≤ 1)
     → All (λ (y : Start). y.at < 2 ^ 49) ys → IsMore c.touched c.is.jobs ys started started' ended ended' → Follows from c f a started ended → Follows to c f b started' ended'
 follows-new from to c f a b started started' ended ended' ys l split once early more follows =
@@ -106,7 +107,7 @@ follows-new from to c f a b started started' ended ended' ys l split once early 
           );
     }
 
--- the old one goes on
+-- with the next starts of the old plan noted, the touched starts of both plans are still counted, and told to have ended or not
 pub follows-old : (from : ℕ) (c : ChangeView) (f g a started started' ended ended' : ℕ) (ys : List Start) → starts_before c.was g ≡ starts_before c.was f ++ ys → ((n : ℕ) → count_by (λ (x : Start). nat_eq x.number n) (starts_before c.was f ++ ys) ≤ 1)
     → All (λ (y : Start). y.at < 2 ^ 49) ys → IsMore c.touched c.was.jobs ys started started' ended ended' → Follows from c f a started ended → Follows from c g a started' ended'
 follows-old from c f g a started started' ended ended' ys split once early more follows =
@@ -125,7 +126,7 @@ follows-old from c f g a started started' ended ended' ys split once early more 
           );
     }
 
--- ---- as they are noted
+-- where no start is added, the count and the second from which on all have ended are as they were
 pub none-more : (ns : List ℕ) (jobs : List EffectiveJob) (started ended : ℕ) → started < 2 ^ 64
     → (started ≡ min (started + starts_of ns []) (2 ^ 64 - 1)) × ((t : ℕ) → (ended ≤ t) ↔ ((ended ≤ t) × EachHasEnded ns jobs [] t))
 none-more ns jobs started ended small =
@@ -133,11 +134,13 @@ none-more ns jobs started ended small =
     (omega (arith, small, none), (λ t. ((λ l. (l, All-nil (λ x. HasEnded ns jobs x t))), (λ h. h.0))))
 
 module _ (ns : List ℕ) (new : List Start) (i : ℕ) (d : Start) (l : i < length new) where
+  -- where the starts of these numbers among the first i new ones are counted, and the next one is then, those among the first i + 1 are
   pub count-more : (first before' after' : ℕ) → before' ≡ min (first + starts_of ns (take i new)) (2 ^ 64 - 1) → after' ≡ min (before' + (if among ns (get_or new i d).number then 1 else 0)) (2 ^ 64 - 1) → after' ≡ min (first + starts_of ns (take (i + 1) new)) (2 ^ 64 - 1)
   count-more first before' after' e f =
       let more = ap (starts_of ns) (take_more new i d l) ∙ sum_by_push (λ (x : Start). cond {A = ℕ} (among ns x.number) 1 0) (take i new) (get_or new i d) in
       omega (arith, e, f, more)
 
+  -- where a second tells from when on the first i new starts have ended, and the next one is taken in, it tells this of the first i + 1
   pub tells-more : (jobs : List EffectiveJob) (first before' after' t : ℕ) → All (λ (x : Start). x.at < 2 ^ 49) new → (before' ≤ t) ↔ ((first ≤ t) × EachHasEnded ns jobs (take i new) t)
       → ((get_or new i d).at < 2 ^ 49 → (after' ≤ t) ↔ ((before' ≤ t) × HasEnded ns jobs (get_or new i d) t)) → (after' ≤ t) ↔ ((first ≤ t) × EachHasEnded ns jobs (take (i + 1) new) t)
   tells-more jobs first before' after' t early h step =

@@ -1,4 +1,4 @@
--- A ledger is kept by each start.
+-- A ledger is kept by each start that is noted: one of a touched number, one without a start of its number in the other plan, and one with one.
 use Rattle.std.proofs.Common.{◌≡◌, ℕ, ◌+◌, ◌≤◌, ◌<◌, ◌^◌, ◌&&◌, ◌↔◌, Bool, true, false, cond, not, max, nat_eq, count_by, List, [], ◌∷◌, ◌++◌, length, get_or, take, drop, All, filter, Option, Some, None, refl, sym, ◌∙◌, ap, subst, arith}
 use Rattle.std.specs.Prelude.{is_none, IsSome}
 use Rattle.std.proofs.Math.IntN.{pos}
@@ -16,7 +16,6 @@ use Rattle.timeline.specs.Ledger.{Ledger, NotesKeepTheLedger, LedgersSwap, all_a
 use Rattle.rejoin.specs.Noted.{AreStarts, Keeps}
 use Rattle.rejoin.proofs.Noting.{start-cons, start-push, start-without, start-among, no-count}
 
--- what an exchange does to both maps
 abbrev Exchanged : Start → Option ℕ → BTreeMap ℕ ℕ → BTreeMap ℕ ℕ → BTreeMap ℕ ℕ → BTreeMap ℕ ℕ → Type 0
 Exchanged x o here there here' there' =
     ((n : ℕ) → get nat_cmp here' n ≡ cond (nat_eq x.number n && is_none o) (Some x.at) (get nat_cmp here n)) × ((n : ℕ) → get nat_cmp there' n ≡ cond (nat_eq x.number n) None (get nat_cmp there n))
@@ -29,7 +28,6 @@ left-out : (b : Bool) (x y : Option ℕ) → cond (b && false) x y ≡ y
 left-out true x y = refl
 left-out false x y = refl
 
--- what is already missing needn't leave
 no-loss : (b : Bool) (o : Option ℕ) → (b ≡ true → o ≡ None) → cond b None o ≡ o
 no-loss true o h = sym (h refl)
 no-loss false o h = refl
@@ -59,7 +57,6 @@ keeps-beside from l job x (Some b) here there here' there' until apart k new fou
   tells_until = subst (λ a. (t : ℕ) → from ≤ t → (max until a ≤ t) ↔ (max l.until (apart_until job (Some x.at) (Some b)) ≤ t)) (sym (some b refl)) (later-max from until l.until (apart_until job (Some x.at) (Some b)) k.tells_until);
 }
 
--- only what a test asks for has to be equal
 unasked : (b : Bool) (u v : ℕ) → (b ≡ false → u ≡ v) → cond b 0 u ≡ cond b 0 v
 unasked true u v h = refl
 unasked false u v h = h refl
@@ -75,7 +72,6 @@ single-one j n = let one = sum_by-cons (λ (i : EffectiveJob). cond {A = ℕ} (n
     few-at true = omega arith
     few-at false = omega arith
 
--- the same in the ledger of starts, with one start more
 module _ (law : NotesKeepTheLedger) (touched : ℕ → Bool) (jobs : List EffectiveJob) (starts others : List Start) (x : Start) (ok : AreStarts touched jobs (starts ++ x ∷ [])) where
   pub none-yet : start_of starts x.number ≡ None
   none-yet =
@@ -96,7 +92,6 @@ module _ (law : NotesKeepTheLedger) (touched : ℕ → Bool) (jobs : List Effect
       subst (λ (z : Ledger). Keeps from z here' there' (max until apart)) (sym whole)
       (keeps-beside from l job x o here there here' there' until apart k (start-among (λ (y : Start). not (touched y.number) && is_none (start_of others y.number)) starts x.number none-yet) there-is swap some none)
 
-  -- a job of the start's number, whatever it is
   abbrev some-job : EffectiveJob
   some-job = record { number = x.number; submit = 0; size = 0; estimate = 0; length = 0; user = pos 0; killed = false }
 
@@ -117,6 +112,7 @@ module _ (law : NotesKeepTheLedger) (touched : ℕ → Bool) (jobs : List Effect
       let rest = until-same e js in
       omega (arith, head, rest)
 
+  -- a ledger is kept where a start of a touched number is noted, which leaves both maps as they are
   pub keeps-touched : touched x.number ≡ true → (from : ℕ) (here there : BTreeMap ℕ ℕ) (until : ℕ)
       → Keeps from (ledger_of touched jobs starts others) here there until → Keeps from (ledger_of touched jobs (starts ++ x ∷ []) others) here there (max until 0)
   keeps-touched e from here there until k = record {
@@ -125,7 +121,6 @@ module _ (law : NotesKeepTheLedger) (touched : ℕ → Bool) (jobs : List Effect
     tells_until = subst (λ u. (t : ℕ) → from ≤ t → (max until 0 ≤ t) ↔ (u ≤ t)) (sym (until-same e jobs)) (later-zero from until (all_apart_until touched jobs starts others) k.tells_until);
   }
 
--- ---- as a start is noted
 somes : (a b : ℕ) → Some a ≡ Some b → a ≡ b
 somes a b e = cc
 
@@ -137,7 +132,6 @@ some-is : (o : Option EffectiveJob) → IsSome o → (job : EffectiveJob) × (o 
 some-is None h = absurd (false≢true h)
 some-is (Some job) h = (job, refl)
 
--- the second of a start among those that are there alone is one of the starts'
 among-early : (p : Start → Bool) (xs : List Start) (n b : ℕ) → All (λ (x : Start). x.at < 2 ^ 49) xs → start_of (filter p xs) n ≡ Some b → b < 2 ^ 49
 among-early p [] n b all e = absurd (let k : None ≡ Some b = e in cc)
 among-early p (y ∷ ys) n b all e = go (p y) (among-early p ys n b (All-tail (λ (x : Start). x.at < 2 ^ 49) y ys all)) e
@@ -154,6 +148,7 @@ module _ (law : NotesKeepTheLedger) (touched : ℕ → Bool) (jobs : List Effect
   job-of-it : touched x.number ≡ false → (job : EffectiveJob) × (job_numbered jobs x.number ≡ Some job)
   job-of-it e = some-is (job_numbered jobs x.number) (All-last (λ (y : Start). touched y.number ≡ false → IsSome (job_numbered jobs y.number)) starts x ok.have_jobs e)
 
+  -- a ledger is kept where a start is noted of an untouched number that the other plan's map doesn't have: this plan's map has it now
   pub keeps-alone : touched x.number ≡ false → (from : ℕ) (o : Option ℕ) (here there here' there' : BTreeMap ℕ ℕ) (until : ℕ)
       → Keeps from (ledger_of touched jobs starts others) here there until → o ≡ get nat_cmp there x.number → Exchanged x o here there here' there'
       → o ≡ None → Keeps from (ledger_of touched jobs (starts ++ x ∷ []) others) here' there' (max until 0)
@@ -161,6 +156,8 @@ module _ (law : NotesKeepTheLedger) (touched : ℕ → Bool) (jobs : List Effect
       let job = job-of-it e in
       keeps-other law touched jobs starts others x ok e job.0 job.1 from o here there here' there' until 0 k found swap (λ b is. absurd (let z : None ≡ Some b = sym none ∙ is in cc)) (λ _. refl)
 
+  -- a ledger is kept where a start is noted of an untouched number that the other plan's map has: it leaves that map, and the two
+  -- starts, where they differ, put off when the simulations have met
   pub keeps-apart : touched x.number ≡ false → (from : ℕ) (o : Option ℕ) (here there here' there' : BTreeMap ℕ ℕ) (until : ℕ)
       → Keeps from (ledger_of touched jobs starts others) here there until → o ≡ get nat_cmp there x.number → Exchanged x o here there here' there'
       → (other : ℕ) → o ≡ Some other → All (λ (y : Start). y.at < 2 ^ 49) others → (apart : ℕ)
@@ -174,13 +171,12 @@ module _ (law : NotesKeepTheLedger) (touched : ℕ → Bool) (jobs : List Effect
       (λ b there-is. let same : other ≡ b = somes other b (sym is ∙ there-is) in subst (λ c. apart ≡ apart_until job.0 (Some x.at) (Some c)) same (outcome job.0 job.1 this late))
       (λ none. absurd (let z : None ≡ Some other = sym none ∙ is in cc))
 
--- the other plan's side
+-- a ledger of two plans' starts that is kept is still kept where the plans change places
 pub keeps-swapped : LedgersSwap → (touched : ℕ → Bool) (jobs : List EffectiveJob) (starts others : List Start) (from : ℕ) (here there : BTreeMap ℕ ℕ) (until : ℕ)
     → Keeps from (ledger_of touched jobs starts others) here there until → Keeps from (ledger_of touched jobs others starts) there here until
 keeps-swapped law touched jobs starts others from here there until k =
     subst (λ (z : Ledger). Keeps from z there here until) (sym (law touched jobs starts others)) (record { tells_here = k.tells_there; tells_there = k.tells_here; tells_until = k.tells_until })
 
--- ---- starts in order
 All-first : (P : Start → Type 0) (xs ys : List Start) → All P (xs ++ ys) → All P xs
 All-first P [] ys all = All-nil P
 All-first P (x ∷ xs) ys all = All-cons P x xs (All-head P x (xs ++ ys) all) (All-first P xs ys (All-tail P x (xs ++ ys) all))
@@ -193,7 +189,7 @@ fewer-starts touched jobs xs ys ok = record {
   early = All-first (λ (x : Start). x.at < 2 ^ 49) xs ys ok.early;
 }
 
--- a step of a loop over new starts
+-- where a ledger is kept with the first i of some new starts, and the next one is noted, it is kept with the first i + 1
 pub note-more : (touched : ℕ → Bool) (jobs : List EffectiveJob) (new : List Start) (i : ℕ) (x : Start) → i < length new → (from : ℕ) (starts others : List Start) → AreStarts touched jobs (starts ++ new) → All (λ (y : Start). y.at < 2 ^ 49) others
     → (here there here' there' : BTreeMap ℕ ℕ) (until until' : ℕ) → Keeps from (ledger_of touched jobs (starts ++ take i new) others) here there until
     → ((from until : ℕ) (starts others : List Start) → AreStarts touched jobs (starts ++ get_or new i x ∷ []) → All (λ (y : Start). y.at < 2 ^ 49) others

@@ -1,4 +1,5 @@
--- Where a ledger says that two simulations have met.
+-- Where a ledger says that two simulations have met, and no touched number waits or runs, their states are equal, so the old segment that begins there
+-- is reused, if no touched number is submitted in its stretch; and how the ledger is kept from second to second.
 use Rattle.std.proofs.Common.{◌≡◌, ℕ, zero, suc, ◌+◌, ◌≤◌, ◌<◌, ◌^◌, ◌↔◌, ◌||◌, Bool, true, false, cond, nat_eq, count_by, List, [], ◌∷◌, ◌++◌, length, get_or, take, drop, All, IsTrue, Option, Some, None, refl, sym, ◌∙◌, ap, subst, arith, ⊎_elim, inr}
 use Rattle.std.specs.Prelude.{IfSome, IsSome}
 use Rattle.std.specs.List.{Contains}
@@ -35,7 +36,6 @@ use Rattle.rejoin.proofs.Rejoining.{spans-here}
 use Rattle.rejoin.proofs.Walk.{start-same}
 use Rattle.rejoin.proofs.Turns.{bounded}
 
--- ---- one of some numbers
 or-here : (b c : Bool) → b ≡ true → (b || c) ≡ true
 or-here true c e = refl
 or-here false c e = absurd (false≢true e)
@@ -57,6 +57,7 @@ true-among (m ∷ ms) n e = go (nat_eq m n) refl (true-among ms n) e
     go true f h g = (0, omega arith, eqb-true m n f)
     go false f h g = let c = h g in (suc c.0, omega (arith, c.1), c.2)
 
+-- a test that says whether a number is in a list says what `among` does
 pub outcome-among : (ns : List ℕ) (n : ℕ) (r : Bool) → IsTrue r ↔ Contains ns n → r ≡ among ns n
 outcome-among ns n true h = sym (among-true ns n (h.0 refl))
 outcome-among ns n false h = go (among ns n) refl
@@ -65,7 +66,6 @@ outcome-among ns n false h = go (among ns n) refl
     go true e = h.1 (true-among ns n e)
     go false e = refl
 
--- ---- two plans of a change
 pub agree-but : (c : ChangeView) → IsChange c → AgreeBut (among c.touched) c.was c.is
 agree-but c ok = record {
   left = ok.alike.left;
@@ -86,14 +86,12 @@ reused-of-met c ok a next begins met none clear =
     let both = (snapshots-meet (among c.touched) c.was c.is a (agree-but c ok)).1 (met, none.0, none.1) in
     record { begins = begins; same = both.0; untouched = λ n d l. both.1 n (among-true c.touched n (ok.touched.whole n d)) l; submits = clear }
 
--- equal states have met
 pub met-of-same : (c : ChangeView) → IsChange c → (a : ℕ) → before c.was a ≡ before c.is a → HaveMet (among c.touched) c.was c.is a
 met-of-same c ok a e =
     let h = ok.alike in
     let back = (untouched-equal-numbers-are-equal-states (before c.was a) (before c.is a) c.was c.is (before-of-plan c.was a h.left) (before-of-plan c.is a h.right) h.procs h.order).1 e in
     ((snapshots-meet (among c.touched) c.was c.is a (agree-but c ok)).0 (back.0, λ n t l. back.1 n (touched-is c ok n t) l)).0
 
--- ---- what the maps tell
 pub fresh-keeps : (c : ChangeView) → IsChange c → (a : ℕ) (old new : BTreeMap ℕ ℕ) (until : ℕ) → before c.was a ≡ before c.is a → HasNone old → HasNone new → until ≡ 0 → Keeps a (ledger_at c a a) old new until
 fresh-keeps c ok a old new until e none-old none-new zero' =
     let met = met-of-same c ok a e in
@@ -120,7 +118,6 @@ outcome-met c a old new until k = (
 later-keeps : (c : ChangeView) (from to a b : ℕ) (old new : BTreeMap ℕ ℕ) (until : ℕ) → from ≤ to → Keeps from (ledger_at c a b) old new until → Keeps to (ledger_at c a b) old new until
 later-keeps c from to a b old new until l k = record { tells_here = k.tells_here; tells_there = k.tells_there; tells_until = λ t m. k.tells_until t (omega (arith, l, m)) }
 
--- ---- the starts of a plan
 count-there : (xs : List Start) (k : ℕ) (d : Start) → k < length xs → 1 ≤ count_by (λ (x : Start). nat_eq x.number (get_or xs k d).number) xs
 count-there [] k d l = absurd (omega (arith, l))
 count-there (x ∷ xs) zero d l =
@@ -176,7 +173,6 @@ module _ (c : ChangeView) (ok : IsChange c) where
         early = early-starts c.was t p l;
       }
 
-  -- an old segment begins within the bound
   old-end : (at : ℕ) (s : SegmentView) (rest : List SegmentView) → drop at c.old ≡ s ∷ rest → (m : ℕ) × Spans c.was s s.first m × IsEnd c.was (next_first rest) m × (m ≤ bound c.was + 1) × (s.first ≤ m)
   old-end at s rest e =
       let whole : c.old ≡ take at c.old ++ s ∷ rest = sym (take-append-drop at c.old) ∙ ap (λ (t : List SegmentView). take at c.old ++ t) e in
@@ -185,9 +181,8 @@ module _ (c : ChangeView) (ok : IsChange c) where
       let y = sp.1.ends.2 in
       (sp.0, sp.1, sp.2, span-bounded c.was s s.first sp.0 ok.alike.left sp.1, omega (arith, x, y))
 
-  -- ---- from second to second
   module _ {A : Type 0} (at : ℕ) (notes notes' : Notes A) where
-    -- the new simulation goes on
+    -- with the starts of the new plan's next segment noted, all is noted up to its end before the same old segments
     pub noted-worked : (s : SegmentView) (a b : ℕ) → Spans c.is s a b → IsNoted c at a notes
         → ((from : ℕ) (xs others : List Start) → AreStarts (among c.touched) c.is.jobs (xs ++ s.starts) → All (λ (x : Start). x.at < 2 ^ 49) others
         → Keeps from (ledger_of (among c.touched) c.is.jobs others xs) notes.was notes.is notes.until → Keeps from (ledger_of (among c.touched) c.is.jobs others (xs ++ s.starts)) notes'.was notes'.is notes'.until)
@@ -211,7 +206,7 @@ module _ (c : ChangeView) (ok : IsChange c) where
               touched = follows-new a b c z.first a b notes.started notes'.started notes.ended notes'.ended s.starts later' sp.starts starts.once (All-back (λ (q : Start). q.at < 2 ^ 49) (starts_before c.is a) s.starts starts.early) more k.touched;
             }
 
-    -- the old one goes on
+    -- with the starts of the next old segment noted, all is noted up to the same position before those behind it
     pub noted-passed : (s : SegmentView) → drop at c.old ≡ s ∷ drop (at + 1) c.old → (position : ℕ) → MayBegin c.is position → IsNoted c at position notes
         → ((from : ℕ) (xs others : List Start) → AreStarts (among c.touched) c.is.jobs (xs ++ s.starts) → All (λ (x : Start). x.at < 2 ^ 49) others
         → Keeps from (ledger_of (among c.touched) c.is.jobs xs others) notes.was notes.is notes.until → Keeps from (ledger_of (among c.touched) c.is.jobs (xs ++ s.starts) others) notes'.was notes'.is notes'.until)
@@ -233,15 +228,14 @@ module _ (c : ChangeView) (ok : IsChange c) where
               touched = follows-old position c s.first e'.0 position notes.started notes'.started notes.ended notes'.ended s.starts e'.1.starts starts.once (All-back (λ (q : Start). q.at < 2 ^ 49) (starts_before c.was s.first) s.starts starts.early) more k.touched;
             })
 
--- ---- as the tests ask
+-- where no old segment is left, all is noted that is asked for
 pub noted-last : {A : Type 0} (c : ChangeView) (at position : ℕ) (notes : Notes A) → next_first (drop at c.old) ≡ None → IsNoted c at position notes
 noted-last c at position notes e = subst (λ (next : Option ℕ). IfSome next (λ a. AreNotes c a position notes)) (sym e) tt
 
+-- where an engine is at work, what spans some seconds in its plan spans them in the new plan
 pub stands-spans : (c : ChangeView) (n at : ℕ) (now : Progress) (ss : List SegmentView) (handled reused : ℕ) → Stands c n at false now ss handled reused → (s : SegmentView) (a b : ℕ) → Spans now.plan s a b → Spans c.is s a b
 stands-spans c n at now ss handled reused (us, count, going, plan, on) s a b sp = subst (λ (q : Plan). Spans q s a b) plan sp
 
--- ---- whether touched numbers wait or run
--- none of them does where the states are equal
 none-of-same : (c : ChangeView) → IsChange c → (a : ℕ) → before c.was a ≡ before c.is a → NoneOf (among c.touched) (numbers_of (before c.was a)) × NoneOf (among c.touched) (numbers_of (before c.is a))
 none-of-same c ok a e =
     let h = ok.alike in
@@ -249,7 +243,6 @@ none-of-same c ok a e =
     let here : NoneOf (among c.touched) (numbers_of (before c.is a)) = λ n t l. back.1 n (touched-is c ok n t) l in
     (subst (λ s. NoneOf (among c.touched) (numbers_of s)) (sym e) here, here)
 
--- what is noted of their starts tells it
 outcome-none : (c : ChangeView) → IsChange c → (a started ended submitted : ℕ) → a ≤ bound c.was + 1 → a ≤ bound c.is + 1 → Follows a c a a started ended → submitted ≡ count_before a c.submits → submitted < 2 ^ 64
     → ((submitted ≤ started) × (ended ≤ a)) ↔ (NoneOf (among c.touched) (numbers_of (before c.was a)) × NoneOf (among c.touched) (numbers_of (before c.is a)))
 outcome-none c ok a started ended submitted within-was within-is follows is small =
@@ -274,7 +267,6 @@ outcome-none c ok a started ended submitted within-was within-is follows is smal
           )),
     )
 
--- where the states are equal, all that are submitted have started and ended
 fresh-follows : (c : ChangeView) → IsChange c → (a started ended : ℕ) → a ≤ bound c.was + 1 → a ≤ bound c.is + 1 → before c.was a ≡ before c.is a → started ≡ count_before a c.submits → started < 2 ^ 64 → ended ≡ 0 → Follows a c a a started ended
 fresh-follows c ok a started ended within-was within-is e is small zero' =
     let none = none-of-same c ok a e in
@@ -291,13 +283,12 @@ fresh-follows c ok a started ended within-was within-is e is small zero' =
       );
     }
 
--- equal states, at a second that is not late
 pub record IsFresh (c : ChangeView) (a : ℕ) : Type 0 where
   pub same : before c.was a ≡ before c.is a
   pub within_was : a ≤ bound c.was + 1
   pub within_is : a ≤ bound c.is + 1
 
--- of no start yet
+-- notes of no start yet, which count as many touched starts as touched numbers are submitted before the second
 pub record AreNew {A : Type 0} (c : ChangeView) (a : ℕ) (notes : Notes A) : Type 0 where
   pub none_was : HasNone notes.was
   pub none_is : HasNone notes.is
@@ -306,6 +297,7 @@ pub record AreNew {A : Type 0} (c : ChangeView) (a : ℕ) (notes : Notes A) : Ty
   pub small : notes.started < 2 ^ 64
   pub ended : notes.ended ≡ 0
 
+-- notes with nothing in the maps, and no end, that count as many starts as touched numbers are submitted before a second are new there
 pub new-notes : {A : Type 0} (c : ChangeView) (a b n : ℕ) (notes : Notes A) → b ≡ a → n ≡ count_before b c.submits → n < 2 ^ 64 → HasNone notes.was → HasNone notes.is → notes.until ≡ 0 → notes.started ≡ n → notes.ended ≡ 0 → AreNew c a notes
 new-notes c a b n notes same count small was is until started ended = record {
   none_was = was;
@@ -316,7 +308,6 @@ new-notes c a b n notes same count small was is until started ended = record {
   ended = ended;
 }
 
--- a fresh ledger, where the states before the next old segment are equal
 fresh-noted : {A : Type 0} (c : ChangeView) → IsChange c → (at position : ℕ) (notes : Notes A) → IfSome (next_first (drop at c.old)) (λ a. (position ≡ a) × IsFresh c a) → AreNew c position notes → IsNoted c at position notes
 fresh-noted c ok at position notes same new = go (next_first (drop at c.old)) same
   where
@@ -347,7 +338,8 @@ module _ {A : Type 0} (c : ChangeView) (ok : IsChange c) (at position : ℕ) (s 
       subst (λ p. ((submitted ≤ notes.started) × (notes.ended ≤ p)) ↔ (NoneOf (among c.touched) (numbers_of (before c.was s.first)) × NoneOf (among c.touched) (numbers_of (before c.is s.first)))) (sym stands)
       (outcome-none c ok s.first notes.started notes.ended submitted (omega (arith, few, up)) (omega (arith, l, stands)) notes-here.touched (subst (λ p. submitted ≡ count_before p c.submits) stands is) small)
 
-  -- the tests decide
+  -- at an old segment's first second three tests tell whether it is reused: that the simulations have met, that the touched numbers
+  -- have started and ended, and that none of them is submitted in its stretch
   pub decided : MayBegin c.is position → (submitted : ℕ) → submitted ≡ count_before position c.submits → submitted < 2 ^ 64 → (met ended clear : Bool) → IsTrue met ↔ (HasNone notes.was × HasNone notes.is × (notes.until ≤ position))
       → IsTrue ended ↔ ((submitted ≤ notes.started) × (notes.ended ≤ position)) → IsTrue clear ↔ IsClear c.was c.is s.first (next_first rest) → (IsTrue met × IsTrue ended × IsTrue clear) ↔ IsReused c.was c.is s.first (next_first rest)
   decided begins submitted is small met ended clear met-is ended-is clear-is =
@@ -356,11 +348,11 @@ module _ {A : Type 0} (c : ChangeView) (ok : IsChange c) (at position : ℕ) (s 
         (λ k. let all = met-of-reused c ok s.first (next_first rest) k in (met-is.1 (noted-met.1 all.0), ended-is.1 (none.1 (all.1, all.2)), clear-is.1 k.submits)),
       )
 
--- ---- before the first old segment, and behind a reused one
 first-begins : (p : Plan) (ss : List SegmentView) (e : ℕ) → Chain p 0 ss e → IfSome (next_first ss) (λ a. 0 ≡ a)
 first-begins p [] e chain = tt
 first-begins p (s ∷ ss) e (m, sp, rest) = sym sp.first
 
+-- where an engine was just begun, new notes at second 0 have all that is asked for before the first old segment
 pub begun-noted : {A : Type 0} (c : ChangeView) → IsChange c → (engine : Progress) → engine ≡ begun c.is 0 → (notes : Notes A) → AreNew c 0 notes → IsNoted c 0 engine.position notes
 begun-noted c ok engine e notes new =
     let position : engine.position ≡ 0 = ap (λ (x : Progress). x.position) e in
@@ -370,6 +362,7 @@ begun-noted c ok engine e notes new =
     go None s = tt
     go (Some a) s = (s, subst (IsFresh c) s (record { same = start-same c.was c.is ok.alike; within_was = omega arith; within_is = omega arith }))
 
+-- where an engine is resumed at an old segment behind a reused one, new notes that have passed this segment have all that is asked for before the next
 pub resumed-noted : {A : Type 0} (c : ChangeView) → IsChange c → (n at : ℕ) (s : SegmentView) → drop at c.old ≡ s ∷ drop (at + 1) c.old → (now engine : Progress) (ss : List SegmentView) (handled reused : ℕ) → Stands c n at true now ss handled reused → engine ≡ begun c.is s.first
     → (notes notes' : Notes A) → AreNew c s.first notes → ((position : ℕ) → MayBegin c.is position → IsNoted c at position notes → IsNoted c (at + 1) position notes') → IsNoted c (at + 1) engine.position notes'
 resumed-noted c ok n at s here now engine ss handled reused (us, count, (b, af)) e notes notes' new passed =

@@ -14,25 +14,25 @@ seconds-of : (b : Bool) (y : Start) (o : Option Start) → option_map (λ (x : S
 seconds-of true y o = refl
 seconds-of false y o = refl
 
+-- the start of a number is the first start's second, where that is of the number, or else that among the others
 pub start-cons : (y : Start) (ys : List Start) (n : ℕ) → start_of (y ∷ ys) n ≡ cond (nat_eq y.number n) (Some y.at) (start_of ys n)
 start-cons y ys n = seconds-of (nat_eq y.number n) y (find (λ (x : Start). nat_eq x.number n) ys)
 
--- two tests that don't both pass change places
 apart : (a b : Bool) (u v w : Option ℕ) → (a ≡ true → b ≡ true → ⊥) → cond a u (cond b v w) ≡ cond b v (cond a u w)
 apart true true u v w h = absurd (h refl refl)
 apart true false u v w h = refl
 apart false true u v w h = refl
 apart false false u v w h = refl
 
--- a number without a start is not the first one's, and has none among the others
 not-first : (b : Bool) (a : ℕ) (o : Option ℕ) → cond b (Some a) o ≡ None → (b ≡ false) × (o ≡ None)
 not-first true a o e = absurd (let k : Some a ≡ None = e in cc)
 not-first false a o e = (refl, e)
 
+-- where a number has no start, the first one isn't its, and it has none among the others
 pub without-first : (y : Start) (ys : List Start) (n : ℕ) → start_of (y ∷ ys) n ≡ None → (nat_eq y.number n ≡ false) × (start_of ys n ≡ None)
 without-first y ys n e = not-first (nat_eq y.number n) y.at (start_of ys n) (sym (start-cons y ys n) ∙ e)
 
--- one start more, of a number that has none
+-- with one start more, of a number that had none, this number has its second, and each other one starts as before
 pub start-push : (xs : List Start) (x : Start) (n : ℕ) → start_of xs x.number ≡ None → start_of (xs ++ x ∷ []) n ≡ cond (nat_eq x.number n) (Some x.at) (start_of xs n)
 start-push [] x n e = start-cons x [] n
 start-push (y ∷ ys) x n e =
@@ -42,7 +42,7 @@ start-push (y ∷ ys) x n e =
     (λ f g. false≢true (sym other.0 ∙ eq-eqb y.number x.number (eqb-true y.number n f ∙ sym (eqb-true x.number n g))))
     ∙ ap (cond (nat_eq x.number n) (Some x.at)) (sym (start-cons y ys n))
 
--- the starts of one number leave
+-- without the starts of one number it has none, and each other number starts as before
 pub start-without : (m : ℕ) (xs : List Start) (n : ℕ) → start_of (filter (λ (y : Start). not (nat_eq m y.number)) xs) n ≡ cond (nat_eq m n) None (start_of xs n)
 start-without m [] n = both (nat_eq m n)
   where
@@ -68,7 +68,7 @@ start-without m (y ∷ ys) n =
     same false true h = absurd (h refl refl)
     same false false h = refl
 
--- a number without a start has none among some of them
+-- a number without a start has none among those of the starts that pass a test
 pub start-among : (p : Start → Bool) (xs : List Start) (n : ℕ) → start_of xs n ≡ None → start_of (filter p xs) n ≡ None
 start-among p [] n e = refl
 start-among p (y ∷ ys) n e = let other = without-first y ys n e in go (p y) other.0 (start-among p ys n other.1)
@@ -82,14 +82,15 @@ pub no-start : (xs : List Start) → ((n : ℕ) → start_of xs n ≡ None) → 
 no-start [] h = refl
 no-start (y ∷ ys) h = absurd (false≢true (sym (without-first y ys y.number (h y.number)).0 ∙ eq-eqb y.number y.number refl))
 
--- ---- maps
 abbrev found : List (ℕ × ℕ) → ℕ → Option ℕ
 found es n = lookup (is_at (nat_cmp n)) es
 
+-- where there is no entry, no number is found
 pub none-found : (es : List (ℕ × ℕ)) → length es ≡ 0 → (n : ℕ) → found es n ≡ None
 none-found [] e n = refl
 none-found (x ∷ xs) e n = absurd (omega (arith, e))
 
+-- where no number is found, there is no entry
 pub found-none : (es : List (ℕ × ℕ)) → ((n : ℕ) → found es n ≡ None) → length es ≡ 0
 found-none [] h = refl
 found-none (x ∷ xs) h = absurd (let k : Some x.1 ≡ None = sym (cond-true (is_eq (nat_cmp x.0 x.0)) (Some x.1) (found xs x.0) (same x.0)) ∙ h x.0 in cc)
@@ -97,7 +98,7 @@ found-none (x ∷ xs) h = absurd (let k : Some x.1 ≡ None = sym (cond-true (is
     same : (n : ℕ) → is_eq (nat_cmp n n) ≡ true
     same n = ap is_eq (sym (nat_cmp_is n n Equal refl))
 
--- ---- how many
+-- a number of which no start is counted has none
 pub no-count : (xs : List Start) (n : ℕ) → count_by (λ (x : Start). nat_eq x.number n) xs ≡ 0 → start_of xs n ≡ None
 no-count [] n e = refl
 no-count (y ∷ ys) n e =

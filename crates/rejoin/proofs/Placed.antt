@@ -4,7 +4,6 @@ use Rattle.std.specs.List.{slice_get}
 use Rattle.checkpoints.specs.Segment.{SegmentView}
 use Rattle.checkpoints.specs.Nodes.{AreFrom}
 
--- one segment more
 from-push : (old ss : List SegmentView) (places : List (Option ℕ)) (s : SegmentView) (place : Option ℕ) → AreFrom old ss places → IfSome place (λ k. slice_get old k ≡ Some s) → AreFrom old (ss ++ s ∷ []) (places ++ place ∷ [])
 from-push old [] [] s place z h = (h, tt)
 from-push old [] (p ∷ places) s place z h = absurd z
@@ -16,14 +15,14 @@ got old zero s rest e = ap (λ l. slice_get l 0) e
 got [] (suc k) s rest e = let l = ap length e in absurd (omega (arith, l))
 got (x ∷ old) (suc k) s rest e = got old k s rest e
 
--- a worked one
+-- with a worked segment, which is from no place, the new segments still come from their places
 pub from-worked : (old ss all : List SegmentView) (places each : List (Option ℕ)) (s : SegmentView) → AreFrom old ss places → all ≡ ss ++ s ∷ [] → each ≡ places ++ None ∷ [] → AreFrom old all each
 from-worked old ss all places each s z e f = subst₂ (AreFrom old) (sym e) (sym f) (from-push old ss places s None z tt)
 
--- one that is reused
+-- with the old segment of a place, which is reused, the new segments still come from their places
 pub from-taken : (old ss all : List SegmentView) (places each : List (Option ℕ)) (s : SegmentView) (at : ℕ) (rest : List SegmentView) → AreFrom old ss places → drop at old ≡ s ∷ rest → all ≡ ss ++ s ∷ [] → each ≡ places ++ Some at ∷ [] → AreFrom old all each
 from-taken old ss all places each s at rest z here e f = subst₂ (AreFrom old) (sym e) (sym f) (from-push old ss places s (Some at) z (got old at s rest here))
 
--- none yet
+-- no segments come from no places
 pub from-none : (old all : List SegmentView) (each : List (Option ℕ)) → all ≡ [] → each ≡ [] → AreFrom old all each
 from-none old all each e f = subst₂ (AreFrom old) (sym e) (sym f) tt

@@ -1,4 +1,4 @@
--- Counts of skipped entries, before edits and after them.
+-- Counts of skipped entries, before edits and after them: an edit changes a sum over all entries by what stands at its own number.
 use Rattle.std.proofs.Common.{◌≡◌, ◌≢◌, ℕ, ◌+◌, ◌≤◌, ◌<◌, Bool, true, false, ◌==◌, nat_eq, not, cond, List, [], ◌∷◌, Option, None, Some, is_some, All, map, count_by, sum_by, length, take, get_or, ℤ, inl, inr, refl, sym, ◌∙◌, ap, subst, arith, if◌then◌else◌}
 use Rattle.std.specs.Prelude.{nat_le}
 use Rattle.std.specs.Option.{option_and_then, option_map}
@@ -35,8 +35,6 @@ use Rattle.rejoin.specs.Skips.{skip_at, times, skipped_at, count_in, IsAmong, Ar
 use Rattle.rejoin.proofs.Named.{entry-kept}
 use Rattle.rejoin.proofs.Collecting.{front-more}
 
--- ---- sums over the entries of a log
--- what stands at an entry, where there is one
 abbrev at : (LogEntry → ℕ) → Option LogEntry → ℕ
 at f None = 0
 at f (Some e) = f e
@@ -94,11 +92,9 @@ changed-sum f n place value (e ∷ es) h = go (has n e) refl (changed-sum f n pl
         omega (arith, i, none, none', sum_by-cons f e es, sum_by-cons f (with_field place value e) (changed n place value es))
     go false p i = omega (arith, i, sum_by-cons f e (changed n place value es), sum_by-cons f e es)
 
--- ---- one edit
 distinct : (log : List LogEntry) → IsTable log → (n : ℕ) → count_by (has n) log ≤ 1
 distinct log t n = omega (arith, once-numbered n log t.log.sound, t.log.distinct n)
 
--- the sum after an edit, with the entry of its number before; and before, with that after
 abbrev Moves : (LogEntry → ℕ) → LogEdit → List LogEntry → Type 0
 Moves f edit log = sum_by f (applied edit log) + at f (entry_of (named edit) log) ≡ sum_by f log + at f (entry_of (named edit) (applied edit log))
 
@@ -146,7 +142,6 @@ moves f (Insert e) log t k = inserted f e log t k
 moves f (Remove m) log t k = removed f m log t
 moves f (Change m place value) log t k = turned f m place value log t k
 
--- ---- numbers
 abbrev Apart : ℕ → List ℕ → Type 0
 Apart n [] = Unit {0}
 Apart n (m ∷ ms) = (n ≢ m) × Apart n ms
@@ -191,7 +186,6 @@ sum-alike : (g h : ℕ → ℕ) (ns : List ℕ) → ((n : ℕ) → g n ≡ h n) 
 sum-alike g h [] s = refl
 sum-alike g h (n ∷ ns) s = omega (arith, sum-alike g h ns s, s n, sum_by-cons g n ns, sum_by-cons h n ns)
 
--- ---- edits one after another
 all-moves : (f : LogEntry → ℕ) (log : List LogEntry) (edits : List LogEdit) (ns : List ℕ) → IsTable log → AreAccepted log edits → Once ns → All (λ edit. IsAmong (named edit) ns) edits
     → sum_by f (log_after log edits) + sum_by (λ n. at f (entry_of n log)) ns ≡ sum_by f log + sum_by (λ n. at f (entry_of n (log_after log edits))) ns
 all-moves f log [] ns t a o w = refl
@@ -215,7 +209,6 @@ sum-within f (n ∷ ns) es o d =
     (λ m ne. ap (at f) (sym (found-without submit_of number_of_entry m n es ∙ cond-false (n == m) None (entry_of m es) (ne_eqb n m ne)))) in
     omega (arith, rest, same, without-sum f n es (d n), sum_by-cons (λ m. at f (entry_of m es)) n ns)
 
--- ---- reasons
 abbrev skips : Skip → ScenarioView → LogEntry → ℕ
 skips k s e = times k (result_err (effective e s))
 
@@ -239,7 +232,7 @@ at-skip k s (Some e) = refl
 sum-skips : (k : Skip) (s : ScenarioView) (log : List LogEntry) (ns : List ℕ) → sum_by (λ n. at (skips k s) (entry_of n log)) ns ≡ skipped_at k log s ns
 sum-skips k s log ns = sum-alike (λ n. at (skips k s) (entry_of n log)) (λ n. times k (skip_at log s n)) ns (λ n. at-skip k s (entry_of n log))
 
--- the counts after edits
+-- of a reason, the count after edits and that of their numbers before are together the count before and that of the numbers after
 pub counts-after : (k : Skip) (s : ScenarioView) (log : List LogEntry) (edits : List LogEdit) (now : List LogEntry) (ns : List ℕ) → IsTable log → AreAccepted log edits → now ≡ log_after log edits → AreNumbersOf edits ns
     → count_of k (reasons_of now s) + skipped_at k log s ns ≡ count_of k (reasons_of log s) + skipped_at k now s ns
 counts-after k s log edits now ns t a is o =
@@ -251,6 +244,7 @@ all-sound : (log : List LogEntry) (edits : List LogEdit) → IsTable log → Are
 all-sound log [] t a = t
 all-sound log (edit ∷ edits) t a = all-sound (applied edit log) edits (accepted-sound log edit t a.0 a.1) a.2
 
+-- a table is still one after edits that are accepted
 pub still-table : (log : List LogEntry) (edits : List LogEdit) (now : List LogEntry) → IsTable log → AreAccepted log edits → now ≡ log_after log edits → IsTable now
 still-table log edits now t a is = subst IsTable (sym is) (all-sound log edits t a)
 
@@ -262,15 +256,16 @@ sum-small : (k : Skip) (s : ScenarioView) (log : List LogEntry) → sum_by (skip
 sum-small k s [] = omega arith
 sum-small k s (e ∷ es) = omega (arith, sum-small k s es, once-times k (result_err (effective e s)), sum_by-cons (skips k s) e es)
 
--- no more of these numbers are skipped than entries are, and these are few
+-- no more of some numbers, each once, have an entry that is skipped for a reason than entries of the table are
 pub skipped-within : (k : Skip) (s : ScenarioView) (log : List LogEntry) (ns : List ℕ) → IsTable log → IsStrictlySortedBy nat_cmp ns → skipped_at k log s ns ≤ count_of k (reasons_of log s)
 skipped-within k s log ns t o =
     omega (arith, sum-within (skips k s) ns log (once-sorted ns o) (distinct log t), count-sum k log s, sum-skips k s log ns)
 
+-- at most 4194304 entries of a table are skipped for a reason
 pub counted-few : (k : Skip) (s : ScenarioView) (log : List LogEntry) → IsTable log → count_of k (reasons_of log s) ≤ 4194304
 counted-few k s log t = omega (arith, sum-small k s log, count-sum k log s, t.log.capacity)
 
--- ---- counts, reason by reason
+-- where each count has grown by how often its reason stands there, so has the count of whatever reason
 pub with-times : (old new : Skips) (o : Option Skip) → new.size ≡ old.size + times reasons.NoSize o → new.run ≡ old.run + times reasons.NoRun o → new.large ≡ old.large + times reasons.TooLarge o → new.long ≡ old.long + times reasons.TooLong o
     → (k : Skip) → count_in new k ≡ count_in old k + times k o
 with-times old new o a b c d reasons.NoSize = a
@@ -278,6 +273,7 @@ with-times old new o a b c d reasons.NoRun = b
 with-times old new o a b c d reasons.TooLarge = c
 with-times old new o a b c d reasons.TooLong = d
 
+-- where each count has fallen by how often its reason stands there, so has the count of whatever reason
 pub without-times : (old new : Skips) (o : Option Skip) → new.size + times reasons.NoSize o ≡ old.size → new.run + times reasons.NoRun o ≡ old.run → new.large + times reasons.TooLarge o ≡ old.large → new.long + times reasons.TooLong o ≡ old.long
     → (k : Skip) → count_in new k + times k o ≡ count_in old k
 without-times old new o a b c d reasons.NoSize = a
@@ -285,11 +281,10 @@ without-times old new o a b c d reasons.NoRun = b
 without-times old new o a b c d reasons.TooLarge = c
 without-times old new o a b c d reasons.TooLong = d
 
--- one number more of those to come
+-- of some numbers as many have an entry that is skipped for a reason as the first of them, once or not, and the others do
 pub first-times : (k : Skip) (log : List LogEntry) (s : ScenarioView) (n : ℕ) (coming rest : List ℕ) → coming ≡ n ∷ rest → skipped_at k log s coming ≡ times k (skip_at log s n) + skipped_at k log s rest
 first-times k log s n coming rest is = ap (skipped_at k log s) is ∙ sum_by-cons (λ m. times k (skip_at log s m)) n rest
 
--- ---- numbers put into a set
 among-itself : (k : ℕ) (ns : List ℕ) → IsAmong k (insert_key nat_cmp ns k)
 among-itself k [] = inl refl
 among-itself k (n ∷ ns) = go (nat_cmp k n) refl (among-itself k ns)
@@ -312,6 +307,7 @@ among-more m k (n ∷ ns) i = go (nat_cmp k n) i (among-more m k ns)
     go Equal i r = i
     go Greater i r = deeper i r
 
+-- numbers that have those of the first i edits, with the next edit's put in, have those of the first i + 1
 pub named-more : {X : Type 0} (f : X → LogEdit) (xs : List X) (i : ℕ) (d : X) (m : ℕ) (ns ms : List ℕ) → i < length xs → m ≡ named (f (get_or xs i d)) → ms ≡ insert_key nat_cmp ns m → IsStrictlySortedBy nat_cmp ms
     → AreNumbersOf (map f (take i xs)) ns → AreNumbersOf (map f (take (i + 1) xs)) ms
 named-more f xs i d m ns ms l is put rise all = record {
@@ -324,16 +320,18 @@ named-more f xs i d m ns ms l is put rise all = record {
       (subst (All P) (sym (front-more f xs i d l)) (All-push P (map f (take i xs)) (f (get_or xs i d)) these this));
 }
 
+-- numbers that have those of edits up to the end have those of all
 pub named-all : {X : Type 0} (f : X → LogEdit) (xs : List X) (i : ℕ) (ns : List ℕ) → length xs ≤ i → AreNumbersOf (map f (take i xs)) ns → AreNumbersOf (map f xs) ns
 named-all f xs i ns l all = subst (λ ys. AreNumbersOf (map f ys) ns) (take_all i xs l) all
 
+-- no numbers have those of no edits
 pub named-none : (ns : List ℕ) → ns ≡ [] → IsStrictlySortedBy nat_cmp ns → AreNumbersOf [] ns
 named-none ns is rise = record { rising = rise; each = All-nil (λ (edit : LogEdit). IsAmong (named edit) ns) }
 
--- ---- all counts
 made : ℕ → ℕ → ℕ → ℕ → Skips
 made a b c d = record { size = a; run = b; large = c; long = d }
 
+-- counts that are, reason by reason, those of a log's skipped entries are the counts of the log
 pub counts-alike : (p : Skips) (log : List LogEntry) (s : ScenarioView) → ((k : Skip) → count_in p k ≡ count_of k (reasons_of log s)) → p ≡ skips_of log s
 unfolding made
 counts-alike p log s h =
@@ -342,6 +340,7 @@ counts-alike p log s h =
     let c : ℕ = count_of reasons.TooLarge (reasons_of log s) in
     ap (λ n. made n p.run p.large p.long) (h reasons.NoSize) ∙ ap (λ n. made a n p.large p.long) (h reasons.NoRun) ∙ ap (λ n. made a b n p.long) (h reasons.TooLarge) ∙ ap (made a b c) (h reasons.TooLong)
 
+-- the counts of a log are, reason by reason, those of its skipped entries
 pub counts-known : (p : Skips) (log : List LogEntry) (s : ScenarioView) → p ≡ skips_of log s → (k : Skip) → count_in p k ≡ count_of k (reasons_of log s)
 counts-known p log s is reasons.NoSize = ap (λ (q : Skips). q.size) is
 counts-known p log s is reasons.NoRun = ap (λ (q : Skips). q.run) is

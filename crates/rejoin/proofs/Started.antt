@@ -16,7 +16,6 @@ use Rattle.rejoin.specs.Named.{submit_in}
 use Rattle.rejoin.specs.Started.{among, AreSingle, starts_of, count_before, StartsTellWhoStands}
 use Rattle.rejoin.proofs.Noting.{without-first, no-count}
 
--- ---- counts
 abbrev counted : List Start → ℕ → ℕ
 counted xs n = count_by (λ (x : Start). nat_eq x.number n) xs
 
@@ -53,7 +52,6 @@ single-tail m ms once n = let more = number-cons n m ms in let o = once n in ome
 single-new : (m : ℕ) (ms : List ℕ) → AreSingle (m ∷ ms) → among ms m ≡ false
 single-new m ms once = among-count ms m (let more = number-cons m m ms in let o = once m in let one = cond-true {A = ℕ} (nat_eq m m) 1 0 (eq-eqb m m refl) in omega (arith, more, o, one))
 
--- the starts of some numbers are those of each
 one-more : (m : ℕ) (ms : List ℕ) (n : ℕ) → among ms m ≡ false → cond {A = ℕ} (among (m ∷ ms) n) 1 0 ≡ cond {A = ℕ} (nat_eq n m) 1 0 + cond {A = ℕ} (among ms n) 1 0
 one-more m ms n new =
     ⊎_elim
@@ -88,7 +86,6 @@ starts-each xs (m ∷ ms) once =
     let b = sum_by-cons (counted xs) m ms in
     omega (arith, a, b, starts-each xs ms (single-tail m ms once))
 
--- sums of which each part is no more than the other's are equal where all parts are
 squeezed : (f g : ℕ → ℕ) → ((n : ℕ) → f n ≤ g n) → (ns : List ℕ) → (sum_by f ns ≤ sum_by g ns) × ((sum_by f ns ≡ sum_by g ns) ↔ ((n : ℕ) → among ns n ≡ true → f n ≡ g n))
 squeezed f g less [] = (omega arith, ((λ e n h. absurd (false≢true h)), (λ h. refl)))
 squeezed f g less (m ∷ ms) =
@@ -116,7 +113,6 @@ squeezed f g less (m ∷ ms) =
     or-later true c e = refl
     or-later false c e = e
 
--- ---- one number
 none-count : (xs : List Start) (n : ℕ) → start_of xs n ≡ None → counted xs n ≡ 0
 none-count [] n e = refl
 none-count (y ∷ ys) n e =
@@ -131,7 +127,6 @@ Ended o s t = IfSome s (λ at. IfSome o (λ job. at + job.length < t))
 submit-count : (t : ℕ) (j : EffectiveJob) → count_before t (submit_in (Some j)) ≡ cond {A = ℕ} (nat_lt j.submit t) 1 0
 submit-count t j = let a = sum_by-cons (λ (s : ℕ). cond {A = ℕ} (nat_lt s t) 1 0) j.submit [] in omega (arith, a)
 
--- whether it stands, by its job, its start and how many starts it has
 tells : (o : Option EffectiveJob) (s : Option ℕ) (c t standing' : ℕ) → (s ≡ None → c ≡ 0) → ((a : ℕ) → s ≡ Some a → c ≡ 1) → ((a : ℕ) → s ≡ Some a → IsSomeAnd o (λ j. j.submit < t))
     → (1 ≤ standing') ↔ IsSomeAnd o (λ job. (job.submit < t) × IfSome s (λ start. t ≤ start + job.length))
     → (c ≤ count_before t (submit_in o)) × (((c ≡ count_before t (submit_in o)) × Ended o s t) ↔ (1 ≤ standing' → ⊥))
@@ -167,6 +162,7 @@ tells (Some j) (Some a) c t st none some came law =
       ),
     )
 
+-- no more starts of a number come before a second, which is one after the bound at most, than the plan has jobs of the number
 pub few-starts : (plan : Plan) (t n : ℕ) → IsPlan plan → t ≤ bound plan + 1 → counted (starts_before plan t) n ≤ count_by (λ (j : EffectiveJob). nat_eq j.number n) plan.jobs
 few-starts plan t n p l =
     let rest = later plan t (bound plan + 1 - t) in
@@ -177,7 +173,6 @@ few-starts plan t n p l =
     let both = sum_by-append (λ (x : Start). cond {A = ℕ} (nat_eq x.number n) 1 0) (starts_before plan t) rest.0 in
     omega (arith, all, same, both)
 
--- the job of a number that is there
 job-some : (js : List EffectiveJob) (n : ℕ) (P : EffectiveJob → Type 0) → 1 ≤ count_by (λ (j : EffectiveJob). nat_eq j.number n) js → All P js → IsSomeAnd (job_numbered js n) (λ j. (j.number ≡ n) × P j)
 job-some [] n P l all = absurd (omega (arith, l))
 job-some (j ∷ js) n P l all =
@@ -218,6 +213,8 @@ module _ (plan : Plan) (t : ℕ) (p : IsPlan plan) (l : t ≤ bound plan + 1) wh
   number-tells n =
       tells (job_numbered plan.jobs n) (known_start plan t n) (counted (starts_before plan t) n) t (standing (numbers_of (before plan t)) n) (none-count (starts_before plan t) n) (some-count n) (has-come n) (numbers-stand-until-they-end plan t n p)
 
+-- no more of some numbers have started before a second than are submitted before it, and all these have started and ended
+-- exactly where none of the numbers waits or runs there
 pub starts-tell-who-stands : StartsTellWhoStands
 starts-tell-who-stands plan ns t p l once =
     let xs = starts_before plan t in

@@ -16,23 +16,19 @@ use Rattle.rejoin.specs.Patch.{AreReused, Patched, IsRejoined, AllReused}
 use Rattle.rejoin.proofs.Turns.{events-grow}
 use Rattle.rejoin.proofs.Walk.{work-is-older-work, older-reused-is-reused}
 
--- none of the seconds is marked
 marked-none : (n : ℕ) → marked (λ t. false) n ≡ 0
 unfolding marked
 marked-none zero = refl
 marked-none (suc n) = let i = marked-none n in omega (arith, i)
 
--- each segment is reused
 each-reused : (p q : Plan) (old : List SegmentView) → AreAlike p q → IsCut p old → NothingTouched p q → (front : List SegmentView) (s : SegmentView) (rest : List SegmentView) → old ≡ front ++ s ∷ rest → IsReused p q s.first (next_first rest)
 each-reused p q old alike cut none front s rest e = older-reused-is-reused p q front s rest alike (subst (IsCut p) e cut) (inl none)
 
--- those that are reused are all
 all-taken : (p q : Plan) (ss us : List SegmentView) → ((front : List SegmentView) (s : SegmentView) (rest : List SegmentView) → ss ≡ front ++ s ∷ rest → IsReused p q s.first (next_first rest)) → AreReused p q ss [] us → us ≡ ss
 all-taken p q [] us all e = e
 all-taken p q (s ∷ ss) us all (inl (k, (vs, e, rest))) = e ∙ ap (λ (l : List SegmentView). s ∷ l) (all-taken p q ss vs (λ front t left f. all (s ∷ front) t left (ap (λ (l : List SegmentView). s ∷ l) f)) rest)
 all-taken p q (s ∷ ss) us all (inr (never, rest)) = absurd (never (subst (λ (l : List SegmentView). IsReused p q s.first (next_first l)) (sym (append-nil ss)) (all [] s ss refl)))
 
--- a segment holds an event second
 span-counts : (q : Plan) (s : SegmentView) (a b : ℕ) → Spans q s a b → events_before q a + 1 ≤ events_before q b
 span-counts q s a b sp =
     let t = sp.ends.0 in
@@ -41,7 +37,6 @@ span-counts q s a b sp =
     let one = cond-true {A = ℕ} (has_event q t) 1 0 (has-event q t sp.ends.3) in
     omega (arith, grow, e, one)
 
--- where nothing is worked, the new segments are those that were reused
 none-worked : (q : Plan) (old : List SegmentView) (n a b h : ℕ) (new us : List SegmentView) → h ≡ 0 → Patched q old n a new us h b → new ≡ us
 none-worked q old n a b h [] us z (e, u, w) = sym u
 none-worked q old n a b h (s ∷ ss) us z (m, sp, inl (vs, e, rest)) = ap (λ (l : List SegmentView). s ∷ l) (none-worked q old n m b h ss vs z rest) ∙ sym e
@@ -59,7 +54,7 @@ segments-reused c ok new n handled reused done none =
       all = done.count ∙ ap length all;
     }
 
--- the same, as callers see it
+-- where no number is touched, a re-simulation that is done has all old segments, and nothing was worked
 pub all-reused : (c : ChangeView) (p q : Plan) (old seen new : List SegmentView) (n handled reused : ℕ) → IsChange c → c.was ≡ p → c.is ≡ q → c.old ≡ old → new ≡ seen → IsRejoined c.was c.is c.old n seen handled reused → NothingTouched p q → AllReused old new handled reused
 all-reused c p q old seen new n handled reused ok was is same put done none =
     let untouched : NothingTouched c.was c.is = λ m t. none m (subst (λ (x : Plan). IsTouched x q m) was (subst (λ (x : Plan). IsTouched c.was x m) is t)) in

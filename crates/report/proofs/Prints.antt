@@ -1,9 +1,11 @@
--- What is printed of pages, and written of it.
-use Rattle.std.proofs.Common.{◌≡◌, ℕ, suc, ◌+◌, ◌<◌, List, [], ◌∷◌, ◌++◌, length, get_or, take, drop, set, Option, Result, refl, sym, ap, subst, ◌∙◌, append_assoc, arith}
+-- What is printed of pages, and written of it: the lines of all pages are those of all their rows, whether the pages that are ready are written
+-- while the next ones are printed, or pages are printed and written one after another. Where the writer fails, a beginning of these lines was
+-- written.
+use Rattle.std.proofs.Common.{◌≡◌, ℕ, suc, ◌+◌, ◌<◌, List, [], ◌∷◌, ◌++◌, length, get_or, take, drop, Option, Result, refl, sym, ap, subst, ◌∙◌, append_assoc, arith}
 use Rattle.std.specs.List.{flat_map}
 use Rattle.std.specs.Io.KnownBytes.{Appends}
 use Rattle.std.proofs.KnownBytes.{Appends-trans}
-use Rattle.std.proofs.lemmas.Grind.{flat_map-append, take-set_at}
+use Rattle.std.proofs.lemmas.Grind.{flat_map-append}
 use Rattle.std.proofs.lemmas.List.{append-nil, take_more, take-append-drop}
 use Rattle.swf_text.specs.Writing.{Writes}
 use Rattle.checkpoints.specs.declared.row.Row.{Row}
@@ -12,23 +14,14 @@ use Rattle.report.specs.Pages.{rows_in, lines_in, all_rows, all_lines, IsPrint, 
 use Rattle.report.specs.Schedule.{row_line}
 use Rattle.report.proofs.Writings.{front_after, front_more, writes_then}
 
--- one more of a list
 flat-next : {X Y : Type 0} (f : X → List Y) (xs : List X) (k : ℕ) (d : X) → k < length xs → flat_map f (take (k + 1) xs) ≡ flat_map f (take k xs) ++ f (get_or xs k d)
 flat-next f xs k d lt =
     ap (flat_map f) (take_more xs k d lt) ∙ flat_map-append f (take k xs) (get_or xs k d ∷ []) ∙ ap (λ l. flat_map f (take k xs) ++ l) (append-nil (f (get_or xs k d)))
 
--- the lines of one row more, and how long they are at most
+-- with the line of one row more, the lines of the first rows are those of the first ones, one more
 pub lines-next : (rows : List Row) (k : ℕ) (d : Row) (old new : List ℕ) → k < length rows → old ≡ flat_map row_line (take k rows) → new ≡ old ++ row_line (get_or rows k d) → new ≡ flat_map row_line (take (k + 1) rows)
 lines-next rows k d old new lt is more = more ∙ ap (λ l. l ++ row_line (get_or rows k d)) is ∙ sym (flat-next row_line rows k d lt)
 
--- a row was taken to its place
-pub row-taken : (taken : List Row) (k : ℕ) (row : Row) (rest rows all : List Row) → k < length taken → take k taken ++ rows ≡ all → rows ≡ row ∷ rest → take (k + 1) (set taken k row) ++ rest ≡ all
-row-taken taken k row rest rows all lt before is =
-    ap (λ l. l ++ rest) (take-set_at taken k (k + 1) row refl lt) ∙ append_assoc (take k taken) (row ∷ []) rest ∙ ap (λ l. take k taken ++ l) (sym is) ∙ before
-
--- ---- all pages were printed
-
--- the rows are the same, and their lines stand in them
 pub record AreLines (old new : List Page) : Type 0 where
   pub rows : all_rows new ≡ all_rows old
   pub lines : all_lines new ≡ flat_map row_line (all_rows old)
@@ -46,12 +39,11 @@ are-lines (x ∷ xs) [] count each = absurd (omega (arith, count))
 are-lines (x ∷ xs) (y ∷ ys) count each =
     joined-lines x y xs ys (each 0 x (omega arith)) (are-lines xs ys (omega (arith, count)) (λ place d lt. each (suc place) d (omega (arith, lt))))
 
+-- pages each of which was printed at its place have the same rows as before, and the lines of these rows
 pub print-lines : (old new : List Page) → ArePrints old new → AreLines old new
 print-lines old new p = are-lines old new p.count p.each
 
--- ---- what was written of pages
-
--- the writer failed at a page
+-- where the writer fails in the lines of a page, those before it being written, a beginning of the lines of all pages was written
 pub page-failed : (a b c : Option (List ℕ)) (pages : List Page) (k : ℕ) (d : Page) (bytes : List ℕ) → k < length pages → bytes ≡ lines_in (get_or pages k d) → Appends a b (all_lines (take k pages)) → (n : ℕ) × Appends b c (take n bytes) → (n : ℕ) × Appends a c (take n (all_lines pages))
 page-failed a b c pages k d bytes lt is before q =
     let front = all_lines (take k pages) in
@@ -62,15 +54,14 @@ page-failed a b c pages k d bytes lt is before q =
     ap all_lines (sym (take-append-drop (k + 1) pages)) ∙ flat_map-append lines_in (take (k + 1) pages) (drop (k + 1) pages) ∙ ap (λ l. l ++ all_lines (drop (k + 1) pages)) (flat-next lines_in pages k d lt) in
     subst (λ (l : List ℕ). (n : ℕ) × Appends a c (take n l)) (sym all) (front_more a c (front ++ here) (all_lines (drop (k + 1) pages)) both)
 
--- Of these rows the first are written; behind them come those of the pages that were printed, those of the next ones,
--- and the rest.
+-- of all rows the first are written; behind them come those of the pages that were printed, those of the next ones, and the rest
 pub record IsPrinting (old now : Option (List ℕ)) (ready next : List Page) (rows whole : List Row) : Type 0 where
   pub done : List Row
   pub outcome : Appends old now (flat_map row_line done)
   pub all : done ++ (all_rows ready ++ (all_rows next ++ rows)) ≡ whole
   pub lines : all_lines ready ≡ flat_map row_line (all_rows ready)
 
--- before the first line
+-- before the first line is written: the first pages were printed, and the next ones have the rows behind theirs
 pub begun : (a : Option (List ℕ)) (first ready next : List Page) (behind rows whole : List Row) → Appends a a [] → AreLines first ready → all_rows first ++ behind ≡ whole → all_rows next ++ rows ≡ behind → IsPrinting a a ready next rows whole
 begun a first ready next behind rows whole none p is more = record {
   done = [];
@@ -79,15 +70,13 @@ begun a first ready next behind rows whole none p is more = record {
   lines = p.lines ∙ ap (flat_map row_line) (sym p.rows);
 }
 
--- the lines of those that were printed, behind those of the rows before them
 lines-of : (a b : Option (List ℕ)) (ready next : List Page) (rows whole : List Row) → (u : IsPrinting a b ready next rows whole) → flat_map row_line u.done ++ all_lines ready ≡ flat_map row_line (u.done ++ all_rows ready)
 lines-of a b ready next rows whole u = ap (λ l. flat_map row_line u.done ++ l) u.lines ∙ sym (flat_map-append row_line u.done (all_rows ready))
 
--- they were written
 lines-outcome : (a b c : Option (List ℕ)) (ready next : List Page) (rows whole : List Row) → (u : IsPrinting a b ready next rows whole) → Appends b c (all_lines ready) → Appends a c (flat_map row_line (u.done ++ all_rows ready))
 lines-outcome a b c ready next rows whole u w = subst (Appends a c) (lines-of a b ready next rows whole u) (Appends-trans a b c (flat_map row_line u.done) (all_lines ready) u.outcome w)
 
--- they were written, and took the next rows; the others were printed
+-- the pages that were ready were written and took the next rows, and the next pages were printed
 pub turned : (a b c : Option (List ℕ)) (ready next took prints : List Page) (rows rest whole : List Row) → IsPrinting a b ready next rows whole → Appends b c (all_lines ready) → all_rows took ++ rest ≡ rows → AreLines next prints → IsPrinting a c prints took rest whole
 turned a b c ready next took prints rows rest whole u w is p = record {
   done = u.done ++ all_rows ready;
@@ -97,7 +86,7 @@ turned a b c ready next took prints rows rest whole u w is p = record {
   lines = p.lines ∙ ap (flat_map row_line) (sym p.rows);
 }
 
--- the writer failed at them
+-- where the writer fails in the lines of the pages that are ready, a beginning of the lines of all rows was written
 pub failed : (a b c : Option (List ℕ)) (ready next : List Page) (rows whole : List Row) → IsPrinting a b ready next rows whole → (n : ℕ) × Appends b c (take n (all_lines ready)) → (n : ℕ) × Appends a c (take n (flat_map row_line whole))
 failed a b c ready next rows whole u w =
     let front = flat_map row_line (u.done ++ all_rows ready) in
@@ -106,7 +95,7 @@ failed a b c ready next rows whole u w =
     let here : (n : ℕ) × Appends a c (take n front) = subst (λ (l : List ℕ). (n : ℕ) × Appends a c (take n l)) (lines-of a b ready next rows whole u) (front_after a b c (flat_map row_line u.done) (all_lines ready) u.outcome w) in
     subst (λ (l : List ℕ). (n : ℕ) × Appends a c (take n l)) lines (front_more a c front (flat_map row_line (all_rows next ++ rows)) here)
 
--- no rows are left: those that were printed are written, and then the others
+-- no rows are left: once the pages that are ready were written, what comes of writing the next ones comes of writing the lines of all rows
 pub ended : {X E : Type 0} (r : Result X E) (a b c d : Option (List ℕ)) (ready next prints : List Page) (rows whole : List Row) → IsPrinting a b ready next rows whole → rows ≡ [] → Appends b c (all_lines ready) → AreLines next prints → Writes r c d (all_lines prints) → Writes r a d (flat_map row_line whole)
 ended r a b c d ready next prints rows whole u none w p v =
     let front = u.done ++ all_rows ready in
@@ -114,21 +103,20 @@ ended r a b c d ready next prints rows whole u none w p v =
     let lines : flat_map row_line front ++ all_lines prints ≡ flat_map row_line whole = ap (λ l. flat_map row_line front ++ l) p.lines ∙ sym (flat_map-append row_line front (all_rows next)) ∙ ap (flat_map row_line) all in
     subst (Writes r a d) lines (writes_then r a c d (flat_map row_line front) (all_lines prints) (lines-outcome a b c ready next rows whole u w) v)
 
--- ---- pages that are printed and written one after another
-
--- Of these rows the first are written, and behind them come these.
+-- of all rows the first are written, and behind them come these
 pub record IsWriting (old now : Option (List ℕ)) (rows whole : List Row) : Type 0 where
   pub done : List Row
   pub outcome : Appends old now (flat_map row_line done)
   pub all : done ++ rows ≡ whole
 
+-- nothing is written, and all rows are left
 pub none-done : (a : Option (List ℕ)) (rows : List Row) → Appends a a [] → IsWriting a a rows rows
 none-done a rows none = record { done = []; outcome = none; all = refl }
 
--- the bytes are the lines of a page's rows
 bytes-of : (done : List Row) (page : List Row) (bytes : List ℕ) → bytes ≡ flat_map row_line page → flat_map row_line done ++ bytes ≡ flat_map row_line (done ++ page)
 bytes-of done page bytes is = ap (λ l. flat_map row_line done ++ l) is ∙ sym (flat_map-append row_line done page)
 
+-- the lines of a page's rows were written, and the rows behind it are left
 pub more-done : (a b c : Option (List ℕ)) (page rows rest whole : List Row) (bytes : List ℕ) → IsWriting a b rows whole → page ++ rest ≡ rows → bytes ≡ flat_map row_line page → Appends b c bytes → IsWriting a c rest whole
 more-done a b c page rows rest whole bytes u is lines w = record {
   done = u.done ++ page;
@@ -136,6 +124,7 @@ more-done a b c page rows rest whole bytes u is lines w = record {
   all = append_assoc u.done page rest ∙ ap (λ l. u.done ++ l) is ∙ u.all;
 }
 
+-- where the writer fails in the lines of a page's rows, a beginning of the lines of all rows was written
 pub not-done : (a b c : Option (List ℕ)) (page rows rest whole : List Row) (bytes : List ℕ) → IsWriting a b rows whole → page ++ rest ≡ rows → bytes ≡ flat_map row_line page → (n : ℕ) × Appends b c (take n bytes) → (n : ℕ) × Appends a c (take n (flat_map row_line whole))
 not-done a b c page rows rest whole bytes u is lines w =
     let front = flat_map row_line (u.done ++ page) in
@@ -144,5 +133,6 @@ not-done a b c page rows rest whole bytes u is lines w =
     let here : (n : ℕ) × Appends a c (take n front) = subst (λ (l : List ℕ). (n : ℕ) × Appends a c (take n l)) (bytes-of u.done page bytes lines) (front_after a b c (flat_map row_line u.done) bytes u.outcome w) in
     subst (λ (l : List ℕ). (n : ℕ) × Appends a c (take n l)) text (front_more a c front (flat_map row_line rest) here)
 
+-- where no rows are left, the lines of all rows were written
 pub all-done : (a b : Option (List ℕ)) (rows whole : List Row) → IsWriting a b rows whole → rows ≡ [] → Appends a b (flat_map row_line whole)
 all-done a b rows whole u none = subst (Appends a b) (ap (flat_map row_line) (sym (append-nil u.done) ∙ ap (λ l. u.done ++ l) (sym none) ∙ u.all)) u.outcome

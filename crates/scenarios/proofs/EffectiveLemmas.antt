@@ -1,4 +1,5 @@
--- What an effective job takes from its entry, and where a plan has the job of a number.
+-- What an effective job takes from its entry, and where a plan has the job of a number: the job of the entry with that number, if
+-- there is one and it is not skipped.
 use Rattle.std.proofs.Common.{◌≡◌, ℕ, ◌*◌, ◌/◌, ◌%◌, ◌≤◌, ◌<◌, Bool, true, false, cond, ◌||◌, ◌==◌, nat_eq, nat_lt, List, [], ◌∷◌, Option, Some, None, Ok, Err, find, count_by, ℤ, pos, negsuc, ◌≤ℤ◌, nat_abs, unwrap_or, refl, sym, ◌∙◌, ap, arith, subst, ⊎_elim}
 use Rattle.std.specs.List.{AllByRecursion, cons_option}
 use Rattle.std.specs.Option.{option_and_then, option_or}
@@ -18,7 +19,6 @@ use Rattle.scenarios.specs.declared.skip.Skip.TheVariants.{TooLarge, TooLong}
 use Rattle.scenarios.specs.Effective.{effective, of_size, of_size_and_run, unless_too_long, job_of, size_of, run_of, estimate_of, base_of, positive, whole_field}
 use Rattle.scenarios.specs.Plan.{jobs_of, job_numbered}
 
--- what a job takes from its entry
 pub record Takes (e : LogEntry) (s : ScenarioView) (job : EffectiveJob) : Type 0 where
   pub submit : job.submit ≡ submit_of e
   pub number : job.number ≡ number_of_entry e
@@ -49,6 +49,7 @@ size-some line n h = go (positive (whole_field line 8)) refl h
     go None e h = positive-some (whole_field line 5) n h
     go (Some m) e h = positive-some (whole_field line 8) n (e ∙ h)
 
+-- a job has its entry's submit second and number, a size within the machine, and a length within its estimate, both within the limits
 pub takes : (e : LogEntry) (s : ScenarioView) (job : EffectiveJob) → result_ok (effective e s) ≡ Some job → Takes e s job
 takes e s job h = by_size (size_of e.main) refl h
   where
@@ -79,7 +80,6 @@ takes e s job h = by_size (size_of e.main) refl h
     by_size None k h = cc
     by_size (Some size) k h = by_run size (size-some e.main size k) (run_of e.main) h
 
--- ---- the numbers of sound entries
 number-is : (e : LogEntry) → IsEntry e → whole_number (field e.main 1) ≡ Some (number_of_entry e)
 number-is e h = let w = ap whole_number h.numbered ∙ whole h.number in w ∙ sym (ap (λ o. Some (unwrap_or o 0)) w)
   where
@@ -119,14 +119,13 @@ within-limits e s job sound scenario h =
       numbered = let a = number-small e sound in let b = t.number in omega (arith, a, b);
     }
 
--- ---- look-ups
+-- the job of an entry under a scenario, none where it is skipped
 abbrev pub kept : ScenarioView → LogEntry → Option EffectiveJob
 kept s e = result_ok (effective e s)
 
 abbrev numbered : ℕ → LogEntry → Bool
 numbered n e = number_of_entry e == n
 
--- no job has a number that no entry has
 none-numbered : (s : ScenarioView) (n : ℕ) (es : List LogEntry) → count_by (numbered n) es ≡ 0 → job_numbered (jobs_of es s) n ≡ None
 none-numbered s n [] c = refl
 none-numbered s n (e ∷ es) c =
@@ -168,7 +167,7 @@ look-up s n (e ∷ es) c =
         let m = ap (λ x. nat_eq x n) (takes e s job h).number ∙ no' in
         cond-false (nat_eq job.number n) (Some job) (job_numbered (jobs_of es s) n) m
 
--- where no two entries have one number, by either test
+-- as many sound entries have a number by the one test as by the other
 pub once-numbered : (n : ℕ) (es : List LogEntry) → AllByRecursion IsEntry es → count_by (numbered n) es ≡ count_by (has_number n) es
 once-numbered n [] a = refl
 once-numbered n (e ∷ es) a =
@@ -190,11 +189,12 @@ once-numbered n (e ∷ es) a =
         (cases_Bool (b == a)))
         (cases_Bool (a == b))
 
--- the job of a number in a table
+-- where no entry of a table has a number, no job of its plan has it
 pub found-none : (log : List LogEntry) (s : ScenarioView) (n : ℕ) → IsTable log → None ≡ entry_of n log → job_numbered (jobs_of log s) n ≡ None
 found-none log s n t e =
     look-up s n log (omega (arith, once-numbered n log t.log.sound, t.log.distinct n)) ∙ ap (option_and_then (kept s)) (sym e)
 
+-- the job of a number in the plan of a table is the job of the entry with that number, or none where that is skipped
 pub found-some : (log : List LogEntry) (s : ScenarioView) (n : ℕ) (x : LogEntry) → IsTable log → Some x ≡ entry_of n log → job_numbered (jobs_of log s) n ≡ result_ok (effective x s)
 found-some log s n x t e =
     look-up s n log (omega (arith, once-numbered n log t.log.sound, t.log.distinct n)) ∙ ap (option_and_then (kept s)) (sym e)

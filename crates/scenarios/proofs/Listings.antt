@@ -1,4 +1,5 @@
--- Lists of scenarios: the scenarios that clauses see from a map's entries, and what each change keeps.
+-- Lists of scenarios: the scenarios that clauses see from a map's entries, and what each change keeps: an entry under a new key goes
+-- last, and one taken out is a scenario taken out; names stay apart, and ids rise.
 use Rattle.std.proofs.Common.{◌≡◌, ℕ, ◌+◌, ◌≤◌, ◌<◌, List, [], ◌∷◌, ◌++◌, length, map, Bool, true, false, is_some, Option, Some, None, option_map, refl, sym, ap, leb, ltb, arith, length-append}
 use Rattle.std.specs.List.{AllByRecursion, AllZip}
 use Rattle.std.specs.Str.{bytes_eq}
@@ -14,9 +15,11 @@ abbrev V : Type 0
 V = ℕ × ScenarioView
 
 module _ {K : Type 0} (bytes : K → List ℕ) where
+  -- the scenario of a map's entry: its name is the key's text
   abbrev pub row : K × V → Listed
   row e = record { name = bytes e.0; id = e.1.0; scenario = e.1.1 }
 
+  -- the scenarios of a map's entries
   abbrev pub rows : List (K × V) → List Listed
   rows es = map row es
 
@@ -53,8 +56,6 @@ module _ {K : Type 0} (bytes : K → List ℕ) where
   rows-same [] (f ∷ fs) h = absurd h
   rows-same (e ∷ es) [] h = absurd h
   rows-same (e ∷ es) (f ∷ fs) h = let rest = rows-same es fs h.1 in let text = h.0.0 in let id = h.0.1.0 in let scenario = h.0.1.1 in cc
-
--- ---- names
 
 -- the other way round
 pub bytes_eq-swap : (a b : List ℕ) → bytes_eq a b ≡ false → bytes_eq b a ≡ false
@@ -110,8 +111,6 @@ AreApart-without name (t ∷ ss) apart = go (bytes_eq name t.name) refl (AreApar
     go true e more = rw e apart.1
     go false e more = rw e (named-without t.name name ss apart.0, more)
 
--- ---- ids
-
 pub IdsRise-append : (first : ℕ) (ss : List Listed) (next : ℕ) (s : Listed) → s.id ≡ next → IdsRise first ss next → IdsRise first (ss ++ s ∷ []) (next + 1)
 IdsRise-append first [] next s is h = (omega (arith, h, is), omega (arith, is))
 IdsRise-append first (t ∷ ss) next s is h = (h.0, IdsRise-append (t.id + 1) ss next s is h.1)
@@ -128,12 +127,10 @@ IdsRise-without name first (t ∷ ss) next h = go (bytes_eq name t.name) refl (I
     go true e more = rw e (IdsRise-lower first (t.id + 1) ss next (omega (arith, h.0)) h.1)
     go false e more = rw e (h.0, more)
 
--- the next id is at least 1
+-- the next id is at least the one that the ids rise from
 pub next-positive : (first : ℕ) (ss : List Listed) (next : ℕ) → IdsRise first ss next → first ≤ next
 next-positive first [] next h = h
 next-positive first (t ∷ ss) next h = let more = next-positive (t.id + 1) ss next h.1 in omega (arith, h.0, more)
-
--- ---- each scenario
 
 pub all-append : {X : Type 0} (P : X → Type 0) (xs : List X) (x : X) → AllByRecursion P xs → P x → AllByRecursion P (xs ++ x ∷ [])
 all-append P [] x all h = (h, tt)
@@ -155,15 +152,13 @@ length-without name (t ∷ ss) = go (bytes_eq name t.name) refl (length-without 
     go true e more = rw e (omega arith)
     go false e more = rw e (omega arith)
 
--- ---- the whole list
-
--- what a name that can be added is
 pub record CanAdd (name : List ℕ) (list : Listing) : Type 0 where
   pub called : is_name name ≡ true
   pub new : is_some (id_of name list) ≡ false
   pub capacity : length list.scenarios < 64
   pub last : list.next ≤ 4294967295
 
+-- where there is no fault, the name is a name and new, and the list has capacity and an id left
 pub can_add : (name : List ℕ) (list : Listing) → add_fault name list ≡ None → CanAdd name list
 can_add name list h = go (is_name name) refl (is_some (id_of name list)) refl (leb 64 (length list.scenarios)) refl (ltb 4294967295 list.next) refl h
   where
@@ -174,6 +169,7 @@ can_add name list h = go (is_name name) refl (is_some (id_of name list)) refl (l
     go true ea false eb false ec true ed h = absurd (grind (arith, nat_tests))
     go true ea false eb false ec false ed h = record { called = ea; new = eb; capacity = grind (arith, nat_tests); last = grind (arith, nat_tests) }
 
+-- a listing stays one with a scenario more that can be added
 pub IsListing-with : (name : List ℕ) (scenario : ScenarioView) (list : Listing) → IsListing list → CanAdd name list → IsScenario scenario → IsListing (with_scenario name scenario list)
 IsListing-with name scenario list is can set = record {
   listed = all-append IsListed list.scenarios _ is.listed (record { called = can.called; scenario = set });
@@ -183,6 +179,7 @@ IsListing-with name scenario list is can set = record {
   last = let last = can.last in omega arith;
 }
 
+-- a listing stays one without the scenario of a name
 pub IsListing-without : (name : List ℕ) (list : Listing) → IsListing list → IsListing (without_scenario name list)
 IsListing-without name list is = record {
   listed = all-without IsListed name list.scenarios is.listed;

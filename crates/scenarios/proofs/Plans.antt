@@ -1,4 +1,4 @@
--- The plan of a table under a scenario is sound.
+-- The plan of a table under a scenario is sound: its jobs keep what their entries have, and stand in the order of the log.
 use Rattle.std.proofs.Common.{◌≡◌, ℕ, suc, ◌≤◌, ◌<◌, true, false, cond, ◌||◌, ◌&&◌, ◌==◌, nat_eq, nat_lt, List, [], ◌∷◌, length, Option, Some, None, All, count_by, refl, sym, ◌∙◌, ap, arith, inl, inr, ⊎_elim, ◌⊎◌}
 use Rattle.std.specs.List.{AllByRecursion, cons_option}
 use Rattle.std.proofs.lemmas.List.Sums.{sum_by-cons}
@@ -14,7 +14,6 @@ use Rattle.scenarios.proofs.EffectiveLemmas.{kept, takes, within-limits, once-nu
 use Rattle.scenarios.specs.SoundPlan.{IsPlan}
 use Rattle.scenarios.specs.SoundPlan as sound
 
--- what an entry gives to its job holds of the jobs
 pub all-jobs : (P : LogEntry → Type 0) (Q : EffectiveJob → Type 0) (s : ScenarioView) → ((e : LogEntry) (job : EffectiveJob) → kept s e ≡ Some job → P e → Q job) → (es : List LogEntry) → All P es → All Q (jobs_of es s)
 all-jobs P Q s f [] a = All-nil Q
 all-jobs P Q s f (e ∷ es) a = go (kept s e) refl (all-jobs P Q s f es (All-tail P e es a))
@@ -46,11 +45,11 @@ once-jobs s n (e ∷ es) = go (kept s e) refl (once-jobs s n es)
         let same = ap (λ m. cond {A = ℕ} (nat_eq m n) 1 0) (takes e s job h).number in
         omega (arith, i, same, sum_by-cons (λ (e : LogEntry). cond {A = ℕ} (number_of_entry e == n) 1 0) e es, sum_by-cons (λ (j : EffectiveJob). cond {A = ℕ} (nat_eq j.number n) 1 0) job (jobs_of es s))
 
--- ---- the order of the log
 -- a second and a number stand before another two in submit order, as a fact
 abbrev pub Lex : ℕ → ℕ → ℕ → ℕ → Type 0
 Lex a b c d = (a < c) ⊎ ((a ≡ c) × (b < d))
 
+-- two numbers that the test finds before another two stand before them
 pub Lex-true : (a b c d : ℕ) → submits_before a b c d ≡ true → Lex a b c d
 Lex-true a b c d h =
     ⊎_elim
@@ -65,6 +64,7 @@ true-Lex : (a b c d : ℕ) → Lex a b c d → submits_before a b c d ≡ true
 true-Lex a b c d (inl l) = or_left (nat_lt a c) (a == c && nat_lt b d) (lt-ltb a c l)
 true-Lex a b c d (inr p) = or_right (nat_lt a c) (a == c && nat_lt b d) (and_from (a == c) (nat_lt b d) (eq-eqb a c p.0) (lt-ltb b d p.1))
 
+-- what stands before a second and a number stands before all that these stand before
 pub Lex-trans : (a b c d e f : ℕ) → Lex a b c d → Lex c d e f → Lex a b e f
 Lex-trans a b c d e f (inl l) (inl m) = inl (omega arith)
 Lex-trans a b c d e f (inl l) (inr m) = inl (let k = m.0 in omega (arith, k))
@@ -111,6 +111,7 @@ rising-jobs [] o = tt
 rising-jobs (j ∷ []) o = tt
 rising-jobs (j ∷ k ∷ js) o = (true-Lex j.submit j.number k.submit k.number (All-head (Ahead j) k js o.0), rising-jobs (k ∷ js) o.1)
 
+-- the plan of a table under a scenario within its limits is sound
 pub plan-is : (log : List LogEntry) (s : ScenarioView) → IsTable log → IsScenario s → IsPlan (plan_of log s)
 plan-is log s t h =
     let entries = recursed IsEntry log t.log.sound in

@@ -1,23 +1,23 @@
 -- The jobs of entries one after another, and of those from a second on.
-use Rattle.std.proofs.Common.{◌≡◌, ℕ, ◌≤◌, ◌<◌, true, false, nat_le, List, [], ◌∷◌, Option, Some, None, Ok, refl, sym, ◌∙◌, ap, arith, ⊎_elim}
+use Rattle.std.proofs.Common.{◌≡◌, ℕ, ◌≤◌, ◌<◌, true, false, nat_le, List, [], ◌∷◌, Option, Some, None, refl, sym, ◌∙◌, ap, arith, ⊎_elim}
 use Rattle.std.specs.List.{cons_option}
-use Rattle.std.specs.Result.{result_ok}
 use Rattle.std.proofs.lemmas.Bool.{cases_Bool, cond-true, cond-false, le-leb, lt-leb, leb-true, leb-false}
 use Rattle.swf_text.specs.Entry.{LogEntry, submit_of}
 use Rattle.job_table.specs.Table.{entries_from}
 use Rattle.scenarios.specs.Job.{EffectiveJob}
 use Rattle.scenarios.specs.Scenario.{ScenarioView}
-use Rattle.scenarios.specs.Effective.{effective}
 use Rattle.scenarios.specs.Plan.{jobs_of, from_on}
 use Rattle.scenarios.proofs.EffectiveLemmas.{kept, takes}
 
+-- a job that is submitted at a second or later, and others: the jobs from that second on are it and those of the others
 pub from-in : (t : ℕ) (j : EffectiveJob) (js : List EffectiveJob) → t ≤ j.submit → from_on t (j ∷ js) ≡ j ∷ from_on t js
 from-in t j js l = cond-true (nat_le t j.submit) (j ∷ from_on t js) (from_on t js) (le-leb t j.submit l)
 
+-- a job that is submitted before a second, and others: the jobs from that second on are those of the others
 pub from-out : (t : ℕ) (j : EffectiveJob) (js : List EffectiveJob) → j.submit < t → from_on t (j ∷ js) ≡ from_on t js
 from-out t j js l = cond-false (nat_le t j.submit) (j ∷ from_on t js) (from_on t js) (lt-leb t j.submit l)
 
--- the jobs of the entries from a second on
+-- the jobs of the entries from a second on are the jobs from that second on
 pub jobs-from : (s : ScenarioView) (t : ℕ) (es : List LogEntry) → jobs_of (entries_from t es) s ≡ from_on t (jobs_of es s)
 jobs-from s t [] = refl
 jobs-from s t (e ∷ es) =
@@ -39,11 +39,7 @@ jobs-from s t (e ∷ es) =
     goes None h n i = i
     goes (Some job) h n i = i ∙ sym (from-out t job (jobs_of es s) (leb-false t job.submit (ap (nat_le t) (takes e s job h).submit ∙ n)))
 
--- the entries that are left
-pub left-some : (s : ScenarioView) (es rest : List LogEntry) (e : LogEntry) (job : EffectiveJob) → es ≡ e ∷ rest → Ok job ≡ effective e s → jobs_of es s ≡ job ∷ jobs_of rest s
-left-some s es rest e job at is = ap (λ xs. jobs_of xs s) at ∙ ap (λ r. cons_option (result_ok r) (jobs_of rest s)) (sym is)
-
--- all jobs
+-- the jobs from second 0 on are all jobs
 pub all-from : (js : List EffectiveJob) → from_on 0 js ≡ js
 all-from [] = refl
 all-from (j ∷ js) = from-in 0 j js (omega arith) ∙ ap (λ l. j ∷ l) (all-from js)

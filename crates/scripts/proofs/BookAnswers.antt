@@ -1,4 +1,5 @@
--- The responses of a session with a book of its own, as steps of the book machine.
+-- The responses of a session with a book of its own, as steps of the book machine: to calls, views, scenarios side by side, the log, and
+-- lines of a script.
 use Rattle.std.proofs.Common.{◌≡◌, ℕ, ◌+◌, ◌<◌, List, [], ◌∷◌, ◌++◌, length, suc, zero, refl, sym, ◌∙◌, ap, ap₂, subst, inl, inr, append_assoc, append-nil, true, arith}
 use Rattle.std.specs.Prelude.{codes, slice_get, Option, None, Some, Result, Ok, Err}
 use Rattle.swf_text.specs.Text.{lines}
@@ -41,21 +42,16 @@ use Rattle.scripts.proofs.Sides.{listing-kept, side-first}
 use Rattle.scripts.proofs.Transcripts.{some_transcript}
 use Rattle.scripts.proofs.Writings.{front_more}
 
--- ---- calls
-
 call-of : (old : Session) (call : BookCall) (says : Reply → List ℕ) (text : List ℕ) (new : Session) → CallBy book_rules old call says text new → IsCall old call says text new
 call-of old call says text new (full, h, is) = inl (h.0, (is, h.1))
 call-of old call says text new (memory, h, is) = inr (inl (is, h))
 call-of old call says text new (outcome r, h, is) = inr (inr (r, h, is))
 
--- a scenario is looked up in the present list
 named-of : (old : Session) (name : List ℕ) (follows : ℕ → Session → Type 0) (wide : Listed → Type 0) (text : List ℕ) (new : Session) → ((s : Listed) → named name old.machine.listing.scenarios ≡ Some s → follows s.id old → wide s) → NamedBy book_rules old name follows text new → IsNamed old name wide text new
 named-of old name follows wide text new widens (None, mid, found, h) = inl (id-none (named name old.machine.listing.scenarios) found.0, (h.0, h.1 ∙ found.1))
 named-of old name follows wide text new widens (Some id, mid, found, h) =
     let it = id-some (named name old.machine.listing.scenarios) id found.0 in
     inr (it.0, it.1, widens it.0 it.1 (subst (λ (n : ℕ). follows n old) it.2 (subst (follows id) found.1 h)))
-
--- ---- views
 
 not-looked-of : (old : Session) (id : ℕ) (refusal : Refusal ViewFault) (new : Session) → IsAnswered old (View id old.seen) (view_answer (Err refusal)) new → IsTrueOf old.machine id (Err refusal) → NotLooked refusal old id new
 not-looked-of old id why.JournalFull new h true_of = h
@@ -72,9 +68,6 @@ view-of old name kind text new s is (Ok p, h, says) = named-viewed old new name 
 view-of old name kind text new s is (Err refusal, h, says) =
     not-viewed old new s.id s kind refusal text (not-looked-of old s.id refusal new h.call h.shown) (listed-so old.machine name s is) says
 
--- ---- scenarios side by side
-
--- each of these is listed
 abbrev AreListed : Machine → List Listed → Type 0
 AreListed m [] = Unit {0}
 AreListed m (s ∷ scenarios) = IsListedAs m s.id s × AreListed m scenarios
@@ -95,7 +88,6 @@ still-listed m k [] same h = tt
 still-listed m k (s ∷ scenarios) same h =
     (record { place = h.0.place; listed = ap (λ l. slice_get l.scenarios h.0.place) same ∙ h.0.listed; id = refl }, still-listed m k scenarios same h.1)
 
--- what one view returns
 abbrev SeenAs : {A : Type 0} → Session → Listed → Option (Beside A) → Session → Type 0
 SeenAs old s found new = (line : List ℕ) × (lines_of s.name found ≡ line ∷ []) × IsSeen old s line new
 
@@ -131,7 +123,6 @@ unseen-of A old id refusal new (Err why.Memory, h, is) = (h.call, inr cc)
 abbrev says_why : Refusal ViewFault → List ℕ
 says_why refusal = refused (refusal_name view_fault_name refusal)
 
--- some views are seen, and there is no report
 not-side : (old : Session) (front back : List Listed) (ls : List (List ℕ)) (mid new : Session) (refusal : Refusal ViewFault) (text : List ℕ) → old.machine.listing.scenarios ≡ front ++ back → AreSeen old front ls mid → 0 < length back → IsUnseen refusal mid new → text ≡ says_why refusal → IsSide old text new
 not-side old front back ls mid new refusal text whole seen some (same, inl limit) is =
     (front, back, ls, whole, subst (λ (s : Session). AreSeen old front ls s) (sym same) seen, inr (inl (ap (λ (s : Session). s.machine.notes) same ∙ limit.1, some, is ∙ ap says_why limit.0)))
@@ -156,8 +147,6 @@ side-by A old text new (None, mid, read, h) = side-first old new text (h.1 ∙ r
 side-by A old text new (Some m, mid, read, h) =
     side-of-present A old text new (subst (λ (k : Moment). SideOf book_rules A (Some k) old text new) read.0 (subst (λ (s : Session). SideOf book_rules A (Some m) s text new) read.1 h))
 
--- ---- the log
-
 log-text-of : (old : Session) (name : List ℕ) (s : Listed) (text : List ℕ) (new : Session) → s.name ≡ name → new ≡ old → IsLogText name (present old.machine) (Some s) text → IsMade old (log_text s.name (version old.machine) (current old.machine) s.scenario) text new
 log-text-of old name s text new called same (inl is) = inl (is ∙ ap (λ (n : List ℕ). log_text n (version old.machine) (current old.machine) s.scenario) (sym called), same)
 log-text-of old name s text new called same (inr is) = inr (is, same)
@@ -175,8 +164,6 @@ saved-of old comments text new (Some m, read, inr is) = inr (is, read.1)
 
 settled-of : (old : Session) (text : List ℕ) (new : Session) → SettledBy book_rules old text new → IsSettledIf true old text new
 settled-of old text new (state, ((short, settles), seen, so), is) = (short, (settles, seen, is ∙ ap₂ settle_line seen so))
-
--- ---- the commands
 
 pub answer-of-book : {A : Type 0} (comments : List (List ℕ)) (old : Session) (command : Command A) (text : List ℕ) (new : Session) → AnswersBy book_rules comments old command text new → Answers comments old command text new
 answer-of-book comments old (asks.Insert entry) text new h = call-of old _ _ text new h
@@ -196,19 +183,17 @@ answer-of-book comments old asks.Save text new h = saved-of old comments text ne
 answer-of-book comments old asks.Version text new (v, read, is) = (is ∙ ap version_line read.0, read.1)
 answer-of-book comments old asks.Quit text new h = h
 
+-- a response that a line may have by the rules of a book is one that it may have by steps of the book machine
 pub line-of-book : {A : Type 0} (comments : List (List ℕ)) (old : Session) (number : ℕ) (asked : Result (Option (Command A)) CommandFault) (text : List ℕ) (new : Session) → LineBy book_rules comments old number asked text new → IsLine comments old number asked text new
 line-of-book comments old number (Ok None) text new h = h
 line-of-book comments old number (Ok (Some command)) text new h = answer-of-book comments old command text new h
 line-of-book comments old number (Err fault) text new h = h
-
--- ---- scripts
 
 lines-of-book : (A : Type 0) (comments : List (List ℕ)) (old : Session) (ls : List (List ℕ)) (number : ℕ) (out : List ℕ) (new : Session) → LinesBy book_rules A comments old ls number out new → IsTranscript A comments old ls number out
 lines-of-book A comments old [] number out new h = h.0
 lines-of-book A comments old (line ∷ ls) number out new (text, next, later, one, rest, is) =
     (text, next, later, line-of-book comments old number (command_of_line {A = A} line) text next one, lines-of-book A comments next ls (number + 1) later new rest, is)
 
--- other lines behind them
 lines-then : (A : Type 0) (comments : List (List ℕ)) (old : Session) (front back : List (List ℕ)) (number count : ℕ) (out more : List ℕ) (new : Session) → count ≡ number + length front → LinesBy book_rules A comments old front number out new → IsTranscript A comments new back count more → IsTranscript A comments old (front ++ back) number (out ++ more)
 lines-then A comments old [] back number count out more new is h behind =
     let n : count ≡ number = omega (arith, is) in
@@ -224,6 +209,7 @@ lines-then A comments old (line ∷ front) back number count out more new is (te
       ap (λ (d : List ℕ). d ++ more) all ∙ append_assoc text later more,
     )
 
+-- what is written of a script by the rules of a book is a transcript of it, or where the writer failed a beginning of one
 pub tells-of-book : {X E : Type 0} (A : Type 0) (comments : List (List ℕ)) (first : Session) (script : List ℕ) (old new : Option (List ℕ)) (result : Result X E) (last : Session) → TellsBy book_rules A comments first script old new result last → Tells A comments first script old new result
 tells-of-book A comments first script old new (Ok x) last (out, h, all) = (out, lines-of-book A comments first (looked_at A (lines script)) 1 out last h, all)
 tells-of-book A comments first script old new (Err fault) last (front, back, out, whole, h, part) =

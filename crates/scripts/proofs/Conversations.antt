@@ -1,4 +1,5 @@
--- Conversations, turn after turn.
+-- Conversations, turn after turn: a turn reads a line and writes its response, or the conversation ends, at `quit`, at the end of the
+-- input, or where the reader or the writer failed.
 use Rattle.std.proofs.Common.{◌≡◌, ℕ, ◌+◌, ◌<◌, ◌≤◌, Bool, true, false, List, [], ◌∷◌, ◌++◌, length, take, Option, Some, None, Result, Ok, Err, IfSome, refl, sym, ap, subst, ◌∙◌, append_assoc, append-nil, arith, if◌then◌else◌, ltb, eqb, length-append, true≢false}
 use Rattle.std.specs.List.{All, slice_split}
 use Rattle.std.specs.Io.KnownBytes.{Appends, Consumes}
@@ -23,19 +24,15 @@ use Rattle.scripts.specs.declared.live.LiveFault.{LiveFault}
 use Rattle.scripts.specs.declared.live.LiveFault.TheVariants as faults
 use Rattle.scripts.proofs.Hearings.{joined, no_byte, reads_behind}
 
--- ---- lines
-
 more_parts : (part : List ℕ) (parts : List (List ℕ)) → 0 < length parts → without_empty_end (part ∷ parts) ≡ part ∷ without_empty_end parts
 more_parts part [] some = absurd (omega arith)
 more_parts part (next ∷ parts) some = refl
 
--- a line with its line feed is the first
 lines_fed : (line rest : List ℕ) → HasNoFeed line → lines ((line ++ 10 ∷ []) ++ rest) ≡ line ∷ lines rest
 lines_fed line rest none =
     ap lines (append_assoc line (10 ∷ []) rest) ∙ ap without_empty_end (slice_split_at is_feed line 10 rest none refl)
     ∙ more_parts line (slice_split is_feed rest) (omega (arith, length-slice_split is_feed rest))
 
--- the last line may lack it
 lines_last : (line : List ℕ) → HasNoFeed line → 0 < length line → lines line ≡ line ∷ []
 lines_last line none some =
     let filled : eqb (length line) 0 ≡ false = ne_eqb (length line) 0 (λ empty. omega arith) in
@@ -45,14 +42,11 @@ lines_last line none some =
 too_long : {A : Type 0} (line : List ℕ) → line_limit < length line → command_of_line {A = A} line ≡ Err TooLong
 too_long line long = let test : ltb line_limit (length line) ≡ true = lt-ltb line_limit (length line) long in rw test refl
 
--- the response to a line that was begun
 answered_none : (part : List ℕ) → length part ≤ line_limit → answered_of part ≡ []
 answered_none part short = let test : ltb line_limit (length part) ≡ false = le-ltb line_limit (length part) short in rw test refl
 
 answered_all : (part : List ℕ) → line_limit < length part → answered_of part ≡ part
 answered_all part long = let test : ltb line_limit (length part) ≡ true = lt-ltb line_limit (length part) long in rw test refl
-
--- ---- whole lines
 
 lines_more : (read line : List ℕ) → AreWholeLines read → HasNoFeed line → lines (read ++ (line ++ 10 ∷ [])) ≡ lines read ++ line ∷ []
 lines_more read line whole none =
@@ -69,26 +63,19 @@ none_more A read line whole none quits goes =
     subst (All (λ l. is_quit (command_of_line {A = A} l) ≡ false)) (sym (lines_more read line whole none))
     (All-append (λ l. is_quit (command_of_line {A = A} l) ≡ false) (lines read) (line ∷ []) quits (All-cons (λ l. is_quit (command_of_line {A = A} l) ≡ false) line [] goes (All-nil (λ l. is_quit (command_of_line {A = A} l) ≡ false))))
 
--- ---- what is known of the reader's bytes
-
--- all bytes, where a line feed was read
 whole_fed : (from mid to : Option (List ℕ)) (read line : List ℕ) → Consumes from mid read → Consumes mid to (line ++ 10 ∷ []) → (rest : List ℕ) × IfSome from (λ all. read ++ (line ++ 10 ∷ []) ++ rest ≡ all)
 whole_fed None mid to read line p q = ([], tt)
 whole_fed (Some x) None to read line p q = absurd p
 whole_fed (Some x) (Some y) None read line p q = absurd q
 whole_fed (Some x) (Some y) (Some z) read line p q = (z, sym (p ∙ ap (λ l. read ++ l) q ∙ sym (append_assoc read (line ++ 10 ∷ []) z)))
 
--- all bytes, where the end of the input was
 whole_last : (from mid to : Option (List ℕ)) (read line : List ℕ) → Consumes from mid read → Reads mid to line Input → IfSome from (λ all. read ++ line ≡ all)
 whole_last None mid to read line p q = tt
 whole_last (Some x) None to read line p q = absurd p
 whole_last (Some x) (Some y) to read line p q = sym (p ∙ ap (λ l. read ++ l) q.0)
 
--- ---- one line more
-
 module _ (A : Type 0) (comments : List (List ℕ)) (first now next : Session) (number : ℕ) (read written text : List ℕ)
     (goes : (rest later : List ℕ) → IsTranscript A comments now (looked_at A (lines rest)) number later → IsTranscriptOf A comments first (read ++ rest) (written ++ later)) where
-  -- the line has this response
   abbrev IsSo : List ℕ → Type 0
   IsSo line = IsLine comments now number (command_of_line {A = A} line) text next
 
@@ -100,7 +87,6 @@ module _ (A : Type 0) (comments : List (List ℕ)) (first now next : Session) (n
       subst (λ (out : List ℕ). IsTranscriptOf A comments first ((read ++ bytes) ++ rest) out) (sym (append_assoc written text later))
       (subst (λ (bs : List ℕ). IsTranscriptOf A comments first bs (written ++ (text ++ later))) (sym (append_assoc read bytes rest)) outcome)
 
-  -- nothing behind it is looked at
   at_last : (line bytes rest : List ℕ) (ls : List (List ℕ)) → lines (bytes ++ rest) ≡ line ∷ ls → IsSo line
       → IsTranscript A comments next (if is_quit (command_of_line {A = A} line) then [] else looked_at A ls) (number + 1) []
       → IsTranscriptOf A comments first ((read ++ bytes) ++ rest) (written ++ text)
@@ -119,7 +105,6 @@ module _ (A : Type 0) (comments : List (List ℕ)) (first now next : Session) (n
       subst (λ (bs : List ℕ). IsTranscriptOf A comments first bs (written ++ text)) (append-nil (read ++ bytes))
       (at_last line bytes [] [] (ap lines (append-nil bytes) ∙ is) answers (nothing_more (is_quit (command_of_line {A = A} line))))
 
-  -- a line without its line feed, which may be none
   unfed : (line : List ℕ) → HasNoFeed line → IsSo line → IsTranscriptOf A comments first (read ++ line) (written ++ text)
   unfed [] none answers = subst (λ (t : List ℕ). IsTranscriptOf A comments first (read ++ []) (written ++ t)) (sym answers.0) (goes [] [] refl)
   unfed (b ∷ bs) none answers = alone (b ∷ bs) (b ∷ bs) (lines_last (b ∷ bs) none (omega arith)) answers
@@ -127,10 +112,7 @@ module _ (A : Type 0) (comments : List (List ℕ)) (first now next : Session) (n
   with_feed : (line : List ℕ) → HasNoFeed line → IsSo line → IsTranscriptOf A comments first (read ++ (line ++ 10 ∷ [])) (written ++ text)
   with_feed line none answers = alone line (line ++ 10 ∷ []) (ap lines (sym (append-nil (line ++ 10 ∷ []))) ∙ lines_fed line [] none) answers
 
--- ---- a turn
-
 module _ (A : Type 0) (comments : List (List ℕ)) (first : Session) (from mid old out : Option (List ℕ)) (now : Session) (number : ℕ) (said : IsSaid A comments first from mid old out now number) where
-  -- how far the reader was read, behind what was said
   stands : (to : Option (List ℕ)) (line : List ℕ) (end : LineEnd) → HasNoFeed line → Reads mid to line end → IsReadTo A from to said.read line end
   stands to line end none read = record {
     are_whole = said.are_whole;
@@ -139,7 +121,7 @@ module _ (A : Type 0) (comments : List (List ℕ)) (first : Session) (from mid o
     is_read = reads_behind from mid to said.read line end said.are_read read;
   }
 
-  -- the reader failed before a line was read
+  -- a turn whose reader failed before it read a line, or so much of one that it is too long
   pub unheard : (result : Result Bool LiveFault) (next : Session) (to : Option (List ℕ)) (part : List ℕ) → result ≡ Err faults.Read → IsBegun mid to part → Turns A comments first from to old out next number result
   unheard result next to part outcome begun =
       let none : said.read ++ answered_of part ≡ said.read = ap (λ l. said.read ++ l) (answered_none part begun.short) ∙ append-nil said.read in
@@ -153,7 +135,7 @@ module _ (A : Type 0) (comments : List (List ℕ)) (first : Session) (from mid o
       )
 
   module _ (next : Session) (to new : Option (List ℕ)) (text line : List ℕ) (end : LineEnd) (heard : IsHeard mid to line end) (answers : IsLine comments now number (command_of_line {A = A} line) text next) where
-    -- the writer failed in the response
+    -- a turn whose writer failed in the response
     pub cut_off : (result : Result Bool LiveFault) → result ≡ Err faults.Write → (n : ℕ) × Appends out new (take n text) → Turns A comments first from to old new next number result
     cut_off result outcome (n, part) =
         rw outcome (
@@ -169,7 +151,6 @@ module _ (A : Type 0) (comments : List (List ℕ)) (first : Session) (from mid o
           (n, Appends-trans old out new said.written (take n text) said.are_written part),
         )
 
-    -- a line that is too long has this response, whatever else is read of it
     module _ (rest : List ℕ) (over : line_limit < length line) where
       over_too : line_limit < length (line ++ rest)
       over_too = omega (arith, length-append line rest, over)
@@ -177,7 +158,7 @@ module _ (A : Type 0) (comments : List (List ℕ)) (first : Session) (from mid o
       so_too : IsLine comments now number (command_of_line {A = A} (line ++ rest)) text next
       so_too = subst (λ (k : Result (Option (Command A)) CommandFault). IsLine comments now number k text next) (too_long {A = A} line over ∙ sym (too_long {A = A} (line ++ rest) over_too)) answers
 
-    -- the reader failed behind the response
+    -- a turn whose reader failed behind the response, in the rest of a line that is too long
     pub unread : (result : Result Bool LiveFault) (later : Option (List ℕ)) (fault : ReadFault) → result ≡ Err faults.Read → Appends out new text → MayFollow {E = ReadFault} to later end (Err fault) → Turns A comments first from later old new next number result
     unread result later fault outcome all follows = rw outcome (go end heard follows) where
       go : (e : LineEnd) → IsHeard mid to line e → MayFollow {E = ReadFault} to later e (Err fault) → Turns A comments first from later old new next number (Err faults.Read)
@@ -195,7 +176,6 @@ module _ (A : Type 0) (comments : List (List ℕ)) (first : Session) (from mid o
             Appends-trans old out new said.written text said.are_written all,
           )
 
-    -- the line ends the input
     at_end : (whole : List ℕ) (later : Option (List ℕ)) → HasNoFeed whole → IsLine comments now number (command_of_line {A = A} whole) text next → Reads mid later whole Input → Appends out new text
         → Turns A comments first from later old new next number (Ok false)
     at_end whole later none so read outcome = (
@@ -207,7 +187,6 @@ module _ (A : Type 0) (comments : List (List ℕ)) (first : Session) (from mid o
       Appends-trans old out new said.written text said.are_written outcome,
     )
 
-    -- the line has its line feed, and is not `quit`
     at_feed : (whole : List ℕ) (later : Option (List ℕ)) → HasNoFeed whole → IsLine comments now number (command_of_line {A = A} whole) text next → is_quit (command_of_line {A = A} whole) ≡ false
         → Consumes mid later (whole ++ 10 ∷ []) → Appends out new text → Turns A comments first from later old new next number (Ok true)
     at_feed whole later none so goes read outcome = record {
@@ -221,7 +200,7 @@ module _ (A : Type 0) (comments : List (List ℕ)) (first : Session) (from mid o
       transcript = with_feed A comments first now next number said.read said.written text said.goes_on whole none so;
     }
 
-    -- the conversation ends with `quit`
+    -- a turn with `quit`, whose response was written, ends the conversation
     pub at_quit_outcome : is_quit (command_of_line {A = A} line) ≡ true → Appends out new text → Turns A comments first from to old new next number (Ok false)
     at_quit_outcome quits outcome = go end heard where
       go : (e : LineEnd) → IsHeard mid to line e → Turns A comments first from to old new next number (Ok false)
@@ -237,7 +216,7 @@ module _ (A : Type 0) (comments : List (List ℕ)) (first : Session) (from mid o
       go Input h = at_end line to h.one_line answers h.is_read outcome
       go Open h = let goes : is_quit (command_of_line {A = A} line) ≡ false = ap is_quit (too_long {A = A} line h.long) in absurd (true≢false (sym quits ∙ goes))
 
-    -- the turn is over
+    -- a turn whose response was written, and not to `quit`, is over, or ends the conversation at the end of the input
     pub followed : (later : Option (List ℕ)) (fed : Bool) → is_quit (command_of_line {A = A} line) ≡ false → Appends out new text → MayFollow {E = ReadFault} to later end (Ok fed) → Turns A comments first from later old new next number (Ok fed)
     followed later fed goes outcome = go end fed heard where
       go : (e : LineEnd) (f : Bool) → IsHeard mid to line e → MayFollow {E = ReadFault} to later e (Ok f) → Turns A comments first from later old new next number (Ok f)
@@ -250,7 +229,7 @@ module _ (A : Type 0) (comments : List (List ℕ)) (first : Session) (from mid o
       go Open false h (rest, none, read) =
           at_end (line ++ rest) later (joined line rest h.one_line none) (so_too rest h.long) (reads_behind mid to later line rest Input h.is_read read) outcome
 
--- nothing was said
+-- before the first turn nothing was read, and nothing said
 pub unsaid : (A : Type 0) (comments : List (List ℕ)) (first : Session) (from old : Option (List ℕ)) → IsSaid A comments first from from old old first 1
 unsaid A comments first from old = record {
   read = [];
@@ -263,6 +242,6 @@ unsaid A comments first from old = record {
   transcript = refl;
 }
 
--- no line was begun
+-- a line of which nothing is read yet is begun
 pub unbegun : (from : Option (List ℕ)) → IsBegun from from []
 unbegun from = record { one_line = no_byte; is_read = Consumes-nil from; short = omega arith }

@@ -1,4 +1,4 @@
--- The two lines that settle and ask for a schedule.
+-- The two lines that settle and ask for a schedule: a name's bytes make a word, and the lines are the two commands.
 use Rattle.std.proofs.Common.{◌≡◌, ℕ, ◌-◌, ◌<◌, ◌≤◌, ◌&&◌, zero, suc, leb, List, [], ◌∷◌, ◌++◌, length, get_or, cond, Bool, true, false, not, Some, Ok, Err, refl, sym, ◌∙◌, ap, append-nil, arith}
 use Rattle.std.specs.Prelude.{codes, nat_lt}
 use Rattle.std.specs.List.{list_all, suffix_len}
@@ -13,8 +13,6 @@ use Rattle.scenarios.specs.Name.{is_name, is_name_byte}
 use Rattle.commands.specs.declared.command.Command.TheVariants as asks
 use Rattle.commands.specs.declared.fault.CommandFault.TheVariants.{TooLong}
 use Rattle.commands.specs.Commands.{command_of_line, command_of_words}
-
--- ---- a name's bytes
 
 name_solid : (b : ℕ) → is_name_byte b ≡ true → is_blank b ≡ false
 name_solid b h = grind (arith, common_steps)
@@ -37,8 +35,6 @@ module _ (name : List ℕ) (called : is_name name ≡ true) where
 
   few_bytes : length name ≤ 16
   few_bytes = le_leb (length name) 16 (and_second (leb 1 (length name)) (leb (length name) 16) sizes)
-
--- ---- carriage returns
 
 no_returns : (bytes : List ℕ) → list_all is_name_byte bytes ≡ true → list_all (λ b. not (is_return b)) bytes ≡ true
 no_returns [] all = refl
@@ -64,8 +60,7 @@ kept_whole bytes all =
     suffix_len_is is_return bytes (length bytes) 0 (omega arith) (λ k le lt. absurd (omega (arith, le, lt))) (λ some. none_at bytes all (length bytes - 1) (omega (arith, some))) in
     take_all (length bytes - suffix_len is_return bytes) bytes (omega (arith, none))
 
--- ---- the commands
-
+-- the line `settle` is the command that settles
 pub settle_is : {A : Type 0} → command_of_line {A = A} (codes "settle") ≡ Ok (Some asks.Settle)
 settle_is = refl
 
@@ -81,6 +76,7 @@ module _ (name : List ℕ) (called : is_name name ≡ true) where
       solid_fields is_name_byte name_solid (codes "schedule") (32 ∷ name) refl (omega arith) refl
       ∙ ap (λ (l : List (List ℕ)). codes "schedule" ∷ l) (fields-blank 32 name refl ∙ last)
 
+  -- the line `schedule NAME` asks for the schedule of the scenario with this name
   pub schedule_is : {A : Type 0} → command_of_line {A = A} (codes "schedule " ++ name) ≡ Ok (Some (asks.Schedule name))
   schedule_is {A} =
       ap (λ (b : Bool). cond b (Err TooLong) (command_of_words {A = A} (fields (without_returns (codes "schedule " ++ name))))) short_line

@@ -25,8 +25,6 @@ use Rattle.scripts.proofs.FirstLines.{schedule_is, settle_is}
 use Rattle.scripts.proofs.FirstWork.{IsFirstWork, first-work, settled-done, shown, shown_of}
 use Rattle.scripts.proofs.Starts.{built, start, state}
 
--- ---- the first scenario of a list
-
 some-first : (xs : List Listed) (first : Listed) → slice_get xs 0 ≡ Some first → (rest : List Listed) × (xs ≡ first ∷ rest)
 some-first [] first is = cc
 some-first (x ∷ xs) first is = let same : x ≡ first = cc in (xs, ap (λ (y : Listed). y ∷ xs) same)
@@ -49,8 +47,6 @@ first-called xs first is all =
     let here : AllByRecursion (λ (s : Listed). is_name s.name ≡ true) (first ∷ one.0) = subst (AllByRecursion (λ (s : Listed). is_name s.name ≡ true)) one.1 all in
     here.0
 
--- ---- two lines
-
 two-lines : (A : Type 0) (comments : List (List ℕ)) (old mid new : Session) (one two text later : List ℕ) → is_quit (command_of_line {A = A} one) ≡ false → is_quit (command_of_line {A = A} two) ≡ false → IsLineIf false comments old 1 (command_of_line {A = A} one) text mid → IsLineIf false comments mid 2 (command_of_line {A = A} two) later new → IsTranscriptIf A false comments old (looked_at A (one ∷ two ∷ [])) 1 (text ++ later)
 two-lines A comments old mid new one two text later goes ends first second =
     let looked : looked_at A (one ∷ two ∷ []) ≡ one ∷ two ∷ [] =
@@ -58,15 +54,11 @@ two-lines A comments old mid new one two text later goes ends first second =
     subst (λ (ls : List (List ℕ)). IsTranscriptIf A false comments old ls 1 (text ++ later)) (sym looked)
     (text, mid, later, first, (later, new, [], second, refl, sym (append-nil later)), refl)
 
--- ---- their transcript
-
--- the book is settled
 is-settled : (log : List LogEntry) (list : Listing) (new : Machine) → IsFirstWork log list new → IsSettled false (record { machine = start log list; seen = 0 }) (settled_line 0) (record { machine = new; seen = 0 })
 is-settled log list new work =
     let done = ap (settled 0) work.is ∙ settled-done log list work.ticket work.noted_then in
     (work.settles, refl, sym (ap (settle_line 0) done))
 
--- and shows the schedule
 is-scheduled : (log : List LogEntry) (list : Listing) (ticket notes : ℕ) (first : Listed) → notes < 1000000 → slice_get list.scenarios 0 ≡ Some first
     → (new : Session) × IsNamed (record { machine = state log list (shown_of list.scenarios) ticket notes; seen = 0 }) first.name (IsViewIf false (record { machine = state log list (shown_of list.scenarios) ticket notes; seen = 0 }) IsSchedule (schedule_text first.name 0 (plan_of log first.scenario)) new) (schedule_text first.name 0 (plan_of log first.scenario)) new
 is-scheduled log list ticket notes first capacity is =
@@ -75,6 +67,7 @@ is-scheduled log list ticket notes first capacity is =
     let replied = ap (λ (o : Option Progress). elim o [ None ↦ reply.NoSuchScenario | Some p ↦ view_reply_at 0 p.published ]) (first-shown list.scenarios first is) in
     (new, inr (first, first-named list.scenarios first is, inr (inr (reply.Shown 0, record { capacity = capacity; replied = sym replied; machine = refl; seen = refl }, inl refl))))
 
+-- a script that settles a log and asks for its first scenario's schedule has both as its transcript, where no memory is refused
 pub schedules_first : (A : Type 0) → SchedulesTheFirst A
 schedules_first A log procs outcome comments scenarios first script is at says =
     let made = built log procs outcome scenarios is in

@@ -1,4 +1,4 @@
--- A book that was just opened is worked until every scenario shows the log as it was opened.
+-- A book that was just opened is worked, one scenario after another, until every one shows the log as it was opened; each takes two notes.
 use Rattle.std.proofs.Common.{◌≡◌, ℕ, ◌+◌, ◌*◌, ◌<◌, ◌≤◌, List, [], ◌∷◌, ◌++◌, length, map, cond, Bool, true, false, not, Option, None, Some, is_some, eqb, refl, sym, ◌∙◌, ap, ap₂, subst, inl, arith, append_assoc, append-nil}
 use Rattle.std.specs.Prelude.{find, count_by}
 use Rattle.std.specs.List.{list_any}
@@ -13,17 +13,15 @@ use Rattle.book_machine.specs.Machine.{Machine, Progress, Ticket, after, are_all
 use Rattle.scripts.specs.Settling.{Ended, Published, AreWorked, IsWorked, Settles}
 use Rattle.scripts.proofs.Starts.{fresh_of, start, state}
 
--- these scenarios show the log as it was opened
+-- a scenario shows the log as it was opened
 abbrev pub shown : ℕ → Progress
 shown id = record { id = id; published = Some 0; mark = None }
 
+-- these scenarios show the log as it was opened
 abbrev pub shown_of : List Listed → List Progress
 shown_of scenarios = map (λ (s : Listed). shown s.id) scenarios
 
 module _ (log : List LogEntry) (list : Listing) where
-  -- ---- one scenario
-
-  -- none of them is due
   due-behind : (progress : List Progress) (next notes : ℕ) (xs : List Listed) (ys : List Progress) → find (is_due (state log list progress next notes)) (shown_of xs ++ ys) ≡ find (is_due (state log list progress next notes)) ys
   due-behind progress next notes [] ys = refl
   due-behind progress next notes (x ∷ xs) ys = due-behind progress next notes xs ys
@@ -32,14 +30,12 @@ module _ (log : List LogEntry) (list : Listing) where
   none-due progress next notes [] = refl
   none-due progress next notes (x ∷ xs) = none-due progress next notes xs
 
-  -- before the next one is worked, and after it
   abbrev before_one : List Listed → Listed → List Listed → List Progress
   before_one front s back = shown_of front ++ fresh s.id ∷ fresh_of back
 
   abbrev after_one : List Listed → Listed → List Listed → List Progress
   after_one front s back = shown_of front ++ shown s.id ∷ fresh_of back
 
-  -- it is published, and no other is
   either : (b : Bool) (p : Progress) → cond b p p ≡ p
   either true p = refl
   either false p = refl
@@ -59,7 +55,6 @@ module _ (log : List LogEntry) (list : Listing) where
   changed-one (x ∷ front) s back last rise =
       ap₂ (λ (p : Progress) (ps : List Progress). p ∷ ps) (either (eqb x.id s.id) (shown x.id)) (changed-one front s back last rise)
 
-  -- a claim, and the end of its ticket
   abbrev claimed_by : Machine → Option Progress → Machine
   claimed_by m o = elim o [
     | None ↦ m
@@ -72,7 +67,6 @@ module _ (log : List LogEntry) (list : Listing) where
   abbrev ticket_for : ℕ → Listed → Ticket
   ticket_for number s = record { number = number; id = s.id; version = 0 }
 
-  -- its ticket stands
   abbrev claimed : List Progress → Listed → ℕ → ℕ → Machine
   claimed progress s next notes = record (state log list progress (next + 1) (notes + 1)) { tickets = ticket_for next s ∷ [] }
 
@@ -99,9 +93,6 @@ module _ (log : List LogEntry) (list : Listing) where
     made = sym (ap (after (Finish next true)) (claims-one front s back next notes) ∙ finishes-one front s back last next notes rise);
   }
 
-  -- ---- all of them
-
-  -- from some of them on, the others are worked, with two notes for each
   pub record AreAllWorked (front back : List Listed) (next notes : ℕ) : Type 0 where
     pub ends : List Ended
     pub ticket : ℕ
@@ -136,7 +127,7 @@ module _ (log : List LogEntry) (list : Listing) where
         );
       }
 
-  -- every scenario shows the log, and nothing is left to do
+  -- the work that is due leads to this state, where every scenario shows the log as it was opened
   pub record IsFirstWork (new : Machine) : Type 0 where
     pub settles : Settles false (start log list) new
     pub ticket : ℕ
@@ -144,6 +135,7 @@ module _ (log : List LogEntry) (list : Listing) where
     pub few : noted_then < note_limit
     pub is : new ≡ state log list (shown_of list.scenarios) ticket noted_then
 
+  -- a book just opened, with at most 64 scenarios whose ids rise, is worked until every scenario shows the log
   pub first-work : (last : ℕ) → IdsRise 1 list.scenarios last → length list.scenarios ≤ 64 → (new : Machine) × IsFirstWork new
   first-work last rise few =
       let all = all-worked [] list.scenarios 1 last 1 (length list.scenarios) rise (omega (arith, few)) in
@@ -158,8 +150,6 @@ module _ (log : List LogEntry) (list : Listing) where
         },
       )
 
-  -- ---- the response then
-
   none-waits : (progress : List Progress) (next notes : ℕ) (xs : List Listed) → list_any (is_waiting 0 (state log list progress next notes)) (shown_of xs) ≡ false
   none-waits progress next notes [] = refl
   none-waits progress next notes (x ∷ xs) = none-waits progress next notes xs
@@ -168,6 +158,7 @@ module _ (log : List LogEntry) (list : Listing) where
   none-behind [] = refl
   none-behind (x ∷ xs) = none-behind xs
 
+  -- where every scenario shows the log as it was opened, the book is settled for a session that has seen no later version
   pub settled-done : (next notes : ℕ) → settled 0 (state log list (shown_of list.scenarios) next notes) ≡ settle.Done
   settled-done next notes =
       ap₂ (λ (b : Bool) (n : ℕ). cond b settle.Waiting (cond (eqb n 0) settle.Done (settle.Failed n))) (none-waits (shown_of list.scenarios) next notes list.scenarios) (none-behind list.scenarios)

@@ -1,4 +1,4 @@
--- Rules that lead to others lead to the transcripts that those allow.
+-- Rules that lead to others lead to the transcripts that those allow, command by command and line by line.
 use Rattle.std.specs.Prelude.{◌≡◌, ℕ, ◌+◌, List, [], ◌∷◌, Option, None, Some, Result, Ok, Err}
 use Rattle.std.proofs.Common.{sym, ◌∙◌, ap, subst, inl, inr}
 use Rattle.scenarios.specs.ScenarioList.{Listed}
@@ -21,25 +21,18 @@ use Rattle.version_book.specs.Reading.{Moment}
 use Rattle.scripts.specs.Rules.{Rules}
 use Rattle.scripts.specs.Steps.{settle_line}
 
--- ---- steps
-
 module _ {S : Type 0} (Inv Good : S → Type 0) where
-  -- no step
   stays : (old new : S) (fact : Type 0) → new ≡ old → fact → Leads Inv Good old new fact
   stays old new fact same h = λ inv. (subst Inv (sym same) inv, λ good. (subst Good same good, h))
 
-  -- what follows from the fact
   leads-to : (old new : S) (one other : Type 0) → (one → other) → Leads Inv Good old new one → Leads Inv Good old new other
   leads-to old new one other follows h = λ inv. let step = h inv in (step.0, λ good. let back = step.1 good in (back.0, follows back.1))
 
-  -- one step after another
   leads-on : (old mid new : S) (one other both : Type 0) → (one → other → both) → Leads Inv Good old mid one → Leads Inv Good mid new other → Leads Inv Good old new both
   leads-on old mid new one other both follows h k = λ inv.
       let first = h inv in
       let second = k first.0 in
       (second.0, λ good. let back = second.1 good in let front = first.1 back.0 in (front.0, follows front.1 back.1))
-
--- ---- commands
 
 module _ {S T : Type 0} (from : Rules S) (to : Rules T) (at : S → T) (Inv Good : S → Type 0) (lifts : Lifts from to at Inv Good) where
   call-lifts : (old : S) (call : BookCall) (says : Reply → List ℕ) (text : List ℕ) (new : S) → CallBy from old call says text new → Leads Inv Good old new (CallBy to (at old) call says text (at new))
@@ -71,8 +64,6 @@ module _ {S T : Type 0} (from : Rules S) (to : Rules T) (at : S → T) (Inv Good
   settled-lifts old text new (state, h, is) =
       leads-to Inv Good old new _ _ (λ k. (state, k, is ∙ ap (λ (n : ℕ). settle_line n state) (lifts.seen new))) (lifts.settles old new state h)
 
-  -- ---- scenarios side by side
-
   module _ (A : Type 0) where
     stands-lifts : (old : S) (id : ℕ) (found : Result (Option (Beside A)) (Refusal ViewFault)) (new : S) → StandsSo from A old id found new → Leads Inv Good old new (StandsSo to A (at old) id found (at new))
     stands-lifts old id found new (outcome, h, is) = leads-to Inv Good old new _ _ (λ k. (outcome, k, is)) (lifts.views old new id outcome h)
@@ -95,8 +86,6 @@ module _ {S T : Type 0} (from : Rules S) (to : Rules T) (at : S → T) (Inv Good
 
     side-lifts : (old : S) (text : List ℕ) (new : S) → SideBy from A old text new → Leads Inv Good old new (SideBy to A (at old) text (at new))
     side-lifts old text new (moment, mid, reads, h) = leads-on Inv Good old mid new _ _ _ (λ f k. (moment, at mid, f, k)) (lifts.reads old mid moment reads) (side-of-lifts moment mid text new h)
-
-  -- ---- lines
 
   answers-lift : {A : Type 0} (comments : List (List ℕ)) (old : S) (command : Command A) (text : List ℕ) (new : S) → AnswersBy from comments old command text new → Leads Inv Good old new (AnswersBy to comments (at old) command text (at new))
   answers-lift comments old (asks.Insert entry) text new h = call-lifts old (Edit (Insert entry)) edit_says text new h
@@ -130,5 +119,6 @@ module _ {S T : Type 0} (from : Rules S) (to : Rules T) (at : S → T) (Inv Good
       leads-on Inv Good old next new _ _ _ (λ f k. (text, at next, later, f, k, is))
       (line-lifts comments old number (command_of_line {A = A} line) text next one) (all-lines-lift A comments next ls (number + 1) later new rest)
 
+-- a transcript by rules that lead to others is one by the others, from where the invariant holds, if the state in the end is good
 pub lines-lift : {S T : Type 0} (from : Rules S) (to : Rules T) (at : S → T) (Inv Good : S → Type 0) (A : Type 0) → LinesLift from to at Inv Good A
 lines-lift from to at Inv Good A lifts = all-lines-lift from to at Inv Good lifts A

@@ -1,4 +1,5 @@
--- Views of a session.
+-- Views of a session: what a view returns is true of the book, and its response is the report, the line beside others, or why nothing is
+-- shown.
 use Rattle.std.proofs.Common.{◌≡◌, ℕ, List, ◌++◌, map, refl, sym, ◌∙◌, ap, subst, Bool, true, false, cond, inl, inr, ◌⊎◌}
 use Rattle.std.specs.Prelude.{codes, find, nat_lt, Option, None, Some, Result, Ok, Err, IfOk}
 use Rattle.std.specs.Option.{option_map}
@@ -38,9 +39,6 @@ use Rattle.scripts.specs.Reports.{IsReport, report_text}
 use Rattle.scripts.proofs.CallAnswers.{with}
 use Rattle.scripts.proofs.Named.{shown-at, place-of, name-found}
 
--- ---- a look
-
--- the run that is shown is of its version's log, under the listed scenario
 looked : (b : BookView) (id seen : ℕ) (p : PublishedView) → IsBook b → IsShownFor b.state id seen p → IsLooked (machine_of b) id p
 looked b id seen p book h s listed =
     let shown = shown-at b listed.place s book listed.listed in
@@ -52,7 +50,6 @@ looked b id seen p book h s listed =
       run = h.version.run;
     }
 
--- a scenario that is listed is no missing one
 not-missing-at : (seen : ℕ) (o : Option ℕ) → reply.NoSuchScenario ≡ view_reply_at seen o → ⊥
 not-missing-at seen None is = cc
 not-missing-at seen (Some found) is = go (nat_lt found seen) is
@@ -77,18 +74,15 @@ shown-true b id seen (Err (why.Fault view.NotYet)) book shown missing = tt
 shown-true b id seen (Err (why.Fault (view.Behind x y))) book shown missing = tt
 shown-true b id seen (Err why.Memory) book shown missing = tt
 
--- the reply on a missing scenario is the machine's
 missing-replied : (b new : BookView) (who : Caller) (id seen : ℕ) (result : Result PublishedView (Refusal ViewFault)) → Answered b new who (View id seen) (view_answer result)
     → result ≡ Err (why.Fault view.NoSuchScenario) → reply_to (View id seen) (machine_of b) ≡ reply.NoSuchScenario
 missing-replied b new who id seen result h is =
     let there = subst (λ (r : Result PublishedView (Refusal ViewFault)). Answered b new who (View id seen) (view_answer r)) is h in
     sym there.1
 
--- the same, of a session that was seen so
+-- what a view returns is true of the state of a session with the book
 pub view-true-as : {u : Session} (b new : BookView) (who : Caller) (id seen : ℕ) (result : Result PublishedView (Refusal ViewFault)) → with b seen ≡ u → IsBook b → IfOk result (IsShownFor b.state id seen) → Answered b new who (View id seen) (view_answer result) → IsTrueOf u.machine id result
 view-true-as {u} b new who id seen result is book shown h = subst (λ (w : Session). IsTrueOf w.machine id result) is (shown-true b id seen result book shown (missing-replied b new who id seen result h))
-
--- ---- a report
 
 schedule-as : (name : List ℕ) (v : ℕ) {log log' : List LogEntry} {under under' : ScenarioView} → log ≡ log' → under ≡ under' → schedule_text name v (plan_of log under) ≡ schedule_text name v (plan_of log' under')
 schedule-as name v is is' = cc
@@ -103,7 +97,6 @@ is-report report.Table m s p h = (p.run.tables, tables-of h, refl)
 is-report report.Users m s p h = (p.run.tables, tables-of h, refl)
 is-report report.Days m s p h = (p.run.tables, tables-of h, refl)
 
--- the listed scenario that a name finds
 pub listed-as : (m : Machine) (name : List ℕ) (id : ℕ) (s : Listed) → named name m.listing.scenarios ≡ Some s → id ≡ s.id → IsListedAs m id s
 listed-as m name id s is id_is = let p = place-of name s m.listing.scenarios is in record { place = p.0; listed = p.1; id = sym id_is }
 
@@ -123,32 +116,30 @@ not-viewed-at old new s kind (why.Fault view.NotYet) h = inr (inr (reply.NotYet,
 not-viewed-at old new s kind (why.Fault (view.Behind x y)) h = inr (inr (reply.Behind x y, h, refl))
 not-viewed-at old new s kind why.Memory h = inr (inl (refl, h))
 
+-- the line that says why a view shows nothing is the response to it
 pub not-viewed : (old new : Session) (id : ℕ) (s : Listed) (kind : Report) (refusal : Refusal ViewFault) (text : List ℕ) → NotLooked refusal old id new → IsListedAs old.machine id s → text ≡ unseen_line refusal → IsView old (IsReport kind) text new s
 not-viewed old new id s kind refusal text h listed is =
     subst (λ (t : List ℕ). IsView old (IsReport kind) t new s) (sym is) (not-viewed-at old new s kind refusal (subst (λ (n : ℕ). NotLooked refusal old n new) (sym listed.id) h))
 
--- ---- side by side
-
 pub side-shown : (old new : Session) (s : Listed) (p : PublishedView) → IsStep old (View s.id old.seen) (reply.Shown p.version) new → IsOf old.machine s p → IsSeen old s (shown_line s.name p.version p.run.tables.overall) new
 side-shown old new s p step of = (reply.Shown p.version, step, (p.run.tables, tables-of of, refl))
 
+-- a view that finds nothing published gives the scenario's line beside others, which says `not yet`
 pub side-not_yet : (old new : Session) (s : Listed) → IsStep old (View s.id old.seen) reply.NotYet new → IsSeen old s (left 16 s.name ++ codes " not yet\n") new
 side-not_yet old new s step = (reply.NotYet, step, refl)
 
+-- a view that finds an older version than was seen gives the scenario's line beside others, which says `behind`
 pub side-behind : (old new : Session) (s : Listed) (x y : ℕ) → IsStep old (View s.id old.seen) (reply.Behind x y) new → IsSeen old s (left 16 s.name ++ codes " behind\n") new
 side-behind old new s x y step = (reply.Behind x y, step, refl)
 
--- ---- by name
-
--- a view of the scenario that a name finds
+-- the report on what a view shows of the scenario that a name finds, or out of memory, is the response to it
 pub named-viewed : (old new : Session) (name : List ℕ) (id : ℕ) (kind : Report) (p : PublishedView) (text : List ℕ) (s : Listed) → named name old.machine.listing.scenarios ≡ Some s → id ≡ s.id → IsStep old (View id old.seen) (reply.Shown p.version) new → IsLooked old.machine id p → (text ≡ report_text kind name p.version p.run) ⊎ (text ≡ refused (codes "Memory")) → IsView old (IsReport kind) text new s
 named-viewed old new name id kind p text s is id_is step look (inl says) =
     let called : s.name ≡ name = name-found name s old.machine.listing.scenarios is in
     viewed old new id s kind p text step look (listed-as old.machine name id s is id_is) (says ∙ ap (λ (n : List ℕ). report_text kind n p.version p.run) (sym called))
 named-viewed old new name id kind p text s is id_is step look (inr short) = viewed-short old new id s kind p text step (listed-as old.machine name id s is id_is) short
 
--- ---- beside others
-
+-- a view that shows a run gives the run's line beside others
 pub beside-shown : (old new : Session) (id : ℕ) (p : PublishedView) → IsStep old (View id old.seen) (reply.Shown p.version) new → IsLooked old.machine id p → (s : Listed) → IsListedAs old.machine id s → IsSeen old s (shown_line s.name p.version p.run.tables.overall) new
 beside-shown old new id p step look s listed =
     side-shown old new s p (subst (λ (n : ℕ). IsStep old (View n old.seen) (reply.Shown p.version) new) (sym listed.id) step) (look s listed)

@@ -1,4 +1,4 @@
--- Scenarios by their names, and what a book shows of them.
+-- Scenarios by their names, what a book shows of them, and a search by name, place after place.
 use Rattle.std.proofs.Common.{◌≡◌, ℕ, ◌+◌, ◌≤◌, ◌<◌, ◌==◌, List, [], ◌∷◌, map, drop, length, suc, zero, refl, sym, ◌∙◌, ap, subst, Bool, true, false, cond, arith}
 use Rattle.std.specs.Prelude.{Option, None, Some, find, slice_get}
 use Rattle.std.specs.Option.{option_map}
@@ -10,30 +10,27 @@ use Rattle.version_book.specs.Book.{ShownView, BookView}
 use Rattle.version_book.specs.Lookups.{has_id}
 use Rattle.version_book.specs.Sound.{Under, IsBook, under_of_shown, under_of_listed}
 
--- ---- by name
-
+-- where no id is found, no scenario is
 pub id-none : (o : Option Listed) → None ≡ option_map (λ (s : Listed). s.id) o → o ≡ None
 id-none None is = refl
 id-none (Some s) is = cc
 
+-- where an id is found, it is that of a scenario that is found
 pub id-some : (o : Option Listed) (id : ℕ) → Some id ≡ option_map (λ (s : Listed). s.id) o → (s : Listed) × (o ≡ Some s) × (id ≡ s.id)
 id-some None id is = cc
 id-some (Some s) id is = (s, refl, cc)
 
--- who is found has the name
 name-here : (name : List ℕ) (s t : Listed) (ss : List Listed) (b : Bool) → has_name name s ≡ b → (named name ss ≡ Some t → t.name ≡ name) → cond b (Some s) (named name ss) ≡ Some t → t.name ≡ name
 name-here name s t ss true has later is =
     let same : s ≡ t = cc in
     subst (λ (u : Listed). u.name ≡ name) same (sym ((bytes_eq-Decides name s.name).0 has))
 name-here name s t ss false has later is = later is
 
+-- the scenario that a name finds has this name
 pub name-found : (name : List ℕ) (t : Listed) (ss : List Listed) → named name ss ≡ Some t → t.name ≡ name
 name-found name t [] is = cc
 name-found name t (s ∷ ss) is = name-here name s t ss (has_name name s) refl (name-found name t ss) is
 
--- ---- what a book shows
-
--- a scenario is shown under its id, with its scenario
 abbrev pub IsShown : List ShownView → Listed → Type 0
 IsShown xs s = (x : ShownView) × (find (has_id s.id) xs ≡ Some x) × (x.scenario ≡ s.scenario)
 
@@ -48,7 +45,6 @@ show-later x xs s lt h =
     let test : (x.id == s.id) ≡ false = ne_eqb x.id s.id (λ e. omega arith) in
     (h.0, ap (λ (b : Bool). cond b (Some x) (find (has_id s.id) xs)) test ∙ h.1, h.2)
 
--- a later scenario has a greater id
 id-above : (first : ℕ) (ss : List Listed) (next k : ℕ) (s : Listed) → IdsRise first ss next → slice_get ss k ≡ Some s → first ≤ s.id
 id-above first [] next k s h is = cc
 id-above first (t ∷ ss) next zero s h is = let same : t ≡ s = cc in subst (λ (u : Listed). first ≤ u.id) same h.0
@@ -68,21 +64,19 @@ show-at first (x ∷ xs) (t ∷ ss) next (suc k) s same h is =
     let above = id-above (t.id + 1) ss next k s h.1 is in
     show-later x xs s (omega arith) (show-at (t.id + 1) xs ss next k s us h.1 is)
 
+-- a book shows each listed scenario under its id, as it is listed
 pub shown-at : (b : BookView) (k : ℕ) (s : Listed) → IsBook b → slice_get b.state.listing.scenarios k ≡ Some s → IsShown b.state.shown s
 shown-at b k s h is = show-at 1 b.state.shown b.state.listing.scenarios b.state.listing.next k s h.sound.listed h.sound.ids is
 
--- the place of who is found
 place-here : (name : List ℕ) (s t : Listed) (ss : List Listed) (b : Bool) → (named name ss ≡ Some t → (k : ℕ) × (slice_get ss k ≡ Some t)) → cond b (Some s) (named name ss) ≡ Some t → (k : ℕ) × (slice_get (s ∷ ss) k ≡ Some t)
 place-here name s t ss true later is = (0, is)
 place-here name s t ss false later is = let more = later is in (suc more.0, more.1)
 
+-- the scenario that a name finds stands at a place of the list
 pub place-of : (name : List ℕ) (t : Listed) (ss : List Listed) → named name ss ≡ Some t → (k : ℕ) × (slice_get ss k ≡ Some t)
 place-of name t [] is = cc
 place-of name t (s ∷ ss) is = place-here name s t ss (has_name name s) (place-of name t ss) is
 
--- ---- one after another
-
--- who is not at a place is looked for behind it
 skips : (name : List ℕ) (ss : List Listed) (k : ℕ) (s : Listed) → slice_get ss k ≡ Some s → has_name name s ≡ false → named name (drop k ss) ≡ named name (drop (suc k) ss)
 skips name [] k s is no_name = cc
 skips name (t ∷ ss) zero s is no_name =
@@ -90,11 +84,13 @@ skips name (t ∷ ss) zero s is no_name =
     ap (λ (b : Bool). cond b (Some t) (named name ss)) (subst (λ (u : Listed). has_name name u ≡ false) (sym same) no_name)
 skips name (t ∷ ss) (suc k) s is no_name = skips name ss k s is no_name
 
+-- where the scenario at a place hasn't the name, a search from there on finds what one from the next place on finds
 pub not-here : (name : List ℕ) (ss : List Listed) (k : ℕ) (s : Listed) → slice_get ss k ≡ Some s → has_name name s ≡ false → named name (drop k ss) ≡ named name (drop (k + 1) ss)
 not-here name ss k s is no_name =
     let e : suc k ≡ k + 1 = omega arith in
     skips name ss k s is no_name ∙ ap (λ (n : ℕ). named name (drop n ss)) e
 
+-- where the scenario at a place has the name, a search from there on finds it
 pub is-here : (name : List ℕ) (ss : List Listed) (k : ℕ) (s : Listed) → slice_get ss k ≡ Some s → has_name name s ≡ true → named name (drop k ss) ≡ Some s
 is-here name [] k s is has = cc
 is-here name (t ∷ ss) zero s is has =
@@ -102,6 +98,6 @@ is-here name (t ∷ ss) zero s is has =
     ap (λ (b : Bool). cond b (Some t) (named name ss)) (subst (λ (u : Listed). has_name name u ≡ true) (sym same) has) ∙ is
 is-here name (t ∷ ss) (suc k) s is has = is-here name ss k s is has
 
--- behind the last there is none
+-- a search from behind the last scenario finds none
 pub none-left : (name : List ℕ) (ss : List Listed) (k : ℕ) → length ss ≤ k → named name (drop k ss) ≡ None
 none-left name ss k le = ap (λ (us : List Listed). named name us) (drop_of_length-le ss le)

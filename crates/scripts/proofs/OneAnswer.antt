@@ -1,4 +1,4 @@
--- Where memory doesn't run out, a command has one response.
+-- Where memory doesn't run out, a command has one response, and leads to one state.
 use Rattle.std.proofs.Common.{◌≡◌, ℕ, ◌<◌, List, [], ◌∷◌, ◌++◌, length, sym, ◌∙◌, ap, ap₂, subst, true, false, inl, inr, ◌⊎◌, arith}
 use Rattle.std.specs.Prelude.{None, Some, IsTrue, is_some, codes}
 use Rattle.swf_text.specs.Entry.{LogEntry}
@@ -49,8 +49,6 @@ none-some x is = cc
 false-true : false ≡ true → ⊥
 false-true is = cc
 
--- ---- a call
-
 one-step : (old : Session) (call : BookCall) (outcome other : Reply) (new next : Session) → IsStep old call outcome new → IsStep old call other next → (outcome ≡ other) × (new ≡ next)
 one-step old call outcome other new next f g =
     let same : outcome ≡ other = f.replied ∙ sym g.replied in
@@ -69,8 +67,6 @@ one-call old call says text other new next (inr (inr f)) (inr (inl g)) = absurd 
 one-call old call says text other new next (inr (inr f)) (inr (inr g)) =
     let same = one-step old call f.0 g.0 new next f.1 g.1 in (f.2 ∙ ap says same.0 ∙ sym g.2, same.1)
 
--- ---- by name
-
 one-named : (old : Session) (name : List ℕ) (follows : List ℕ → Session → Listed → Type 0) → ((s : Listed) (text other : List ℕ) (new next : Session) → follows text new s → follows other next s → IsSame text other new next) → (text other : List ℕ) (new next : Session) → IsNamed old name (follows text new) text new → IsNamed old name (follows other next) other next → IsSame text other new next
 one-named old name follows one text other new next (inl f) (inl g) = (f.1.0 ∙ sym g.1.0, f.1.1 ∙ sym g.1.1)
 one-named old name follows one text other new next (inl f) (inr g) = absurd (none-some g.0 (sym f.0 ∙ g.1))
@@ -82,9 +78,6 @@ one-named old name follows one text other new next (inr f) (inr g) =
     one-some : (s t : Listed) → Some s ≡ Some t → s ≡ t
     one-some s t is = cc
 
--- ---- reports
-
--- a log has one such table
 one-tables : (log : List LogEntry) (s : ScenarioView) (t u : TableRows) → IsTablesOf log s t → IsTablesOf log s u → t ≡ u
 one-tables log s t u (v, pv, ev) (w, pw, ew) =
     ev ∙ ap (λ (x : PartSums). tables_of s.procs (skips_of log s) x) (one_part (all_placed (plan_of log s)) v w pv pw) ∙ sym ew
@@ -106,8 +99,6 @@ one-users m s v a b (t, tables, is) (u, others, same) =
 one-days : IsOne IsDays
 one-days m s v a b (t, tables, is) (u, others, same) =
     is ∙ ap (λ (x : TableRows). days_text s.name v x.days) (one-tables (log_of_version m v) s.scenario t u tables others) ∙ sym same
-
--- ---- views
 
 one-outcome : (report : ℕ → List ℕ → Type 0) → ((v : ℕ) (a b : List ℕ) → report v a → report v b → a ≡ b) → (outcome : Reply) (a b : List ℕ) → IsAnswered false report outcome a → IsAnswered false report outcome b → a ≡ b
 one-outcome report one (reply.Shown v) a b (inl f) (inl g) = one v a b f g
@@ -142,8 +133,6 @@ one-view old report one s text other new next (inr (inr f)) (inr (inr g)) =
     let same = one-step old (View s.id old.seen) f.0 g.0 new next f.1 g.1 in
     (one-outcome (report old.machine s) (one old.machine s) g.0 text other (subst (λ (outcome : Reply). IsAnswered false (report old.machine s) outcome text) same.0 f.2) g.2, same.1)
 
--- ---- side by side
-
 one-side_line : (m : Machine) (s : Listed) (outcome : Reply) (a b : List ℕ) → IsSideLine m s outcome a → IsSideLine m s outcome b → a ≡ b
 one-side_line m s (reply.Shown v) a b (t, tables, is) (u, others, same) =
     is ∙ ap (λ (x : TableRows). shown_line s.name v x.overall) (one-tables (log_of_version m v) s.scenario t u tables others) ∙ sym same
@@ -170,11 +159,9 @@ one-seen old s line other new next f g =
     let same = one-step old (View s.id old.seen) f.0 g.0 new next f.1 g.1 in
     (one-side_line old.machine s g.0 line other (subst (λ (outcome : Reply). IsSideLine old.machine s outcome line) same.0 f.2) g.2, same.1)
 
--- no view is left, or none is noted any more
 abbrev Stops : List Listed → Session → Type 0
 Stops back new = (back ≡ []) ⊎ ((new.machine.notes ≡ note_limit) × (0 < length back))
 
--- another view doesn't follow there
 no-view : (back : List Listed) (now next : Session) (s : Listed) (others : List Listed) (line : List ℕ) → Stops back now → back ≡ s ∷ others → IsSeen now s line next → ⊥
 no-view back now next s others line (inl none) is seen = nothing (sym none ∙ is)
   where
@@ -182,7 +169,6 @@ no-view back now next s others line (inl none) is seen = nothing (sym none ∙ i
     nothing e = cc
 no-view back now next s others line (inr full) is seen = full-step now.machine.notes full.0 seen.1.capacity
 
--- the views, where they stop, and the state then
 pub record AreSame (lines others : List (List ℕ)) (new next : Session) (back rest : List Listed) : Type 0 where
   pub lines_same : lines ≡ others
   pub state : new ≡ next
@@ -207,7 +193,6 @@ one-views old (s ∷ front) back (t ∷ head) rest lines others new next is f g 
       left = later.left;
     }
 
--- how the command ends after this many views
 abbrev EndsWith : List Listed → List (List ℕ) → List ℕ → Session → Type 0
 EndsWith back lines text new =
     ((back ≡ []) × (text ≡ side_of lines)) ⊎ (((new.machine.notes ≡ note_limit) × (0 < length back) × (text ≡ refused (codes "JournalFull"))) ⊎ ⊥)
@@ -234,8 +219,6 @@ one-side old text other new next (front, back, lines, whole, seen, ends) (head, 
     let same = one-views old front back head rest lines others new next (sym whole ∙ all) seen views (stops-so back lines text new ends) (stops-so rest others other next stops) in
     (one-end back rest lines others text other new next same.left same.lines_same ends stops, same.state)
 
--- ---- settling
-
 not-both : (m : Machine) → IsAtRest m → CanClaim m → ⊥
 not-both m (inl none) claims = false-true (sym (ap is_some none) ∙ claims.some_due)
 not-both m (inr out) claims = false-true (sym claims.free ∙ out)
@@ -255,7 +238,6 @@ one-halt old new next (inr (inr f)) (inl g) = absurd (not-both old g.0 f.0)
 one-halt old new next (inr (inr f)) (inr (inl g)) = absurd (full-step old.notes (full-there old g.1) f.1)
 one-halt old new next (inr (inr f)) (inr (inr g)) = f.3 ∙ sym g.3
 
--- the work goes on where it doesn't halt
 goes-on : (old next new : Machine) (ended : Ended) → IsWorked false old ended next → Halts false old new → ⊥
 goes-on old next new ended worked (inl f) = not-both old f.0 worked.claims
 goes-on old next new ended worked (inr (inl f)) = omega (arith, full-there old f.1, worked.capacity)
@@ -276,8 +258,6 @@ one-settled old text other new next ((ends, last, worked, halts), seen, is) ((ot
     let machine : new.machine ≡ next.machine = one-work old.machine new.machine next.machine ends others last end worked halts works stops in
     (is ∙ ap (λ (m : Machine). settle_line old.seen (settled old.seen m)) machine ∙ sym says, one-session new next machine (seen ∙ sym same))
 
--- ---- each command
-
 one-made : (old : Session) (made text other : List ℕ) (new next : Session) → IsMadeIf false old made text new → IsMadeIf false old made other next → IsSame text other new next
 one-made old made text other new next (inl f) (inl g) = (f.0 ∙ sym g.0, f.1 ∙ sym g.1)
 one-made old made text other new next (inl f) (inr g) = absurd g
@@ -286,6 +266,7 @@ one-made old made text other new next (inr f) g = absurd f
 viewed-once : (old : Session) (report : Machine → Listed → ℕ → List ℕ → Type 0) → IsOne report → (name text other : List ℕ) (new next : Session) → IsNamed old name (IsViewIf false old report text new) text new → IsNamed old name (IsViewIf false old report other next) other next → IsSame text other new next
 viewed-once old report one name text other new next f g = one-named old name (IsViewIf false old report) (one-view old report one) text other new next f g
 
+-- where no memory is refused, two responses to a command from one state are the same, and lead to the same state
 pub one-answer : {A : Type 0} (comments : List (List ℕ)) (old : Session) (command : Command A) (text other : List ℕ) (new next : Session) → AnswersIf false comments old command text new → AnswersIf false comments old command other next → IsSame text other new next
 one-answer comments old (asks.Insert entry) text other new next f g = one-call old (Edit (Insert entry)) edit_says text other new next f g
 one-answer comments old (asks.Remove number) text other new next f g = one-call old (Edit (Remove number)) edit_says text other new next f g

@@ -15,6 +15,7 @@ use Rattle.scripts.specs.Steps.{AnswersIf, IsDays, IsMadeIf, IsNamed, IsSchedule
 use Rattle.scripts.specs.Transcript.{IsLineIf, IsTranscriptIf, IsTranscriptOf, IsUnrefused, looked_at}
 use Rattle.scripts.proofs.OneAnswer.{IsSame, one-answer}
 
+-- where no memory is refused, two responses to a line from one state are the same, and lead to the same state
 pub one-line : {A : Type 0} (comments : List (List ℕ)) (old : Session) (number : ℕ) (asked : Result (Option (Command A)) CommandFault) (text other : List ℕ) (new next : Session) → IsLineIf false comments old number asked text new → IsLineIf false comments old number asked other next → IsSame text other new next
 one-line comments old number (Ok None) text other new next f g = (f.0 ∙ sym g.0, f.1 ∙ sym g.1)
 one-line comments old number (Ok (Some command)) text other new next f g = one-answer comments old command text other new next f g
@@ -27,10 +28,9 @@ one-transcript A comments old (line ∷ ls) number out other (text, new, later, 
     let tail = one-transcript A comments new ls (number + 1) later after rest (subst (λ (s : Session). IsTranscriptIf A false comments s ls (number + 1) after) (sym one.1) others) in
     is ∙ ap₂ (λ (a b : List ℕ). a ++ b) one.0 tail ∙ sym same
 
+-- where no memory is refused, two transcripts of a script from one state are the same
 pub one-unrefused : (A : Type 0) (comments : List (List ℕ)) (first : Session) (script out other : List ℕ) → IsUnrefused A comments first script out → IsUnrefused A comments first script other → out ≡ other
 one-unrefused A comments first script out other f g = one-transcript A comments first (looked_at A (lines script)) 1 out other f g
-
--- ---- it is one of those where memory may run out
 
 call-too : (old : Session) (call : BookCall) (says : Reply → List ℕ) (text : List ℕ) (new : Session) → IsCallIf false old call says text new → IsCallIf true old call says text new
 call-too old call says text new (inl f) = inl f
@@ -107,5 +107,6 @@ transcript-too A comments old [] number out f = f
 transcript-too A comments old (line ∷ ls) number out (text, new, later, answers, rest, is) =
     (text, new, later, line-too comments old number (command_of_line {A = A} line) text new answers, transcript-too A comments new ls (number + 1) later rest, is)
 
+-- a transcript where no memory is refused is one of those where memory may be refused
 pub unrefused-too : (A : Type 0) (comments : List (List ℕ)) (first : Session) (script out : List ℕ) → IsUnrefused A comments first script out → IsTranscriptOf A comments first script out
 unrefused-too A comments first script out f = transcript-too A comments first (looked_at A (lines script)) 1 out f

@@ -1,4 +1,4 @@
--- Scripts, line after line.
+-- Scripts, line after line: what was written so far responds to the first lines, up to `quit`, to the last, or to where the writer failed.
 use Rattle.std.proofs.Common.{◌≡◌, ℕ, ◌+◌, ◌<◌, Bool, true, false, List, [], ◌∷◌, ◌++◌, length, take, Option, refl, sym, subst, ap, ◌∙◌, append_assoc, append-nil, arith, if◌then◌else◌}
 use Rattle.std.specs.List.{before_first, after_first}
 use Rattle.std.specs.Io.KnownBytes.{Appends}
@@ -12,7 +12,6 @@ use Rattle.scripts.specs.Rules.{Rules}
 use Rattle.scripts.specs.Transcript.{is_quit, looked_at}
 use Rattle.scripts.proofs.Writings.{front_after}
 
--- a line more
 lines-more : {S : Type 0} (rules : Rules S) (A : Type 0) (comments : List (List ℕ)) (old now next : S) (front : List (List ℕ)) (line : List ℕ) (first number : ℕ) (done text : List ℕ)
     → number ≡ first + length front → LinesBy rules A comments old front first done now → LineBy rules comments now number (command_of_line {A = A} line) text next → LinesBy rules A comments old (front ++ line ∷ []) first (done ++ text) next
 lines-more {S} rules A comments old now next [] line first number done text is h one =
@@ -24,7 +23,7 @@ lines-more rules A comments old now next (l ∷ front) line first number done te
     let n : number ≡ (first + 1) + length front = omega (arith, is) in
     (h.0, h.1, h.2 ++ text, h.3, lines-more rules A comments h.1 now next front line (first + 1) number h.2 text n h.4 one, ap (λ (d : List ℕ). d ++ text) h.5 ∙ append_assoc h.0 h.2 text)
 
--- So far the responses to the first lines of the script were written. The others stand behind them.
+-- so far the responses to the first lines of the script were written, and the others stand behind them
 pub record HaveAnswered {S : Type 0} (rules : Rules S) (A : Type 0) (comments : List (List ℕ)) (first : S) (script : List ℕ) (now : S) (rest : List ℕ) (number : ℕ) (old new : Option (List ℕ)) : Type 0 where
   pub front : List (List ℕ)
   pub done : List ℕ
@@ -34,7 +33,6 @@ pub record HaveAnswered {S : Type 0} (rules : Rules S) (A : Type 0) (comments : 
   pub written : Appends old new done
 
 module _ {S : Type 0} (rules : Rules S) (A : Type 0) (comments : List (List ℕ)) (first : S) (script : List ℕ) (now : S) (rest : List ℕ) (number : ℕ) (old mid new : Option (List ℕ)) (text : List ℕ) (next : S) (some : 0 < length rest) (have : HaveAnswered rules A comments first script now rest number old mid) (answers : LineBy rules comments now number (command_of_line {A = A} (before_first is_feed rest)) text next) where
-  -- the lines that are looked at after this one
   after : List (List ℕ)
   after = if is_quit (command_of_line {A = A} (before_first is_feed rest)) then [] else looked_at A (lines (after_first is_feed rest))
 
@@ -46,6 +44,7 @@ module _ {S : Type 0} (rules : Rules S) (A : Type 0) (comments : List (List ℕ)
   lines-next-too : LinesBy rules A comments first (have.front ++ before_first is_feed rest ∷ []) 1 (have.done ++ text) next
   lines-next-too = lines-more rules A comments first now next have.front (before_first is_feed rest) 1 number have.done text have.count have.answers answers
 
+  -- with the response to the next line, which isn't `quit`, those to one line more were written
   pub answered-more : is_quit (command_of_line {A = A} (before_first is_feed rest)) ≡ false → Appends mid new text → HaveAnswered rules A comments first script next (after_first is_feed rest) (number + 1) old new
   unfolding after
   answered-more goes all = record {
@@ -57,13 +56,13 @@ module _ {S : Type 0} (rules : Rules S) (A : Type 0) (comments : List (List ℕ)
     written = Appends-trans old mid new have.done text have.written all;
   }
 
-  -- the writer failed in a line
+  -- where the writer failed in a response, what was written is a beginning of what responds to the lines up to this one
   pub answered-part : (n : ℕ) × Appends mid new (take n text)
       → (front back : List (List ℕ)) × (out : List ℕ) × (looked_at A (lines script) ≡ front ++ back) × LinesBy rules A comments first front 1 out next × ((n : ℕ) × Appends old new (take n out))
   answered-part part =
       (have.front ++ before_first is_feed rest ∷ [], after, have.done ++ text, whole-next, lines-next-too, front_after old mid new have.done text have.written part)
 
-  -- the last line that is looked at
+  -- with the response to `quit`, those to all lines that are looked at were written
   pub answered-quit : is_quit (command_of_line {A = A} (before_first is_feed rest)) ≡ true → Appends mid new text
       → (out : List ℕ) × LinesBy rules A comments first (looked_at A (lines script)) 1 out next × Appends old new out
   unfolding after
@@ -72,7 +71,7 @@ module _ {S : Type 0} (rules : Rules S) (A : Type 0) (comments : List (List ℕ)
       whole-next ∙ ap (λ (b : Bool). (have.front ++ before_first is_feed rest ∷ []) ++ (if b then [] else looked_at A (lines (after_first is_feed rest)))) quits ∙ append-nil (have.front ++ before_first is_feed rest ∷ []) in
       (have.done ++ text, subst (λ (ls : List (List ℕ)). LinesBy rules A comments first ls 1 (have.done ++ text) next) (sym whole) lines-next-too, Appends-trans old mid new have.done text have.written all)
 
--- no line is left
+-- where no line is left, the responses to all lines that are looked at were written
 pub answered-all : {S : Type 0} (rules : Rules S) (A : Type 0) (comments : List (List ℕ)) (first : S) (script : List ℕ) (now : S) (rest : List ℕ) (number : ℕ) (old new : Option (List ℕ))
     → length rest ≡ 0 → HaveAnswered rules A comments first script now rest number old new
     → (out : List ℕ) × LinesBy rules A comments first (looked_at A (lines script)) 1 out now × Appends old new out

@@ -24,17 +24,17 @@ fresh_of scenarios = map (λ (s : Listed). fresh s.id) scenarios
 abbrev pub state : List LogEntry → Listing → List Progress → ℕ → ℕ → Machine
 state log list progress next notes = record { opening = log; edits = []; listing = list; progress = progress; tickets = []; next_ticket = next; notes = notes }
 
+-- a book just opened with these scenarios, of which nothing is published, and whose additions are its only notes
 abbrev pub start : List LogEntry → Listing → Machine
 start log list = state log list (fresh_of list.scenarios) 1 (length list.scenarios)
 
--- the list is made of scenarios that can be added one after another, none of which is worked yet
 pub record IsBuilt (log : List LogEntry) (list : Listing) : Type 0 where
   pub begins : with_scenarios (just_opened log) list.scenarios ≡ start log list
   pub ids : IdsRise 1 list.scenarios list.next
   pub called : AllByRecursion (λ (s : Listed). is_name s.name ≡ true) list.scenarios
   pub few : length list.scenarios ≤ 64
 
--- one scenario more, behind the others
+-- scenarios and one more behind them are added by a call for the last, once the others are
 pub with-one : (m : Machine) (front : List Listed) (s : Listed) → with_scenarios m (front ++ s ∷ []) ≡ after (AddScenario s.name s.scenario) (with_scenarios m front)
 with-one m [] s = refl
 with-one m (x ∷ front) s = with-one (after (AddScenario x.name x.scenario) m) front s
@@ -51,7 +51,6 @@ ids-append : (first : ℕ) (ss : List Listed) (next : ℕ) (s : Listed) → s.id
 ids-append first [] next s is h = (omega (arith, h, is), omega (arith, is))
 ids-append first (t ∷ ss) next s is h = (h.0, ids-append (t.id + 1) ss next s is h.1)
 
--- one more
 added-one : (log : List LogEntry) (name : List ℕ) (scenario : ScenarioView) (list : Listing) → is_some (add_fault name list) ≡ false → after (AddScenario name scenario) (start log list) ≡ start log (with_scenario name scenario list)
 added-one log name scenario list can =
     let s : Listed = record { name = name; id = list.next; scenario = scenario } in
@@ -92,7 +91,6 @@ built-declared log list (comment ∷ comments) is = built-declared log (with_lin
 built-empty : (log : List LogEntry) → IsBuilt log empty
 built-empty log = record { begins = refl; ids = omega arith; called = tt; few = omega arith }
 
--- the scenarios that a log is opened with
 abbrev IsBuiltOf : List LogEntry → Result Listing OpenTextFault → Type 0
 IsBuiltOf log (Ok list) = IsBuilt log list
 IsBuiltOf log (Err fault) = Unit {0}
@@ -112,5 +110,6 @@ built-opened log procs comments = go (eqb (length (declared comments).scenarios)
     go true e = subst (λ (b : Bool). IsBuiltOf log (cond b (base_on (machine_of procs comments)) (Ok (declared comments)))) (sym e) (built-on log (machine_of procs comments))
     go false e = subst (λ (b : Bool). IsBuiltOf log (cond b (base_on (machine_of procs comments)) (Ok (declared comments)))) (sym e) (built-declared log empty comments (built-empty log))
 
+-- the scenarios that a log is opened with begin its book, 64 at most, each with a name, and with ids that rise from 1
 pub built : (log : List LogEntry) (procs : Option ℕ) (comments : List (List ℕ)) (list : Listing) → opened procs comments ≡ Ok list → IsBuilt log list
 built log procs comments list is = subst (IsBuiltOf log) is (built-opened log procs comments)

@@ -1,4 +1,4 @@
--- Transcripts, line after line.
+-- Transcripts, line after line: each command has a response, and so any lines have a transcript.
 use Rattle.std.proofs.Common.{◌≡◌, ℕ, ◌+◌, true, List, [], ◌∷◌, ◌++◌, Option, Some, None, Result, Ok, Err, inl, inr, refl, sym}
 use Rattle.scenarios.specs.ScenarioList.{Listed, named}
 use Rattle.commands.specs.declared.command.Command.{Command}
@@ -10,9 +10,6 @@ use Rattle.scripts.specs.Steps.{Answers, IsNamed}
 use Rattle.scripts.specs.Transcript.{IsLine, IsTranscript}
 use Rattle.scripts.proofs.Settlings.{stops}
 
--- ---- each command has a response
-
--- a response that may be, and the state after it
 abbrev Some_of : (List ℕ → Session → Type 0) → Type 0
 Some_of answers = (text : List ℕ) × ((new : Session) × answers text new)
 
@@ -45,6 +42,7 @@ some_line comments old number (Ok None) = (_, (_, (refl, refl)))
 some_line comments old number (Ok (Some command)) = some_answer comments old command
 some_line comments old number (Err fault) = (_, (_, (refl, refl)))
 
+-- lines have a transcript, whatever they are, from any state on
 pub some_transcript : (A : Type 0) (comments : List (List ℕ)) (old : Session) (ls : List (List ℕ)) (number : ℕ) → (out : List ℕ) × IsTranscript A comments old ls number out
 some_transcript A comments old [] number = ([], refl)
 some_transcript A comments old (line ∷ ls) number =

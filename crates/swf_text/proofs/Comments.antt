@@ -1,4 +1,4 @@
--- The comments that are read are sound.
+-- The comments that are read are sound: no line has a line feed, and a line without its carriage returns doesn't end with one.
 use Rattle.std.proofs.Common.{◌≡◌, ℕ, zero, suc, ◌+◌, ◌-◌, ◌<◌, ◌≤◌, Bool, false, not, List, [], ◌∷◌, length, get_or, reverse, refl, sym, ap, subst, ◌∙◌, arith, inl, inr}
 use Rattle.std.specs.List.{AllByRecursion, list_any, prefix_len, suffix_len, position_or_len, before_first, after_first}
 use Rattle.std.proofs.lemmas.Bool.{cases_Bool}
@@ -11,8 +11,6 @@ use Rattle.swf_text.specs.Text.{is_feed, lines}
 use Rattle.swf_text.specs.Comment.{IsComment}
 use Rattle.swf_text.proofs.Texts.{lines-next, after-shorter}
 use Rattle.swf_text.proofs.Printed.{HasNoFeed, none_passes}
-
--- ---- no line has a line feed
 
 none_any : {X : Type 0} (p : X → Bool) (xs : List X) → ((k : ℕ) (d : X) → k < length xs → p (get_or xs k d) ≡ false) → list_any p xs ≡ false
 none_any p [] h = refl
@@ -36,11 +34,9 @@ no_feed_from (suc fuel) (b ∷ bs) le =
     subst (AllByRecursion HasNoFeed) (sym (lines-next (b ∷ bs) (omega arith)))
     (before_no_feed (b ∷ bs), no_feed_from fuel (after_first is_feed (b ∷ bs)) (omega (arith, after-shorter (b ∷ bs) (omega arith))))
 
--- the lines of the bytes
+-- no line of the bytes has a line feed
 pub lines_no_feed : (bytes : List ℕ) → AllByRecursion HasNoFeed (lines bytes)
 lines_no_feed bytes = no_feed_from (length bytes) bytes (omega arith)
-
--- ---- the last byte of a line without its carriage returns
 
 prefix_stops : {X : Type 0} (p : X → Bool) (xs : List X) (d : X) → prefix_len p xs < length xs → p (get_or xs (prefix_len p xs) d) ≡ false
 prefix_stops p [] d lt = absurd (omega arith)
@@ -61,8 +57,6 @@ last_no_return line some =
     let here : get_or (without_returns line) (length (without_returns line) - 1) 0 ≡ get_or line (length line - 1 - count) 0 =
     get_or-take (length line - count) line (length (without_returns line) - 1) 0 (omega (arith, some, size)) ∙ ap (λ (k : ℕ). get_or line k 0) (sym place) in
     ap is_return (here ∙ sym (get_or-reverse line count 0 (omega (arith, some, size)))) ∙ stop
-
--- ---- a comment that is read
 
 -- what a comment line adds is sound
 pub read_comment : (line : List ℕ) → HasNoFeed line → IsReadAs line read.Comment → IsComment (from_first (without_returns line))

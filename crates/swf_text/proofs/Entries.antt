@@ -1,22 +1,19 @@
--- What the tests of an entry's lines say of it.
-use Rattle.std.proofs.Common.{◌≡◌, ℕ, zero, suc, ◌+◌, ◌<◌, ◌≤◌, Bool, true, false, cond, eqb, ltb, leb, ◌||◌, List, [], ◌∷◌, ◌++◌, length, Some, Ok, Err, ℤ, refl, sym, ap, subst, ◌∙◌, arith, inl, inr}
+-- What the tests of an entry's lines say of it, how many entries have a number, and what a job line or a partial line more adds.
+use Rattle.std.proofs.Common.{◌≡◌, ℕ, zero, suc, ◌+◌, ◌<◌, ◌≤◌, Bool, true, false, cond, eqb, ltb, ◌||◌, List, [], ◌∷◌, ◌++◌, length, Some, Ok, Err, ℤ, refl, sym, ap, subst, ◌∙◌, arith, inl, inr}
 use Rattle.std.specs.Prelude.{nat_abs}
 use Rattle.std.proofs.Math.ListN.{set}
 use Rattle.std.specs.List.{AllByRecursion, list_all, list_any, count_by}
-use Rattle.std.proofs.lemmas.Bool.{cases_Bool, lt-ltb, eqb-true, eq-eqb, le-leb, lt-leb, true≢false}
+use Rattle.std.proofs.lemmas.Bool.{cases_Bool, lt-ltb, eqb-true, eq-eqb, true≢false}
 use Rattle.std.proofs.lemmas.List.{length-append, map-append}
 use Rattle.std.proofs.lemmas.List.Sums.{sum_by-cons}
 use Rattle.std.proofs.lemmas.List.Folds.{list_any-append}
 use Rattle.swf_text.specs.Limits.{whole_limit}
 use Rattle.swf_text.specs.declared.fault.EntryFault.TheVariants as faults
-use Rattle.swf_text.specs.declared.fault.FaultKind.TheVariants as kinds
 use Rattle.swf_text.specs.declared.line.Fields.{Fields}
 use Rattle.swf_text.specs.Kept.{entry_of_lines}
 use Rattle.swf_text.specs.Number.{greatest, is_below_zero}
 use Rattle.swf_text.specs.Entry.{LogEntry, IsEntry, IsPart, field, has_number, is_part, is_partial, is_some_number, values, whole_number, entry_made, entry_numbered}
 use Rattle.swf_text.specs.Log.{IsLog}
-use Rattle.swf_text.specs.Text.{LogText}
-use Rattle.swf_text.specs.Reading.{with_job, with_numbered}
 use Rattle.swf_text.proofs.Numbers.{and_first, and_second}
 use Rattle.swf_text.proofs.Grammars.{number_exact, negative_not, has_exact}
 
@@ -45,22 +42,22 @@ entry_sound main parts number eighteen numbered small submit early summary all =
   parts = all_parts number parts all;
 }
 
--- ---- all entries of a list
-
+-- what holds of each element of a list, and of one more, holds of the list with that one set at any place
 pub all_set : {X : Type 0} (P : X → Type 0) (xs : List X) (k : ℕ) (x : X) → AllByRecursion P xs → P x → AllByRecursion P (set xs k x)
 all_set P [] k x h p = h
 all_set P (y ∷ ys) zero x h p = (p, h.1)
 all_set P (y ∷ ys) (suc k) x h p = (h.0, all_set P ys k x h.1 p)
 
+-- what holds of all elements and of one more holds of all with that one at the end
 pub all_end : {X : Type 0} (P : X → Type 0) (xs : List X) (x : X) → AllByRecursion P xs → P x → AllByRecursion P (xs ++ x ∷ [])
 all_end P [] x h p = (p, tt)
 all_end P (y ∷ ys) x h p = (h.0, all_end P ys x h.1 p)
 
--- ---- the numbers of a list of entries
-
+-- how many pass a test with one more at the front: one more where that one passes it
 pub count-cons : {X : Type 0} (p : X → Bool) (x : X) (xs : List X) (b : Bool) → p x ≡ b → count_by p (x ∷ xs) ≡ cond b 1 0 + count_by p xs
 count-cons p x xs b is = sum_by-cons (λ y. cond (p y) 1 0) x xs ∙ ap (λ (c : Bool). cond c 1 0 + count_by p xs) is
 
+-- how many of two joined lists pass a test: those of the one and those of the other
 pub count-append : {X : Type 0} (p : X → Bool) (xs ys : List X) → count_by p (xs ++ ys) ≡ count_by p xs + count_by p ys
 count-append p [] ys = omega arith
 count-append p (x ∷ xs) ys = omega (arith, count-cons p x (xs ++ ys) (p x) refl, count-cons p x xs (p x) refl, count-append p xs ys)
@@ -69,10 +66,12 @@ or_count : (b : Bool) (n : ℕ) (rest : Bool) → rest ≡ ltb 0 n → (b || res
 or_count true n rest h = sym (lt-ltb 0 (1 + n) (omega arith))
 or_count false n rest h = let same : 0 + n ≡ n = omega arith in h ∙ ap (ltb 0) (sym same)
 
+-- some element passes a test exactly where more than 0 do
 pub any_counted : {X : Type 0} (p : X → Bool) (xs : List X) → list_any p xs ≡ ltb 0 (count_by p xs)
 any_counted p [] = refl
 any_counted p (x ∷ xs) = or_count (p x) (count_by p xs) (list_any p xs) (any_counted p xs) ∙ ap (ltb 0) (sym (count-cons p x xs (p x) refl))
 
+-- where equally many of two lists pass a test, some element of the one does exactly where one of the other does
 pub any_same : {X : Type 0} (p : X → Bool) (xs ys : List X) → count_by p xs ≡ count_by p ys → list_any p xs ≡ list_any p ys
 any_same p xs ys h = any_counted p xs ∙ ap (ltb 0) h ∙ sym (any_counted p ys)
 
@@ -91,7 +90,7 @@ none_counted p (x ∷ xs) h = elim (cases_Bool (p x)) [
       h' : false ≡ list_any p (x ∷ xs)
       h' = sym h
 
--- a log whose last job has got a partial line
+-- entries that are sound where those of a log are, as many as they, and with their numbers, are a log
 pub log_kept : (old new : List LogEntry) → IsLog old → (AllByRecursion IsEntry old → AllByRecursion IsEntry new) → length new ≡ length old → ((n : ℕ) → count_by (has_number n) new ≡ count_by (has_number n) old) → IsLog new
 log_kept old new log sound count numbers = record {
   sound = sound log.sound;
@@ -99,7 +98,7 @@ log_kept old new log sound count numbers = record {
   capacity = omega (arith, log.capacity);
 }
 
--- a log with a job more, whose number is new
+-- a log with an entry more, whose number is new, is a log where there is capacity
 pub log_more : (old new : List LogEntry) (job : LogEntry) (number : ℕ) → IsLog old → IsEntry job → new ≡ old ++ job ∷ [] → whole_number (field job.main 1) ≡ Some number → list_any (has_number number) old ≡ false → length old < 4194304 → IsLog new
 log_more old new job number log entry is numbered none capacity = record {
   sound = subst (AllByRecursion IsEntry) (sym is) (all_end IsEntry old job log.sound entry);
@@ -116,28 +115,7 @@ log_more old new job number log entry is numbered none capacity = record {
           omega (arith, count-cons (has_number n) job [] true there)
       go false other = omega (arith, log.distinct n, count-cons (has_number n) job [] false other)
 
--- ---- what a job line adds
-
-module _ (t : LogText) (job : List ℤ) (number : ℕ) (numbered : whole_number (field job 1) ≡ Some number) (summary : is_partial (field job 11) ≡ false) (submit : is_below_zero (field job 2) ≡ false) where
-  pub job_known : list_any (has_number number) t.entries ≡ true → with_job t job ≡ Err kinds.DuplicateJob
-  job_known there = ap (with_numbered t job) numbered ∙ rw (summary, submit, there) refl
-
-  pub job_late : list_any (has_number number) t.entries ≡ false → 4194304 ≤ length t.entries → with_job t job ≡ Err kinds.TooManyJobs
-  job_late new full = let late : leb 4194304 (length t.entries) ≡ true = le-leb 4194304 (length t.entries) full in ap (with_numbered t job) numbered ∙ rw (summary, submit, new, late) refl
-
-  pub job_more : list_any (has_number number) t.entries ≡ false → length t.entries < 4194304 → with_job t job ≡ Ok (record t { entries = t.entries ++ record { main = job; parts = [] } ∷ [] })
-  job_more new capacity = let early : leb 4194304 (length t.entries) ≡ false = lt-leb 4194304 (length t.entries) capacity in ap (with_numbered t job) numbered ∙ rw (summary, submit, new, early) refl
-
--- ---- the same, as the builder meets it
-
-module _ (old new : List LogEntry) (t : LogText) (seen : old ≡ t.entries) where
-  pub seen_jobs : (number : ℕ) (b : Bool) → list_any (has_number number) old ≡ b → list_any (has_number number) t.entries ≡ b
-  seen_jobs number b h = ap (list_any (has_number number)) (sym seen) ∙ h
-
-  pub seen_count : length t.entries ≡ length old
-  seen_count = ap length (sym seen)
-
--- an index with a number more
+-- an index of job numbers with one more: it has the numbers of the entries with the new entry at the end
 pub index_more : (old new : List LogEntry) (job : LogEntry) (number : ℕ) → new ≡ old ++ job ∷ [] → whole_number (field job.main 1) ≡ Some number → (n : ℕ) (a b : Bool) → a ≡ (eqb number n || b) → b ≡ list_any (has_number n) old → a ≡ list_any (has_number n) new
 index_more old new job number is numbered n a b added kept =
     let whole : list_any (has_number n) new ≡ (list_any (has_number n) old || has_number n job) = ap (list_any (has_number n)) is ∙ list_any-append (has_number n) old (job ∷ []) ∙ ap (λ (c : Bool). list_any (has_number n) old || c) (or_false (has_number n job)) in
@@ -162,20 +140,14 @@ index_more old new job number is numbered n a b added kept =
       go true false p q = absurd (true≢false (sym (eq-eqb b a (sym (eqb-true a b p))) ∙ q))
       go false true p q = absurd (true≢false (sym (eq-eqb a b (sym (eqb-true b a q))) ∙ p))
 
-pub put_in : (inside t : LogText) (job j : LogEntry) (new : List LogEntry) → inside ≡ t → j ≡ job → new ≡ inside.entries ++ j ∷ [] → record t { entries = t.entries ++ job ∷ [] } ≡ record inside { entries = new }
-put_in inside t job j new seen same put =
-    ap (λ (u : LogText). record u { entries = u.entries ++ job ∷ [] }) (sym seen) ∙ ap (λ (js : List LogEntry). record inside { entries = js }) (ap (λ (k : LogEntry). inside.entries ++ k ∷ []) (sym same) ∙ sym put)
-
--- ---- an entry of given lines
-
 module _ (main : List ℤ) (parts : List (List ℤ)) (number : ℕ) (numbered : whole_number (field main 1) ≡ Some number) (submit : is_below_zero (field main 2) ≡ false) (summary : is_partial (field main 11) ≡ false) where
+  -- the lines of an entry, with a summary line of this number, are refused for a bad part where another line is no partial line of the number
   pub made_bad : list_all (is_part number) parts ≡ false → Err faults.BadPart ≡ entry_made main parts
   made_bad bad = sym (ap (entry_numbered main parts) numbered ∙ rw (submit, summary, bad) refl)
 
+  -- the lines of an entry, with a summary line of this number, make the entry where all the others are partial lines of the number
   pub made_ok : list_all (is_part number) parts ≡ true → Ok (record { main = main; parts = parts }) ≡ entry_made main parts
   made_ok good = sym (ap (entry_numbered main parts) numbered ∙ rw (submit, summary, good) refl)
-
--- ---- a partial line behind those of an entry
 
 with_behind : (part : Fields) (lines : List Fields) → IsEntry (entry_of_lines lines) → entry_of_lines (lines ++ part ∷ []) ≡ record (entry_of_lines lines) { parts = (entry_of_lines lines).parts ++ values part ∷ [] }
 with_behind part [] entry = absurd (omega (arith, entry.eighteen))
@@ -193,5 +165,6 @@ part_sound now part entry same partial = record {
   parts = all_end (IsPart entry.number) now.parts part entry.parts (record { numbered = same ∙ entry.numbered; partial = partial });
 }
 
+-- the lines of an entry with a partial line of its job number behind them are those of an entry
 pub more_sound : (part : Fields) (lines : List Fields) (now : LogEntry) → entry_of_lines lines ≡ now → IsEntry (entry_of_lines lines) → field (values part) 1 ≡ field now.main 1 → is_partial (field (values part) 11) ≡ true → IsEntry (entry_of_lines (lines ++ part ∷ []))
 more_sound part lines now seen entry same partial = subst IsEntry (sym (with_behind part lines entry)) (part_sound (entry_of_lines lines) (values part) entry (same ∙ ap (λ (e : LogEntry). field e.main 1) (sym seen)) partial)

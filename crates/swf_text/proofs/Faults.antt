@@ -1,4 +1,4 @@
--- Behind the first fault of a log nothing is a text, and before it everything is.
+-- Behind the first fault of a log nothing is a text, and before it everything is: the line that has the fault is refused with it.
 use Rattle.std.proofs.Common.{◌≡◌, ℕ, zero, suc, ◌+◌, ◌-◌, ◌*◌, ◌<◌, ◌≤◌, true, leb, List, [], ◌∷◌, ◌++◌, length, get_or, take, drop, take-take, Option, Some, None, Result, Ok, Err, ℤ, pos, negsuc, refl, sym, ap, subst, ◌∙◌, arith, inl, inr, ◌⊎◌, drop-cons}
 use Rattle.std.specs.Prelude.{◌<ℤ◌}
 use Rattle.std.specs.List.{slice_get}
@@ -18,8 +18,6 @@ use Rattle.swf_text.specs.Grammar.{IsJobFault, IsReadFault, IsLineFault, IsTextF
 use Rattle.swf_text.proofs.Lines.{line_of-IsReadAs}
 use Rattle.swf_text.proofs.Grammars.{number_exact, exact_number, has_exact, has_none, not_negative, last_apart, adds_line, read_text, text_read}
 use Rattle.swf_text.proofs.Outcomes.{err_is, first_fault}
-
--- ---- a line that has a fault is refused with it
 
 no_number : (v : ℤ) (o : Option ℕ) → whole_number v ≡ o → ((n : ℕ) → v ≡ pos (1000000 * n) → ⊥) → o ≡ None
 no_number v None is none = refl
@@ -65,8 +63,6 @@ line_fault : (t : LogText) (line : List ℕ) (kind : FaultKind) → IsLineFault 
 unfolding with_line
 line_fault t line kind h = ap (with_read t line) (line_of-IsReadAs line h.read h.is) ∙ read_fault t line h.read kind h.fault
 
--- ---- lines of which one is refused
-
 behind : (number : ℕ) (t u : LogText) (front : List (List ℕ)) (line : List ℕ) (rest : List (List ℕ)) (kind : FaultKind) → IsTextFrom t front u → with_line u line ≡ Err kind → with_lines number t (front ++ line ∷ rest) ≡ Err (record { line = number + length front; kind = kind })
 unfolding with_lines
 behind number t u [] line rest kind h is =
@@ -77,17 +73,14 @@ behind number t u (first ∷ front) line rest kind h is =
     let place : number + 1 + length front ≡ number + suc (length front) = omega arith in
     rw (adds_line t first h.0 h.1) (behind (number + 1) h.0 u front line rest kind h.2 is ∙ ap (λ (k : ℕ). Err (record { line = k; kind = kind })) place)
 
--- fewer lines of a text are a text
 front_text : (t : LogText) (ls : List (List ℕ)) (u : LogText) → IsTextFrom t ls u → (k : ℕ) → (v : LogText) × IsTextFrom t (take k ls) v
 front_text t ls u h zero = (t, refl)
 front_text t [] u h (suc k) = (t, refl)
 front_text t (line ∷ ls) u h (suc k) = let front = front_text h.0 ls u h.2 k in (front.0, (h.0, h.1, front.1))
 
--- the lines apart at one of them
 apart_at : (ls : List (List ℕ)) (k : ℕ) → k < length ls → take k ls ++ get_or ls k [] ∷ drop (suc k) ls ≡ ls
 apart_at ls k lt = ap (λ (rest : List (List ℕ)). take k ls ++ rest) (sym (drop-cons ls k [] lt)) ∙ take-append-drop k ls
 
--- what is read up to this line, and of all lines, where this one is refused
 module _ (ls : List (List ℕ)) (fault : SwfFault) (before : ℕ) (next : fault.line ≡ before + 1) (h : FirstFault ls fault) where
   within : before < length ls
   within = omega (arith, next, h.within)
@@ -119,8 +112,7 @@ module _ (ls : List (List ℕ)) (fault : SwfFault) (before : ℕ) (next : fault.
 fault_read : (ls : List (List ℕ)) (fault : SwfFault) → FirstFault ls fault → with_lines 1 empty ls ≡ Err fault
 fault_read ls fault h = outcome_of_all ls fault (fault.line - 1) (omega (arith, h.counted)) h
 
--- ---- the law
-
+-- the lines up to the first fault are no text, and fewer of them are one, however many
 pub least : (ls : List (List ℕ)) (fault : SwfFault) → FirstFault ls fault → IsLeastNoText ls fault.line
 least ls fault h =
     let next : fault.line ≡ fault.line - 1 + 1 = omega (arith, h.counted) in
@@ -129,12 +121,15 @@ least ls fault h =
       fewer = λ count lt. fewer_text ls fault (fault.line - 1) next h count (omega (arith, lt));
     }
 
+-- lines have one first fault alone
 pub unique : (ls : List (List ℕ)) (f g : SwfFault) → FirstFault ls f → FirstFault ls g → g ≡ f
 unique ls f g p q = err_is {A = LogText} g f (sym (fault_read ls g q) ∙ fault_read ls f p)
 
+-- lines that are a text have no first fault
 pub no_text : (ls : List (List ℕ)) (t : LogText) (f : SwfFault) → IsText ls t → FirstFault ls f → ⊥
 no_text ls t f is h = let read = sym (text_read 1 empty ls t is) ∙ fault_read ls f h in absurd cc
 
+-- lines are a text, or they have a first fault
 pub one_of_two : (ls : List (List ℕ)) → ((t : LogText) × IsText ls t) ⊎ ((f : SwfFault) × FirstFault ls f)
 one_of_two ls = go (with_lines 1 empty ls) refl
   where

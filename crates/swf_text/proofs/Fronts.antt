@@ -1,4 +1,5 @@
--- A walk over the job line that bytes begin with, whose end is not known before.
+-- A walk over the job line that bytes begin with, whose end is not known before: whatever follows a front of the bytes
+-- without a line feed, the values of its words were met.
 use Rattle.std.proofs.Common.{◌≡◌, ℕ, zero, suc, ◌+◌, ◌-◌, ◌<◌, ◌≤◌, Bool, true, false, eqb, ◌||◌, List, [], ◌∷◌, ◌++◌, length, get_or, take, drop, Ok, ℤ, refl, sym, ap, subst, ◌∙◌, append_assoc, arith}
 use Rattle.std.specs.List.{list_all, list_any, prefix_len, suffix_len, position_or_len, before_first, after_first}
 use Rattle.std.proofs.lemmas.Grind.{common_steps}
@@ -14,8 +15,7 @@ use Rattle.swf_text.proofs.Numbers.{and_first, and_second}
 use Rattle.swf_text.proofs.Plains.{is_plain, spelling_plain}
 use Rattle.swf_text.proofs.Walks.{IsMet, next_behind, next_ended, next_here, walk_kept, walk_end}
 
--- ---- bytes of words
-
+-- a byte from `-` to `9` is taken for a byte of a number
 pub plain_from : (b : ℕ) → 45 ≤ b → b ≤ 57 → is_plain b ≡ true
 plain_from b low high = rw (le-leb 45 b low, lt-ltb b 58 (omega (arith, high))) refl
 
@@ -40,9 +40,6 @@ plain_at [] k h l = absurd (omega arith)
 plain_at (b ∷ bs) zero h l = and_first _ _ h
 plain_at (b ∷ bs) (suc k) h l = plain_at bs k (and_second (is_plain b) (list_all is_plain bs) h) (omega arith)
 
--- ---- the line
-
--- a front without a line feed
 cut_place : (line rest : List ℕ) → list_any is_feed line ≡ false → position_or_len is_feed (line ++ 10 ∷ rest) ≡ length line
 cut_place [] rest none = refl
 cut_place (b ∷ bs) rest none =
@@ -60,7 +57,6 @@ cut_rest bytes line rest is none =
     sym (ap (after_first is_feed) is ∙ ap (λ (k : ℕ). drop (k + 1) (line ++ 10 ∷ rest)) (cut_place line rest none)
     ∙ ap (drop (length line + 1)) (sym (append_assoc line (10 ∷ []) rest)) ∙ drop_at (line ++ 10 ∷ []) rest (length line + 1) len)
 
--- a line that begins and ends with bytes of words
 pub bare_line : (line : List ℕ) → 0 < length line → is_plain (get_or line (length line - 1) 0) ≡ true → without_returns line ≡ line
 bare_line line some last =
     let none : suffix_len is_return line ≡ length line - length line =
@@ -80,8 +76,6 @@ pub plain_line : (line : List ℕ) → length line ≤ 65536 → 0 < length line
 plain_line line short some first last =
     let bare = bare_line line some last in
     short_line line short ∙ ap (λ (l : List ℕ). line_by_front l (from_first l)) bare ∙ first_plain line some first
-
--- ---- the walk
 
 -- a front of the bytes, without a line feed, was walked over: whatever follows it, these values were met
 pub record IsWalked (bytes : List ℕ) (values : List ℤ) (count : ℕ) (rest : List ℕ) : Type 0 where
@@ -110,7 +104,6 @@ walked_more bytes values next count rest after v walked next_is h =
       met = λ tail. subst (λ (l : List ℕ). IsMet l next (count + 1) tail) (joined tail) (step tail);
     }
 
--- the last word, before a line feed: the line was met
 module _ (bytes : List ℕ) (values all : List ℤ) (rest after : List ℕ) (v : ℤ) (walked : IsWalked bytes values 17 rest) (all_is : all ≡ values ++ v ∷ []) (h : EndedWord rest v 10 after) where
   plain : (list_all is_plain h.word ≡ true) × (0 < length h.word)
   plain = spelling_plain h.word v h.spells
@@ -137,6 +130,8 @@ module _ (bytes : List ℕ) (values all : List ℤ) (rest after : List ℕ) (v :
       let at : get_or line (length line - 1) 0 ≡ get_or h.word (length line - 1 - length walked.front) 0 = get_or-append_right walked.front h.word (length walked.front) (length line - 1) 0 refl (omega (arith, size, plain.1)) in
       ap is_plain at ∙ plain_at h.word (length line - 1 - length walked.front) plain.0 (omega (arith, size, plain.1))
 
+  -- behind seventeen values, one more that a line feed ends: where the bytes begin with a byte of a number, and no more than 65536 stand up to
+  -- that feed, it included, their first line is the job line of these eighteen values
   pub walked_line : length bytes - length after ≤ 65536 → is_plain (get_or bytes 0 0) ≡ true → line_of (before_first is_feed bytes) ≡ job_of_values (Ok all)
   walked_line short first =
       let some : 0 < length line = omega (arith, size, plain.1) in
@@ -144,5 +139,6 @@ module _ (bytes : List ℕ) (values all : List ℤ) (rest after : List ℕ) (v :
       let len : length bytes ≡ length line + suc (length after) = ap length whole ∙ length-append line (10 ∷ after) in
       ap line_of (sym (cut_line bytes line after whole no_feed)) ∙ plain_line line (omega (arith, short, len)) some (sym (ap is_plain same) ∙ first) last ∙ job
 
+  -- behind seventeen values, one more that a line feed ends: what follows that feed is what follows the first line feed of the bytes
   pub walked_rest : after ≡ after_first is_feed bytes
   walked_rest = cut_rest bytes line after whole no_feed

@@ -1,4 +1,4 @@
--- The numbers in comments.
+-- The number that is read in a comment under a label is the one of its form, and the first comment of the form is the one found.
 use Rattle.std.proofs.Common.{◌≡◌, ℕ, zero, suc, ◌+◌, ◌-◌, ◌<◌, ◌≤◌, Bool, true, false, ◌&&◌, eqb, leb, ltb, List, [], ◌∷◌, ◌++◌, length, take, drop, Option, Some, None, cond, refl, sym, ap, ◌∙◌, arith, inl, inr}
 use lib.Pointwise.{pointwise}
 use Rattle.std.specs.List.{AllByRecursion, list_all, prefix_len, starts_with}
@@ -31,8 +31,6 @@ blank_no_digit b h = grind (arith, common_steps)
 digit_no_blank : (b : ℕ) → is_ascii_digit b ≡ true → is_blank b ≡ false
 digit_no_blank b h = grind (arith, common_steps)
 
--- ---- the form and the reading
-
 blank_front : (label rest : List ℕ) → prefix_len is_blank (label ++ 58 ∷ rest) ≡ prefix_len is_blank label
 blank_front [] rest = refl
 blank_front (b ∷ bs) rest = elim (cases_Bool (is_blank b)) [
@@ -63,7 +61,6 @@ same_bytes : (xs : List ℕ) → pointwise eqb xs xs ≡ true
 same_bytes [] = refl
 same_bytes (x ∷ xs) = let one : eqb x x ≡ true = eq-eqb x x refl in let rest = same_bytes xs in rw (one, rest) refl
 
--- a comment of the form is read so
 pub header_read : (label comment : List ℕ) (n : ℕ) → IsHeader label comment n → header_of label comment ≡ Some n
 header_read label comment n h =
     let tail = h.digits ++ h.rest in
@@ -102,7 +99,6 @@ colon_form : (bytes : List ℕ) (n : ℕ) → colon_then bytes ≡ Some n → (r
 colon_form [] n h = absurd cc
 colon_form (b ∷ bs) n h = let both = kept (eqb b 58) (header_value (from_first bs)) n h in (bs, ap (λ (c : ℕ). c ∷ bs) (eqb-true b 58 both.0), both.1)
 
--- and what is read is of the form
 pub header_form : (label comment : List ℕ) (n : ℕ) → header_of label comment ≡ Some n → IsHeader label comment n
 header_form label [] n h = absurd cc
 header_form label (b ∷ bs) n h =
@@ -140,8 +136,6 @@ header_form label (b ∷ bs) n h =
     some_is : (a c : ℕ) → Some a ≡ Some c → c ≡ a
     some_is a c e = cc
 
--- ---- the first of the comments
-
 first_next : (label comment : List ℕ) (comments : List (List ℕ)) (n : ℕ) (o : Option ℕ) → header_of label comment ≡ o → or_later o (header_number label comments) ≡ Some n → (header_number label comments ≡ Some n → IsFirstHeader label comments n) → IsFirstHeader label (comment ∷ comments) n
 first_next label comment comments n (Some m) is h later = record { front = []; comment = comment; back = comments; are = refl; others = tt; is = header_form label comment n (is ∙ h) }
 first_next label comment comments n None is h later =
@@ -176,6 +170,6 @@ pub first_found : (label : List ℕ) (comments : List (List ℕ)) (r : Option �
 first_found label comments None is = tt
 first_found label comments (Some n) is = first_form label comments n (sym is)
 
--- and where there is a first comment of the form, its number is found
+-- where there is a first comment of the form, its number is found
 pub found_first : (label : List ℕ) (comments : List (List ℕ)) (r : Option ℕ) → r ≡ header_number label comments → (n : ℕ) → IsFirstHeader label comments n → r ≡ Some n
 found_first label comments r is n h = is ∙ ap (header_number label) h.are ∙ read_first label h.front h.comment h.back n h.others h.is

@@ -1,4 +1,5 @@
--- What holds of each text that is read, and that it is read back from what is written of it.
+-- What holds of each text that is read (sound comments, entries of values, distinct numbers), and that it is read back from
+-- what is written of it.
 use Rattle.std.proofs.Common.{◌≡◌, ℕ, zero, suc, ◌*◌, ◌<◌, ◌≤◌, Bool, true, false, List, [], ◌∷◌, ◌++◌, length, get_or, Result, Ok, Err, ℤ, pos, refl, sym, ap, subst, ◌∙◌, arith, inl, inr}
 use Rattle.std.specs.Prelude.{nat_abs, IfOk}
 use Rattle.std.specs.List.{AllByRecursion, count_by}
@@ -20,8 +21,6 @@ use Rattle.swf_text.proofs.Grammars.{exact_number, has_none, text_read, ok_is}
 use Rattle.swf_text.proofs.Printed.{HasNoFeed}
 use Rattle.swf_text.proofs.Comments.{lines_no_feed, read_comment}
 use Rattle.swf_text.proofs.Trips.{read_again}
-
--- ---- the values of a job line
 
 signed_within : (n : Bool) (m : ℕ) → nat_abs (signed n m) ≡ m
 signed_within true zero = refl
@@ -56,21 +55,15 @@ all_at P (x ∷ xs) (suc k) d h lt = all_at P xs k d h.1 (omega arith)
 number_small : (v : ℤ) (number : ℕ) → v ≡ pos (1000000 * number) → nat_abs v ≤ greatest → number ≤ whole_limit
 number_small v number is fits = let size : nat_abs v ≡ 1000000 * number = ap nat_abs is in omega (arith, size, fits)
 
--- ---- lists that end with one more
-
 all_front : {X : Type 0} (P : X → Type 0) (front : List X) (last : X) → AllByRecursion P (front ++ last ∷ []) → AllByRecursion P front × P last
 all_front P [] last h = (tt, h.0)
 all_front P (x ∷ front) last h = let rest = all_front P front last h.1 in ((h.0, rest.0), rest.1)
 
--- an element at the end replaced
 all_last : {X : Type 0} (P : X → Type 0) (old new front : List X) (last next : X) → old ≡ front ++ last ∷ [] → new ≡ front ++ next ∷ [] → (P last → P next) → AllByRecursion P old → AllByRecursion P new
 all_last P old new front last next old_is new_is step h =
     let parts = all_front P front last (subst (AllByRecursion P) old_is h) in
     subst (AllByRecursion P) (sym new_is) (all_end P front next parts.0 (step parts.1))
 
--- ---- a text that is read
-
--- sound comments, entries of values, and distinct numbers
 pub record IsSound (t : LogText) : Type 0 where
   pub comments : AllByRecursion IsComment t.comments
   pub fields : AllByRecursion HasFields t.entries
@@ -154,7 +147,7 @@ text_sound bytes t h = text_kept empty (lines bytes) t (lines_no_feed bytes) h (
 pub read_comments : (bytes : List ℕ) (t : LogText) → IsText (lines bytes) t → AllByRecursion IsComment t.comments
 read_comments bytes t h = (text_sound bytes t h).comments
 
--- the same of what a reading answers
+-- where a reading answers the text of the bytes, the comments of its text are sound
 pub gives_comments : (bytes : List ℕ) (r : Result LogText SwfFault) → IfOk r (λ text. IsText (lines bytes) text) → IfOk r (λ text. AllByRecursion IsComment text.comments)
 gives_comments bytes (Ok t) h = read_comments bytes t h
 gives_comments bytes (Err fault) h = tt

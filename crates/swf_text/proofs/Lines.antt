@@ -1,4 +1,4 @@
--- The tests of a line, one after another, find what the line is.
+-- The tests of a line, one after another, find what the line is, and a line is one thing alone.
 use Rattle.std.proofs.Common.{◌≡◌, ℕ, zero, suc, ◌+◌, ◌-◌, ◌<◌, ◌≤◌, Bool, true, false, eqb, ltb, ◌&&◌, List, [], ◌∷◌, length, get_or, take, drop, Option, Some, None, Result, Ok, Err, ℤ, refl, sym, ap, subst, ◌∙◌, arith, inl, inr}
 use Rattle.std.specs.Prelude.{slice_get}
 use Rattle.std.specs.List.{list_all, list_any, prefix_len}
@@ -10,8 +10,6 @@ use Rattle.swf_text.specs.declared.line.LineFault.TheVariants as faults
 use Rattle.swf_text.specs.Line.{is_blank, is_high, without_returns, from_first, fields, value_then, values_from, job_of_values, job_line, line_by_front, line_of, AreSpelled, IsFirstBad, IsForJob, IsAsciiForJob, IsReadAs}
 use Rattle.swf_text.proofs.Numbers.{Spells-number_of, number_of-Spells}
 
--- ---- the values of words
-
 spells_none : (word : List ℕ) → number_of word ≡ None → (v : ℤ) → Spells word v → ⊥
 spells_none word none v spells = let some = number_of-Spells word v spells in absurd cc
 
@@ -19,7 +17,6 @@ none_spelled : (word : List ℕ) (o : Option ℤ) → number_of word ≡ o → (
 none_spelled word None is bad = refl
 none_spelled word (Some v) is bad = absurd (bad v (Spells-number_of word v is))
 
--- values after a first one
 abbrev more : ℕ → Option ℤ → Result (List ℤ) ℕ → Result (List ℤ) ℕ
 more place o r = value_then place o r
 
@@ -42,9 +39,6 @@ values_from-AreSpelled place [] (v ∷ vs) h = absurd h
 values_from-AreSpelled place (word ∷ words) [] h = absurd h
 values_from-AreSpelled place (word ∷ words) (v ∷ vs) h = rw (number_of-Spells word v h.0, values_from-AreSpelled (place + 1) words vs h.1) refl
 
--- ---- the first word that is no number
-
--- the same as IsFirstBad, of words whose first has this place
 record BadAt (start : ℕ) (words : List (List ℕ)) (place : ℕ) : Type 0 where
   count : ℕ
   values : List ℤ
@@ -110,8 +104,6 @@ values_from-IsFirstBad words p h =
     let place : 1 + (p - 1) ≡ p = omega (arith, h.counted) in
     from_bad 1 (p - 1) words h.values (omega (arith, h.counted, h.within)) h.before h.bad ∙ ap Err place
 
--- ---- the front of a line
-
 all_blank : (bs : List ℕ) → from_first bs ≡ [] → list_all is_blank bs ≡ true
 all_blank [] h = refl
 all_blank (b ∷ bs) h = elim (cases_Bool (is_blank b)) [
@@ -133,8 +125,6 @@ blank_all (b ∷ bs) h = elim (cases_Bool (is_blank b)) [
       ap (λ (k : ℕ). drop k (b ∷ bs)) count ∙ blank_all bs rest
   | inr other ↦ let none : false ≡ true = sym (ap (λ (c : Bool). c && list_all is_blank bs) other) ∙ h in absurd cc
 ]
-
--- ---- what the tests find
 
 of_values : (line : List ℕ) (r : Result (List ℤ) ℕ) → IsAsciiForJob line → length (fields (without_returns line)) ≡ 18 → values_from 1 (fields (without_returns line)) ≡ r → IsReadAs line (job_of_values r)
 of_values line (Ok vs) start count is = record { for_job = start; eighteen = count; spelled = AreSpelled-values_from 1 (fields (without_returns line)) vs is }
@@ -168,6 +158,7 @@ of_front line (b ∷ bs) short is =
           subst (IsReadAs line) (sym job) (of_job line (record { short = short; first = b; begins = begins; other = eqb-false b 59 other }))
     ]
 
+-- what the tests of a line find is what it is
 pub IsReadAs-line_of : (line : List ℕ) → IsReadAs line (line_of line)
 IsReadAs-line_of line = elim (cases_lt 65536 (length line)) [
   | inl long ↦
@@ -180,8 +171,7 @@ IsReadAs-line_of line = elim (cases_lt 65536 (length line)) [
       subst (IsReadAs line) (sym is) (of_front line (from_first (without_returns line)) short refl)
 ]
 
--- ---- a line is one thing alone
-
+-- a line within the limit is told without the carriage returns at its end, by what follows the blanks that it begins with
 pub short_line : (line : List ℕ) → length line ≤ 65536 → line_of line ≡ line_by_front (without_returns line) (from_first (without_returns line))
 short_line line short = let test : ltb 65536 (length line) ≡ false = le-ltb 65536 (length line) short in rw test refl
 
@@ -202,6 +192,7 @@ for_values line h count =
     let test : eqb (length (fields (without_returns line))) 18 ≡ true = eq-eqb (length (fields (without_returns line))) 18 count in
     for_job line h.for_job ∙ rw (low, test) refl
 
+-- the tests find what a line is, and so it is nothing else
 pub line_of-IsReadAs : (line : List ℕ) (r : LineRead) → IsReadAs line r → line_of line ≡ r
 line_of-IsReadAs line read.Blank h = short_line line h.0 ∙ ap (line_by_front (without_returns line)) (blank_all (without_returns line) h.1)
 line_of-IsReadAs line read.Comment h = short_line line h.0 ∙ front_comment (without_returns line) (from_first (without_returns line)) h.1

@@ -1,4 +1,5 @@
--- A number's text is cut into its parts, and the parts of a text are the ones that it was made of.
+-- A number's text is cut into its parts at the sign and at the first point, and the parts of a text are the ones that it was made of,
+-- since digits hold neither; so number_of gives the value that the bytes spell, and no other.
 use Rattle.std.proofs.Common.{◌≡◌, ℕ, suc, ◌+◌, ◌-◌, ◌<◌, Bool, true, false, cond, eqb, ltb, leb, ◌&&◌, List, [], ◌∷◌, ◌++◌, length, get_or, take, drop, Option, Some, None, ℤ, refl, sym, ap, ◌∙◌, append_assoc, arith, rules, inl, inr}
 use Rattle.std.specs.Prelude.{IfSome, IsTrue}
 use Rattle.std.specs.List.{list_all, list_any, before_first, after_first, position_or_len}
@@ -11,15 +12,12 @@ use Rattle.std.proofs.lemmas.List.Sums.{position_or_len_is, split_at_first, pass
 use Rattle.memchr.specs.Find.{IsFirstByte, is_byte}
 use Rattle.swf_text.specs.Number.{Parts, Spells, text, parts_of, is_point, begins_negative, unsigned_text, sign_text, fraction_text, is_fraction, are_digits, number_of, value_of_parts, magnitude, greatest, signed}
 
--- ---- a search for the point
-
 pub place_found : (xs : List ℕ) (k : ℕ) → IsFirstByte (is_byte 46) xs (Some k) → position_or_len is_point xs ≡ k
 place_found xs k h = position_or_len_is is_point xs k 0 (omega (arith, h.0.high)) (λ i lt. false_from_ne_true _ (λ yes. h.0.before i (omega arith) lt yes)) (λ _. h.1)
 
 pub none_place : (xs : List ℕ) → IsFirstByte (is_byte 46) xs None → position_or_len is_point xs ≡ length xs
 none_place xs h = position_or_len_is is_point xs (length xs) 0 (omega arith) (λ i lt. false_from_ne_true _ (λ yes. h i (omega arith) lt yes)) (λ lt. absurd (omega arith))
 
--- whether a point is there, by its place
 pub any_place : (xs : List ℕ) → list_any is_point xs ≡ ltb (position_or_len is_point xs) (length xs)
 any_place [] = refl
 any_place (x ∷ xs) = elim (cases_Bool (is_point x)) [
@@ -27,11 +25,11 @@ any_place (x ∷ xs) = elim (cases_Bool (is_point x)) [
   | inr other ↦ let rest = any_place xs in grind (arith, common_steps)
 ]
 
--- what the search for the point gives
-
+-- where the first point is at place k, the first k bytes are what stands before it
 pub whole_found : (xs : List ℕ) (k : ℕ) → IsFirstByte (is_byte 46) xs (Some k) → take k xs ≡ before_first is_point xs
 whole_found xs k h = ap (λ (n : ℕ). take n xs) (sym (place_found xs k h))
 
+-- where the first point is at place k, the fraction is there, and is the bytes behind that place
 pub fraction_found : (xs : List ℕ) (k : ℕ) → IsFirstByte (is_byte 46) xs (Some k) → Some (take (length xs - (k + 1)) (drop (k + 1) xs)) ≡ cond (list_any is_point xs) (Some (after_first is_point xs)) None
 fraction_found xs k h =
     let place = place_found xs k h in
@@ -40,17 +38,16 @@ fraction_found xs k h =
     let all : take (length xs - (k + 1)) (drop (k + 1) xs) ≡ drop (k + 1) xs = take_all (length xs - (k + 1)) (drop (k + 1) xs) (omega (arith, length-drop (k + 1) xs)) in
     rw any (ap Some (all ∙ ap (λ (n : ℕ). drop (n + 1) xs) (sym place)))
 
+-- where there is no point, all of the bytes stand before it
 pub whole_none : (xs : List ℕ) → IsFirstByte (is_byte 46) xs None → xs ≡ before_first is_point xs
 whole_none xs h = sym (take_all (position_or_len is_point xs) xs (omega (arith, none_place xs h)))
 
+-- where there is no point, there is no fraction
 pub fraction_none : (xs : List ℕ) (A : Type 0) (x : A) → IsFirstByte (is_byte 46) xs None → None ≡ cond (list_any is_point xs) (Some x) None
 fraction_none xs A x h =
     let any : list_any is_point xs ≡ false = any_place xs ∙ le-ltb (position_or_len is_point xs) (length xs) (omega (arith, none_place xs h)) in
     rw any refl
 
--- ---- the parts of a text
-
--- the unsigned part is what stands before the point, the point and what follows
 body_again : (xs : List ℕ) → before_first is_point xs ++ fraction_text (cond (list_any is_point xs) (Some (after_first is_point xs)) None) ≡ xs
 body_again xs = elim (cases_lt (position_or_len is_point xs) (length xs)) [
   | inl lt ↦
@@ -62,6 +59,7 @@ body_again xs = elim (cases_lt (position_or_len is_point xs) (length xs)) [
       rw any (append-nil (before_first is_point xs) ∙ take_all (position_or_len is_point xs) xs le)
 ]
 
+-- the sign and the bytes behind it are the bytes
 pub sign_again : (xs : List ℕ) → sign_text (begins_negative xs) ++ unsigned_text xs ≡ xs
 sign_again [] = refl
 sign_again (x ∷ xs) = elim (cases_Bool (eqb x 45)) [
@@ -72,14 +70,15 @@ sign_again (x ∷ xs) = elim (cases_Bool (eqb x 45)) [
 pub text-parts_of : (xs : List ℕ) → text (parts_of xs) ≡ xs
 text-parts_of xs = ap (λ (rest : List ℕ). sign_text (begins_negative xs) ++ rest) (body_again (unsigned_text xs)) ∙ sign_again xs
 
--- digits hold no point and no sign
 digit_not : (x c : ℕ) → is_ascii_digit x ≡ true → c < 48 → eqb x c ≡ false
 digit_not x c d lt = grind (arith, common_steps)
 
+-- where both of two tests pass, the first does
 pub and_first : (a b : Bool) → (a && b) ≡ true → a ≡ true
 and_first true b h = refl
 and_first false b h = absurd cc
 
+-- where both of two tests pass, the second does
 pub and_second : (a b : Bool) → (a && b) ≡ true → b ≡ true
 and_second true b h = h
 and_second false b h = absurd cc
@@ -99,7 +98,6 @@ no_sign (x ∷ xs) ys h = digit_not x 45 (and_first _ _ (and_second _ _ h)) (lit
 same_parts : (p q : Parts) → p.is_negative ≡ q.is_negative → p.whole ≡ q.whole → p.fraction ≡ q.fraction → p ≡ q
 same_parts p q a b c = λ i. record { is_negative = a i; whole = b i; fraction = c i }
 
--- the whole part and the fraction of a body
 module _ (whole : List ℕ) (digits : list_all is_ascii_digit whole ≡ true) where
   whole_back : (f : Option (List ℕ)) → before_first is_point (whole ++ fraction_text f) ≡ whole
   whole_back f = rw (point_place whole f digits) (take_at whole (fraction_text f) (length whole) refl)
@@ -131,8 +129,6 @@ parts_of-text p whole =
     (ap (before_first is_point) back ∙ whole_back p.whole digits p.fraction)
     (ap (λ (u : List ℕ). cond (list_any is_point u) (Some (after_first is_point u)) None) back ∙ fraction_back p.whole digits p.fraction)
 
--- ---- the value
-
 if_some : {A : Type 0} (b : Bool) (x v : A) → cond b (Some x) None ≡ Some v → (b ≡ true) × (v ≡ x)
 if_some true x v h = (refl, cc)
 if_some false x v h = absurd cc
@@ -145,6 +141,7 @@ fraction_tested : (f : Option (List ℕ)) → IfSome f (λ ds. IsTrue (are_digit
 fraction_tested None h = refl
 fraction_tested (Some ds) h = search (rules, h)
 
+-- the bytes spell the value that number_of gives
 pub Spells-number_of : (bytes : List ℕ) (v : ℤ) → number_of bytes ≡ Some v → Spells bytes v
 Spells-number_of bytes v h =
     let p = parts_of bytes in
@@ -159,6 +156,7 @@ Spells-number_of bytes v h =
       value = chosen.1;
     }
 
+-- number_of gives the value that the bytes spell
 pub number_of-Spells : (bytes : List ℕ) (v : ℤ) → Spells bytes v → number_of bytes ≡ Some v
 number_of-Spells bytes v h =
     let p = h.parts in

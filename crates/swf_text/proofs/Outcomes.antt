@@ -1,4 +1,5 @@
--- The first fault of a text's lines, and what a reading answers.
+-- The first fault of a text's lines is that of the line at which the reading ends; so what a reading answers, a text or a fault, is that
+-- of the lines, unless memory ran out.
 use Rattle.std.proofs.Common.{◌≡◌, ℕ, suc, ◌+◌, ◌-◌, ◌<◌, ◌≤◌, true, leb, List, [], ◌∷◌, ◌++◌, length, get_or, take, set, Option, Some, None, Result, Ok, Err, ℤ, pos, negsuc, refl, sym, ap, subst, ◌∙◌, arith, inl, inr}
 use Rattle.std.specs.Prelude.{◌<ℤ◌, IfOk, IfErr}
 use Rattle.swf_text.specs.Entry.{HasNumber, LogEntry, field, has_number, is_partial, whole_number}
@@ -19,15 +20,12 @@ use Rattle.swf_text.specs.Grammar.{IsSummary, IsJobFault, IsReadFault, IsLineFau
 use Rattle.swf_text.proofs.Lines.{IsReadAs-line_of}
 use Rattle.swf_text.proofs.Grammars.{chosen, ok_is, done, adds_part, line_adds, number_exact, exact_number, negative_not, none_has, read_text, text_read}
 
--- ---- answers
-
 abbrev pub failed : {A : Type 0} → SwfFault → Result A SwfFault
 failed x = Err x
 
+-- two equal refusals have the same fault
 pub err_is : {A : Type 0} (x y : SwfFault) → failed {A = A} x ≡ failed y → x ≡ y
 err_is x y h = cc
-
--- ---- the fault of a line
 
 negative_is : (v : ℤ) → is_below_zero v ≡ true → v <ℤ pos 0
 negative_is (pos m) h = absurd cc
@@ -46,7 +44,6 @@ part_kind t part number (Some last) kind h = elim (chosen (has_number number las
   | inr other ↦ kind_is {A = LogText} kinds.OrphanPartial kind other.1
 ]
 
--- a partial line that is refused joins no last entry
 no_last : (t : LogText) (part : List ℤ) (number : ℕ) (kind : FaultKind) → with_job t part ≡ Err kind → HasNumber part number → is_partial (field part 11) ≡ true → (front : List LogEntry) (last : LogEntry) → t.entries ≡ front ++ last ∷ [] → HasNumber last.main number → ⊥
 no_last t part number kind h numbered partial front last entries same =
     let u : LogText = record t { entries = front ++ record last { parts = last.parts ++ part ∷ [] } ∷ [] } in
@@ -98,8 +95,6 @@ line_refused : (t : LogText) (line : List ℕ) (kind : FaultKind) → with_line 
 unfolding with_line
 line_refused t line kind h = record { read = line_of line; is = IsReadAs-line_of line; fault = read_refused t line (line_of line) kind h }
 
--- ---- the first fault
-
 abbrev pub FaultAfter : ℕ → LogText → List (List ℕ) → SwfFault → Type 0
 FaultAfter number t lines fault = (k : ℕ) × (u : LogText) × (fault.line ≡ number + k) × (k < length lines) × IsTextFrom t (take k lines) u × (with_line u (get_or lines k []) ≡ Err fault.kind)
 
@@ -116,6 +111,7 @@ unfolding with_lines
 read_fault number t [] fault h = absurd cc
 read_fault number t (line ∷ lines) fault h = fault_next number t line lines fault (with_line t line) refl (λ next. read_fault (number + 1) next lines fault) h
 
+-- the fault with which the reading of the lines ends is their first
 pub first_fault : (lines : List (List ℕ)) (fault : SwfFault) → with_lines 1 empty lines ≡ Err fault → FirstFault lines fault
 first_fault lines fault h =
     let found = read_fault 1 empty lines fault h in
@@ -128,8 +124,7 @@ first_fault lines fault h =
       refused = line_refused found.1 (get_or lines (fault.line - 1) []) fault.kind (ap (λ (k : ℕ). with_line found.1 (get_or lines k [])) place ∙ found.5);
     }
 
--- ---- what a reading says
-
+-- the lines are the text that a reading gives of them, where it gives one
 pub gives_text : (r : Result LogText SwfFault) (lines : List (List ℕ)) → Gives r (with_lines 1 empty lines) → IfOk r (λ text. IsText lines text)
 gives_text (Ok text) lines h = read_text 1 empty lines text h
 gives_text (Err fault) lines h = tt
@@ -146,6 +141,7 @@ gives_only_err kinds.OrphanPartial line t reading is h = absurd cc
 gives_only_err kinds.DuplicateJob line t reading is h = absurd cc
 gives_only_err kinds.TooManyJobs line t reading is h = absurd cc
 
+-- where the lines are a text, a reading gives that text, unless memory ran out
 pub gives_only : (r : Result LogText SwfFault) (lines : List (List ℕ)) → Gives r (with_lines 1 empty lines) → (t : LogText) → IsText lines t → IsOkOf r t
 gives_only (Ok text) lines h t is = ok_is {E = SwfFault} t text (sym (text_read 1 empty lines t is) ∙ h)
 gives_only (Err fault) lines h t is = gives_only_err fault.kind fault.line t (with_lines 1 empty lines) (text_read 1 empty lines t is) h
@@ -162,11 +158,11 @@ fault_known kinds.OrphanPartial line reading h known = h
 fault_known kinds.DuplicateJob line reading h known = h
 fault_known kinds.TooManyJobs line reading h known = h
 
+-- the fault that a reading gives, where it gives one, is the first of the lines, unless memory ran out
 pub gives_fault : (r : Result LogText SwfFault) (lines : List (List ℕ)) → Gives r (with_lines 1 empty lines) → IfErr r (λ fault. IsFaultOf lines fault)
 gives_fault (Ok text) lines h = tt
 gives_fault (Err fault) lines h = λ known. first_fault lines fault (fault_known fault.kind fault.line (with_lines 1 empty lines) h known)
 
--- ---- the line that is being read
-
+-- a line is reached where the reading of the lines before it gives a text
 pub reached : (lines : List (List ℕ)) (line : ℕ) (t : LogText) → 0 < line → line ≤ length lines → with_lines 1 empty (take (line - 1) lines) ≡ Ok t → HasReached lines line
 reached lines line t counted within h = record { before = t; counted = counted; within = within; text = read_text 1 empty (take (line - 1) lines) t h }

@@ -34,6 +34,7 @@ fraction_plain (Some ds) h = let d : are_digits ds ≡ true = search (rules, h) 
 both_plain : (xs ys : List ℕ) → list_all is_plain xs ≡ true → list_all is_plain ys ≡ true → list_all is_plain (xs ++ ys) ≡ true
 both_plain xs ys p q = list_all-append is_plain xs ys ∙ rw (p, q) refl
 
+-- the bytes that spell a value are bytes of numbers, and one at least
 pub spelling_plain : (bytes : List ℕ) (v : ℤ) → Spells bytes v → (list_all is_plain bytes ≡ true) × (0 < length bytes)
 spelling_plain bytes v h =
     let p = h.parts in
@@ -45,10 +46,10 @@ spelling_plain bytes v h =
     ltb-is-true : (a b : ℕ) → ltb a b ≡ true → a < b
     ltb-is-true a b h = grind (arith, common_steps)
 
+-- a byte of a number is no blank
 pub plain_no_blank : (b : ℕ) → is_plain b ≡ true → is_blank b ≡ false
 plain_no_blank b h = grind (arith, common_steps)
 
--- words of bytes of which none is a blank
 module _ (p : ℕ → Bool) (solid : (b : ℕ) → p b ≡ true → is_blank b ≡ false) where
   word_end : (w rest : List ℕ) → list_all p w ≡ true → ends rest ≡ true → position_or_len is_blank (w ++ rest) ≡ length w
   word_end [] [] all end = refl
@@ -59,6 +60,7 @@ module _ (p : ℕ → Bool) (solid : (b : ℕ) → p b ≡ true → is_blank b �
   front_solid [] rest all some = absurd (omega arith)
   front_solid (b ∷ w) rest all some = solid b (and_first _ _ all)
 
+  -- a word of bytes that pass a test that no blank passes, behind which the bytes end or a blank follows, is the first word, and the others are those of the rest
   pub solid_fields : (w rest : List ℕ) → list_all p w ≡ true → 0 < length w → ends rest ≡ true → fields (w ++ rest) ≡ w ∷ fields rest
   solid_fields w rest all some end =
       let place = word_end w rest all end in
@@ -66,6 +68,7 @@ module _ (p : ℕ → Bool) (solid : (b : ℕ) → p b ≡ true → is_blank b �
       ∙ ap (λ (k : ℕ). take k (w ++ rest) ∷ fields (drop k (w ++ rest))) place
       ∙ rw (take_at w rest (length w) refl, drop_at w rest (length w) refl) refl
 
+-- a word of bytes of numbers, behind which the bytes end or a blank follows, is the first word, and the others are those of the rest
 pub word_fields : (w rest : List ℕ) → list_all is_plain w ≡ true → 0 < length w → ends rest ≡ true → fields (w ++ rest) ≡ w ∷ fields rest
 word_fields w rest plain some end = solid_fields is_plain plain_no_blank w rest plain some end
 

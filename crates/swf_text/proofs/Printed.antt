@@ -1,4 +1,5 @@
--- The bytes of a line that is written, and what the line is read as.
+-- The bytes of a line of numbers that is written, none of which is a line feed, a carriage return or above 127, and what it and a comment
+-- are read as.
 use Rattle.std.proofs.Common.{◌≡◌, ℕ, zero, suc, ◌+◌, ◌-◌, ◌*◌, ◌/◌, ◌%◌, ◌<◌, ◌≤◌, Bool, true, false, cond, eqb, ltb, leb, ◌&&◌, ◌||◌, List, [], ◌∷◌, ◌++◌, length, get_or, drop, map, Some, None, Ok, ℤ, refl, ap, subst, ◌∙◌, arith}
 use Rattle.std.specs.Prelude.{nat_abs}
 use Rattle.std.specs.List.{AllByRecursion, flat_map, list_all, list_any, suffix_len, prefix_len}
@@ -29,9 +30,11 @@ abbrev pub line_body : List ℤ → List ℕ
 line_body [] = []
 line_body (v ∷ vs) = canonical v ++ flat_map spaced vs
 
+-- no byte of the line is a line feed
 abbrev pub HasNoFeed : List ℕ → Type 0
 HasNoFeed line = list_any is_feed line ≡ false
 
+-- where no element of the list passes, the one at a place within it doesn't
 pub none_passes : {X : Type 0} (p : X → Bool) (xs : List X) → list_any p xs ≡ false → (k : ℕ) (d : X) → k < length xs → p (get_or xs k d) ≡ false
 none_passes p [] h k d lt = absurd (omega arith)
 none_passes p (x ∷ xs) h zero d lt = or_left (p x) (list_any p xs) h where
@@ -56,8 +59,6 @@ canonical_length v fits =
     fraction_length : (m : ℕ) (b : Bool) → length (fraction_text (cond b None (Some (without_zeros (six_digits m))))) ≤ 7
     fraction_length m true = omega arith
     fraction_length m false = omega (arith, length-take (length (six_digits m) - suffix_len is_zero (six_digits m)) (six_digits m))
-
--- ---- the words of a line
 
 abbrev AllWithin : List ℤ → Type 0
 AllWithin vs = AllByRecursion (λ v. nat_abs v ≤ greatest) vs
@@ -84,9 +85,6 @@ unfolding values_from
 words_read place [] h = refl
 words_read place (v ∷ vs) h = rw (number_of-canonical v h.0, words_read (place + 1) vs h.1) refl
 
--- ---- the line of a job
-
--- a byte of a line of numbers
 abbrev is_printed : ℕ → Bool
 is_printed b = leb 32 b && ltb b 58
 
@@ -112,7 +110,6 @@ body_printed (v ∷ vs) h =
     let rest = spaced_printed vs h.1 in
     (both_printed (canonical v) (flat_map spaced vs) (all_printed (canonical v) (plain_of v h.0).0) rest.0, omega (arith, length-append (canonical v) (flat_map spaced vs), canonical_length v h.0, rest.1))
 
--- what no printed byte is, no byte of the line is
 none_of : (p : ℕ → Bool) → ((b : ℕ) → is_printed b ≡ true → p b ≡ false) → (bs : List ℕ) → list_all is_printed bs ≡ true → list_any p bs ≡ false
 none_of p other [] h = refl
 none_of p other (b ∷ bs) h = rw (other b (and_first _ _ h), none_of p other bs (and_second (is_printed b) (list_all is_printed bs) h)) refl
@@ -146,7 +143,6 @@ comment_front : (line front : List ℕ) → 0 < length front → get_or front 0 
 comment_front line [] some is = absurd (omega arith)
 comment_front line (b ∷ bs) some is = rw is refl
 
--- a line whose ends are kept
 line_kept : (bs : List ℕ) → length bs ≤ 65536 → is_blank (get_or bs 0 0) ≡ false → (0 < length bs → is_return (get_or bs (length bs - 1) 0) ≡ false) → line_of bs ≡ line_by_front bs bs
 line_kept bs fits front last =
     let short : ltb 65536 (length bs) ≡ false = le-ltb 65536 (length bs) fits in

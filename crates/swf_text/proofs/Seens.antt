@@ -12,9 +12,11 @@ pub absent : (xs : List ℕ) (n : ℕ) → ((k : ℕ) → k < length xs → eqb 
 absent [] n h = refl
 absent (x ∷ xs) n h = let here : eqb x n ≡ false = h 0 (omega arith) in rw here (absent xs n (λ k lt. h (suc k) (omega arith)))
 
+-- a number that is greater than all of these is none of them
 pub greater_absent : (xs : List ℕ) (n : ℕ) → ((k : ℕ) → k < length xs → get_or xs k 0 < n) → false ≡ list_any (λ m. eqb m n) xs
 greater_absent xs n h = sym (absent xs n (λ k lt. ne_eqb (get_or xs k 0) n (λ same. absurd (omega (arith, h k lt)))))
 
+-- a binary search of rising numbers finds a number exactly where it is one of them
 pub searched_any : (xs : List ℕ) (n : ℕ) (r : Result ℕ ℕ) → AreRising xs → IsBinarySearchResult (λ y. nat_cmp y n) xs r → is_ok r ≡ list_any (λ m. eqb m n) xs
 searched_any xs n (Ok i) rise h = let f = searched xs n (Ok i) h rise in sym (list_any_at (λ m. eqb m n) xs i 0 f.0 (eq-eqb (get_or xs i 0) n f.1))
 searched_any xs n (Err i) rise h = let f = searched xs n (Err i) h rise in sym (absent xs n (apart f.1 f.2))

@@ -1,4 +1,4 @@
--- The canonical spelling of a value spells it.
+-- The canonical spelling of a value spells it: the zeros left out at the end of the six decimals count for nothing.
 use Rattle.std.proofs.Common.{◌≡◌, ℕ, zero, suc, ◌+◌, ◌-◌, ◌*◌, ◌/◌, ◌%◌, ◌<◌, ◌≤◌, ◌^◌, Bool, true, cond, eqb, ◌&&◌, List, [], ◌∷◌, length, get_or, take, reverse, Option, Some, None, ℤ, pos, negsuc, refl, sym, ap, ◌∙◌, arith, rules, inl, inr}
 use Rattle.std.specs.Prelude.{IfSome, IsTrue, nat_abs}
 use Rattle.std.specs.List.{list_all, suffix_len}
@@ -23,10 +23,10 @@ ne_zero (suc n) h = omega arith
 digit_tests : (n : ℕ) → n < 10 → is_ascii_digit (48 + n) ≡ true
 digit_tests n lt = grind (arith, common_steps)
 
--- the digits of a number spell it
 abbrev pub Spelled : ℕ → List ℕ → Type 0
 Spelled n ds = (list_all is_ascii_digit ds ≡ true) × (digits_value ds ≡ n)
 
+-- the decimal text of a number below 2^64 is digits alone, and their value is the number
 pub spelled : (n : ℕ) → n < 2 ^ 64 → Spelled n (decimal_text n)
 spelled n lt = decimal_by_steps Spelled
     (λ n small. (rw (digit_tests n small) refl, omega arith))
@@ -38,8 +38,6 @@ spelled n lt = decimal_by_steps Spelled
 
 whole_digits : (n : ℕ) → n < 2 ^ 64 → are_digits (decimal_text n) ≡ true
 whole_digits n lt = rw (lt-ltb 0 (length (decimal_text n)) (decimal_nonempty n lt), (spelled n lt).0) refl
-
--- ---- the decimals
 
 zeros_at_end : (ds : List ℕ) (k : ℕ) → length ds - suffix_len is_zero ds ≤ k → get_or ds k 48 ≡ 48
 zeros_at_end ds k le = elim (cases_lt k (length ds)) [
@@ -83,7 +81,6 @@ decimals_some n lt some = elim (cases_lt 0 (length (without_zeros (six_digits n)
 decimals_digits : (n : ℕ) → n < 1000000 → 0 < n → are_digits (without_zeros (six_digits n)) ≡ true
 decimals_digits n lt some = and_true (lt-ltb 0 (length (without_zeros (six_digits n))) (decimals_some n lt some)) (list_all-take is_ascii_digit (length (six_digits n) - suffix_len is_zero (six_digits n)) (six_digits n) (six_tests n lt))
 
--- the decimals of a canonical spelling
 abbrev fraction_of : ℕ → Option (List ℕ)
 fraction_of n = cond (eqb n 0) None (Some (without_zeros (six_digits n)))
 
@@ -99,12 +96,11 @@ fraction_of-digits n lt = elim (cases_Bool (eqb n 0)) [
   | inr some ↦ let d = decimals_digits n lt (ne_zero n (eqb-false n 0 some)) in rw some (search (rules, d))
 ]
 
--- ---- the whole
-
 signed_size : (v : ℤ) → signed (is_below_zero v) (nat_abs v) ≡ v
 signed_size (pos n) = refl
 signed_size (negsuc n) = refl
 
+-- the canonical spelling of a value of at most a trillion on either side spells it
 pub Spells-canonical : (v : ℤ) → nat_abs v ≤ greatest → Spells (canonical v) v
 Spells-canonical v fits =
     let n = nat_abs v in
@@ -121,5 +117,6 @@ Spells-canonical v fits =
       value = rw size (sym (signed_size v));
     }
 
+-- number_of gives back a value of at most a trillion on either side from its canonical spelling
 pub number_of-canonical : (v : ℤ) → nat_abs v ≤ greatest → number_of (canonical v) ≡ Some v
 number_of-canonical v fits = number_of-Spells (canonical v) v (Spells-canonical v fits)

@@ -1,4 +1,5 @@
--- What is written of a sound log is read back as that log.
+-- What is written of a sound log is read back as that log: its bytes are its lines, each with a line feed behind it and none within,
+-- and the lines are read one after another.
 use Rattle.std.proofs.Common.{◌≡◌, ℕ, Bool, true, false, List, [], ◌∷◌, ◌++◌, map, ℤ, refl, sym, ap, subst, ◌∙◌, append_assoc, arith, inl, inr}
 use Rattle.std.specs.List.{AllByRecursion, flat_map, list_any, slice_split, count_by}
 use Rattle.std.proofs.lemmas.Grind.{flat_map-append}
@@ -17,15 +18,11 @@ use Rattle.swf_text.proofs.Entries.{count-cons, count-append, any_counted}
 use Rattle.swf_text.proofs.Grammars.{none_has, exact_has}
 use Rattle.swf_text.proofs.Printed.{HasNoFeed, line_body, none_passes, job_read, comment_read, body_no_feed}
 
--- the lines of an entry, without their line feeds
 abbrev pub entry_lines : LogEntry → List (List ℕ)
 entry_lines entry = line_body entry.main ∷ map line_body entry.parts
 
--- the lines of a text, without their line feeds
 abbrev pub text_lines : LogText → List (List ℕ)
 text_lines text = text.comments ++ flat_map entry_lines text.entries
-
--- ---- the lines of joined lines
 
 abbrev fed : List ℕ → List ℕ
 fed line = line ++ 10 ∷ []
@@ -44,8 +41,6 @@ without_last (l ∷ ls) = more_parts l (ls ++ [] ∷ []) (omega (arith, length-a
 lines_joined : (ls : List (List ℕ)) → AllByRecursion HasNoFeed ls → lines (flat_map fed ls) ≡ ls
 lines_joined ls h = ap without_empty_end (split_joined ls h) ∙ without_last ls
 
--- ---- a text's bytes are its lines, each with a line feed
-
 line_fed : (vs : List ℤ) → line_text vs ≡ fed (line_body vs)
 line_fed [] = refl
 line_fed (v ∷ vs) = refl
@@ -63,10 +58,6 @@ jobs_fed (job ∷ jobs) =
 
 text_fed : (t : LogText) → text_bytes t ≡ flat_map fed (text_lines t)
 text_fed t = ap (λ (rest : List ℕ). flat_map comment_text t.comments ++ rest) (jobs_fed t.entries) ∙ sym (flat_map-append fed t.comments (flat_map entry_lines t.entries))
-
--- ---- the bytes of a spelling
-
--- ---- no line has a line feed
 
 all_joined : {X : Type 0} (P : X → Type 0) (xs ys : List X) → AllByRecursion P xs → AllByRecursion P ys → AllByRecursion P (xs ++ ys)
 all_joined P [] ys p q = q
@@ -88,8 +79,6 @@ comments_no_feed (c ∷ cs) h = (h.0.no_feed, comments_no_feed cs h.1)
 pub written_lines : (t : LogText) → AllByRecursion IsComment t.comments → AllByRecursion HasFields t.entries → lines (text_bytes t) ≡ text_lines t
 written_lines t c f =
     ap lines (text_fed t) ∙ lines_joined (text_lines t) (all_joined HasNoFeed t.comments (flat_map entry_lines t.entries) (comments_no_feed t.comments c) (jobs_no_feed t.entries f))
-
--- ---- line after line
 
 abbrev text_with : List (List ℕ) → List LogEntry → LogText
 text_with comments entries = record { comments = comments; entries = entries }

@@ -1,4 +1,4 @@
--- One walk over a good line.
+-- One walk over a good line, word after word: the values met and those of the words left are the values of the line.
 use Rattle.std.proofs.Common.{◌≡◌, ℕ, zero, suc, ◌+◌, ◌*◌, ◌<◌, ◌≤◌, Bool, true, false, eqb, ltb, ◌||◌, List, [], ◌∷◌, ◌++◌, length, get_or, take, drop, Option, Some, None, Ok, ℤ, refl, sym, ap, subst, ◌∙◌, append_assoc, arith, inl, inr}
 use Rattle.std.specs.Prelude.{IsTrue}
 use Rattle.std.specs.List.{list_all, list_any, prefix_len}
@@ -18,8 +18,6 @@ use Rattle.swf_text.proofs.Numbers.{and_first, sign_again, number_of-Spells}
 use Rattle.swf_text.proofs.Words.{onto, onto-value_then, fields-from_first, values_end, fields-end}
 use Rattle.swf_text.proofs.Plains.{is_plain, plain_no_blank, word_fields, spelling_plain, all_low}
 
--- ---- a word
-
 digits_tests : (ds : List ℕ) → list_all is_ascii_digit ds ≡ true → 0 < length ds → IsTrue (are_digits ds)
 digits_tests ds all some = let t : ltb 0 (length ds) ≡ true = lt-ltb 0 (length ds) some in rw (t, all) refl
 
@@ -33,6 +31,7 @@ module _ (bytes unsigned : List ℕ) (n : Bool) (count whole : ℕ) (sign : n �
   apart : bytes ≡ sign_text n ++ (take count unsigned ++ drop count unsigned)
   apart = sym (sign_again bytes) ∙ ap (λ (s : Bool). sign_text s ++ unsigned_text bytes) (sym sign) ∙ ap (λ (u : List ℕ). sign_text n ++ u) (sym body ∙ sym (take-append-drop count unsigned))
 
+  -- bytes that begin with digits, behind a `-` or not, and behind them end or go on with a blank, begin with a word that spells the whole number of the digits
   pub word_whole : (rest : List ℕ) (v : ℤ) → rest ≡ drop count unsigned → ends rest ≡ true → v ≡ signed n (1000000 * whole) → Word bytes v rest
   word_whole rest v is end v_is =
       let size : 1000000 * whole ≡ 1000000 * digits_value (take count unsigned) + 0 = omega (arith, exact) in
@@ -50,6 +49,7 @@ module _ (bytes unsigned : List ℕ) (n : Bool) (count whole : ℕ) (sign : n �
         end = end;
       }
 
+  -- bytes that begin with digits, behind a `-` or not, then a point and digits, and then end or go on with a blank, begin with a word that spells that number
   pub word_point : (fraction rest : List ℕ) (v : ℤ) → drop count unsigned ≡ 46 ∷ (fraction ++ rest) → list_all is_ascii_digit fraction ≡ true → 0 < length fraction → 1000000 * whole + millionths_of fraction ≤ greatest → ends rest ≡ true → v ≡ signed n (1000000 * whole + millionths_of fraction) → Word bytes v rest
   word_point fraction rest v is all more fits end v_is =
       let size : 1000000 * whole + millionths_of fraction ≡ 1000000 * digits_value (take count unsigned) + millionths_of fraction = ap (λ (k : ℕ). 1000000 * k + millionths_of fraction) (sym exact) in
@@ -75,7 +75,6 @@ digit_first bytes zero all some within = absurd (omega arith)
 digit_first [] (suc n) all some within = absurd (omega arith)
 digit_first (b ∷ bs) (suc n) all some within = digit_sign b (and_first _ _ all)
 
--- a word of digits
 pub word_digits : (bytes rest : List ℕ) (count whole : ℕ) (v : ℤ) → count ≤ length bytes → list_all is_ascii_digit (take count bytes) ≡ true → whole ≡ digits_value (take count bytes) → 0 < count → whole ≤ whole_limit → rest ≡ drop count bytes → ends rest ≡ true → v ≡ signed false (1000000 * whole) → Word bytes v rest
 word_digits bytes rest count whole v within digits value some small is end v_is =
     let first = digit_first bytes count digits some within in
@@ -88,7 +87,6 @@ word_unknown bytes digits rest sign digit end =
     let is : 45 ∷ 49 ∷ rest ≡ bytes = sym (sign ∙ ap (λ (l : List ℕ). 45 ∷ l) digit) in
     subst (λ (l : List ℕ). Word l (signed true 1000000) rest) is (word_whole (45 ∷ 49 ∷ rest) (49 ∷ rest) true 1 1 refl refl (omega arith) refl refl (omega arith) (omega arith) rest (signed true 1000000) refl end refl)
 
--- a space changes nothing of what follows the blanks
 front_space : (rest : List ℕ) → from_first (32 ∷ rest) ≡ from_first rest
 front_space rest =
     let count : prefix_len is_blank (32 ∷ rest) ≡ suc (prefix_len is_blank rest) = omega arith in
@@ -133,6 +131,7 @@ plain_front (b ∷ w) rest all some =
     let count : prefix_len is_blank (b ∷ (w ++ rest)) ≡ 0 = rw other refl in
     ap (λ (k : ℕ). drop k (b ∷ (w ++ rest))) count
 
+-- what follows the blanks at the front has none at its own front
 pub front_twice : (bytes : List ℕ) → from_first (from_first bytes) ≡ from_first bytes
 front_twice [] = refl
 front_twice (b ∷ bs) = elim (cases_Bool (is_blank b)) [
@@ -146,17 +145,15 @@ front_twice (b ∷ bs) = elim (cases_Bool (is_blank b)) [
       ap from_first same
 ]
 
--- a word behind blanks
 word_behind : (bytes front rest : List ℕ) (v : ℤ) → from_first front ≡ from_first bytes → Word front v rest → Word (from_first bytes) v rest
 word_behind bytes front rest v is h =
     let plain = spelling_plain h.word v h.spells in
     let kept : from_first front ≡ front = ap from_first h.is ∙ plain_front h.word rest plain.0 plain.1 ∙ sym h.is in
     subst (λ (l : List ℕ). Word l v rest) (sym kept ∙ is) h
 
+-- where two byte strings are the same behind the blanks at their front, the next word of the one stands behind the blanks of the other
 pub next_behind : (bytes front rest : List ℕ) (v : ℤ) → from_first front ≡ from_first bytes → NextWord front v rest → NextWord (from_first bytes) v rest
 next_behind bytes front rest v is h = record { after = h.after; word = word_behind bytes front h.after v is h.word; goes_on = h.goes_on }
-
--- ---- a line
 
 blank_low : (b : ℕ) → is_blank b ≡ true → is_high b ≡ false
 blank_low b h = grind (arith, common_steps)
@@ -191,6 +188,7 @@ IsMet line front place rest = record {
   read : onto front (values_from (place + 1) (fields rest)) ≡ values_from 1 (fields line);
 }
 
+-- where a word follows the values that a walk has met, its value is met too, and what is behind it is left
 pub walk_kept : (line : List ℕ) (front next : List ℤ) (place : ℕ) (rest behind : List ℕ) (v : ℤ) → IsMet line front place rest → next ≡ front ++ v ∷ [] → NextWord (from_first rest) v behind → IsMet line next (place + 1) behind
 unfolding values_from
 walk_kept line front next place rest behind v met next_is h =
@@ -206,10 +204,11 @@ walk_kept line front next place rest behind v met next_is h =
           ∙ met.read;
     }
 
--- the word at the beginning of what is left
+-- a word that the bytes begin with is their next word
 pub next_here : (bytes rest : List ℕ) (v : ℤ) → Word bytes v rest → NextWord bytes v rest
 next_here bytes rest v h = record { after = rest; word = h; goes_on = refl }
 
+-- where nothing but blanks is left after eighteen values, the line is read as a job line of these values
 pub walk_end : (line : List ℕ) (front values : List ℤ) (rest left : List ℕ) → IsMet line front 18 rest → front ≡ values → left ≡ from_first rest → length left ≡ 0 → job_line line ≡ job_of_values (Ok values)
 walk_end line front values rest left met whole is none =
     let nothing : from_first rest ≡ [] = sym is ∙ nil_from_length left none in

@@ -1,4 +1,4 @@
--- The words of a line, one after another.
+-- The words of a line, one after another, their values, and the loops that read eighteen of them or count them.
 use Rattle.std.proofs.Common.{◌≡◌, ℕ, suc, ◌+◌, ◌<◌, ◌≤◌, true, false, ltb, not, List, [], ◌∷◌, ◌++◌, length, get_or, take, drop, Option, Some, None, Result, Ok, Err, ℤ, refl, sym, ap, ◌∙◌, append_assoc, arith, inl, inr, add-one, add-zero, drop-cons, set, length-set}
 use Rattle.std.proofs.Math.Seq.{take-suc-set}
 use Rattle.std.proofs.Math.ListN.{drop_of_length-le, set}
@@ -14,6 +14,7 @@ use Rattle.swf_text.specs.Scan.{first_word, after_word}
 drop_next : (n b : ℕ) (bs : List ℕ) → drop (1 + n) (b ∷ bs) ≡ drop n bs
 drop_next n b bs = let e : 1 + n ≡ suc n = omega arith in ap (λ (k : ℕ). drop k (b ∷ bs)) e
 
+-- a blank at the front makes no word
 pub fields-blank : (b : ℕ) (bs : List ℕ) → is_blank b ≡ true → fields (b ∷ bs) ≡ fields bs
 fields-blank b bs blank = ap (filter is_filled) (slice_split-cons_yes is_blank b bs blank)
 
@@ -59,17 +60,17 @@ fields-word bs some front =
           ap (filter is_filled) alone ∙ filter-filled bs [] some ∙ rw (whole, rest) refl
     ]
 
--- ---- the words after each other
-
 front_is_no_blank : (bs : List ℕ) → 0 < length (from_first bs) → is_blank (get_or (from_first bs) 0 0) ≡ false
 front_is_no_blank bs some =
     let within : prefix_len is_blank bs < length bs = omega (arith, length-drop (prefix_len is_blank bs) bs) in
     let same : get_or (from_first bs) 0 0 ≡ get_or bs (prefix_len is_blank bs) 0 = get_or-drop (prefix_len is_blank bs) bs 0 0 ∙ ap (λ (k : ℕ). get_or bs k 0) (add-zero (prefix_len is_blank bs)) in
     ap is_blank same ∙ prefix_len_stops is_blank bs 0 within
 
+-- where a word is left, the words are the first one and those of what follows it
 pub fields-next : (bs : List ℕ) → 0 < length (from_first bs) → fields bs ≡ first_word bs ∷ fields (after_word bs)
 fields-next bs left = fields-from_first bs ∙ fields-word (from_first bs) left (front_is_no_blank bs left)
 
+-- bytes that are all blanks have no words
 pub fields-end : (bs : List ℕ) → length (from_first bs) ≡ 0 → fields bs ≡ []
 fields-end bs none = fields-from_first bs ∙ ap fields (nil_from_length (from_first bs) none)
 
@@ -83,13 +84,13 @@ word_left bs some = elim (cases_lt 0 (length (from_first bs))) [
       absurd (omega arith)
 ]
 
+-- where the first word is empty, no byte but blanks is left
 pub no_word_left : (bs : List ℕ) → length (first_word bs) ≡ 0 → length (from_first bs) ≡ 0
 no_word_left bs none = elim (cases_lt 0 (length (from_first bs))) [
   | inl lt ↦ absurd (omega (arith, length-before (from_first bs), word_some (from_first bs) lt (front_is_no_blank bs lt)))
   | inr le ↦ omega arith
 ]
 
--- a word shortens what is left
 pub after_word-shorter : (bs : List ℕ) → 0 < length (first_word bs) → length (after_word bs) < length bs
 after_word-shorter bs some =
     let left = word_left bs some in
@@ -101,13 +102,12 @@ left_from_fields bs some = elim (cases_lt 0 (length (from_first bs))) [
   | inr le ↦ absurd (omega (arith, ap length (fields-end bs (omega arith))))
 ]
 
--- ---- the values of the words
-
 -- values that stand in front
 abbrev pub onto : List ℤ → Result (List ℤ) ℕ → Result (List ℤ) ℕ
 onto front (Ok vs) = Ok (front ++ vs)
 onto front (Err place) = Err place
 
+-- values in front of a value and what follows it are these values and that one in front of what follows
 pub onto-value_then : (front : List ℤ) (place : ℕ) (v : ℤ) (r : Result (List ℤ) ℕ) → onto front (value_then place (Some v) r) ≡ onto (front ++ v ∷ []) r
 onto-value_then front place v (Ok vs) = ap Ok (sym (append_assoc front (v ∷ []) vs))
 onto-value_then front place v (Err other) = refl
@@ -125,16 +125,17 @@ values_stop front place rest some is =
     ap (λ (ws : List (List ℕ)). onto front (values_from place ws)) (fields-next rest (left_from_fields rest some))
     ∙ ap (λ (o : Option ℤ). onto front (value_then place o (values_from (place + 1) (fields (after_word rest))))) is
 
+-- where no word is left, the values are those in front
 pub values_end : (front : List ℤ) (place : ℕ) (rest : List ℕ) → length (fields rest) ≡ 0 → onto front (values_from place (fields rest)) ≡ Ok front
 unfolding values_from
 values_end front place rest none = ap (λ (ws : List (List ℕ)). onto front (values_from place ws)) (nil_from_length (fields rest) none) ∙ ap Ok (append-nil front)
 
--- ---- a loop over eighteen words
-
+-- where the next word is no number, the line's words give its place, counted from 1
 pub stop_is : (line : List ℕ) (values : List ℤ) (place : ℕ) (rest word : List ℕ) → place + length (fields rest) ≡ 18 → place < 18 → onto (take place values) (values_from (place + 1) (fields rest)) ≡ values_from 1 (fields line) → word ≡ first_word rest → number_of word ≡ None → Err (place + 1) ≡ values_from 1 (fields line)
 stop_is line values place rest word left more read is none =
     sym (values_stop (take place values) (place + 1) rest (omega arith) (ap number_of (sym is) ∙ none)) ∙ read
 
+-- where the next word is a number, and is written at its place, the values written and those of the words left are still eighteen and give the line's
 pub step_kept : (line : List ℕ) (values : List ℤ) (place : ℕ) (rest word after : List ℕ) (v : ℤ) → length values ≡ 18 → place + length (fields rest) ≡ 18 → place < 18 → onto (take place values) (values_from (place + 1) (fields rest)) ≡ values_from 1 (fields line) → word ≡ first_word rest → after ≡ after_word rest → number_of word ≡ Some v
     → record { sized : length (set values place v) ≡ 18; left : place + 1 + length (fields after) ≡ 18; read : onto (take (place + 1) (set values place v)) (values_from (place + 1 + 1) (fields after)) ≡ values_from 1 (fields line) }
 step_kept line values place rest word after v count left more read is rest_is some =
@@ -146,12 +147,12 @@ step_kept line values place rest word after v count left more read is rest_is so
       read = rw (written, rest_is) (sym (values_next (take place values) (place + 1) rest v (omega arith) (ap number_of (sym is) ∙ some)) ∙ read);
     }
 
+-- where eighteen words are behind, the values written are those of the line's words
 pub end_is : (line : List ℕ) (values : List ℤ) (place : ℕ) (rest : List ℕ) → length values ≡ 18 → place + length (fields rest) ≡ 18 → 18 ≤ place → onto (take place values) (values_from (place + 1) (fields rest)) ≡ values_from 1 (fields line) → Ok values ≡ values_from 1 (fields line)
 end_is line values place rest count left done read =
     ap Ok (sym (take_all place values (omega arith))) ∙ sym (values_end (take place values) (place + 1) rest (omega arith)) ∙ read
 
--- ---- a loop that counts words
-
+-- with one word more counted, the count and the words left are still the words of the line, and the count and the bytes left fit its bytes
 pub count_kept : (line rest word after : List ℕ) (count : ℕ) → count + length (fields rest) ≡ length (fields line) → count + length rest ≤ length line → word ≡ first_word rest → after ≡ after_word rest → 0 < length word
     → record { counted : count + 1 + length (fields after) ≡ length (fields line); within : count + 1 + length after ≤ length line }
 count_kept line rest word after count counted within is rest_is some =
@@ -161,8 +162,10 @@ count_kept line rest word after count counted within is rest_is some =
       within = omega (arith, after_word-shorter rest some', ap length rest_is);
     }
 
+-- where no word is left, the count is that of the words of the line
 pub count_is : (line rest word : List ℕ) (count : ℕ) → count + length (fields rest) ≡ length (fields line) → word ≡ first_word rest → length word ≡ 0 → count ≡ length (fields line)
 count_is line rest word count counted is none = omega (arith, ap length (fields-end rest (no_word_left rest (omega (arith, ap length is)))))
 
+-- what follows the first word, where there is one, is shorter than the bytes
 pub after_shorter : (rest word after : List ℕ) → word ≡ first_word rest → after ≡ after_word rest → 0 < length word → length after < length rest
 after_shorter rest word after is rest_is some = omega (arith, ap length rest_is, after_word-shorter rest (omega (arith, ap length is)))

@@ -1,4 +1,5 @@
--- What is written, part after part.
+-- What is written, part after part: the texts of the parts up to one of them, a failure in one of them, and a fact that holds of each part
+-- that was written.
 use Rattle.std.proofs.Common.{◌≡◌, ℕ, zero, suc, ◌+◌, ◌<◌, ◌≤◌, List, [], ◌∷◌, ◌++◌, length, get_or, take, drop, map, min, Option, Result, Ok, Err, ℤ, pos, refl, sym, ap, subst, ◌∙◌, append_assoc, arith}
 use Rattle.std.specs.Prelude.{nat_abs}
 use Rattle.std.specs.List.{flat_map, AllByRecursion}
@@ -28,11 +29,11 @@ front_more a b xs ys q =
 pub front_after : (a b c : Option (List ℕ)) (xs ys : List ℕ) → Appends a b xs → (n : ℕ) × Appends b c (take n ys) → (n : ℕ) × Appends a c (take n (xs ++ ys))
 front_after a b c xs ys p q = (length xs + q.0, subst (Appends a c) (sym (take-append-add xs ys q.0)) (Appends-trans a b c xs (take q.0 ys) p q.1))
 
+-- what is written after bytes that were appended is written together with them
 pub writes_then : {X E : Type 0} (r : Result X E) (a b c : Option (List ℕ)) (xs ys : List ℕ) → Appends a b xs → Writes r b c ys → Writes r a c (xs ++ ys)
 writes_then (Ok x) a b c xs ys p q = Appends-trans a b c xs ys p q
 writes_then (Err e) a b c xs ys p q = front_after a b c xs ys p q
 
--- the texts of a list of parts, up to one of them
 module _ {X Y : Type 0} (f : Y → List ℕ) (v : X → Y) where
   pub texts_more : (xs : List X) (i : ℕ) (d : X) → i < length xs → flat_map f (map v (take (i + 1) xs)) ≡ flat_map f (map v (take i xs)) ++ f (v (get_or xs i d))
   texts_more xs i d lt = ap (λ (l : List X). flat_map f (map v l)) (take_more xs i d lt) ∙ ap (flat_map f) (map-append v (take i xs) (get_or xs i d ∷ [])) ∙ sym (flat_map_more f [] (map v (take i xs)) (v (get_or xs i d)))
@@ -42,7 +43,6 @@ module _ {X Y : Type 0} (f : Y → List ℕ) (v : X → Y) where
   texts_front (x ∷ xs) zero d lt = refl
   texts_front (x ∷ xs) (suc i) d lt = ap (λ (l : List ℕ). f (v x) ++ l) (texts_front xs i d (omega arith)) ∙ sym (append_assoc (f (v x)) (flat_map f (map v (take i xs))) _)
 
-  -- a failure in one part
   pub texts_stop : (a b c : Option (List ℕ)) (front back : List ℕ) (xs : List X) (i : ℕ) (d : X) → i < length xs → Appends a b (front ++ flat_map f (map v (take i xs))) → (n : ℕ) × Appends b c (take n (f (v (get_or xs i d)))) → (n : ℕ) × Appends a c (take n (front ++ (flat_map f (map v xs) ++ back)))
   texts_stop a b c front back xs i d lt p q =
       let done = front ++ flat_map f (map v (take i xs)) in
@@ -66,13 +66,11 @@ module _ {X Y : Type 0} (f : Y → List ℕ) (v : X → Y) where
       append_assoc front (flat_map f (map v (take i xs))) (f (v (get_or xs i x))) ∙ ap (λ (l : List ℕ). front ++ l) (sym (texts_more xs i x lt)) in
       subst (Appends a c) whole (Appends-trans a b c (front ++ flat_map f (map v (take i xs))) (f (v (get_or xs i x))) p part)
 
--- ---- a fact on the parts that were written
-
 all_end : {X : Type 0} (P : X → Type 0) (xs : List X) (x : X) → AllByRecursion P xs → P x → AllByRecursion P (xs ++ x ∷ [])
 all_end P [] x h p = (p, tt)
 all_end P (y ∷ ys) x h p = (h.0, all_end P ys x h.1 p)
 
--- one part more
+-- a fact on the first i parts and on the next one holds of the first i + 1
 pub all_more : {X Y : Type 0} (P : Y → Type 0) (v : X → Y) (xs : List X) (i : ℕ) (d : X) → i < length xs → AllByRecursion P (map v (take i xs)) → P (v (get_or xs i d)) → AllByRecursion P (map v (take (i + 1) xs))
 all_more P v xs i d lt h p =
     let e : map v (take (i + 1) xs) ≡ map v (take i xs) ++ v (get_or xs i d) ∷ [] = ap (map v) (take_more xs i d lt) ∙ map-append v (take i xs) (get_or xs i d ∷ []) in
@@ -93,13 +91,15 @@ fields_within (v ∷ vs) others i count is done first rest = record {
   within = (first, subst (AllByRecursion (λ (z : ℤ). nat_abs z ≤ greatest)) is (all_same (λ (z : ℤ). nat_abs z ≤ greatest) others (all_whole (λ (z : ℤ). nat_abs z ≤ greatest) (λ (z : ℤ). z) others i done rest)));
 }
 
--- all parts
+-- a fact on each of the first i parts, where there are no more, holds of all
 pub all_read : {X : Type 0} (P : X → Type 0) (xs ys : List X) (i : ℕ) → length xs ≤ i → xs ≡ ys → AllByRecursion P (map (λ x. x) (take i xs)) → AllByRecursion P ys
 all_read P xs ys i le is h = subst (AllByRecursion P) is (all_same P xs (all_whole P (λ x. x) xs i le h))
 
+-- a list with each element mapped to itself is the list
 pub map_same : {X : Type 0} (xs : List X) → map (λ x. x) xs ≡ xs
 map_same [] = refl
 map_same {X = X} (x ∷ xs) = ap (λ (l : List X). x ∷ l) (map_same xs)
 
+-- the first i elements of a list, each mapped to itself, are the list, where it has no more
 pub map_whole : {X : Type 0} (xs : List X) (i : ℕ) → length xs ≤ i → map (λ x. x) (take i xs) ≡ xs
 map_whole xs i le = map_same (take i xs) ∙ take_all i xs le

@@ -1,4 +1,5 @@
 -- From one second up to another, who stands before a second follows from who stood before the first, who comes, and the starts.
+-- It is shown number by number, of who waits and of who runs, and then of the whole lists.
 use Rattle.std.proofs.Common.{◌≡◌, ℕ, ◌+◌, ◌-◌, ◌≤◌, ◌<◌, Bool, true, false, cond, ◌&&◌, nat_eq, nat_le, nat_lt, List, [], ◌∷◌, ◌++◌, map, filter, Option, Some, None, All, refl, sym, ap, ◌∙◌, arith, subst, inl, ⊎_elim}
 use Rattle.std.specs.Prelude.{is_none}
 use Rattle.std.specs.Option.{option_and_then, option_map, option_or}
@@ -30,8 +31,6 @@ use Rattle.timeline.proofs.Closed.{in-rows, runs-here, states-follow-from-starts
 use Rattle.timeline.proofs.Places.{IsAt, behind-first, within-first, neither, standing-map}
 use Rattle.timeline.proofs.Stretched.{is-at, later-starts-tell, number_in, numbers-by_number, of-number, waits-by-start}
 
--- ---- counts
--- those who pass one test and those who pass another, where nobody passes both
 filters-apart : {X : Type 0} (f : X → ℕ) (n : ℕ) (p q : X → Bool) (xs : List X) → ((x : X) → p x ≡ true → q x ≡ false) → many f n (filter p xs) + many f n (filter q xs) ≤ many f n xs
 filters-apart f n p q [] h = omega arith
 filters-apart {X = X} f n p q (x ∷ xs) h = go (p x) (q x) (h x) (filters-apart f n p q xs h)
@@ -54,7 +53,6 @@ filters-apart {X = X} f n p q (x ∷ xs) h = go (p x) (q x) (h x) (filters-apart
 many-append : {X : Type 0} (f : X → ℕ) (n : ℕ) (xs ys : List X) → many f n (xs ++ ys) ≡ many f n xs + many f n ys
 many-append f n xs ys = sum_by-append (λ y. cond {A = ℕ} (nat_eq (f y) n) 1 0) xs ys
 
--- a number starts once at most before each second
 once-started : (plan : Plan) (u n : ℕ) → IsPlan plan → starts_of n (starts_before plan u) ≤ 1
 once-started plan u n p =
     let b = bound plan + 1 in
@@ -76,11 +74,9 @@ once-started plan u n p =
     omega (arith, all, one, k))
     (cases_lt u b)
 
--- ---- who waits, of one number
 abbrev coming : ℕ → ℕ → EffectiveJob → Bool
 coming a u j = nat_le a j.submit && nat_lt j.submit u
 
--- it waits before second t, by its start in the stretch
 abbrev waits_by : ℕ → Option ℕ → EffectiveJob → Bool
 waits_by t start j = is_none (start_by t start) && nat_lt j.submit t
 
@@ -98,7 +94,6 @@ is-coming a u j l m = go (nat_le a j.submit) (nat_lt j.submit u) (le-leb a j.sub
     go true c e f = f
     go false c e f = e
 
--- who waited before a, or comes
 before-or-coming : (a u : ℕ) (j : EffectiveJob) → j.submit < u → option_or (cond (nat_lt j.submit a) (Some j) None) (cond (coming a u j) (Some j) None) ≡ Some j
 before-or-coming a u j l =
     ⊎_elim
@@ -113,7 +108,6 @@ neither-yet a u j l m =
     ap (λ z. option_or z (cond (coming a u j) (Some j) None)) (cond-false (nat_lt j.submit a) (Some j) None (le-ltb j.submit a (omega (arith, l, m))))
     ∙ cond-false (coming a u j) (Some j) None (neither (nat_le a j.submit) (nat_lt j.submit u) (le-ltb j.submit u m))
 
--- of its job in the plan, its start before a, that in the stretch and that before t; who waits and runs under it before a and before t
 waits-one : (t a u : ℕ) (o : Option EffectiveJob) (first then now : Option ℕ) (w w' : Option EffectiveJob) (r r' : Option Placed) (test : EffectiveJob → Bool)
     → a ≤ t → t ≤ u → now ≡ start_by t (option_or first then) → Stands a o first w r → Stands t o now w' r' → ((j : EffectiveJob) → o ≡ Some j → test j ≡ waits_by t then j)
     → w' ≡ kept test (option_or w (kept (coming a u) o))
@@ -139,8 +133,6 @@ waits-one t a u (Some j) None then now w w' r r' test l m e h k tests =
     ∙ sym (here ∙ ap (kept test) (neither-yet a u j (omega (arith, l, m)) x)))
     (cases_lt j.submit u)
 
--- ---- who runs, of one number
--- the job with its start, if there is one
 abbrev placed_at : Option EffectiveJob → Option ℕ → Option Placed
 placed_at o None = None
 placed_at o (Some s) = option_map (λ job. record { job = job; start = s }) o
@@ -149,7 +141,6 @@ nobody-placed : (start : Option ℕ) → placed_at None start ≡ None
 nobody-placed None = refl
 nobody-placed (Some s) = refl
 
--- it has started before second t, and ends at it or later
 abbrev lasts_at : ℕ → Placed → Bool
 lasts_at t r = nat_lt r.start t && nat_le t (r.start + r.job.length)
 
@@ -192,7 +183,6 @@ not-running : (t : ℕ) (o : Option EffectiveJob) (w : Option EffectiveJob) (r :
 not-running t None w r h = h.2
 not-running t (Some j) w r h = h.1
 
--- ---- the jobs of starts
 abbrev start_number : Start → ℕ
 start_number x = x.number
 
@@ -214,7 +204,6 @@ placed-found : (jobs : List EffectiveJob) (n : ℕ) (o : Option Start) → ((x :
 placed-found jobs n None h = refl
 placed-found jobs n (Some x) h = ap (λ m. option_map (λ job. (let y : Placed = record { job = job; start = x.at } in y)) (job_numbered jobs m)) (h x refl)
 
--- ---- all numbers
 module _ (plan : Plan) (starts : List Start) (t a u : ℕ) (p : IsPlan plan) (l : a ≤ t) (m : t ≤ u) (split : starts_before plan u ≡ starts_before plan a ++ starts) where
   outcome : (n : ℕ) → known_start plan t n ≡ start_by t (option_or (known_start plan a n) (start_of starts n))
   outcome n = later-starts-tell plan t u m n ∙ ap (start_by t) (ap (λ xs. start_of xs n) split ∙ start-append n (starts_before plan a) starts)
@@ -226,7 +215,6 @@ module _ (plan : Plan) (starts : List Start) (t a u : ℕ) (p : IsPlan plan) (l 
       let parts = sum_by-append (λ (x : Start). cond {A = ℕ} (nat_eq x.number n) 1 0) (starts_before plan a) starts in
       omega (arith, o, k, parts)
 
-  -- who has started before a starts no more
   no-other : (n s : ℕ) → known_start plan a n ≡ Some s → starts_of n starts ≡ 0
   no-other n s e =
       let o = once-in-all n in
@@ -326,7 +314,7 @@ module _ (plan : Plan) (starts : List Start) (t a u : ℕ) (p : IsPlan plan) (l 
       )
       ))
 
--- ---- what stands at a place
+-- the waiting numbers before a second from a to u stand at its place of the stretches of who waits before a or comes before u, by the starts made there
 pub waiting-stand-in-a-stretch : WaitingStandInAStretch
 waiting-stand-in-a-stretch plan seconds starts place t a u p rising e l m split =
     let at = is-at seconds place t rising e in
@@ -340,6 +328,7 @@ runs-at seconds place t r at =
     let e = r.start + r.job.length in
     ap (λ b. b && nat_lt place (place_after seconds e)) (behind-first seconds place t r.start at) ∙ ap (λ b. nat_lt r.start t && b) (within-first seconds place t e at)
 
+-- the running numbers before such a second, by number, stand at its place of the stretches of who runs before a or is started there
 pub running-stand-in-a-stretch : RunningStandInAStretch
 running-stand-in-a-stretch plan seconds starts place t a u p rising e l m split =
     let at = is-at seconds place t rising e in

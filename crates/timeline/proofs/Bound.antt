@@ -1,4 +1,5 @@
--- Who waits or runs has work left, and a machine with work left works.
+-- Who waits or runs has work left, and a machine with work left works: each second takes a second off each running job,
+-- so by the bound all jobs have ended.
 use Rattle.std.proofs.Common.{◌≡◌, ℕ, zero, suc, ◌+◌, ◌-◌, ◌^◌, ◌≤◌, ◌<◌, Bool, true, false, cond, not, nat_eq, nat_lt, List, [], ◌∷◌, length, max, Some, All, sum_by, filter, refl, sym, ◌∙◌, ap, arith, subst, ⊎_elim}
 use Rattle.std.proofs.lemmas.List.Sums.{sum_by-cons, sum_by-append, sum_by-le-sum_by}
 use Rattle.std.proofs.lemmas.List.Elements.{All-head, All-tail, All-nil, All-cons, All-weaker}
@@ -18,18 +19,15 @@ use Rattle.timeline.proofs.Short.{short-plan}
 use Rattle.timeline.proofs.Facts.{IsRun, run-started, run-ready, run-before}
 use Rattle.timeline.proofs.Rest.{submits-by, empty-is, rests}
 
--- the seconds that a running job has left from t on, t among them, though it may end at its start
 abbrev left_from : ℕ → Placed → ℕ
 left_from t r = suc (real_end r) - t
 
--- the seconds of a job that comes at t or later
 abbrev to_come : ℕ → EffectiveJob → ℕ
 to_come t j = cond (nat_lt j.submit t) 0 j.length
 
 abbrev load : Plan → State → ℕ → ℕ
 load plan s t = sum_by (λ j. j.length) s.waiting + sum_by (left_from t) s.running + sum_by (to_come t) plan.jobs
 
--- each running job works
 load-ended : (t : ℕ) (rs : List Placed) → All (λ r. t ≤ real_end r) rs → sum_by (left_from (suc t)) (filter (λ r. not (nat_eq (real_end r) t)) rs) + length rs ≤ sum_by (left_from t) rs
 load-ended t [] a = omega arith
 load-ended t (r ∷ rs) a =
@@ -43,7 +41,6 @@ load-ended t (r ∷ rs) a =
     rw (ne_eqb (real_end r) t h) (omega (arith, l, i, e, f)))
     (cases_eq (real_end r) t)
 
--- who comes waits
 load-arrived : (t : ℕ) (js : List EffectiveJob) → sum_by (λ j. j.length) (filter (λ j. nat_eq j.submit t) js) + sum_by (to_come (suc t)) js ≤ sum_by (to_come t) js
 load-arrived t [] = omega arith
 load-arrived t (j ∷ js) =
@@ -87,7 +84,6 @@ load-second plan s t small p r =
     (λ z job e h. (run-started plan t small z job e h.0, (let k = load-started plan z t job h.0.sound e in let l = h.1 in omega (arith, k, l))))
     (length (ready plan s t).waiting) (ready plan s t) (run-ready plan s t p r, load-ready plan s t r.lasting)).1
 
--- where nobody runs, nobody waits
 queue-empties : (plan : Plan) (t : ℕ) → IsSound (before plan t) → (before plan t).running ≡ [] → (before plan t).waiting ≡ []
 unfolding before
 queue-empties plan zero h e = refl
@@ -109,7 +105,6 @@ to-come-le t js = sum_by-le-sum_by (to_come t) (λ (j : EffectiveJob). j.length)
     one true n = omega arith
     one false n = omega arith
 
--- what is left fits before the bound
 load-before : (plan : Plan) (t : ℕ) → t ≤ 2 ^ 49 → IsPlan plan → load plan (before plan t) t ≤ suc (bound plan) - max t (suc (last_submit plan.jobs))
 unfolding before
 load-before plan zero small p = omega (arith, to-come-le 0 plan.jobs)
@@ -144,7 +139,6 @@ no-sum : {X : Type 0} (f : X → ℕ) (xs : List X) → All (λ x. 1 ≤ f x) xs
 no-sum f [] a l = refl
 no-sum f (x ∷ xs) a l = absurd (omega (arith, sum_by-cons f x xs, All-head (λ x. 1 ≤ f x) x xs a, l))
 
--- the state of a second after the bound, within the limit of seconds
 ended-at : (plan : Plan) (t : ℕ) → t ≤ 2 ^ 49 → IsPlan plan → bound plan < t → before plan t ≡ empty plan.procs plan.order
 ended-at plan t small p past =
     let s = before plan t in
@@ -154,6 +148,7 @@ ended-at plan t small p past =
     let none-runs : s.running ≡ [] = no-sum (left_from t) s.running (All-weaker (λ r. t ≤ real_end r) (λ r. 1 ≤ left_from t r) (λ r h. omega arith) s.running run.lasting) (omega (arith, l, past)) in
     empty-is s none-waits none-runs ∙ ap (λ m. empty m s.order) run.procs ∙ ap (λ o. empty plan.procs o) run.order
 
+-- after the bound nobody waits or runs
 pub all-have-ended : AllHaveEnded
 all-have-ended plan t p past =
     let b = suc (bound plan) in
@@ -162,6 +157,7 @@ all-have-ended plan t p past =
     let at-b : before plan b ≡ empty plan.procs plan.order = ended-at plan b (let k = short-plan plan p in omega (arith, k)) p (omega arith) in
     ap (before plan) (sym whole) ∙ (rests plan b n plan.procs plan.order (omega arith) at-b).0
 
+-- who runs before a second ends by the bound
 pub all-end-by-the-bound : AllEndByTheBound
 all-end-by-the-bound plan t p =
     ⊎_elim

@@ -1,4 +1,5 @@
--- The state before each second has its closed form.
+-- The state before each second has its closed form, by submit seconds and starts: its lists stand in order, and in them each number finds
+-- what it should.
 use Rattle.std.proofs.Common.{◌≡◌, ℕ, zero, suc, ◌+◌, ◌-◌, ◌≤◌, ◌<◌, ◌⊎◌, Bool, true, false, cond, not, ◌&&◌, nat_eq, nat_lt, nat_le, List, [], ◌∷◌, ◌++◌, length, Option, Some, None, All, find, filter, refl, sym, ◌∙◌, ap, arith, subst, inl, inr, ⊎_elim}
 use Rattle.std.specs.Prelude.{is_none, ◌↔◌, IfSome, IsSomeAnd}
 use Rattle.std.specs.List.{filter_map}
@@ -27,8 +28,6 @@ use Rattle.timeline.proofs.Lookups.{look, many, job_of, job_in, kept, look-has, 
 use Rattle.timeline.proofs.Rows.{Rises, Ahead, NotAbove, rises-filter, rises-append, rises-without, rises-placed, rises-by_number, rises-jobs, ahead-once, above-once, same-rows}
 use Rattle.timeline.proofs.Standing.{Stands, stands-in}
 
--- ---- what a state keeps from second to second
--- its machine and order are the plan's, its jobs came before it and stand in order of arrival, and the running ones rise by number
 pub record InRows (plan : Plan) (t : ℕ) (s : State) : Type 0 where
   pub procs : s.procs ≡ plan.procs
   pub order : s.order ≡ plan.order
@@ -43,6 +42,7 @@ all-pass (j ∷ js) t =
     (λ y. All-cons (λ (j : EffectiveJob). j.submit ≡ t) j (filter (λ (j : EffectiveJob). nat_eq j.submit t) js) (eqb-true j.submit t y) (all-pass js t))
     (λ y. all-pass js t)
 
+-- before second t machine and order are the plan's, the waiting jobs came before t and stand in order of arrival, and the running ones do not fall by number
 pub in-rows : (plan : Plan) (t : ℕ) → IsPlan plan → InRows plan t (before plan t)
 unfolding before
 in-rows plan zero p = record { procs = refl; order = refl; came = All-nil (λ (j : EffectiveJob). j.submit < 0); waiting = tt; running = tt }
@@ -77,18 +77,18 @@ in-rows plan (suc t) p =
       running = rises-filter NotAbove keeps s.running i.running;
     })
 
--- ---- who waits
--- a number's job waits where it stands so
 abbrev pub waits : ℕ → Option EffectiveJob → Option ℕ → Option EffectiveJob
 waits t None start = None
 waits t (Some j) None = cond (nat_lt j.submit t) (Some j) None
 waits t (Some j) (Some start) = None
 
+-- where a number stands so before t, its job waits if it is submitted before t and has no start, and otherwise nobody
 pub waits-here : (t : ℕ) (o : Option EffectiveJob) (start : Option ℕ) (w : Option EffectiveJob) (r : Option Placed) → Stands t o start w r → w ≡ waits t o start
 waits-here t None start w r h = h.1
 waits-here t (Some j) None w r h = h.0
 waits-here t (Some j) (Some start) w r h = h.2
 
+-- a job waits before t just where it has no start and is submitted before t
 pub waits-by : (t : ℕ) (j : EffectiveJob) (start : Option ℕ) → cond (is_none start && nat_lt j.submit t) (Some j) None ≡ waits t (Some j) start
 waits-by t j None = refl
 waits-by t j (Some start) = refl
@@ -109,11 +109,11 @@ waiting-is plan t p =
     waits-here t (job_numbered plan.jobs n) (known_start plan t n) (look job_of n s.waiting) (look job_in n s.running) (stands-in plan n t p)
     ∙ sym (look-filter job_of n test plan.jobs (p.once n) ∙ waits-is plan n t (job_numbered plan.jobs n) refl))
 
--- ---- who runs
 abbrev pub runs : ℕ → Option EffectiveJob → Option ℕ → Option Placed
 runs t None start = None
 runs t (Some j) start = lasting t j start
 
+-- where a number stands so before t, its job runs if it has a start and ends at t or later, and otherwise nobody
 pub runs-here : (t : ℕ) (o : Option EffectiveJob) (start : Option ℕ) (w : Option EffectiveJob) (r : Option Placed) → Stands t o start w r → r ≡ runs t o start
 runs-here t None start w r h = h.2
 runs-here t (Some j) None w r h = h.1
@@ -149,18 +149,16 @@ running-is plan t p =
     runs-here t (job_numbered plan.jobs n) (known_start plan t n) (look job_of n s.waiting) (look job_in n s.running) (stands-in plan n t p)
     ∙ sym (look-by_number n rs (few n) ∙ look-filter_map job_of job_in g n plan.jobs same (p.once n) ∙ runs-is plan n t (job_numbered plan.jobs n) refl))
 
--- ---- both
 made-of : (s : State) (m : ℕ) (o : Order) (js : List EffectiveJob) (rs : List Placed) → s.procs ≡ m → s.order ≡ o → s.waiting ≡ js → s.running ≡ rs
     → s ≡ (let z : State = record { procs = m; order = o; waiting = js; running = rs } in z)
 made-of s m o js rs a b c d = λ i. record { procs = a i; order = b i; waiting = c i; running = d i }
 
+-- the state before each second follows from submit seconds and starts
 pub states-follow-from-starts : StatesFollowFromStarts
 states-follow-from-starts plan t p =
     let rows = in-rows plan t p in
     made-of (before plan t) plan.procs plan.order (filter (waits_before plan t) plan.jobs) (by_number (filter_map (runs_before plan t) plan.jobs)) rows.procs rows.order (waiting-is plan t p) (running-is plan t p)
 
--- ---- who waits or runs
--- a number's job is submitted before t, and has not ended before it
 abbrev Lasts : ℕ → Option EffectiveJob → Option ℕ → Type 0
 Lasts t o start = IsSomeAnd o (λ j. (j.submit < t) × IfSome start (λ s. t ≤ s + j.length))
 
@@ -188,6 +186,7 @@ there-lasts t (Some j) (Some s) w r h some =
     (λ (y : t ≤ e). ((let z : j.submit < t = omega (arith, l, m) in z), y))
     (cases_lt e t)
 
+-- a number waits or runs before t where, and only where, its job is submitted before t and has not ended before it
 pub numbers-stand-until-they-end : NumbersStandUntilTheyEnd
 numbers-stand-until-they-end plan t n p =
     let s = before plan t in
@@ -205,8 +204,6 @@ numbers-stand-until-they-end plan t n p =
           (lasts-there t o start w r here k)),
     )
 
--- ---- starts
--- the second of a start that is found
 start-found : (n : ℕ) (xs : List Start) (a : ℕ) → start_of xs n ≡ Some a → (x : Start) × (find (λ (y : Start). nat_eq y.number n) xs ≡ Some x) × (x.at ≡ a)
 start-found n xs a e = go (find (λ (y : Start). nat_eq y.number n) xs) refl e
   where
@@ -214,12 +211,13 @@ start-found n xs a e = go (find (λ (y : Start). nat_eq y.number n) xs) refl e
     go None f h = absurd (let k : None ≡ Some a = h in cc)
     go (Some x) f h = (x, f, (let k : Some x.at ≡ Some a = h in let same : x.at ≡ a = cc in same))
 
+-- what holds of the seconds of all these starts holds of the second of a number's
 pub start-all : (P : ℕ → Type 0) (n : ℕ) (xs : List Start) (a : ℕ) → All (λ (x : Start). P x.at) xs → start_of xs n ≡ Some a → P a
 start-all P n xs a all e =
     let f = start-found n xs a e in
     subst P f.2 (All-find (λ (x : Start). P x.at) (λ (y : Start). nat_eq y.number n) xs f.0 f.1 all)
 
--- what is added behind comes no earlier
+-- of a start before t and one from t on, either of which may be missing, the first that is there comes before t just where it is the former
 pub final : (a b o : Option ℕ) (t start : ℕ) → o ≡ option_or a b → ((u : ℕ) → a ≡ Some u → u < t) → ((u : ℕ) → b ≡ Some u → t ≤ u) → (a ≡ Some start) ↔ ((o ≡ Some start) × (start < t))
 final None b o t start e f g = (
   (λ h. absurd (let k : None ≡ Some start = h in cc)),
@@ -227,6 +225,7 @@ final None b o t start e f g = (
 )
 final (Some u) b o t start e f g = ((λ h. (e ∙ h, f start h)), (λ (h, l). sym e ∙ h))
 
+-- the start of a number before t is its start in the whole simulation, where that comes before t
 pub starts-are-final : StartsAreFinal
 starts-are-final plan t n start p =
     let b = bound plan + 1 in

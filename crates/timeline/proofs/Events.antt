@@ -7,6 +7,7 @@ use Rattle.timeline.specs.Laws.{EventsEndByTheBound}
 use Rattle.timeline.proofs.Rest.{submitted-none}
 use Rattle.timeline.proofs.Bound.{all-end-by-the-bound}
 
+-- each event second comes by the bound
 pub events-end-by-the-bound : EventsEndByTheBound
 events-end-by-the-bound plan t p (inl come) =
     ⊎_elim

@@ -1,4 +1,4 @@
--- What is true of the state before each second.
+-- What is true of the state before each second: it is sound, nobody runs past his end, and its numbers are those of jobs that have come.
 use Rattle.std.proofs.Common.{◌≡◌, ℕ, zero, suc, ◌+◌, ◌≤◌, ◌<◌, Bool, true, false, cond, not, ◌&&◌, nat_eq, nat_lt, List, [], ◌∷◌, ◌++◌, add-one, length, take, get_or, Some, All, ◌^◌, count_by, sum_by, filter, refl, sym, ◌∙◌, ap, arith, subst, ⊎_elim}
 use Rattle.std.proofs.lemmas.List.Sums.{sum_by-cons, sum_by_push, sum_by-append, sum_by-take-le, sum_by-le-sum_by}
 use Rattle.std.proofs.lemmas.List.{take_all}
@@ -15,11 +15,11 @@ use Rattle.scenarios.specs.Plan.{Plan}
 use Rattle.easy_rule.specs.Simulation.{starts_before, starts_in, before, second, submitted, ready, ended, joined}
 use Rattle.scenarios.specs.SoundPlan.{IsPlan}
 
--- the plan's jobs of this number that have arrived before t
 abbrev pub known : Plan → ℕ → ℕ → ℕ
 known plan t n = count_by (λ j. nat_eq j.number n && nat_lt j.submit t) plan.jobs
 
--- what is true of a state before second t
+-- what is true of a state before second t: it is sound, its machine and order are the plan's, its running jobs end at t or later,
+-- and no number is held more often than by jobs that came before t
 pub record IsRun (plan : Plan) (s : State) (t : ℕ) : Type 0 where
   pub sound : IsSound s
   pub procs : s.procs ≡ plan.procs
@@ -27,12 +27,12 @@ pub record IsRun (plan : Plan) (s : State) (t : ℕ) : Type 0 where
   pub lasting : All (λ r. t ≤ real_end r) s.running
   pub held : (n : ℕ) → holders s n ≤ known plan t n
 
--- the two ways to say who leaves agree
 pub filters-agree : {X : Type 0} (p q : X → Bool) (P : X → Type 0) (xs : List X) → ((x : X) → P x → p x ≡ q x) → All P xs → filter p xs ≡ filter q xs
 filters-agree p q P [] h a = refl
 filters-agree p q P (x ∷ xs) h a =
     ap (λ b. cond b (x ∷ filter p xs) (filter p xs)) (h x (All-head P x xs a)) ∙ ap (λ l. cond (q x) (x ∷ l) l) (filters-agree p q P xs h (All-tail P x xs a))
 
+-- where all running jobs end at t or later, those that end by t are those that end at t
 pub ended-is : (s : State) (t : ℕ) → All (λ r. t ≤ real_end r) s.running → ended_until s t ≡ ended s t
 ended-is s t a =
     ap (λ (rs : List Placed). let z : State = record { procs = s.procs; order = s.order; waiting = s.waiting; running = rs } in z)
@@ -43,7 +43,7 @@ ended-is s t a =
     (cases_eq (real_end r) t))
     a)
 
--- counts of parts
+-- to count in a filtered list is to count those that pass both tests
 pub count-filter : {X : Type 0} (p q : X → Bool) (xs : List X) → count_by p (filter q xs) ≡ count_by (λ x. p x && q x) xs
 count-filter p q [] = refl
 count-filter p q (x ∷ xs) =
@@ -73,7 +73,6 @@ pub sums-le : {X : Type 0} (f g h : X → ℕ) (xs : List X) → ((x : X) → f 
 sums-le f g h [] l = omega arith
 sums-le f g h (x ∷ xs) l = omega (arith, sum_by-cons f x xs, sum_by-cons g x xs, sum_by-cons h x xs, l x, sums-le f g h xs l)
 
--- of the arrived ones and those of second t, with some looked at
 pub known-more : (js : List EffectiveJob) (t n k : ℕ) → count_by (λ (j : EffectiveJob). nat_eq j.number n && nat_lt j.submit t) js + count_by (λ (j : EffectiveJob). nat_eq j.number n) (filter (λ (j : EffectiveJob). nat_eq j.submit t) (take k js)) ≤ count_by (λ (j : EffectiveJob). nat_eq j.number n && nat_lt j.submit (suc t)) js
 known-more js t n k =
     let f : EffectiveJob → ℕ = λ j. cond (nat_eq j.number n && nat_lt j.submit t) 1 0 in
@@ -97,7 +96,6 @@ known-more js t n k =
         (cases_eq u t))
         (cases_lt u t)
 
--- all of this number
 pub known-le : (plan : Plan) (t n : ℕ) → known plan t n ≤ count_by (λ j. nat_eq j.number n) plan.jobs
 known-le plan t n = sum_by-le-sum_by (λ (j : EffectiveJob). cond (nat_eq j.number n && nat_lt j.submit t) 1 0) (λ (j : EffectiveJob). cond (nat_eq j.number n) 1 0) plan.jobs (λ j. one (nat_eq j.number n) (nat_lt j.submit t))
   where
@@ -106,7 +104,6 @@ known-le plan t n = sum_by-le-sum_by (λ (j : EffectiveJob). cond (nat_eq j.numb
     one true false = omega arith
     one false d = omega arith
 
--- the state of second t after some arrivals
 pub sound-joined : (plan : Plan) (s : State) (t k : ℕ) → IsPlan plan → IsRun plan s t → IsSound (joined (ended s t) (filter (λ j. nat_eq j.submit t) (take k plan.jobs)))
 sound-joined plan s t k p r =
     let js = filter (λ (j : EffectiveJob). nat_eq j.submit t) (take k plan.jobs) in
@@ -123,7 +120,6 @@ sound-joined plan s t k p r =
       started = All-filter keeps (λ x. x.start < 2 ^ 49) s.running r.sound.started;
     }
 
--- those that are left end later
 lasting-more : (t : ℕ) (rs : List Placed) → All (λ r. t ≤ real_end r) rs → All (λ r. suc t ≤ real_end r) (filter (λ r. not (nat_eq (real_end r) t)) rs)
 lasting-more t [] a = All-nil (λ r. suc t ≤ real_end r)
 lasting-more t (r ∷ rs) a =
@@ -134,6 +130,7 @@ lasting-more t (r ∷ rs) a =
     (λ (e : real_end r ≡ t → ⊥). rw (ne_eqb (real_end r) t e) (All-cons (λ r. suc t ≤ real_end r) r _ (omega arith) rest))
     (cases_eq (real_end r) t)
 
+-- what is true of a state before t is true before t + 1 of the state after the ends and arrivals of t
 pub run-ready : (plan : Plan) (s : State) (t : ℕ) → IsPlan plan → IsRun plan s t → IsRun plan (ready plan s t) (suc t)
 run-ready plan s t p r =
     let k = length plan.jobs in
@@ -150,6 +147,7 @@ run-ready plan s t p r =
           omega (arith, sum_by-append (λ (j : EffectiveJob). cond (nat_eq j.number n) 1 0) s.waiting js, sum_by-filter-le (λ (x : Placed). cond (nat_eq x.job.number n) 1 0) keeps s.running, r.held n, m);
     }
 
+-- what is true of a state before t + 1 stays true when the next job is started at t
 pub run-started : (plan : Plan) (t : ℕ) → t < 2 ^ 49 → (s : State) (job : EffectiveJob) → next s t ≡ Some job → IsRun plan s (suc t) → IsRun plan (started s job t) (suc t)
 run-started plan t small s job e r =
     let found = next-found s t job r.sound e in
@@ -166,6 +164,7 @@ run-started plan t small s job e r =
 pub run-second : (plan : Plan) (s : State) (t : ℕ) → t < 2 ^ 49 → IsPlan plan → IsRun plan s t → IsRun plan (second plan s t) (suc t)
 run-second plan s t small p r = decided-keeps (λ z. IsRun plan z (suc t)) t (run-started plan t small) (length (ready plan s t).waiting) (ready plan s t) (run-ready plan s t p r)
 
+-- all this is true of the state before each second up to 2^49
 pub run-before : (plan : Plan) (t : ℕ) → t ≤ 2 ^ 49 → IsPlan plan → IsRun plan (before plan t) t
 unfolding before
 run-before plan zero small p = record {
@@ -185,7 +184,6 @@ run-before plan zero small p = record {
 }
 run-before plan (suc t) small p = run-second plan (before plan t) t (omega arith) p (run-before plan t (omega arith) p)
 
--- the next job of second t is not there yet
 pub absent-next : (s : State) (t i : ℕ) (d : EffectiveJob) (js : List EffectiveJob) → i < length js → (get_or js i d).submit ≡ t → IsSound (joined s (filter (λ (j : EffectiveJob). nat_eq j.submit t) (take (i + 1) js)))
     → holders (joined s (filter (λ (j : EffectiveJob). nat_eq j.submit t) (take i js))) (get_or js i d).number ≡ 0
 absent-next s t i d js l here h =
@@ -198,30 +196,33 @@ absent-next s t i d js l here h =
     let one = cond-true {A = ℕ} (nat_eq job.number job.number) 1 0 (eq-eqb job.number job.number refl) in
     omega (arith, once, one, sum_by-append p s.waiting (filter q (take i js)), sum_by-append p s.waiting (filter q (take i js) ++ job ∷ []), sum_by_push p (filter q (take i js)) job)
 
+-- the state before t + 1 is what second t leaves of the state before t
 pub before-more : (plan : Plan) (t : ℕ) → before plan (t + 1) ≡ second plan (before plan t) t
 unfolding before
 before-more plan t = rw add-one
 
+-- the starts before t + 1 are those before t, and then those of t
 pub starts_before-more : (plan : Plan) (t : ℕ) → starts_before plan (t + 1) ≡ starts_before plan t ++ starts_in plan t
 unfolding starts_before
 starts_before-more plan t = rw add-one
 
--- what the code has after `finish_until`
 pub left : (plan : Plan) (s s' : State) (t : ℕ) → t ≤ 2 ^ 49 → IsPlan plan → s ≡ before plan t → s' ≡ ended_until s t → s' ≡ ended (before plan t) t
 left plan s s' t small p e f = f ∙ ap (λ (z : State). ended_until z t) e ∙ ended-is (before plan t) t (run-before plan t small p).lasting
 
+-- without the jobs that end by t, and with those of the first k jobs that are submitted at t, the state before t is sound
 pub sound-arrivals : (plan : Plan) (s s' : State) (t k : ℕ) → t ≤ 2 ^ 49 → IsPlan plan → s ≡ before plan t → s' ≡ ended_until s t → IsSound (joined s' (filter (λ (j : EffectiveJob). nat_eq j.submit t) (take k plan.jobs)))
 sound-arrivals plan s s' t k small p e f =
     subst (λ (z : State). IsSound (joined z (filter (λ (j : EffectiveJob). nat_eq j.submit t) (take k plan.jobs)))) (sym (left plan s s' t small p e f)) (sound-joined plan (before plan t) t k p (run-before plan t small p))
 
--- a whole second of the code
+-- without the jobs that end by t, and with those that are submitted at t, the state before t is the one to which the rule is applied at t
 pub second-is : (plan : Plan) (s s' s'' : State) (t : ℕ) → t ≤ 2 ^ 49 → IsPlan plan → s ≡ before plan t → s' ≡ ended_until s t → s'' ≡ joined s' (submitted plan t) → s'' ≡ ready plan (before plan t) t
 second-is plan s s' s'' t small p e f g = g ∙ ap (λ (z : State). joined z (submitted plan t)) (left plan s s' t small p e f)
 
+-- without the jobs that end by t, the state before t has the plan's processors
 pub procs-is : (plan : Plan) (s s' : State) (t : ℕ) → t ≤ 2 ^ 49 → IsPlan plan → s ≡ before plan t → s' ≡ ended_until s t → s'.procs ≡ plan.procs
 procs-is plan s s' t small p e f = ap (λ (z : State). z.procs) (left plan s s' t small p e f) ∙ (run-before plan t small p).procs
 
--- the same of the element that a loop is at
+-- where the state is sound with one more of the jobs of t, nobody has the number of that job before it arrives
 pub absent-item : (s : State) (t i : ℕ) (job : EffectiveJob) (js : List EffectiveJob) → i < length js → job ≡ get_or js i job → job.submit ≡ t → IsSound (joined s (filter (λ (j : EffectiveJob). nat_eq j.submit t) (take (i + 1) js)))
     → holders (joined s (filter (λ (j : EffectiveJob). nat_eq j.submit t) (take i js))) job.number ≡ 0
 absent-item s t i job js l at here h =

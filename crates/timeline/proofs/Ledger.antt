@@ -1,4 +1,4 @@
--- The ledger of two plans' starts is kept start by start.
+-- The ledger of two plans' starts is kept start by start: who started in one of them alone, and until when those run who started at different seconds.
 use Rattle.std.proofs.Common.{◌≡◌, ℕ, ◌+◌, Bool, true, false, cond, not, ◌&&◌, nat_eq, max, List, [], ◌∷◌, ◌++◌, append-nil, Option, Some, None, filter, refl, sym, ◌∙◌, ap, arith, subst, ⊎_elim}
 use Rattle.std.specs.Prelude.{is_none}
 use Rattle.std.specs.Option.{option_map, option_or}
@@ -14,7 +14,6 @@ use Rattle.timeline.proofs.Lookups.{look, Once, job_of, look-here, look-past, lo
 abbrev start_in : Start → ℕ
 start_in x = x.number
 
--- ---- filters
 filter-same : {X : Type 0} (p q : X → Bool) (xs : List X) → ((x : X) → p x ≡ q x) → filter p xs ≡ filter q xs
 filter-same p q [] h = refl
 filter-same p q (x ∷ xs) h = ap (λ b. cond b (x ∷ filter p xs) (filter p xs)) (h x) ∙ ap (λ l. cond (q x) (x ∷ l) l) (filter-same p q xs h)
@@ -30,7 +29,6 @@ filter-both p q (x ∷ xs) =
     ap (λ b. cond (b && q x) (x ∷ both) both) y ∙ filter-both p q xs ∙ sym (ap (filter q) (cond-false (p x) (x ∷ filter p xs) (filter p xs) y)))
     (cases_Bool (p x))
 
--- a filter by numbers keeps or loses all of one number
 look-by : (test : ℕ → Bool) (n : ℕ) (xs : List Start) → test n ≡ true → look start_in n (filter (λ (x : Start). test x.number) xs) ≡ look start_in n xs
 look-by test n [] e = refl
 look-by test n (x ∷ xs) e =
@@ -43,7 +41,6 @@ look-by test n (x ∷ xs) e =
     ∙ sym (look-past start_in n x xs ne))
     (cases_eq x.number n)
 
--- nobody leaves whose number nobody has
 none-leaves : (n : ℕ) (xs : List Start) → start_of xs n ≡ None → filter (λ (y : Start). not (nat_eq n y.number)) xs ≡ xs
 none-leaves n [] e = refl
 none-leaves n (x ∷ xs) e =
@@ -55,7 +52,6 @@ none-leaves n (x ∷ xs) e =
     ∙ ap (λ l. x ∷ l) (none-leaves n xs (sym (ap (option_map (λ (y : Start). y.at)) (look-past start_in n x xs ne)) ∙ e)))
     (cases_eq x.number n)
 
--- ---- starts with one more
 start-more : (n : ℕ) (xs : List Start) (x : Start) → x.number ≡ n → start_of xs n ≡ None → start_of (xs ++ x ∷ []) n ≡ Some x.at
 start-more n xs x e none =
     start-append n xs (x ∷ []) ∙ ap (λ o. option_or o (start_of (x ∷ []) n)) none ∙ ap (option_map (λ (y : Start). y.at)) (look-here start_in n x [] e)
@@ -68,7 +64,6 @@ start-other : (n : ℕ) (xs : List Start) (x : Start) → (x.number ≡ n → �
 start-other n xs x ne =
     start-append n xs (x ∷ []) ∙ ap (λ o. option_or (start_of xs n) o) (ap (option_map (λ (y : Start). y.at)) (look-past start_in n x [] ne)) ∙ or-none (start_of xs n)
 
--- ---- who started in one plan alone
 and-none : (b : Bool) → (b && true) ≡ b
 and-none true = refl
 and-none false = refl
@@ -88,7 +83,6 @@ module _ (touched : ℕ → Bool) (x : Start) (starts others : List Start) (new 
       (λ (ne : x.number ≡ y.number → ⊥). ap (λ o. not (touched y.number) && is_none o) (start-other y.number starts x ne))
       (cases_eq x.number y.number))
 
-  -- there those of its number leave
   there-left : alone touched others (starts ++ x ∷ []) ≡ filter (λ (y : Start). not (nat_eq x.number y.number)) (alone touched others starts)
   there-left =
       let p : Start → Bool = λ y. not (touched y.number) && is_none (start_of starts y.number) in
@@ -103,7 +97,6 @@ module _ (touched : ℕ → Bool) (x : Start) (starts others : List Start) (new 
       (cases_eq x.number y.number))
       ∙ filter-both p q others
 
-  -- its own start there is found among those that are there alone
   there-found : touched x.number ≡ false → start_of (alone touched others starts) x.number ≡ start_of others x.number
   there-found e =
       ap (option_map (λ (y : Start). y.at))
@@ -118,7 +111,6 @@ module _ (touched : ℕ → Bool) (x : Start) (starts others : List Start) (new 
       pushed true = refl
       pushed false = append-nil (alone touched starts others)
 
--- ---- until when those run who started at different seconds
 nothing : (b : Bool) → cond {A = ℕ} b 0 0 ≡ 0
 nothing true = refl
 nothing false = refl
@@ -159,10 +151,10 @@ module _ (touched : ℕ → Bool) (x : Start) (starts others : List Start) (new 
       omega (arith, head, rest))
       (cases_eq j.number x.number)
 
--- ---- all three
 made-of : (l : Ledger) (hs ts : List Start) (u : ℕ) → l.here ≡ hs → l.there ≡ ts → l.until ≡ u → l ≡ (let z : Ledger = record { here = hs; there = ts; until = u } in z)
 made-of l hs ts u a b c = λ i. record { here = a i; there = b i; until = c i }
 
+-- with a number's first start in the one plan, the ledger is the one before with that start noted
 pub notes-keep-the-ledger : NotesKeepTheLedger
 notes-keep-the-ledger touched jobs job starts others x once found new =
     let was = ledger_of touched jobs starts others in
@@ -194,7 +186,6 @@ notes-keep-the-ledger touched jobs job starts others x once found new =
         (there-left touched x starts others new)
         late
 
--- ---- the other plan's side
 apart-swap : (j : EffectiveJob) (a b : Option ℕ) → apart_until j a b ≡ apart_until j b a
 apart-swap j None None = refl
 apart-swap j None (Some b) = refl
@@ -215,6 +206,7 @@ until-swap touched (j ∷ js) xs ys =
     let rest = until-swap touched js xs ys in
     omega (arith, head, rest)
 
+-- as the other plan sees it, the ledger has its two sides exchanged
 pub ledgers-swap : LedgersSwap
 ledgers-swap touched jobs starts others =
     made-of (ledger_of touched jobs others starts) (alone touched others starts) (alone touched starts others) (all_apart_until touched jobs starts others) refl refl (until-swap touched jobs others starts)

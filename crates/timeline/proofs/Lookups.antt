@@ -17,7 +17,7 @@ use Rattle.easy_rule.specs.Simulation.{start_of}
 abbrev pub look : {X : Type 0} → (X → ℕ) → ℕ → List X → Option X
 look f n xs = find (λ x. nat_eq (f x) n) xs
 
--- how many have it
+-- how many of these have the number
 abbrev pub many : {X : Type 0} → (X → ℕ) → ℕ → List X → ℕ
 many f n xs = count_by (λ x. nat_eq (f x) n) xs
 
@@ -25,19 +25,23 @@ many f n xs = count_by (λ x. nat_eq (f x) n) xs
 abbrev pub Once : {X : Type 0} → (X → ℕ) → List X → Type 0
 Once f xs = (n : ℕ) → many f n xs ≤ 1
 
+-- the number of a job
 abbrev pub job_of : EffectiveJob → ℕ
 job_of j = j.number
 
+-- the number of a running job
 abbrev pub job_in : Placed → ℕ
 job_in r = r.job.number
 
--- ---- one element more
+-- a first element that has the number is found
 pub look-here : {X : Type 0} (f : X → ℕ) (n : ℕ) (x : X) (xs : List X) → f x ≡ n → look f n (x ∷ xs) ≡ Some x
 look-here f n x xs e = cond-true (nat_eq (f x) n) (Some x) (look f n xs) (eq-eqb (f x) n e)
 
+-- a first element of another number is passed over
 pub look-past : {X : Type 0} (f : X → ℕ) (n : ℕ) (x : X) (xs : List X) → (f x ≡ n → ⊥) → look f n (x ∷ xs) ≡ look f n xs
 look-past f n x xs ne = cond-false (nat_eq (f x) n) (Some x) (look f n xs) (ne_eqb (f x) n ne)
 
+-- a first element that has the number is one more
 pub many-here : {X : Type 0} (f : X → ℕ) (n : ℕ) (x : X) (xs : List X) → f x ≡ n → many f n (x ∷ xs) ≡ many f n xs + 1
 many-here f n x xs e =
     let k = sum_by-cons (λ y. cond {A = ℕ} (nat_eq (f y) n) 1 0) x xs in
@@ -50,13 +54,15 @@ many-past f n x xs ne =
     let none = cond-false {A = ℕ} (nat_eq (f x) n) 1 0 (ne_eqb (f x) n ne) in
     omega (arith, k, none)
 
+-- behind the first element no more have the number than in all
 pub many-tail : {X : Type 0} (f : X → ℕ) (n : ℕ) (x : X) (xs : List X) → many f n xs ≤ many f n (x ∷ xs)
 many-tail f n x xs = (let k = sum_by-cons (λ y. cond {A = ℕ} (nat_eq (f y) n) 1 0) x xs in omega (arith, k))
 
+-- where no two have one number, no two behind the first have
 pub once-tail : {X : Type 0} (f : X → ℕ) (x : X) (xs : List X) → Once f (x ∷ xs) → Once f xs
 once-tail f x xs once n = (let o = once n in let k = many-tail f n x xs in omega (arith, o, k))
 
--- nobody has the number
+-- where nobody has the number, nobody is found
 pub look-none : {X : Type 0} (f : X → ℕ) (n : ℕ) (xs : List X) → many f n xs ≡ 0 → look f n xs ≡ None
 look-none f n [] z = refl
 look-none f n (x ∷ xs) z =
@@ -65,6 +71,7 @@ look-none f n (x ∷ xs) z =
     (λ (ne : f x ≡ n → ⊥). look-past f n x xs ne ∙ look-none f n xs (let k = many-past f n x xs ne in omega (arith, k, z)))
     (cases_eq (f x) n)
 
+-- where nobody is found, nobody has the number
 pub none-look : {X : Type 0} (f : X → ℕ) (n : ℕ) (xs : List X) → look f n xs ≡ None → many f n xs ≡ 0
 none-look f n [] e = refl
 none-look f n (x ∷ xs) e =
@@ -73,6 +80,7 @@ none-look f n (x ∷ xs) e =
     (λ (ne : f x ≡ n → ⊥). many-past f n x xs ne ∙ none-look f n xs (sym (look-past f n x xs ne) ∙ e))
     (cases_eq (f x) n)
 
+-- where one is found, one at least has the number
 pub some-look : {X : Type 0} (f : X → ℕ) (n : ℕ) (xs : List X) (x : X) → look f n xs ≡ Some x → 1 ≤ many f n xs
 some-look f n xs x e =
     ⊎_elim
@@ -80,7 +88,7 @@ some-look f n xs x e =
     (λ (l : many f n xs ≤ 0). absurd (let z : many f n xs ≡ 0 = omega (arith, l) in let k : None ≡ Some x = sym (look-none f n xs z) ∙ e in cc))
     (cases_lt 0 (many f n xs))
 
--- behind the one that has it nobody has
+-- where the first has the number and one at most does, nobody is found behind it
 pub look-others : {X : Type 0} (f : X → ℕ) (n : ℕ) (x : X) (xs : List X) → f x ≡ n → many f n (x ∷ xs) ≤ 1 → look f n xs ≡ None
 look-others f n x xs e l = look-none f n xs (let k = many-here f n x xs e in omega (arith, k, l))
 
@@ -88,12 +96,12 @@ look-others f n x xs e l = look-none f n xs (let k = many-here f n x xs e in ome
 pub look-has : {X : Type 0} (f : X → ℕ) (n : ℕ) (xs : List X) (x : X) → look f n xs ≡ Some x → f x ≡ n
 look-has f n xs x e = eqb-true (f x) n (test-find (λ y. nat_eq (f y) n) xs x e)
 
--- ---- some leave
--- who is found, where it passes
+-- the one that is there, if it passes
 abbrev pub kept : {X : Type 0} → (X → Bool) → Option X → Option X
 kept p None = None
 kept p (Some x) = cond (p x) (Some x) None
 
+-- where one at most has the number, among those that pass the same is found, if it passes
 pub look-filter : {X : Type 0} (f : X → ℕ) (n : ℕ) (p : X → Bool) (xs : List X) → many f n xs ≤ 1 → look f n (filter p xs) ≡ kept p (look f n xs)
 look-filter f n p [] l = refl
 look-filter f n p (x ∷ xs) l =
@@ -111,7 +119,7 @@ look-filter f n p (x ∷ xs) l =
     ∙ sym (ap (kept p) (look-past f n x xs ne)))
     (cases_eq (f x) n)
 
--- ---- a waiting job leaves
+-- where one job at most has the number, without it nobody is found
 pub look-without : (n : ℕ) (js : List EffectiveJob) → many job_of n js ≤ 1 → look job_of n (without n js) ≡ None
 look-without n [] l = refl
 look-without n (j ∷ js) l =
@@ -119,6 +127,7 @@ look-without n (j ∷ js) l =
     (λ y. look-others job_of n j js (eqb-true j.number n y) l)
     (λ y. cond-false (nat_eq j.number n) (Some j) (look job_of n (without n js)) y ∙ look-without n js (let k = many-tail job_of n j js in omega (arith, k, l)))
 
+-- without a job of another number the same is found
 pub look-without-other : (n m : ℕ) (js : List EffectiveJob) → (m ≡ n → ⊥) → look job_of n (without m js) ≡ look job_of n js
 look-without-other n m [] ne = refl
 look-without-other n m (j ∷ js) ne =
@@ -126,7 +135,7 @@ look-without-other n m (j ∷ js) ne =
     (λ y. sym (look-past job_of n j js (λ e. ne (sym (eqb-true j.number m y) ∙ e))))
     (λ y. ap (λ o. cond (nat_eq j.number n) (Some j) o) (look-without-other n m js ne))
 
--- ---- a running job more
+-- one more running job is found, where nobody had its number
 pub look-placed : (n : ℕ) (r : Placed) (rs : List Placed) → r.job.number ≡ n → many job_in n rs ≡ 0 → look job_in n (placed r rs) ≡ Some r
 look-placed n r [] e none = look-here job_in n r [] e
 look-placed n r (x ∷ xs) e none =
@@ -135,6 +144,7 @@ look-placed n r (x ∷ xs) e none =
     (λ y. look-here job_in n r (x ∷ xs) e)
     (λ y. look-past job_in n x (placed r xs) past ∙ look-placed n r xs e (let k = many-tail job_in n x xs in omega (arith, k, none)))
 
+-- with one more running job of another number the same is found
 pub look-placed-other : (n : ℕ) (r : Placed) (rs : List Placed) → (r.job.number ≡ n → ⊥) → look job_in n (placed r rs) ≡ look job_in n rs
 look-placed-other n r [] ne = look-past job_in n r [] ne
 look-placed-other n r (x ∷ xs) ne =
@@ -142,13 +152,14 @@ look-placed-other n r (x ∷ xs) ne =
     (λ y. look-past job_in n r (x ∷ xs) ne)
     (λ y. ap (λ o. cond (nat_eq x.job.number n) (Some x) o) (look-placed-other n r xs ne))
 
--- all of them by number
+-- sorted by number, as many running jobs have the number
 pub many-by_number : (n : ℕ) (rs : List Placed) → many job_in n (by_number rs) ≡ many job_in n rs
 many-by_number n [] = refl
 many-by_number n (r ∷ rs) =
     let f : Placed → ℕ = λ x. cond (nat_eq x.job.number n) 1 0 in
     omega (arith, sum_by-placed f r (by_number rs), many-by_number n rs, sum_by-cons f r rs)
 
+-- sorted by number, running jobs find the same, where one at most has the number
 pub look-by_number : (n : ℕ) (rs : List Placed) → many job_in n rs ≤ 1 → look job_in n (by_number rs) ≡ look job_in n rs
 look-by_number n [] l = refl
 look-by_number n (r ∷ rs) l =
@@ -159,10 +170,11 @@ look-by_number n (r ∷ rs) l =
     look-placed-other n r (by_number rs) ne ∙ look-by_number n rs (let k = many-tail job_in n r rs in omega (arith, k, l)) ∙ sym (look-past job_in n r rs ne))
     (cases_eq r.job.number n)
 
--- ---- each gives one of its number, or none
+-- what is made of an element, if anything is, has its number
 abbrev pub Keeps : {X Y : Type 0} → (X → ℕ) → (Y → ℕ) → (X → Option Y) → Type 0
 Keeps {X = X} {Y = Y} f h g = (x : X) (y : Y) → g x ≡ Some y → h y ≡ f x
 
+-- where numbers are kept, no more have the number among what is made than before
 pub many-filter_map : {X Y : Type 0} (f : X → ℕ) (h : Y → ℕ) (g : X → Option Y) (n : ℕ) (xs : List X) → Keeps f h g → many h n (filter_map g xs) ≤ many f n xs
 many-filter_map f h g n [] k = omega arith
 many-filter_map {X = X} {Y = Y} f h g n (x ∷ xs) k = go (g x) refl (many-filter_map f h g n xs k)
@@ -175,6 +187,7 @@ many-filter_map {X = X} {Y = Y} f h g n (x ∷ xs) k = go (g x) refl (many-filte
         let c = ap (λ m. cond {A = ℕ} (nat_eq m n) 1 0) (k x y e) in
         omega (arith, a, b, c, i)
 
+-- where numbers are kept and one at most has the number, what is found is what is made of the one that was found
 pub look-filter_map : {X Y : Type 0} (f : X → ℕ) (h : Y → ℕ) (g : X → Option Y) (n : ℕ) (xs : List X) → Keeps f h g → many f n xs ≤ 1 → look h n (filter_map g xs) ≡ option_and_then g (look f n xs)
 look-filter_map f h g n [] k l = refl
 look-filter_map {X = X} {Y = Y} f h g n (x ∷ xs) k l =
@@ -192,11 +205,11 @@ look-filter_map {X = X} {Y = Y} f h g n (x ∷ xs) k l =
     past ne None same = refl
     past ne (Some y) same = look-past h n y (filter_map g xs) (λ e. ne (sym (k x y same) ∙ e))
 
--- ---- starts of one list and then another
 second-of : (a b : Option Start) → option_map (λ (x : Start). x.at) (option_or a b) ≡ option_or (option_map (λ (x : Start). x.at) a) (option_map (λ (x : Start). x.at) b)
 second-of None b = refl
 second-of (Some x) b = refl
 
+-- in one list of starts and then another, a number's start is that in the first, or else that in the second
 pub start-append : (n : ℕ) (xs ys : List Start) → start_of (xs ++ ys) n ≡ option_or (start_of xs n) (start_of ys n)
 start-append n xs ys =
     let p : Start → Bool = λ x. nat_eq x.number n in

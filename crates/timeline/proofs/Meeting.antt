@@ -1,4 +1,4 @@
--- Where the states of two plans are equal, but for touched numbers.
+-- Where the states of two plans are equal, but for touched numbers: where each other number has met, as the ledger of their starts tells.
 use Rattle.std.proofs.Common.{◌≡◌, ℕ, ◌+◌, ◌≤◌, ◌<◌, Bool, true, false, cond, not, ◌&&◌, nat_eq, nat_le, nat_lt, max, List, [], ◌∷◌, map, Option, Some, None, All, filter, refl, sym, ◌∙◌, ap, arith, subst, inl, inr, ⊎_elim}
 use Rattle.std.specs.Prelude.{is_none}
 use Rattle.std.specs.Option.{option_map}
@@ -23,7 +23,6 @@ use Rattle.timeline.proofs.Rows.{Rises, Ahead, NotAbove, rises-filter, ahead-onc
 use Rattle.timeline.proofs.Standing.{Stands, stands-in}
 use Rattle.timeline.proofs.Closed.{in-rows}
 
--- ---- lists of jobs and lists of their numbers
 filter-map : {X Y : Type 0} (g : X → Y) (p : Y → Bool) (xs : List X) → filter p (map g xs) ≡ map g (filter (λ x. p (g x)) xs)
 filter-map g p [] = refl
 filter-map g p (x ∷ xs) =
@@ -40,7 +39,6 @@ look-map f g n (x ∷ xs) =
     (λ y. cond-true (nat_eq (f (g x)) n) (Some (g x)) (option_map g (look (λ z. f (g z)) n xs)) y)
     (λ y. cond-false (nat_eq (f (g x)) n) (Some (g x)) (option_map g (look (λ z. f (g z)) n xs)) y)
 
--- those of numbers that are not touched
 abbrev rest_of : {X : Type 0} → (ℕ → Bool) → (X → ℕ) → List X → List X
 rest_of touched f xs = filter (λ x. not (touched (f x))) xs
 
@@ -58,7 +56,6 @@ look-touched {X = X} touched f n xs l e = look-filter f n (λ x. not (touched (f
     go None h = refl
     go (Some x) h = cond-false (not (touched (f x))) (Some x) None (ap (λ m. not (touched m)) (look-has f n xs x h) ∙ ap not e)
 
--- where each number that is not touched finds the same, the rests are equal
 rests-same : {X : Type 0} (touched : ℕ → Bool) (f : X → ℕ) (B : X → X → Type 0) → ((x y : X) → B x y → B y x → f x ≡ f y) → (xs ys : List X) → Rises B xs → Rises B ys → Once f xs → Once f ys
     → ((n : ℕ) → touched n ≡ false → look f n xs ≡ look f n ys) → rest_of touched f xs ≡ rest_of touched f ys
 rests-same {X = X} touched f B one xs ys r s o q h =
@@ -72,7 +69,6 @@ rests-same {X = X} touched f B one xs ys r s o q h =
     (λ (e : touched n ≡ false). look-rest touched f n xs (o n) e ∙ h n e ∙ sym (look-rest touched f n ys (q n) e))
     (cases_Bool (touched n)))
 
--- and the other way round
 same-look : {X Y : Type 0} (touched : ℕ → Bool) (h : Y → ℕ) (g : X → Y) (n : ℕ) (xs ys : List X) → many (λ x. h (g x)) n xs ≤ 1 → many (λ x. h (g x)) n ys ≤ 1
     → filter (λ y. not (touched (h y))) (map g xs) ≡ filter (λ y. not (touched (h y))) (map g ys) → touched n ≡ false
     → option_map g (look (λ x. h (g x)) n xs) ≡ option_map g (look (λ x. h (g x)) n ys)
@@ -83,15 +79,12 @@ same-look {X = X} {Y = Y} touched h g n xs ys l m same e =
     ap (option_map g) (sym (look-rest touched f n xs l e)) ∙ sym (look-map h g n (rest_of touched f xs)) ∙ ap (look h n) rests
     ∙ look-map h g n (rest_of touched f ys) ∙ ap (option_map g) (look-rest touched f n ys m e)
 
--- ---- one number
--- who has ended does not run
 ended-none : (t start : ℕ) (j : EffectiveJob) → start + j.length < t → lasting t j (Some start) ≡ None
 ended-none t start j l = cond-false (nat_le t (start + j.length)) (Some (record { job = j; start = start })) None (lt-leb t (start + j.length) l)
 
 runs-still : (t start : ℕ) (j : EffectiveJob) → t ≤ start + j.length → lasting t j (Some start) ≡ Some (record { job = j; start = start })
 runs-still t start j l = cond-true (nat_le t (start + j.length)) (Some (record { job = j; start = start })) None (le-leb t (start + j.length) l)
 
--- so the same waits and runs under it
 met-same : (t : ℕ) (o : Option EffectiveJob) (a b : Option ℕ) (w w' : Option EffectiveJob) (r r' : Option Placed) → Stands t o a w r → Stands t o b w' r' → HasMet t o a b → (w ≡ w') × (r ≡ r')
 met-same t None a b w w' r r' h k m = (h.1 ∙ sym k.1, h.2 ∙ sym k.2)
 met-same t (Some j) None None w w' r r' h k m = (h.0 ∙ sym k.0, h.1 ∙ sym k.1)
@@ -101,7 +94,6 @@ met-same t (Some j) (Some a) (Some b) w w' r r' h k (inl e) = (h.2 ∙ sym k.2, 
 met-same t (Some j) (Some a) (Some b) w w' r r' h k (inr f) =
     (h.2 ∙ sym k.2, h.3 ∙ ended-none t a j f.0 ∙ sym (ended-none t b j f.1) ∙ sym k.3)
 
--- who runs in both has one start, where its number and start are the same
 parted : (t a b : ℕ) (j : EffectiveJob) (r r' : Option Placed) → r ≡ lasting t j (Some a) → r' ≡ lasting t j (Some b) → option_map number_of r ≡ option_map number_of r' → (a ≡ b → ⊥) → t ≤ a + j.length → ⊥
 parted t a b j r r' e f same ne l =
     let x : RunningNumber = record { number = j.number; start = a } in
@@ -119,7 +111,6 @@ parted t a b j r r' e f same ne l =
     ne (ap (λ (z : RunningNumber). z.start) same))
     (cases_lt (b + j.length) t)
 
--- a number that waits in one plan does not run or rest in the other
 waits-not : (t b : ℕ) (j : EffectiveJob) (w w' : Option EffectiveJob) → w ≡ cond (nat_lt j.submit t) (Some j) None → w' ≡ None → j.submit ≤ b → b < t → option_map job_of w ≡ option_map job_of w' → ⊥
 waits-not t b j w w' e f l m same =
     let here : option_map job_of w ≡ Some j.number = ap (option_map job_of) (e ∙ cond-true (nat_lt j.submit t) (Some j) None (lt-ltb j.submit t (omega (arith, l, m)))) in
@@ -143,7 +134,6 @@ same-met t (Some j) (Some a) (Some b) w w' r r' h k e f =
     ))
     (cases_eq a b)
 
--- ---- all numbers that are not touched
 abbrev pub AllMet : (ℕ → Bool) → Plan → Plan → ℕ → Type 0
 AllMet touched p q t = (n : ℕ) → touched n ≡ false → HasMet t (job_numbered q.jobs n) (known_start p t n) (known_start q t n)
 
@@ -181,7 +171,6 @@ module _ (touched : ℕ → Bool) (p q : Plan) (t : ℕ) (agree : AgreeBut touch
       (same-look touched (λ m. m) job_of n s.waiting z.waiting (once-waits p agree.left n) (once-waits q agree.right n) (ap (λ (x : Numbers). x.waiting) same) e)
       (same-look touched (λ (x : RunningNumber). x.number) number_of n s.running z.running (once-runs p agree.left n) (once-runs q agree.right n) (ap (λ (x : Numbers). x.running) same) e)
 
--- ---- the starts of one plan alone
 none-passes : {X : Type 0} (p : X → Bool) (xs : List X) → filter p xs ≡ [] → All (λ x. p x ≡ false) xs
 none-passes p [] e = All-nil (λ x. p x ≡ false)
 none-passes p (x ∷ xs) e =
@@ -194,7 +183,6 @@ passes-none : {X : Type 0} (p : X → Bool) (xs : List X) → All (λ x. p x ≡
 passes-none p [] a = refl
 passes-none p (x ∷ xs) a = cond-false (p x) (x ∷ filter p xs) (filter p xs) (All-head (λ z. p z ≡ false) x xs a) ∙ passes-none p xs (All-tail (λ z. p z ≡ false) x xs a)
 
--- each of these is found
 each-found : {X : Type 0} (f : X → ℕ) (xs : List X) → All (λ x. look f (f x) xs ≡ None → ⊥) xs
 each-found f [] = All-nil (λ x. look f (f x) [] ≡ None → ⊥)
 each-found {X = X} f (x ∷ xs) =
@@ -213,7 +201,6 @@ no-start n xs e = go (look (λ (x : Start). x.number) n xs) e
     go None h = refl
     go (Some x) h = absurd (let k : Some x.at ≡ None = h in cc)
 
--- whoever has started here has started there
 abbrev pub Follows : (ℕ → Bool) → List Start → List Start → Type 0
 Follows touched xs ys = (n : ℕ) → touched n ≡ false → start_of ys n ≡ None → start_of xs n ≡ None
 
@@ -244,7 +231,6 @@ follows-alone touched xs ys h =
     fails x found false e (Some s) f = refl
     fails x found false e None f = absurd (found (no-start x.number xs (h x.number e f)))
 
--- ---- ends of those who started at different seconds
 abbrev one_apart : (ℕ → Bool) → List Start → List Start → EffectiveJob → ℕ
 one_apart touched xs ys j = cond (touched j.number) 0 (apart_until j (start_of xs j.number) (start_of ys j.number))
 
@@ -260,7 +246,6 @@ apart-each touched (j ∷ js) xs ys t a =
     let i = apart-each touched js xs ys t (All-tail (λ (k : EffectiveJob). one_apart touched xs ys k ≤ t) j js a) in
     omega (arith, l, i)
 
--- each of these is the one that its number finds
 each-itself : {X : Type 0} (f : X → ℕ) (xs : List X) → Once f xs → All (λ x. look f (f x) xs ≡ Some x) xs
 each-itself f [] once = All-nil (λ x. look f (f x) [] ≡ Some x)
 each-itself {X = X} f (x ∷ xs) once =
@@ -273,7 +258,6 @@ each-itself {X = X} f (x ∷ xs) once =
         (λ (ne : f x ≡ f z → ⊥). look-past f (f z) x xs ne ∙ h)
         (cases_eq (f x) (f z))
 
--- one number, in the words of the ledger
 met-apart : (t : ℕ) (j : EffectiveJob) (a b : Option ℕ) → HasMet t (Some j) a b → apart_until j a b ≤ t
 met-apart t j None None m = omega arith
 met-apart t j (Some a) None m = absurd m
@@ -303,7 +287,6 @@ met-none t o (Some a) None m = absurd m
 met-none t o None (Some b) m = absurd m
 met-none t o (Some a) (Some b) m = ((λ e. absurd (let k : Some a ≡ None = e in cc)), (λ e. absurd (let k : Some b ≡ None = e in cc)))
 
--- a number without a job has no start
 stands-none : (t : ℕ) (a : Option ℕ) (w : Option EffectiveJob) (r : Option Placed) → Stands t None a w r → a ≡ None
 stands-none t a w r h = h.0
 
@@ -342,16 +325,17 @@ met-of-ledger touched p q t agree have n e = go (job_numbered q.jobs n) refl
         ap (λ m. cond (touched m) 0 (apart_until j (known_start p t m) (known_start q t m))) num ∙ cond-false (touched n) 0 (apart_until j (known_start p t n) (known_start q t n)) e in
         apart-met t j (known_start p t n) (known_start q t n) here there (subst (λ m. m ≤ t) same l)
 
+-- two plans have met before a second where, and only where, each number has that is not touched
 pub each-has-met : EachHasMet
 each-has-met touched p q t agree = (met-of-ledger touched p q t agree, ledger-of-met touched p q t agree)
 
+-- the states of two plans before a second are equal, the touched numbers aside, where, and only where, they have met
 pub states-meet : StatesMeet
 states-meet touched p q t agree = (
   (λ same. ledger-of-met touched p q t agree (same-is-met touched p q t agree same)),
   (λ have. met-is-same touched p q t agree (met-of-ledger touched p q t agree have)),
 )
 
--- ---- where no touched number stands
 kept-whole : {X : Type 0} (touched : ℕ → Bool) (f : X → ℕ) (xs : List X) → ((n : ℕ) → touched n ≡ true → 1 ≤ many f n xs → ⊥) → rest_of touched f xs ≡ xs
 kept-whole touched f [] none = refl
 kept-whole touched f (x ∷ xs) none =
@@ -369,6 +353,7 @@ whole touched there none =
     let r = kept-whole touched (λ (x : RunningNumber). x.number) there.running (λ n y l. none n y (omega (arith, l))) in
     λ i. record { waiting = w i; running = r i }
 
+-- the numbers of both states are equal with none touched where, and only where, the plans have met and no touched number waits or runs in either
 pub snapshots-meet : SnapshotsMeet
 snapshots-meet touched p q t agree = (
   (λ (same, none).

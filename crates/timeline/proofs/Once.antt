@@ -1,4 +1,4 @@
--- Each job starts once, when it has come.
+-- Each job starts once, when it has come: of each number, as many have started before a second or wait before it as have come.
 use Rattle.std.proofs.Common.{◌≡◌, ℕ, zero, suc, ◌+◌, ◌-◌, ◌^◌, ◌≤◌, ◌<◌, Bool, true, false, cond, ◌&&◌, nat_eq, nat_lt, List, [], ◌∷◌, ◌++◌, append-nil, append_assoc, add-zero, length, get_or, IsSomeAnd, All, count_by, sum_by, filter, refl, sym, ◌∙◌, ap, arith, subst, ⊎_elim}
 use Rattle.std.proofs.lemmas.List.Sums.{sum_by-cons, sum_by-append, sum_by-le-sum_by}
 use Rattle.std.proofs.lemmas.List.Elements.{All-head, All-tail, All-nil, All-append, All-weaker}
@@ -17,13 +17,15 @@ use Rattle.easy_rule.proofs.Lemmas.{outcome, starts-now}
 use Rattle.timeline.proofs.Rest.{submits-by}
 use Rattle.timeline.proofs.Bound.{all-have-ended}
 
--- how many of these starts have the number, and how many of these jobs
+-- how many of these starts have the number
 abbrev pub starts_of : ℕ → List Start → ℕ
 starts_of n xs = count_by (λ (x : Start). nat_eq x.number n) xs
 
+-- how many of these jobs have the number
 abbrev pub jobs_with : ℕ → List EffectiveJob → ℕ
 jobs_with n js = count_by (λ (j : EffectiveJob). nat_eq j.number n) js
 
+-- how many of these jobs have the number and are submitted before second t
 abbrev pub come : ℕ → ℕ → List EffectiveJob → ℕ
 come n t js = count_by (λ (j : EffectiveJob). nat_eq j.number n && nat_lt j.submit t) js
 
@@ -31,7 +33,7 @@ sums-are : {X : Type 0} (f g h : X → ℕ) (xs : List X) → ((x : X) → f x +
 sums-are f g h [] l = omega arith
 sums-are f g h (x ∷ xs) l = omega (arith, sum_by-cons f x xs, sum_by-cons g x xs, sum_by-cons h x xs, l x, sums-are f g h xs l)
 
--- those of second t come
+-- of one number, the jobs submitted before t and those submitted at t are those submitted before t + 1
 pub come-next : (n t : ℕ) (js : List EffectiveJob) → come n t js + jobs_with n (filter (λ (j : EffectiveJob). nat_eq j.submit t) js) ≡ come n (suc t) js
 come-next n t js =
     let f : EffectiveJob → ℕ = λ j. cond (nat_eq j.number n && nat_lt j.submit t) 1 0 in
@@ -73,7 +75,7 @@ come-all n t (j ∷ js) a =
     one false u l = refl
     one true u l = rw (lt-ltb u t l) refl
 
--- who has come has started or waits or has been told
+-- of one number, the starts before t and the jobs that wait before it are as many as the jobs submitted before t
 pub counted : (plan : Plan) (n t : ℕ) → t ≤ 2 ^ 49 → IsPlan plan → starts_of n (starts_before plan t) + jobs_with n (before plan t).waiting ≡ come n t plan.jobs
 unfolding before starts_before
 counted plan n zero small p = omega (arith, come-none n plan.jobs)
@@ -87,6 +89,7 @@ counted plan n (suc t) small p =
     let d = come-next n t plan.jobs in
     omega (arith, i, a, b, c, d)
 
+-- each number has as many starts as jobs
 pub each-job-starts-once : EachJobStartsOnce
 each-job-starts-once plan n p =
     let k = short-plan plan p in
@@ -100,10 +103,10 @@ head-less true true = omega arith
 head-less true false = omega arith
 head-less false c = omega arith
 
+-- of one number, no more jobs are submitted before a second than there are
 pub fewer : (n u : ℕ) (js : List EffectiveJob) → come n u js ≤ jobs_with n js
 fewer n u js = sum_by-le-sum_by (λ (j : EffectiveJob). cond (nat_eq j.number n && nat_lt j.submit u) 1 0) (λ (j : EffectiveJob). cond (nat_eq j.number n) 1 0) js (λ j. head-less (nat_eq j.number n) (nat_lt j.submit u))
 
--- a job that comes at u or later is not among those that have come before
 missed : (n u k : ℕ) (d : EffectiveJob) (js : List EffectiveJob) → k < length js → (get_or js k d).number ≡ n → u ≤ (get_or js k d).submit → come n u js + 1 ≤ jobs_with n js
 missed n u k d [] l e m = absurd (omega arith)
 missed n u zero d (j ∷ js) l e m =
@@ -118,7 +121,7 @@ missed n u (suc k) d (j ∷ js) l e m =
     let g = sum_by-cons (λ (j : EffectiveJob). cond {A = ℕ} (nat_eq j.number n) 1 0) j js in
     omega (arith, f, g, missed n u k d js (omega arith) e m, head-less (nat_eq j.number n) (nat_lt j.submit u))
 
--- the starts from second t on
+-- the starts before t + n are those before t, and then some that come at t or later
 pub later : (plan : Plan) (t n : ℕ) → (xs : List Start) × (starts_before plan (t + n) ≡ starts_before plan t ++ xs) × All (λ (x : Start). t ≤ x.at) xs
 later plan t zero = ([], ap (starts_before plan) (add-zero t) ∙ sym (append-nil (starts_before plan t)), All-nil (λ (x : Start). t ≤ x.at))
 later plan t (suc n) =
@@ -150,6 +153,7 @@ found-later n t (x ∷ xs) ys z l a =
     (λ (h : nat_eq x.number n ≡ false). rw h (found-later n t xs ys (omega (arith, e, z)) l a))
     (cases_Bool (nat_eq x.number n))
 
+-- each job has a start, at its submit second or later
 pub none-starts-early : NoneStartsEarly
 none-starts-early plan p k d l =
     let j : EffectiveJob = get_or plan.jobs k d in

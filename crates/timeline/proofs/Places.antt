@@ -10,7 +10,6 @@ use Rattle.frames.specs.Frames.{standing_at, stands}
 use Rattle.frames.specs.declared.stretch.Stretch.{Stretch}
 use Rattle.timeline.specs.Stretches.{place_after, standing_in}
 
--- ---- one second more in front
 come : (t x : ℕ) (xs : List ℕ) → x ≤ t → place_after (x ∷ xs) t ≡ place_after xs t + 1
 come t x xs l =
     let k = sum_by-cons (λ y. cond {A = ℕ} (nat_le y t) 1 0) x xs in
@@ -27,8 +26,6 @@ all-late : (t : ℕ) (xs : List ℕ) → ((i : ℕ) → i < length xs → t < sl
 all-late t [] h = refl
 all-late t (x ∷ xs) h = late t x xs (h 0 (omega arith)) ∙ all-late t xs (λ i l. h (suc i) (omega (arith, l)))
 
--- ---- where seconds rise
--- a second comes no later where its place is one of the first so many
 pub reached : (t : ℕ) (xs : List ℕ) (i : ℕ) → IsNonDecreasing xs → i < length xs → (i < place_after xs t) ↔ (slice_index_or xs i 0 ≤ t)
 reached t [] i h l = absurd (omega (arith, l))
 reached t (x ∷ xs) i h l =
@@ -47,7 +44,7 @@ reached t (x ∷ xs) i h l =
         let rest = r k (omega (arith, n)) in
         ((λ p. rest.0 (omega (arith, p, c))), (λ p. let q = rest.1 p in omega (arith, q, c)))
 
--- the place that parts those that come no later from the others
+-- where seconds rise, a place with all before it up to t, and all from it on later than t, is the place of the first that comes later than t
 pub parted : (t : ℕ) (xs : List ℕ) (n : ℕ) → IsNonDecreasing xs → n ≤ length xs → ((k : ℕ) → k < n → slice_index_or xs k 0 ≤ t) → ((k : ℕ) → n ≤ k → k < length xs → t < slice_index_or xs k 0) → n ≡ place_after xs t
 parted t xs n h l before behind =
     let c = count_by-le-length (λ y. nat_le y t) xs in
@@ -60,13 +57,13 @@ parted t xs n h l before behind =
     (cases_lt (place_after xs t) n))
     (cases_lt n (place_after xs t))
 
--- the second of this place
+-- seconds that rise, with second t at this place
 pub record IsAt (seconds : List ℕ) (place t : ℕ) : Type 0 where
   pub rising : IsNonDecreasing seconds
   pub within : place < length seconds
   pub second : slice_index_or seconds place 0 ≡ t
 
--- it is one of the first so many, or comes later
+-- the place of t is before that of the first second later than u just where t comes no later than u
 pub within-first : (seconds : List ℕ) (place t u : ℕ) → IsAt seconds place t → nat_lt place (place_after seconds u) ≡ nat_le t u
 within-first seconds place t u h =
     let r = reached u seconds place h.rising h.within in
@@ -78,6 +75,7 @@ within-first seconds place t u h =
     le-ltb place (place_after seconds u) l ∙ sym (lt-leb t u later))
     (cases_lt place (place_after seconds u))
 
+-- the place of t is that of the first second later than u, or a later one, just where t comes later than u
 pub behind-first : (seconds : List ℕ) (place t u : ℕ) → IsAt seconds place t → nat_le (place_after seconds u) place ≡ nat_lt u t
 behind-first seconds place t u h =
     let r = reached u seconds place h.rising h.within in
@@ -89,6 +87,7 @@ behind-first seconds place t u h =
     le-leb (place_after seconds u) place l ∙ sym (lt-ltb u t later))
     (cases_lt place (place_after seconds u))
 
+-- a second comes no later than another just where the other does not come before it
 pub not-yet : (t u : ℕ) → nat_le t u ≡ not (nat_lt u t)
 not-yet t u =
     ⊎_elim
@@ -96,23 +95,23 @@ not-yet t u =
     (λ (l : t ≤ u). le-leb t u l ∙ sym (ap not (le-ltb u t l)))
     (cases_lt u t)
 
--- ---- two tests
+-- where the second test holds, both hold just where the first does
 pub first-of : (a b c : Bool) → a ≡ c → b ≡ true → (a && b) ≡ c
 first-of true b c e f = f ∙ e
 first-of false b c e f = e
 
+-- where the second test fails, both together fail
 pub neither : (a b : Bool) → b ≡ false → (a && b) ≡ false
 neither true b f = f
 neither false b f = refl
 
--- one who is submitted and has no start, where the start counts by a test
+-- to be submitted and not started, by a test, is to have no start, where the start counts by that test, and to be submitted
 pub unless-started : (q a b c : Bool) (start : ℕ) → a ≡ c → b ≡ not q → (a && b) ≡ (is_none (cond q (Some start) None) && c)
 unless-started true a b c start e f = neither a b f
 unless-started false a b c start e f = first-of a b c e f
 
--- ---- what stands at a place
 module _ {X Y : Type 0} where
-  -- of stretches made one by one
+  -- where each element makes a stretch, and just those that pass stand at a place, the items of those that pass stand there
   pub standing-map : (place : ℕ) (p : X → Bool) (f : X → Y) (g : X → Stretch Y) → ((x : X) → (g x).item ≡ f x) → ((x : X) → stands place (g x) ≡ p x) → (xs : List X)
       → map f (filter p xs) ≡ standing_at place (map g xs)
   standing-map place p f g same here [] = refl
@@ -125,7 +124,7 @@ module _ {X Y : Type 0} where
       go true false e i rest = absurd (true≢false e)
       go false true e i rest = absurd (true≢false (sym e))
 
-  -- of stretches that are made of some
+  -- where some elements make a stretch, what stands at a place is what stands there of each one's
   pub standing-filter_map : (place : ℕ) (h : X → Option Y) (g : X → Option (Stretch Y)) → ((x : X) → standing_in place (g x) ≡ h x) → (xs : List X)
       → filter_map h xs ≡ standing_at place (filter_map g xs)
   standing-filter_map place h g here [] = refl
@@ -141,6 +140,7 @@ module _ {X Y : Type 0} where
       go None rest = rest
       go (Some s) rest = with_one s (stands place s) rest
 
+-- to make something of some elements and then change it is to make it changed
 pub map-filter_map : {X Y Z : Type 0} (f : Y → Z) (g : X → Option Y) (xs : List X) → map f (filter_map g xs) ≡ filter_map (λ x. option_map f (g x)) xs
 map-filter_map f g [] = refl
 map-filter_map {X} {Y} {Z} f g (x ∷ xs) = go (g x) (map-filter_map f g xs)

@@ -15,7 +15,6 @@ use Rattle.easy_rule.proofs.Lemmas.{shadow_time-IsLeast, back_by-le, next-found,
 use Rattle.scenarios.specs.SoundPlan.{IsPlan}
 use Rattle.timeline.proofs.Facts.{IsRun, run-started, run-ready, run-before, before-more}
 
--- a job that leaves gives back at least what was expected
 more-available : (t : ℕ) (p : Placed → Bool) (rs : List Placed) → busy (filter p rs) + sum_by (back_by t) rs ≤ busy rs + sum_by (back_by t) (filter p rs)
 more-available t p [] = omega arith
 more-available t p (r ∷ rs) =
@@ -73,6 +72,7 @@ kept-started plan t time head s job r e (inl (rest, queue, low)) =
     swap : (a b : ℕ) → nat_eq b a ≡ false → nat_eq a b ≡ false
     swap a b h = ⊎_elim (λ (y : nat_eq a b ≡ true). absurd (true≢false (sym (eq-eqb b a (sym (eqb-true a b y))) ∙ h))) (λ (n : nat_eq a b ≡ false). n) (cases_Bool (nat_eq a b))
 
+-- one second later the first waiting job still waits first, with a shadow time that is not later, or it waits no more
 pub head-kept : (plan : Plan) (t : ℕ) (head : EffectiveJob) (rest : List EffectiveJob) → t < 2 ^ 49 → IsPlan plan → (before plan t).waiting ≡ head ∷ rest → Kept head (shadow_time (before plan t) head.size) (before plan (t + 1))
 head-kept plan t head rest small p queue =
     let s = before plan t in

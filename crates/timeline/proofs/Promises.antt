@@ -35,7 +35,6 @@ head-waits head rest s queue =
     let cons = ap (sum_by p) queue ∙ sum_by-cons p head rest in
     omega (arith, one, cons)
 
--- nobody waits after the bound
 head-early : (plan : Plan) (t : ℕ) (job : EffectiveJob) → IsPlan plan → IsHead plan t job → t ≤ bound plan
 head-early plan t job p (rest, queue) =
     ⊎_elim
@@ -46,7 +45,6 @@ head-early plan t job p (rest, queue) =
     (λ (l : t ≤ bound plan). l)
     (cases_lt (bound plan) t)
 
--- who has come has come, and who has started has started
 come-more : (plan : Plan) (n t : ℕ) → come n t plan.jobs ≤ come n (t + 1) plan.jobs
 come-more plan n t = let one : suc t ≡ t + 1 = omega arith in let e = ap (λ u. come n u plan.jobs) one in omega (arith, come-next n t plan.jobs, e)
 
@@ -55,7 +53,6 @@ starts-more plan n t =
     let e = ap (starts_of n) (starts_before-more plan t) in
     omega (arith, e, sum_by-append (λ (x : Start). cond (nat_eq x.number n) 1 0) (starts_before plan t) (starts_in plan t))
 
--- a head waits on with a shadow time that is not later, or is gone for good
 kept-on : (plan : Plan) (t d : ℕ) (head : EffectiveJob) (rest : List EffectiveJob) → t + d ≤ 2 ^ 49 → IsPlan plan → (before plan t).waiting ≡ head ∷ rest
     → Kept head (head_time plan t head) (before plan (t + d)) × (1 ≤ come head.number (t + d) plan.jobs)
 kept-on plan t zero head rest small p queue =
@@ -81,6 +78,7 @@ kept-on plan t (suc d) head rest small p queue =
       omega (arith, more, i.1),
     )
 
+-- while a job waits first, its shadow time never goes up from one second to a later one
 pub shadow-times-never-rise : ShadowTimesNeverRise
 shadow-times-never-rise plan t u job p l (rest, queue) (rest', queue') =
     let early = head-early plan u job p (rest', queue') in
@@ -92,14 +90,12 @@ shadow-times-never-rise plan t u job p l (rest, queue) (rest', queue') =
     (λ (gone : jobs_with job.number (before plan u).waiting ≡ 0). absurd (omega (arith, gone, head-waits job rest' (before plan u) queue')))
     k
 
--- nothing comes back before the first expected end
 nothing-back : (u : ℕ) (rs : List Placed) → All (λ r. u < expected_end r) rs → sum_by (back_by u) rs ≡ 0
 nothing-back u [] a = refl
 nothing-back u (r ∷ rs) a =
     let one = cond-false {A = ℕ} (nat_le (expected_end r) u) r.job.size 0 (lt-leb (expected_end r) u (All-head (λ r. u < expected_end r) r rs a)) in
     omega (arith, one, sum_by-cons (back_by u) r rs, nothing-back u rs (All-tail (λ r. u < expected_end r) r rs a))
 
--- a settled head does not fit
 settled-waits : (s : State) (now : ℕ) (head : EffectiveJob) (rest : List EffectiveJob) → s.waiting ≡ head ∷ rest → next s now ≡ None → free s < head.size
 settled-waits s now head rest queue e =
     ⊎_elim
@@ -109,7 +105,6 @@ settled-waits s now head rest queue e =
     cc)
     (cases_lt (free s) head.size)
 
--- the shadow time of a head is never past
 not-past : (plan : Plan) (v : ℕ) (head : EffectiveJob) (rest : List EffectiveJob) → v ≤ 2 ^ 49 → IsPlan plan → (before plan v).waiting ≡ head ∷ rest → v ≤ head_time plan v head
 not-past plan v head rest small p queue =
     let s = before plan v in
@@ -125,7 +120,6 @@ not-past plan v head rest small p queue =
     (λ (l : v ≤ time). l)
     (cases_lt time v)
 
--- and it is not long after the bound
 not-late : (plan : Plan) (v : ℕ) (head : EffectiveJob) (rest : List EffectiveJob) → v ≤ 2 ^ 49 → IsPlan plan → (before plan v).waiting ≡ head ∷ rest → head_time plan v head ≤ bound plan + 100000000
 not-late plan v head rest small p queue =
     let s = before plan v in
@@ -137,7 +131,6 @@ not-late plan v head rest small p queue =
     (λ k d h. let a = all-end-by-the-bound plan v p k d h in let b = run.sound.running_limits k d h in omega (arith, a, b.within_limit, b.lasts)) in
     least.least last (omega (arith, back-each last s.running over, run.sound.fits, within))
 
--- where the first start of a number is
 found-behind : (n : ℕ) (P : ℕ → Type 0) (xs ys : List Start) → starts_of n xs ≡ 0 → IsSomeAnd (start_of ys n) P → IsSomeAnd (start_of (xs ++ ys) n) P
 found-behind n P [] ys none h = h
 found-behind n P (x ∷ xs) ys none h =
@@ -158,12 +151,10 @@ found-within n P (x ∷ xs) ys some a =
     rw y (found-within n P xs ys (omega (arith, e, f, some)) (All-tail (λ (x : Start). P x.at) x xs a)))
     (cases_Bool (nat_eq x.number n))
 
--- what holds of all holds of those behind
 All-behind : (P : Start → Type 0) (xs ys : List Start) → All P (xs ++ ys) → All P ys
 All-behind P [] ys a = a
 All-behind P (x ∷ xs) ys a = All-behind P xs ys (All-tail P x (xs ++ ys) a)
 
--- all starts, with those of the first t seconds in front
 in-front : (plan : Plan) (t : ℕ) → IsPlan plan → (ys : List Start) × (sim plan ≡ starts_before plan t ++ ys)
 in-front plan t p =
     let b = bound plan + 1 in
@@ -174,6 +165,7 @@ in-front plan t p =
     let more = later plan t n in
     (more.0, sym done ∙ ap (starts_before plan) (sym whole) ∙ more.1)
 
+-- a job that waits first before t starts at t or later, and by its shadow time then
 pub heads-start-by-their-shadow-times : HeadsStartByTheirShadowTimes
 heads-start-by-their-shadow-times plan t job p (rest, queue) =
     let n = job.number in

@@ -12,6 +12,7 @@ use Rattle.easy_rule.proofs.Lemmas.{state_after-done, starts_at-done, decided-do
 use Rattle.timeline.specs.Laws.{EachStateIsSettled, IsQuiet, QuietSecondsChangeNothing, OnlyEndsUnsettle}
 use Rattle.timeline.proofs.Facts.{before-more, starts_before-more}
 
+-- before each second nobody may start
 pub each-state-is-settled : EachStateIsSettled
 unfolding before
 each-state-is-settled plan zero = refl
@@ -19,7 +20,6 @@ each-state-is-settled plan (suc t) =
     let s = ready plan (before plan t) t in
     next-later (state_after s t) t (suc t) (state_after s t).waiting (omega arith) (decided-done (length s.waiting) s t (omega arith))
 
--- where none ends, all stay
 ended-none : (t : ℕ) (rs : List Placed) → (Any (λ r. real_end r ≡ t) rs → ⊥) → filter (λ r. not (nat_eq (real_end r) t)) rs ≡ rs
 ended-none t [] none = refl
 ended-none t (r ∷ rs) none =
@@ -48,6 +48,7 @@ quiet-for plan a (suc n) quiet =
           ∙ append-nil (starts_before plan t) ∙ i.1,
     )
 
+-- over seconds at which no job ends and none is submitted, no state changes and nobody starts
 pub quiet-seconds-change-nothing : QuietSecondsChangeNothing
 quiet-seconds-change-nothing plan a b l quiet =
     let n = b - a in
@@ -55,6 +56,7 @@ quiet-seconds-change-nothing plan a b l quiet =
     let i = quiet-for plan a n (λ t x y. quiet t x (omega arith)) in
     (ap (before plan) (sym whole) ∙ i.0, ap (starts_before plan) (sym whole) ∙ i.1)
 
+-- where no job ends at t, nobody who waited before t may start, and the shadow of the first of them stays the same
 pub only-ends-unsettle : OnlyEndsUnsettle
 only-ends-unsettle plan t none =
     let s = before plan t in

@@ -1,4 +1,4 @@
--- Lists in a strict order: what keeps them so, and that look-ups by number decide them.
+-- Lists in order: what keeps them so, and that look-ups by number decide them, where no two have one number.
 use Rattle.std.proofs.Common.{◌≡◌, ℕ, ◌≤◌, Bool, nat_eq, nat_lt, List, [], ◌∷◌, ◌++◌, Some, None, All, filter, refl, sym, ◌∙◌, arith, inl, inr, ⊎_elim}
 use Rattle.std.proofs.lemmas.List.Elements.{All-head, All-tail, All-nil, All-cons, All-append, All-filter, All-weaker}
 use Rattle.std.proofs.lemmas.Bool.{cond_both, cases_eq, ltb-true, ltb-false}
@@ -16,13 +16,15 @@ abbrev pub Rises : {X : Type 0} → (X → X → Type 0) → List X → Type 0
 Rises B [] = Unit {0}
 Rises B (x ∷ xs) = All (B x) xs × Rises B xs
 
--- a job arrives before another one, and a running job has no greater number than another
+-- a job arrives before another one: at an earlier second, or at the same one with a smaller number
 abbrev pub Ahead : EffectiveJob → EffectiveJob → Type 0
 Ahead a b = Lex a.submit a.number b.submit b.number
 
+-- a running job has no greater number than another
 abbrev pub NotAbove : Placed → Placed → Type 0
 NotAbove a b = a.job.number ≤ b.job.number
 
+-- those that pass stay in order
 pub rises-filter : {X : Type 0} (B : X → X → Type 0) (p : X → Bool) (xs : List X) → Rises B xs → Rises B (filter p xs)
 rises-filter B p [] h = tt
 rises-filter B p (x ∷ xs) h =
@@ -30,11 +32,13 @@ rises-filter B p (x ∷ xs) h =
     (λ _. (All-filter p (B x) xs h.0, rises-filter B p xs h.1))
     (λ _. rises-filter B p xs h.1)
 
+-- two lists in order, where each of the one stands before all of the other, are in order together
 pub rises-append : {X : Type 0} (B : X → X → Type 0) (xs ys : List X) → Rises B xs → Rises B ys → All (λ x. All (B x) ys) xs → Rises B (xs ++ ys)
 rises-append B [] ys h k a = k
 rises-append B (x ∷ xs) ys h k a =
     (All-append (B x) xs ys h.0 (All-head (λ x. All (B x) ys) x xs a), rises-append B xs ys h.1 k (All-tail (λ x. All (B x) ys) x xs a))
 
+-- waiting jobs in order of arrival stay in it without one of them
 pub rises-without : (n : ℕ) (js : List EffectiveJob) → Rises Ahead js → Rises Ahead (without n js)
 rises-without n [] h = tt
 rises-without n (j ∷ js) h =
@@ -42,6 +46,7 @@ rises-without n (j ∷ js) h =
     (λ _. h.1)
     (λ _. (All-without (Ahead j) n js h.0, rises-without n js h.1))
 
+-- running jobs that do not fall by number do not with one more
 pub rises-placed : (r : Placed) (rs : List Placed) → Rises NotAbove rs → Rises NotAbove (placed r rs)
 rises-placed r [] h = (All-nil (NotAbove r), tt)
 rises-placed r (x ∷ xs) h =
@@ -53,14 +58,15 @@ rises-placed r (x ∷ xs) h =
     let first : x.job.number ≤ r.job.number = omega (arith, l) in
     (All-placed (NotAbove x) r xs first h.0, rises-placed r xs h.1)))
 
+-- sorted by number, running jobs do not fall by number
 pub rises-by_number : (rs : List Placed) → Rises NotAbove (by_number rs)
 rises-by_number [] = tt
 rises-by_number (r ∷ rs) = rises-placed r (by_number rs) (rises-by_number rs)
 
--- a plan's jobs stand in order of arrival, each before all later ones
 ahead-all : (a b : EffectiveJob) (js : List EffectiveJob) → Ahead a b → All (Ahead b) js → All (Ahead a) js
 ahead-all a b js l h = All-weaker (Ahead b) (Ahead a) (λ c m. Lex-trans a.submit a.number b.submit b.number c.submit c.number l m) js h
 
+-- where each job comes before the next, each arrives before all later ones
 pub rises-jobs : (js : List EffectiveJob) → IsRising js → Rises Ahead js
 rises-jobs [] h = tt
 rises-jobs (j ∷ []) h = (All-nil (Ahead j), tt)
@@ -69,16 +75,17 @@ rises-jobs (j ∷ k ∷ js) h =
     let l : Ahead j k = Lex-true j.submit j.number k.submit k.number h.0 in
     (All-cons (Ahead j) k js l (ahead-all j k js l i.0), i)
 
+-- two jobs that arrive before one another have one number
 pub ahead-once : (a b : EffectiveJob) → Ahead a b → Ahead b a → a.number ≡ b.number
 ahead-once a b (inl l) (inl m) = absurd (omega (arith, l, m))
 ahead-once a b (inl l) (inr m) = absurd (let k = m.0 in omega (arith, l, k))
 ahead-once a b (inr l) (inl m) = absurd (let k = l.0 in omega (arith, m, k))
 ahead-once a b (inr l) (inr m) = absurd (let k = l.1 in let n = m.1 in omega (arith, k, n))
 
+-- two running jobs of which neither has the greater number have one number
 pub above-once : (a b : Placed) → NotAbove a b → NotAbove b a → a.job.number ≡ b.job.number
 above-once a b l m = omega (arith, l, m)
 
--- ---- two such lists in which each number finds the same are equal
 module _ {X : Type 0} (f : X → ℕ) (B : X → X → Type 0) (one : (x y : X) → B x y → B y x → f x ≡ f y) where
   first-same : (x y : X) (xs ys : List X) → All (B x) xs → All (B y) ys → ((n : ℕ) → look f n (x ∷ xs) ≡ look f n (y ∷ ys)) → f x ≡ f y
   first-same x y xs ys a b h =
@@ -97,6 +104,7 @@ module _ {X : Type 0} (f : X → ℕ) (B : X → X → Type 0) (one : (x y : X) 
       (λ (ne : f x ≡ n → ⊥). sym (look-past f n x xs ne) ∙ h n ∙ look-past f n y ys (λ e. ne (same ∙ e)))
       (cases_eq (f x) n)
 
+  -- two lists in order, each without two of one number, are equal where each number finds the same in both
   pub same-rows : (xs ys : List X) → Rises B xs → Rises B ys → Once f xs → Once f ys → ((n : ℕ) → look f n xs ≡ look f n ys) → xs ≡ ys
   same-rows [] [] r s o q h = refl
   same-rows [] (y ∷ ys) r s o q h = absurd (let k : None ≡ Some y = h (f y) ∙ look-here f (f y) y ys refl in cc)

@@ -18,11 +18,12 @@ starts-below plan (suc t) =
     (All-weaker (λ (x : Start). x.at < t) (λ (x : Start). x.at < suc t) (λ x lt. omega arith) (starts_before plan t) (starts-below plan t))
     (All-weaker (λ (x : Start). x.at ≡ t) (λ (x : Start). x.at < suc t) (λ x e. omega arith) (starts_in plan t) (starts-now (length (ready plan (before plan t) t).waiting) (ready plan (before plan t) t) t))
 
+-- no job starts after the bound
 pub all-start-by-the-bound : AllStartByTheBound
 all-start-by-the-bound plan h =
     All-weaker (λ (x : Start). x.at < bound plan + 1) (λ (x : Start). x.at ≤ bound plan) (λ x lt. omega arith) (sim plan) (starts-below plan (bound plan + 1))
 
--- and so before the last second of all
+-- all starts of a plan come before second 2^49
 pub all-start-early : (plan : Plan) (starts : List Start) → IsPlan plan → starts ≡ sim plan → All (λ (x : Start). x.at < 2 ^ 49) starts
 all-start-early plan starts h same =
     let short = short-plan plan h in

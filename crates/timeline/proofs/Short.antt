@@ -25,6 +25,7 @@ submits-le (j ∷ js) a =
     let i = submits-le js (All-tail IsWithinLimits j js a) in
     omega (arith, h, i)
 
+-- the bound of a plan is no more than 420430400000000
 pub bound-le : (plan : Plan) → IsPlan plan → bound plan ≤ 420430400000000
 bound-le plan p =
     let a = lengths-le plan.jobs p.limits in
@@ -32,10 +33,11 @@ bound-le plan p =
     let c = p.few in
     omega (arith, a, b, c)
 
+-- the bound of a plan is less than 2^49 - 1
 pub short-plan : (plan : Plan) → IsPlan plan → bound plan < 2 ^ 49 - 1
 short-plan plan p = omega (arith, bound-le plan p)
 
--- as the code adds it up
+-- the last submit second of a plan's jobs and the sum of their lengths, added, are its bound
 pub bound-is : (plan : Plan) (js : List EffectiveJob) (last total : ℕ) → js ≡ plan.jobs → last ≡ last_submit js → total ≡ sum_by (λ j. j.length) js → last + total ≡ bound plan
 bound-is plan js last total e l t =
     let a = ap last_submit e in

@@ -8,6 +8,7 @@ use Rattle.timeline.proofs.Short.{short-plan}
 use Rattle.timeline.proofs.Facts.{run-before}
 use Rattle.timeline.proofs.Bound.{all-have-ended}
 
+-- the state before each second is sound
 pub each-state-is-sound : EachStateIsSound
 each-state-is-sound plan t p =
     let short = short-plan plan p in

@@ -1,4 +1,4 @@
--- Where the job of each number stands before a second.
+-- Where the job of each number stands before a second: over the second it comes, or who waited runs from now on, or who ran ends, or all stays.
 use Rattle.std.proofs.Common.{◌≡◌, ℕ, zero, suc, ◌+◌, ◌-◌, ◌^◌, ◌≤◌, ◌<◌, ◌⊎◌, Bool, true, false, cond, not, nat_eq, nat_lt, nat_le, List, ◌∷◌, length, Option, Some, None, refl, sym, ◌∙◌, ap, arith, subst, inl, inr, ⊎_elim}
 use Rattle.std.specs.Option.{option_or, option_map}
 use Rattle.std.proofs.lemmas.List.Folds.{find-append}
@@ -22,9 +22,6 @@ use Rattle.timeline.proofs.Rest.{rests, submits-by}
 use Rattle.timeline.proofs.Bound.{all-have-ended}
 use Rattle.timeline.proofs.Lookups.{look, many, job_of, job_in, kept, look-here, look-past, look-none, look-filter, look-without, look-without-other, look-placed, look-placed-other, start-append}
 
--- ---- the starts of one decision
--- of one number: what waits and runs under it before and after a decision at this second, and its start there. Either nobody starts, and both stay;
--- or who waited runs from now on
 abbrev pub Moves : ℕ → Option EffectiveJob → Option Placed → Option ℕ → Option EffectiveJob → Option Placed → Type 0
 Moves now w r start w' r' =
     ((start ≡ None) × (w' ≡ w) × (r' ≡ r))
@@ -33,7 +30,6 @@ Moves now w r start w' r' =
 abbrev Tells : ℕ → ℕ → State → List Start → State → Type 0
 Tells n now s xs z = Moves now (look job_of n s.waiting) (look job_in n s.running) (start_of xs n) (look job_of n z.waiting) (look job_in n z.running)
 
--- a number that somebody waits under is nobody's who runs
 none-runs : (s : State) (job : EffectiveJob) → IsSound s → waiting_job s job.number ≡ Some job → many job_in job.number s.running ≡ 0
 none-runs s job h found =
     let n = job.number in
@@ -44,7 +40,6 @@ none-runs s job h found =
     absurd (let none = look-none job_of n s.waiting (omega (arith, z)) in let k : None ≡ Some job = sym none ∙ found in cc))
     (cases_lt 0 (many job_of n s.waiting))
 
--- this job starts, with no other start of its number behind it
 first-start : (n now : ℕ) (s : State) (job : EffectiveJob) (xs : List Start) (z : State) → IsSound s → waiting_job s job.number ≡ Some job → job.number ≡ n → Tells n now (started s job now) xs z
     → Tells n now s (record { number = job.number; at = now } ∷ xs) z
 first-start n now s job xs z h found e t =
@@ -62,7 +57,6 @@ first-start n now s job xs z h found e t =
     absurd (let k : None ≡ Some b.0 = sym gone ∙ b.1 in cc))
     t
 
--- another one starts
 other-start : (n now : ℕ) (s : State) (job : EffectiveJob) (xs : List Start) (z : State) → (job.number ≡ n → ⊥) → Tells n now (started s job now) xs z
     → Tells n now s (record { number = job.number; at = now } ∷ xs) z
 other-start n now s job xs z ne t =
@@ -105,14 +99,14 @@ decided-tells n (suc k) s now small h =
     subst (λ xs. Tells n now s xs (decided (suc k) s now)) (sym a) (subst (λ z. Tells n now s (x ∷ decisions k s' now) z) (sym b) t))
     (cases_option (next s now))
 
--- ---- second by second
--- Where a number stands before second t: of its job in the plan and its start before t, who waits and who runs under it. It waits
--- from its submit second on, until it starts; then it runs until it ends.
+-- where a number stands before second t, by its job in the plan and its start before t: the job waits once it is submitted, until it starts,
+-- and then runs until it ends; a number without a job has no start, and nobody waits or runs under it
 abbrev pub Stands : ℕ → Option EffectiveJob → Option ℕ → Option EffectiveJob → Option Placed → Type 0
 Stands t None start w r = (start ≡ None) × (w ≡ None) × (r ≡ None)
 Stands t (Some j) None w r = (w ≡ cond (nat_lt j.submit t) (Some j) None) × (r ≡ None)
 Stands t (Some j) (Some start) w r = (j.submit ≤ start) × (start < t) × (w ≡ None) × (r ≡ lasting t j (Some start))
 
+-- the number stands so in the plan's state before second t
 abbrev pub StandsIn : Plan → ℕ → ℕ → Type 0
 StandsIn plan n t = Stands t (job_numbered plan.jobs n) (known_start plan t n) (look job_of n (before plan t).waiting) (look job_in n (before plan t).running)
 
@@ -120,7 +114,6 @@ stands-first : (o : Option EffectiveJob) → Stands 0 o None None None
 stands-first None = (refl, refl, refl)
 stands-first (Some j) = (sym (cond-false (nat_lt j.submit 0) (Some j) None (le-ltb j.submit 0 (omega arith))), refl)
 
--- some jobs end, and some arrive
 comes : (j : EffectiveJob) (t : ℕ) → option_or (cond (nat_lt j.submit t) (Some j) None) (cond (nat_eq j.submit t) (Some j) None) ≡ cond (nat_lt j.submit (suc t)) (Some j) None
 comes j t = go j.submit
   where
@@ -163,7 +156,6 @@ stands-ready t (Some j) (Some start) w r w' r' h e f =
       f ∙ ap (kept (λ (x : Placed). not (nat_eq (real_end x) t))) h.3 ∙ lasts (record { job = j; start = start }) t,
     )
 
--- some start
 stands-moved : (t : ℕ) (o : Option EffectiveJob) (start : Option ℕ) (w : Option EffectiveJob) (r : Option Placed) (new : Option ℕ) (w' : Option EffectiveJob) (r' : Option Placed)
     → ((j : EffectiveJob) → o ≡ Some j → 1 ≤ j.length) → Stands (suc t) o start w r → Moves t w r new w' r' → Stands (suc t) o (option_or start new) w' r'
 stands-moved t None start w r new w' r' long h (inl a) = (ap (λ z. option_or z new) h.0 ∙ a.0, a.1 ∙ h.1, a.2 ∙ h.2)
@@ -188,7 +180,6 @@ stands-moved t (Some j) None w r new w' r' long h (inr b) =
     absurd (let k : None ≡ Some b.0 = sym (cond-false (nat_lt j.submit (suc t)) (Some j) None y) ∙ sym h.0 ∙ b.1 in cc))
     (cases_Bool (nat_lt j.submit (suc t)))
 
--- a plan's job lasts a second at least
 long-enough : (plan : Plan) (n : ℕ) (j : EffectiveJob) → IsPlan plan → job_numbered plan.jobs n ≡ Some j → 1 ≤ j.length
 long-enough plan n j p e = (All-find IsWithinLimits (λ (x : EffectiveJob). nat_eq x.number n) plan.jobs j e p.limits).lasts
 
@@ -211,7 +202,6 @@ stands-early plan n (suc t) small p =
     (stands-moved t o (known_start plan t n) (look job_of n z.waiting) (look job_in n z.running) (start_of (starts_in plan t) n) (look job_of n (before plan (suc t)).waiting) (look job_in n (before plan (suc t)).running)
     (λ j e. long-enough plan n j p e) i (decided-tells n (length z.waiting) z t (omega arith) sound))
 
--- once nobody waits or runs, it stays so
 stands-later : (t u : ℕ) (o : Option EffectiveJob) (start : Option ℕ) → ((j : EffectiveJob) → o ≡ Some j → j.submit < t) → t ≤ u → Stands t o start None None → Stands u o start None None
 stands-later t u None start come l h = h
 stands-later t u (Some j) None come l h =
@@ -225,6 +215,7 @@ stands-later t u (Some j) (Some start) come l h =
     (λ (y : t ≤ e). absurd (let k : None ≡ Some r = h.3 ∙ cond-true (nat_le t e) (Some r) None (le-leb t e y) in cc))
     (cases_lt e t)
 
+-- each number of a plan stands so before each second
 pub stands-in : (plan : Plan) (n t : ℕ) → IsPlan plan → StandsIn plan n t
 stands-in plan n t p =
     let short = short-plan plan p in

@@ -21,21 +21,18 @@ use Rattle.timeline.proofs.Bound.{all-have-ended}
 use Rattle.timeline.proofs.Once.{later}
 use Rattle.timeline.proofs.Seconds.{starts-below}
 
--- a start of this number and second, and a running job of them
 abbrev is_start : ℕ → ℕ → Start → Bool
 is_start n t x = nat_eq x.number n && nat_eq x.at t
 
 abbrev has_started : ℕ → ℕ → Placed → Bool
 has_started n t r = nat_eq r.job.number n && nat_eq r.start t
 
--- how many
 abbrev made : ℕ → ℕ → List Start → ℕ
 made n t xs = count_by (is_start n t) xs
 
 abbrev run : ℕ → ℕ → State → ℕ
 run n t s = count_by (has_started n t) s.running
 
--- whom a decision starts, it lets run
 outcome-runs : (n k t : ℕ) (s : State) → run n t (decided k s t) ≡ made n t (decisions k s t) + run n t s
 unfolding decisions decided
 outcome-runs n zero t s = omega arith
@@ -57,7 +54,6 @@ outcome-runs n (suc k) t s =
     omega (arith, a, b, i, sum_by-cons (λ (x : Start). cond {A = ℕ} (is_start n t x) 1 0) x (decisions k s' t), sum_by-placed (λ (r : Placed). cond {A = ℕ} (has_started n t r) 1 0) r s.running))
     (cases_option (next s t))
 
--- who runs before a second has started before it
 began : (plan : Plan) (t : ℕ) → All (λ r. r.start < t) (before plan t).running
 unfolding before
 began plan zero = All-nil (λ (r : Placed). r.start < 0)
@@ -76,7 +72,6 @@ second-not false a t ne = refl
 none-run : (n t : ℕ) (rs : List Placed) → All (λ r. r.start < t) rs → count_by (has_started n t) rs ≡ 0
 none-run n t rs a = adds-none (has_started n t) rs (All-weaker (λ r. r.start < t) (λ r. has_started n t r ≡ false) (λ r l. second-not (nat_eq r.job.number n) r.start t (λ e. omega arith)) rs a)
 
--- of all starts those of a second are the starts of that second
 made-then : (plan : Plan) (n t : ℕ) → IsPlan plan → made n t (sim plan) ≡ made n t (starts_in plan t)
 made-then plan n t p =
     let b = bound plan + 1 in
@@ -92,7 +87,6 @@ made-then plan n t p =
     let late = adds-none (is_start n t) more.0 (All-weaker (λ (x : Start). t + 1 ≤ x.at) (λ x. is_start n t x ≡ false) (λ x l. second-not (nat_eq x.number n) x.at t (λ e. omega arith)) more.0 more.2) in
     omega (arith, all, parts, step, here, early, late)
 
--- as many starts as running jobs
 as-many-run : (plan : Plan) (n t : ℕ) → IsPlan plan → made n t (sim plan) ≡ run n t (before plan (t + 1))
 as-many-run plan n t p =
     let s = ready plan (before plan t) t in
@@ -102,6 +96,7 @@ as-many-run plan n t p =
     let d = none-run n t s.running (All-filter (λ (r : Placed). not (nat_eq (real_end r) t)) (λ (r : Placed). r.start < t) (before plan t).running (began plan t)) in
     omega (arith, a, b, c, d)
 
+-- a job of a number starts at t where, and only where, one of that number and start runs before t + 1
 pub starts-are-running-jobs : StartsAreRunningJobs
 starts-are-running-jobs plan n t p =
     let IsStart : Start → Type 0 = λ x. (x.number ≡ n) × (x.at ≡ t) in

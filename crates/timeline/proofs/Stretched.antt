@@ -24,10 +24,11 @@ use Rattle.timeline.proofs.Seconds.{starts-below}
 use Rattle.timeline.proofs.Sound.{each-state-is-sound}
 use Rattle.timeline.proofs.Places.{IsAt, within-first, behind-first, not-yet, first-of, unless-started, standing-map, standing-filter_map, map-filter_map}
 
--- ---- one job
+-- the second that is read from rising seconds at a place stands at it
 pub is-at : (seconds : List ℕ) (place t : ℕ) → IsNonDecreasing seconds → slice_get seconds place ≡ Some t → IsAt seconds place t
 is-at seconds place t rising e = record { rising = rising; within = slice_get_within seconds place t e; second = get_or_from_slice_get seconds place t 0 e }
 
+-- a job's waiting stretch stands at the place of t just where the job is submitted before t and has no start before it
 pub waits-by-start : (seconds : List ℕ) (place t : ℕ) (job : EffectiveJob) (start : Option ℕ) → IsAt seconds place t
     → stands place (waiting_stretch seconds job start) ≡ (is_none (start_by t start) && nat_lt job.submit t)
 waits-by-start seconds place t job None at =
@@ -61,7 +62,7 @@ pub runs-there : (plan : Plan) (seconds : List ℕ) (place t : ℕ) (job : Effec
     → standing_in place (running_stretch seconds job start) ≡ option_map number_of (runs_before plan t job)
 runs-there plan seconds place t job start at tells = runs-by seconds place t job start at ∙ ap (λ o. option_map number_of (lasting t job o)) (sym tells)
 
--- ---- running numbers in order
+-- the number of a running job in a snapshot
 abbrev pub number_in : RunningNumber → ℕ
 number_in r = r.number
 
@@ -88,6 +89,7 @@ numbers-placed r (x ∷ xs) none =
     go true false e rest = absurd (true≢false e)
     go false true e rest = absurd (true≢false (sym e))
 
+-- where no two running jobs have one number, their numbers are the same, sorted before or after they are taken
 pub numbers-by_number : (rs : List Placed) → ((n : ℕ) → many job_in n rs ≤ 1) → map number_of (by_number rs) ≡ by_key number_in (map number_of rs)
 numbers-by_number [] once = refl
 numbers-by_number (r ∷ rs) once =
@@ -95,15 +97,16 @@ numbers-by_number (r ∷ rs) once =
     let none : many job_in n (by_number rs) ≡ 0 = (let o = once n in let k = many-here job_in n r rs refl in let b = many-by_number n rs in omega (arith, o, k, b)) in
     numbers-placed r (by_number rs) none ∙ ap (with_key number_in (number_of r)) (numbers-by_number rs (λ m. (let o = once m in let k = many-tail job_in m r rs in omega (arith, o, k))))
 
--- ---- all jobs
 made-of : (ws vs : List ℕ) (rs qs : List RunningNumber) → ws ≡ vs → rs ≡ qs
     → (let a : Numbers = record { waiting = ws; running = rs } in a) ≡ (let b : Numbers = record { waiting = vs; running = qs } in b)
 made-of ws vs rs qs a b = λ i. record { waiting = a i; running = b i }
 
+-- the item of a job's waiting stretch is its number
 pub of-number : (seconds : List ℕ) (j : EffectiveJob) (start : Option ℕ) → (waiting_stretch seconds j start).item ≡ j.number
 of-number seconds j None = refl
 of-number seconds j (Some start) = refl
 
+-- the numbers of the state before one of rising seconds are those that stand at its place of the jobs' stretches, by starts that tell that second's
 pub states-stand-in-stretches : StatesStandInStretches
 states-stand-in-stretches plan seconds start place t p rising e tells =
     let at = is-at seconds place t rising e in
@@ -124,8 +127,6 @@ states-stand-in-stretches plan seconds start place t p rising e tells =
     ∙ made-of (map (λ (j : EffectiveJob). j.number) (filter (waits_before plan t) plan.jobs)) (standing_at place (waiting_stretches seconds plan.jobs start))
     (map number_of (by_number rs)) (by_key number_in (standing_at place (running_stretches seconds plan.jobs start))) waiting running
 
--- ---- starts
--- a start is known before t just where it comes before it
 known-by : (t : ℕ) (a o : Option ℕ) → ((start : ℕ) → (a ≡ Some start) ↔ ((o ≡ Some start) × (start < t))) → a ≡ start_by t o
 known-by t None None h = refl
 known-by t (Some s) None h = absurd (let k : None ≡ Some s = ((h s).0 refl).0 in cc)
@@ -139,9 +140,11 @@ known-by t a (Some u) h =
     go None e l = e
     go (Some s) e l = absurd (let k = (h s).0 e in let same : Some u ≡ Some s = k.0 in let is : u ≡ s = cc in let m = k.1 in omega (arith, l, is, m))
 
+-- the starts of the whole simulation tell, of each second, who has started before it, and when
 pub all-starts-tell : AllStartsTell
 all-starts-tell plan t p n = known-by t (known_start plan t n) (start_of (sim plan) n) (λ start. starts-are-final plan t n start p)
 
+-- the starts before a second tell the same of that second and of each earlier one
 pub later-starts-tell : LaterStartsTell
 later-starts-tell plan t u l n =
     let more = later plan t (u - t) in

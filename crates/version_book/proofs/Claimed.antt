@@ -23,7 +23,7 @@ none-from m n (t ∷ ts) all le =
 machine-sound : (b : BookView) → IsBook b → IsSoundMachine (machine_of b)
 machine-sound b h = subst IsSoundMachine h.led (sound_after (opened b.state.opening) b.journal (sound-opened b.state.opening) h.legal)
 
--- no standing ticket has the next number
+-- no standing ticket of a book has the next number
 pub next-unused : (b : BookView) → IsBook b → find (has_number b.state.next_ticket) b.state.tickets ≡ None
 next-unused b h = none-from (machine_of b) b.state.next_ticket b.state.tickets (machine-sound b h).tickets (omega arith)
 
@@ -39,6 +39,7 @@ ticket-is : (s : StateView) (t : TaskView) (o : Option ShownView) → Some t ≡
 ticket-is s t None is = cc
 ticket-is s t (Some x) is = let same : t ≡ task_for s x = cc in ap (λ (k : TaskView). k.ticket) same
 
+-- the ticket of a claimed task, put at the end under a number that no ticket had, is the one that stands under it
 pub out-of : (s new : StateView) (r : Result (Option TaskView) (Refusal TooManyTickets)) → find (has_number s.next_ticket) s.tickets ≡ None → IfOk r (λ task. task ≡ option_map (task_for s) (due_shown s)) → IfOk r (λ task. IfSome task (λ t. new.tickets ≡ s.tickets ++ ticket_for t ∷ [])) → IfOk r (λ task. IfSome task (IsOut new))
 out-of s new (Err e) none task tickets = tt
 out-of s new (Ok None) none task tickets = tt

@@ -1,4 +1,4 @@
--- A book after a call: a step more of its history, or as it was.
+-- A book after a call: a step more of its history, or as it was. A log that was just opened is a book.
 use Rattle.std.proofs.Common.{◌≡◌, ℕ, ◌+◌, ◌≤◌, ◌<◌, List, [], ◌∷◌, ◌++◌, length, map, refl, sym, ◌∙◌, ap, ap₂, subst, Bool, true, false, cond, arith}
 use Rattle.std.specs.Prelude.{Option, None, Some, Err, is_some}
 use Rattle.std.proofs.lemmas.List.{append-nil, length_push, length-map}
@@ -17,8 +17,6 @@ use Rattle.version_book.specs.Book.{StateView, BookView, machine_at, machine_of}
 use Rattle.version_book.specs.Sound.{IsBook, IsSound}
 use Rattle.version_book.specs.Answers.{TellsFit, TellsStanding}
 use Rattle.version_book.specs.Steps.{Answer, full, memory, outcome, Answers, Does, IsNoNote, IsStep, note_of, notes_of, opening_state, reply_in}
-
--- ---- what no call changes
 
 abbrev Counts : Machine → Machine → Type 0
 Counts m k = (k.opening ≡ m.opening) × (k.next_ticket ≤ m.next_ticket + 1) × (k.notes ≡ m.notes)
@@ -60,8 +58,6 @@ counts (Finish n fits) m = finish-counts n fits m (ticket_of n m.tickets)
 counts (GiveUp n) m = give_up-counts n m (ticket_of n m.tickets)
 counts (View id seen) m = same-counts m
 
--- ---- a history, one note longer
-
 after_all-push : (m : Machine) (notes : List Noted) (note : Noted) → after_all m (notes ++ note ∷ []) ≡ after note.call (after_all m notes)
 after_all-push m [] note = refl
 after_all-push m (k ∷ notes) note = after_all-push (after k.call m) notes note
@@ -69,8 +65,6 @@ after_all-push m (k ∷ notes) note = after_all-push (after k.call m) notes note
 IsLegal-push : (m : Machine) (notes : List Noted) (note : Noted) → IsLegal m notes → (after_all m notes).notes < note_limit → note.reply ≡ reply_to note.call (after_all m notes) → IsLegal m (notes ++ note ∷ [])
 IsLegal-push m [] note h capacity is = (capacity, is, tt)
 IsLegal-push m (k ∷ notes) note h capacity is = (h.0, h.1, IsLegal-push (after k.call m) notes note h.2 capacity is)
-
--- ---- a step
 
 noted-is : (m : Machine) (n : ℕ) (s : StateView) → m ≡ machine_at n s → noted m ≡ machine_at (n + 1) s
 noted-is m n s is = ap noted is
@@ -97,7 +91,7 @@ step-book old new who call r h capacity step =
       numbers = omega (arith, count, next, c.1, h.numbers);
     }
 
--- what a call leaves is a book, and it answered as it should
+-- where the journal is not full, and a call did what it answers and noted its reply, what it leaves is a book, and it answered as it should
 pub called : (old new : BookView) (who : Caller) (call : BookCall) (a : Answer) → IsBook old → length old.journal < note_limit → Does old.state new.state call a → new.journal ≡ old.journal ++ notes_of who call (reply_in a) → IsBook new × Answers old new who call a
 called old new who call full h capacity does journal = absurd does
 called old new who call memory h capacity does journal =
@@ -116,32 +110,31 @@ called old new who call (outcome r) h capacity does journal =
       ),
     )
 
--- the same, of a book that was seen so
+-- where the journal is not full, and a call did what it answers and noted its reply, it answered as it should, of an equal book too
 pub answered : {b v : BookView} (new : BookView) (who : Caller) (call : BookCall) (a : Answer) → b ≡ v → IsBook b → length b.journal < note_limit → Does b.state new.state call a → new.journal ≡ b.journal ++ notes_of who call (reply_in a) → Answers v new who call a
 answered {b} {v} new who call a is h capacity does journal = subst (λ (w : BookView). Answers w new who call a) is (called b new who call a h capacity does journal).1
 
--- ---- before it
-
+-- elements fewer than the most notes are as few when they are seen as notes
 pub has-capacity : {X : Type 0} (f : X → Noted) (xs : List X) → length xs < note_limit → length (map f xs) < note_limit
 has-capacity f xs few =
     let count = length-map xs f in
     omega arith
 
--- the note of a call, by what it was made of
+-- a journal with the note of a call more is so, too, by an equal journal before it, an equal call and an equal reply
 pub journal-is : {X : Type 0} (f : X → Noted) (xs ys zs : List X) (who : Caller) (c d : BookCall) (o p : Option Reply) → map f zs ≡ map f ys ++ notes_of who c o → ys ≡ xs → c ≡ d → o ≡ p → map f zs ≡ map f xs ++ notes_of who d p
 journal-is f xs ys zs who c d o p zs_is ys_is c_is o_is = zs_is ∙ (ap (λ ws. map f ws ++ notes_of who c o) ys_is ∙ ap₂ (λ (e : BookCall) (q : Option Reply). map f xs ++ notes_of who e q) c_is o_is)
 
--- a book that is as it was, but for its capacity
 same-book : {b : BookView} {X : Type 0} (f : X → Noted) (xs ys : List X) → b.journal ≡ map f xs → ys ≡ xs → record { state = b.state; journal = map f ys } ≡ b
 same-book {b} f xs ys journal ys_is = ap (λ (j : List Noted). let w : BookView = record { state = b.state; journal = j } in w) (ap (map f) ys_is ∙ sym journal)
 
+-- a call that was out of memory, where the journal is not full, and left all as it was, answered as it should
 pub as-it-was : {b v : BookView} {X : Type 0} (f : X → Noted) (xs ys : List X) (who : Caller) (call : BookCall) (a : Answer) → b ≡ v → b.journal ≡ map f xs → ys ≡ xs → length xs < note_limit → a ≡ memory → Answers v (record { state = b.state; journal = map f ys }) who call a
 as-it-was {b} {v} f xs ys who call a is journal ys_is few a_is =
     let capacity = has-capacity f xs few in
     let count = ap length journal in
     subst (λ (q : Answer). Answers v (record { state = b.state; journal = map f ys }) who call q) (sym a_is) (subst (λ (w : BookView). Answers w (record { state = b.state; journal = map f ys }) who call memory) is (omega arith, same-book f xs ys journal ys_is))
 
--- a book that takes no note
+-- a call that left all as it was, as the journal is full or a growth was refused, answered as it should
 pub no-note : {b v : BookView} {X F : Type 0} (f : X → Noted) (xs ys : List X) (who : Caller) (call : BookCall) (a : Answer) (r : Refusal F)
     → b ≡ v → IsBook b → b.journal ≡ map f xs → ys ≡ xs → IsNoNote (length xs) r → (r ≡ why.JournalFull → a ≡ full) → (r ≡ why.Memory → a ≡ memory)
     → Answers v (record { state = b.state; journal = map f ys }) who call a
@@ -152,18 +145,19 @@ no-note {b} {v} f xs ys who call a why.JournalFull is h journal ys_is many full_
 no-note f xs ys who call a (why.Fault fault) is h journal ys_is none full_is memory_is = absurd none
 no-note f xs ys who call a why.Memory is h journal ys_is few full_is memory_is = as-it-was f xs ys who call a is journal ys_is few (memory_is refl)
 
+-- the result of a call that took no note tells of the fit of the run what it should: nothing
 pub no-note-fits : (fits : Type 0) (notes : ℕ) (r : Refusal FinishFault) → IsNoNote notes r → TellsFit fits (Err r)
 no-note-fits fits notes why.JournalFull is = tt
 no-note-fits fits notes (why.Fault fault) is = absurd is
 no-note-fits fits notes why.Memory is = tt
 
+-- the result of a call that took no note tells of the standing of the ticket what it should: nothing
 pub no-note-stands : (stands : Type 0) (notes : ℕ) (r : Refusal FinishFault) → IsNoNote notes r → TellsStanding stands (Some (Err r))
 no-note-stands stands notes why.JournalFull is = tt
 no-note-stands stands notes (why.Fault fault) is = absurd is
 no-note-stands stands notes why.Memory is = tt
 
--- ---- a log that was just opened
-
+-- the sound state of a log that was just opened is a book, without notes
 pub opened-book : (s : StateView) (log : List LogEntry) (spacing : ℕ) (notes : List Noted) → IsSound s → s ≡ opening_state log spacing → notes ≡ [] → IsBook (record { state = s; journal = notes })
 opened-book s log spacing notes sound is none =
     let whole : IsSound (opening_state log spacing) → IsBook (record { state = opening_state log spacing; journal = [] }) = λ it. record { sound = it; legal = tt; led = refl; capacity = omega arith; numbers = omega arith } in

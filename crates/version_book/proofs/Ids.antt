@@ -15,8 +15,6 @@ use Rattle.version_book.specs.Sound.{Under, AreListed, under_of_shown, under_of_
 use Rattle.version_book.specs.Lookups.{AreApart, has_id, version_shown}
 use Rattle.version_book.proofs.Lists.{filter-map, find-All}
 
--- ---- rising ids
-
 abbrev Rises : ℕ → List ShownView → ℕ → Type 0
 Rises first [] next = first ≤ next
 Rises first (x ∷ xs) next = (first ≤ x.id) × Rises (x.id + 1) xs next
@@ -48,7 +46,6 @@ apart : (first : ℕ) (xs : List ShownView) (next : ℕ) → Rises first xs next
 apart first [] next h = λ i j d lt in_xs. absurd (omega arith)
 apart first (x ∷ xs) next h = AllPairs-cons (λ (a b : ShownView). a.id < b.id) x xs (All-weaker (λ (b : ShownView). x.id + 1 ≤ b.id) (λ (b : ShownView). x.id < b.id) (λ b le. omega arith) xs (at-least (x.id + 1) (x.id + 1) xs next (omega arith) h.1)) (apart (x.id + 1) xs next h.1)
 
--- all with the id of one that is found are alike
 alike-later : (p : ShownView → Bool) (x : ShownView) (xs : List ShownView) (next : ℕ) (y : ShownView) → Rises (x.id + 1) xs next → find p xs ≡ Some y → x.id < y.id
 alike-later p x xs next y h is = find-All (λ (z : ShownView). x.id < z.id) p xs y (All-weaker (λ (z : ShownView). x.id + 1 ≤ z.id) (λ (z : ShownView). x.id < z.id) (λ z le. omega arith) xs (at-least (x.id + 1) (x.id + 1) xs next (omega arith) h)) is
 
@@ -69,7 +66,6 @@ alike : (p : ShownView → Bool) (first : ℕ) (xs : List ShownView) (next : ℕ
 alike p first [] next y h is = cc
 alike p first (x ∷ xs) next y h is = alike-here p x xs next y (p x) h.1 (alike p (x.id + 1) xs next y h.1) is
 
--- all with an id show what is shown for it
 abbrev ShowsAs : ℕ → ℕ → Bool → ShownView → Type 0
 ShowsAs id v b x = has_id id x ≡ true → is_below (published_version x) v ≡ b
 
@@ -85,33 +81,33 @@ below-all : (id v first : ℕ) (xs : List ShownView) (next : ℕ) → Rises firs
 below-all id v first [] next h = All-nil (ShowsAs id v (is_below None v))
 below-all id v first (x ∷ xs) next h = below-here id v x xs next (has_id id x) refl h.1 (below-all id v (x.id + 1) xs next h.1)
 
--- ---- of a listing
-
+-- as ids rise, each scenario with an id shows an older version, or none, exactly where the one found by the id does
 pub ids-below : (id v : ℕ) (xs : List ShownView) (list : Listing) → AreListed xs list → IdsRise 1 list.scenarios list.next → All (λ (x : ShownView). has_id id x ≡ true → is_below (published_version x) v ≡ is_below (version_shown id xs) v) xs
 ids-below id v xs list same h = below-all id v 1 xs list.next (rises-of 1 xs list.scenarios list.next same h)
 
+-- what is shown of a listing whose ids rise has rising ids, so no two scenarios have one id
 pub ids-apart : (xs : List ShownView) (list : Listing) → AreListed xs list → IdsRise 1 list.scenarios list.next → AreApart xs
 ids-apart xs list same h = apart 1 xs list.next (rises-of 1 xs list.scenarios list.next same h)
 
+-- what is shown of a listing whose ids rise has ids below the next
 pub ids-given : (xs : List ShownView) (list : Listing) → AreListed xs list → IdsRise 1 list.scenarios list.next → All (λ (x : ShownView). x.id < list.next) xs
 ids-given xs list same h = given 1 xs list.next (rises-of 1 xs list.scenarios list.next same h)
 
+-- as ids rise, whatever is shown with the id of one that a test finds has the scenario of that one
 pub ids-alike : (p : ShownView → Bool) (xs : List ShownView) (list : Listing) (y : ShownView) → AreListed xs list → IdsRise 1 list.scenarios list.next → find p xs ≡ Some y → All (λ (x : ShownView). x.id ≡ y.id → x.scenario ≡ y.scenario) xs
 ids-alike p xs list y same h is = alike p 1 xs list.next y (rises-of 1 xs list.scenarios list.next same h) is
 
--- ---- one more
-
+-- ids that rise below the next still rise with a scenario of the next id at the end, below the id after it
 pub ids-push : (first : ℕ) (ss : List Listed) (next : ℕ) (name : List ℕ) (scenario : ScenarioView) → IdsRise first ss next → IdsRise first (ss ++ record { name = name; id = next; scenario = scenario } ∷ []) (next + 1)
 ids-push first [] next name scenario h = (h, omega arith)
 ids-push first (s ∷ ss) next name scenario h = (h.0, ids-push (s.id + 1) ss next name scenario h.1)
 
+-- what is shown are the listed scenarios still, where both get the same scenario more, under the next id, at the end
 pub listed-push : (xs : List ShownView) (list : Listing) (x : ShownView) (name : List ℕ) → AreListed xs list → x.id ≡ list.next → AreListed (xs ++ x ∷ []) (with_scenario name x.scenario list)
 listed-push xs list x name same is =
     map-append under_of_shown xs (x ∷ [])
     ∙ (ap₂ (λ (us : List Under) (n : ℕ). us ++ (n, x.scenario) ∷ []) same is
     ∙ sym (map-append under_of_listed list.scenarios (record { name = name; id = list.next; scenario = x.scenario } ∷ [])))
-
--- ---- one gone
 
 ids-weaker : (low first : ℕ) (ss : List Listed) (next : ℕ) → low ≤ first → IdsRise first ss next → IdsRise low ss next
 ids-weaker low first [] next le h = omega arith
@@ -121,6 +117,7 @@ without-here : (name : List ℕ) (first : ℕ) (s : Listed) (ss : List Listed) (
 without-here name first s ss next true le h more = ids-weaker first (s.id + 1) ss next (omega arith) h
 without-here name first s ss next false le h more = (le, more)
 
+-- ids that rise still rise without the scenario of a name
 pub ids-without : (name : List ℕ) (first : ℕ) (ss : List Listed) (next : ℕ) → IdsRise first ss next → IdsRise first (without name ss) next
 ids-without name first [] next h = h
 ids-without name first (s ∷ ss) next h = without-here name first s ss next (has_name name s) h.0 h.1 (ids-without name (s.id + 1) ss next h.1)
@@ -136,6 +133,7 @@ none-without : (name : List ℕ) (ss : List Listed) → the_id (named name ss) �
 none-without name [] is = refl
 none-without name (s ∷ ss) is = none-here s (named name ss) ss (without name ss) (has_name name s) is (none-without name ss)
 
+-- where no scenario has the name, the listing without it is the listing
 pub without-none : (name : List ℕ) (list : Listing) → id_of name list ≡ None → without_scenario name list ≡ list
 without-none name list is = ap (λ (ss : List Listed). let l : Listing = record list { scenarios = ss } in l) (none-without name list.scenarios is)
 
@@ -173,6 +171,7 @@ gone name first (s ∷ ss) next id h is = gone-here name s ss next id (has_name 
 abbrev not_this : ℕ → Under → Bool
 not_this id u = not (u.0 == id)
 
+-- what is shown are the listed scenarios still, where the scenario of a name leaves the listing and its id is no longer shown
 pub listed-without : (xs : List ShownView) (list : Listing) (name : List ℕ) (id : ℕ) → AreListed xs list → IdsRise 1 list.scenarios list.next → id_of name list ≡ Some id → AreListed (filter (λ (x : ShownView). not (has_id id x)) xs) (without_scenario name list)
 listed-without xs list name id same h is =
     sym (filter-map under_of_shown (not_this id) xs)

@@ -1,4 +1,4 @@
--- What a change of the scenarios leaves published.
+-- What a change of the scenarios leaves published: no run that was not published before, except one that is handed in.
 use Rattle.std.proofs.Common.{◌≡◌, ℕ, ◌==◌, ◌⊎◌, inl, inr, List, [], ◌∷◌, ◌++◌, refl, sym, ◌∙◌, ap, Bool, true, false, not, cond}
 use Rattle.std.specs.Prelude.{Option, None, Some, find, filter}
 use Rattle.std.proofs.lemmas.Bool.{eqb-true}
@@ -12,11 +12,9 @@ use Rattle.version_book.specs.Steps.{KeepsRuns}
 abbrev published_in : Option ShownView → Option PublishedView
 published_in o = elim o [ None ↦ None | Some x ↦ x.published ]
 
--- nothing changes
+-- each run that is published was published before, where what is shown stays as it was
 pub keeps-same : (old new : StateView) (r : Reply) → new.shown ≡ old.shown → KeepsRuns old new r
 keeps-same old new r same id p is = inl (ap (published_for id) (sym same) ∙ is)
-
--- ---- a change that leaves ids and runs
 
 same-step : (b c : Bool) (x y : ShownView) (o q : Option ShownView) → b ≡ c → y.published ≡ x.published → published_in o ≡ published_in q → published_in (cond b (Some y) o) ≡ published_in (cond c (Some x) q)
 same-step true true x y o q e same rest = same
@@ -38,10 +36,9 @@ published-change id k f ids runs (x ∷ xs) =
     let y : ShownView = cond (has_id k x) (f x) x in
     same-step (has_id id y) (has_id id x) x y (find (has_id id) (with_change k f xs)) (find (has_id id) xs) (ap (λ (i : ℕ). i == id) (one-id f x (has_id k x) (ids x))) (one-run f x (has_id k x) (runs x)) (published-change id k f ids runs xs)
 
+-- each run that is published was published before, where the scenario of an id changes neither its id nor its run
 pub keeps-change : (old new : StateView) (r : Reply) (k : ℕ) (f : ShownView → ShownView) → ((x : ShownView) → (f x).id ≡ x.id) → ((x : ShownView) → (f x).published ≡ x.published) → new.shown ≡ with_change k f old.shown → KeepsRuns old new r
 keeps-change old new r k f ids runs put id p is = inl (sym (published-change id k f ids runs old.shown) ∙ ap (published_for id) (sym put) ∙ is)
-
--- ---- a run is published
 
 abbrev Left : Option PublishedView → PublishedView → PublishedView → Type 0
 Left there p q = (there ≡ Some q) ⊎ (q ≡ p)
@@ -66,10 +63,9 @@ outcome-so : (there : Option PublishedView) (p q : PublishedView) (v : ℕ) → 
 outcome-so there p q v is (inl kept) = inl kept
 outcome-so there p q v is (inr same) = inr (ap reply.Finished (sym is) ∙ ap (λ (x : PublishedView). reply.Finished x.version) (sym same))
 
+-- each run that is published was published before, except the one that is put, of the version that is replied as finished
 pub keeps-put : (old new : StateView) (k v : ℕ) (p : PublishedView) → p.version ≡ v → new.shown ≡ with_change k (publishing p) old.shown → KeepsRuns old new (reply.Finished v)
 keeps-put old new k v p version put id q is = outcome-so (published_for id old.shown) p q v version (published-put id k p q old.shown (ap (published_for id) (sym put) ∙ is))
-
--- ---- a scenario more
 
 added-last : (c : Bool) (x : ShownView) (q : PublishedView) → x.published ≡ None → published_in (cond c (Some x) None) ≡ Some q → None ≡ Some q
 added-last true x q none is = sym none ∙ is
@@ -83,10 +79,9 @@ published-added : (id : ℕ) (y : ShownView) (q : PublishedView) (xs : List Show
 published-added id y q [] none is = added-last (has_id id y) y q none is
 published-added id y q (x ∷ xs) none is = added-rest (has_id id x) x q (find (has_id id) xs) (find (has_id id) (xs ++ y ∷ [])) is (published-added id y q xs none)
 
+-- each run that is published was published before, where a scenario is added with nothing published
 pub keeps-added : (old new : StateView) (r : Reply) (y : ShownView) → y.published ≡ None → new.shown ≡ old.shown ++ y ∷ [] → KeepsRuns old new r
 keeps-added old new r y none put id q is = inl (published-added id y q old.shown none (ap (published_for id) (sym put) ∙ is))
-
--- ---- a scenario less
 
 abbrev others : ℕ → List ShownView → List ShownView
 others k xs = filter (λ (x : ShownView). not (has_id k x)) xs
@@ -99,7 +94,6 @@ gone : (k : ℕ) (xs : List ShownView) → find (has_id k) (others k xs) ≡ Non
 gone k [] = refl
 gone k (x ∷ xs) = gone-step (has_id k x) k x (others k xs) refl (gone k xs)
 
--- the scenario that is dropped is not found, and so is no other than it was
 dropped-here : (c : Bool) (id k : ℕ) (x : ShownView) (q : PublishedView) (xs : List ShownView) → has_id id x ≡ c → has_id k x ≡ true → published_for id (others k xs) ≡ Some q → published_for id xs ≡ Some q → published_in (cond c (Some x) (find (has_id id) xs)) ≡ Some q
 dropped-here true id k x q xs is this found rest =
     let same : id ≡ k = sym (eqb-true x.id id is) ∙ eqb-true x.id k this in
@@ -115,5 +109,6 @@ published-left : (id k : ℕ) (q : PublishedView) (xs : List ShownView) → publ
 published-left id k q [] is = is
 published-left id k q (x ∷ xs) is = left-step (has_id k x) id k x q xs refl is (published-left id k q xs)
 
+-- each run that is published was published before, where the scenario of an id is left out
 pub keeps-left : (old new : StateView) (r : Reply) (k : ℕ) → new.shown ≡ others k old.shown → KeepsRuns old new r
 keeps-left old new r k put id q is = inl (published-left id k q old.shown (ap (published_for id) (sym put) ∙ is))

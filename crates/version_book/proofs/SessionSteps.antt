@@ -1,4 +1,4 @@
--- The steps of the sessions' calls.
+-- The steps of the sessions' calls: edits, scenarios that are added or dropped, retries and views, answered as the machine answers them.
 use Rattle.std.proofs.Common.{◌≡◌, ℕ, ◌+◌, ◌≤◌, ◌<◌, ◌==◌, List, [], ◌∷◌, ◌++◌, length, map, refl, sym, ◌∙◌, ap, ap₂, subst, Bool, true, false, not, cond, arith, length-append}
 use Rattle.std.specs.Prelude.{Option, None, Some, Result, Err, MatchOption, IfSome, find, filter, is_some, nat_lt}
 use Rattle.std.specs.Option.{option_map}
@@ -30,8 +30,6 @@ use Rattle.version_book.proofs.Lists.{filter-map, find-All, length-filter-le}
 use Rattle.version_book.proofs.Logs.{AreAccepted-append, log_after-append, log_at-stays}
 use Rattle.version_book.proofs.Ids.{ids-push, ids-without, listed-push, listed-without, without-none}
 use Rattle.version_book.proofs.Stepping.{still, progress-shown, change-progress, change-sound, all-always, some-of}
-
--- ---- an edit
 
 abbrev edit_replied : ℕ → Option EditFault → Reply
 edit_replied v o = elim o [ Some fault ↦ reply.EditRefused fault | None ↦ reply.Edited (v + 1) ]
@@ -77,14 +75,13 @@ edit-step s e h one is =
       sound = edit-sound s e h one is;
     }
 
+-- an edit without fault, put behind the others, with its log and the next version, is a step of the machine
 pub edit-accepted : (s : StateView) (e : LogEdit) (es : List LogEdit) (log : List LogEntry) (v : ℕ) → IsSound s → IsEdit e → fault_of e s.current ≡ None → es ≡ s.edits ++ e ∷ [] → log ≡ applied e s.current → v ≡ length s.edits + 1 → IsStep s (record s { edits = es; current = log }) (Edit e) (reply.Edited v)
 edit-accepted s e es log v h one is es_is log_is v_is =
     let P : List LogEdit → Type 0 = λ fs. IsStep s (record s { edits = fs; current = log }) (Edit e) (reply.Edited v) in
     let Q : List LogEntry → Type 0 = λ l. IsStep s (record s { edits = s.edits ++ e ∷ []; current = l }) (Edit e) (reply.Edited v) in
     let R : ℕ → Type 0 = λ w. IsStep s (edited_state s e (applied e s.current)) (Edit e) (reply.Edited w) in
     subst P (sym es_is) (subst Q (sym log_is) (subst R (sym v_is) (edit-step s e h one is)))
-
--- ---- a scenario more
 
 abbrev add_replied : ℕ → Option AddFault → Reply
 add_replied next o = elim o [ Some fault ↦ reply.AddRefused fault | None ↦ reply.Added next ]
@@ -95,7 +92,6 @@ add_changed name scenario m o = cond (is_some o) m (record m { listing = with_sc
 pub add-refused : (s : StateView) (name : List ℕ) (scenario : ScenarioView) (fault : AddFault) → IsSound s → add_fault name s.listing ≡ Some fault → IsStep s s (AddScenario name scenario) (reply.AddRefused fault)
 add-refused s name scenario fault h is = still s (AddScenario name scenario) (reply.AddRefused fault) h (λ n. sym (ap (add_replied s.listing.next) is)) (λ n. sym (ap (add_changed name scenario (machine_at n s)) is))
 
--- what is told of a fault; nothing changed
 abbrev AddAnswered : StateView → List ℕ → ScenarioView → Listing → AddFault → Type 0
 AddAnswered s name scenario list fault = Does s (record s { listing = list }) (AddScenario name scenario) (add_answer (Err (refusal_of fault)))
 
@@ -105,11 +101,13 @@ add-some s name scenario faults.NameTaken list h list_is is = subst (λ (l : Lis
 add-some s name scenario faults.TooMany list h list_is is = subst (λ (l : Listing). AddAnswered s name scenario l faults.TooMany) (sym list_is) (add-refused s name scenario faults.TooMany h is)
 add-some s name scenario faults.Memory list h list_is is = ap (λ (l : Listing). let t : StateView = record s { listing = l } in t) list_is
 
+-- where a scenario is not added, and the listing stays, the fault of the list, or out of memory where it has none, is the right answer
 pub add-outcome : (s : StateView) (name : List ℕ) (scenario : ScenarioView) (fault : AddFault) (list : Listing) (o : Option AddFault) → IsSound s → list ≡ s.listing → add_fault name s.listing ≡ o → MatchOption o (fault ≡ faults.Memory) (λ f. fault ≡ f) → AddAnswered s name scenario list fault
 add-outcome s name scenario fault list None h list_is is outcome =
     subst (λ (f : AddFault). AddAnswered s name scenario list f) (sym outcome) (ap (λ (l : Listing). let t : StateView = record s { listing = l } in t) list_is)
 add-outcome s name scenario fault list (Some f) h list_is is outcome = add-some s name scenario fault list h list_is (is ∙ ap (λ (e : AddFault). Some e) (sym outcome))
 
+-- a fault whose result is that of another is that other; where there is no other, it is out of memory
 pub match-outcome : (R : Type 0) {E : Type 0} (o : Option E) (fault : E) (memory : E) → MatchOption o (fault ≡ memory) (λ (f : E). ◌≡◌ {A = Result R E} (Err fault) (Err f)) → MatchOption o (fault ≡ memory) (λ (f : E). fault ≡ f)
 match-outcome R None fault memory h = h
 match-outcome R (Some f) fault memory h = cc
@@ -149,6 +147,7 @@ add-step s name scenario h is = record {
   sound = add-sound s name scenario h;
 }
 
+-- a scenario without fault, put behind the others under the next id, with nothing published, is a step of the machine
 pub add-accepted : (s : StateView) (name : List ℕ) (scenario : ScenarioView) (id : ℕ) (list : Listing) (xs : List ShownView) → IsSound s → add_fault name s.listing ≡ None → id ≡ s.listing.next → list ≡ with_scenario name scenario s.listing → xs ≡ s.shown ++ fresh_shown id scenario ∷ [] → IsStep s (record s { listing = list; shown = xs }) (AddScenario name scenario) (reply.Added id)
 add-accepted s name scenario id list xs h is id_is list_is xs_is =
     let P : List ShownView → Type 0 = λ ys. IsStep s (record s { listing = list; shown = ys }) (AddScenario name scenario) (reply.Added id) in
@@ -156,14 +155,13 @@ add-accepted s name scenario id list xs h is id_is list_is xs_is =
     let R : ℕ → Type 0 = λ i. IsStep s (record s { listing = with_scenario name scenario s.listing; shown = s.shown ++ fresh_shown i scenario ∷ [] }) (AddScenario name scenario) (reply.Added i) in
     subst P (sym xs_is) (subst Q (sym list_is) (subst R (sym id_is) (add-step s name scenario h is)))
 
--- ---- a scenario less
-
 abbrev drop_replied : Option ℕ → Reply
 drop_replied o = elim o [ None ↦ reply.NoSuchScenario | Some id ↦ reply.Dropped id ]
 
 abbrev drop_changed : List ℕ → Machine → Option ℕ → Machine
 drop_changed name m o = elim o [ None ↦ m | Some id ↦ dropped name id m ]
 
+-- a drop by a name that no scenario has is a step of the machine that changes nothing
 pub drop-refused : (s : StateView) (name : List ℕ) (list : Listing) → IsSound s → id_of name s.listing ≡ None → list ≡ without_scenario name s.listing → IsStep s (record s { listing = list }) (DropScenario name) reply.NoSuchScenario
 drop-refused s name list h is list_is =
     let P : Listing → Type 0 = λ l. IsStep s (record s { listing = l }) (DropScenario name) reply.NoSuchScenario in
@@ -204,14 +202,13 @@ drop-step s name id h is = record {
   sound = drop-sound s name id h is;
 }
 
+-- a drop of the scenario of a name, with all that is shown for its id and its tickets, is a step of the machine
 pub drop-accepted : (s : StateView) (name : List ℕ) (id : ℕ) (list : Listing) (xs : List ShownView) (ts : List TicketView) → IsSound s → id_of name s.listing ≡ Some id → list ≡ without_scenario name s.listing → xs ≡ filter (λ (x : ShownView). not (has_id id x)) s.shown → ts ≡ filter (λ (t : TicketView). not (t.id == id)) s.tickets → IsStep s (record s { listing = list; shown = xs; tickets = ts }) (DropScenario name) (reply.Dropped id)
 drop-accepted s name id list xs ts h is list_is xs_is ts_is =
     let P : List ShownView → Type 0 = λ ys. IsStep s (record s { listing = list; shown = ys; tickets = ts }) (DropScenario name) (reply.Dropped id) in
     let Q : Listing → Type 0 = λ l. IsStep s (record s { listing = l; shown = filter (not_this id) s.shown; tickets = ts }) (DropScenario name) (reply.Dropped id) in
     let R : List TicketView → Type 0 = λ us. IsStep s (record s { listing = without_scenario name s.listing; shown = filter (not_this id) s.shown; tickets = us }) (DropScenario name) (reply.Dropped id) in
     subst P (sym xs_is) (subst Q (sym list_is) (subst R (sym ts_is) (drop-step s name id h is)))
-
--- ---- another try
 
 abbrev retry_replied : Option Progress → Reply
 retry_replied o = cond (is_some o) reply.Retried reply.NoSuchScenario
@@ -224,6 +221,7 @@ changed-none : (id : ℕ) (f : Progress → Progress) (ps : List Progress) → p
 changed-none id f [] is = refl
 changed-none id f (p ∷ ps) is = none-left id f p ps (p.id == id) is (changed-none id f ps)
 
+-- a retry of an id that no scenario has is a step of the machine that changes nothing
 pub retry-refused : (s : StateView) (id : ℕ) → IsSound s → find (has_id id) s.shown ≡ None → IsStep s s (Retry id) reply.NoSuchScenario
 retry-refused s id h is =
     let none : progress_of id (map progress_of_shown s.shown) ≡ None = progress-shown id s.shown ∙ ap (option_map progress_of_shown) is in
@@ -243,13 +241,12 @@ retry-step s id x h is =
       sound = change-sound s id unmarking s.tickets h (λ y. refl) (all-always (λ (x : ShownView). has_id id x ≡ true → IfSome x.published (IsOfItsVersion s.opening s.edits x.scenario) → IfSome x.published (IsOfItsVersion s.opening s.edits x.scenario)) (λ y _ k. k) s.shown) (λ P k. k) (omega arith);
     }
 
+-- a retry that takes the mark of a scenario away is a step of the machine
 pub retry-accepted : (s : StateView) (id : ℕ) (xs : List ShownView) → IsSound s → is_some (find (has_id id) s.shown) ≡ true → xs ≡ with_change id unmarking s.shown → IsStep s (record s { shown = xs }) (Retry id) reply.Retried
 retry-accepted s id xs h is xs_is =
     let P : List ShownView → Type 0 = λ ys. IsStep s (record s { shown = ys }) (Retry id) reply.Retried in
     let some = some-of (find (has_id id) s.shown) is in
     subst P (sym xs_is) (retry-step s id some.0 h some.1)
-
--- ---- a view
 
 abbrev view_replied : ℕ → Option Progress → Reply
 view_replied seen o = elim o [ None ↦ reply.NoSuchScenario | Some p ↦ view_reply_at seen p.published ]
@@ -257,22 +254,27 @@ view_replied seen o = elim o [ None ↦ reply.NoSuchScenario | Some p ↦ view_r
 viewed : (s : StateView) (id seen : ℕ) (o : Option ShownView) (r : Reply) → IsSound s → find (has_id id) s.shown ≡ o → r ≡ view_replied seen (option_map progress_of_shown o) → IsStep s s (View id seen) r
 viewed s id seen o r h is r_is = still s (View id seen) r h (λ n. r_is ∙ sym (ap (view_replied seen) (progress-shown id s.shown ∙ ap (option_map progress_of_shown) is))) (λ n. refl)
 
+-- a view of an id that no scenario has is a step of the machine: there is no such scenario
 pub view-missing : (s : StateView) (id seen : ℕ) → IsSound s → find (has_id id) s.shown ≡ None → IsStep s s (View id seen) reply.NoSuchScenario
 view-missing s id seen h is = viewed s id seen None reply.NoSuchScenario h is refl
 
+-- a view of a scenario for which nothing is published is a step of the machine: there is nothing yet
 pub view-empty : (s : StateView) (id seen : ℕ) (x : ShownView) → IsSound s → find (has_id id) s.shown ≡ Some x → x.published ≡ None → IsStep s s (View id seen) reply.NotYet
 view-empty s id seen x h is none = viewed s id seen (Some x) reply.NotYet h is (sym (ap (λ (o : Option PublishedView). view_reply_at seen (option_map (λ q. q.version) o)) none))
 
+-- a view, where an older version is published than the one seen, is a step of the machine: it is behind
 pub view-behind : (s : StateView) (id seen found : ℕ) (x : ShownView) (p : PublishedView) → IsSound s → find (has_id id) s.shown ≡ Some x → x.published ≡ Some p → found ≡ p.version → found < seen → IsStep s s (View id seen) (reply.Behind seen found)
 view-behind s id seen found x p h is some found_is lt =
     let test : nat_lt found seen ≡ true = grind (arith, nat_tests) in
     viewed s id seen (Some x) (reply.Behind seen found) h is (sym (ap (λ (o : Option PublishedView). view_reply_at seen (option_map (λ q. q.version) o)) some ∙ (ap (λ v. view_reply_at seen (Some v)) (sym found_is) ∙ ap (λ (b : Bool). cond b (reply.Behind seen found) (reply.Shown found)) test)))
 
+-- a view, where a version no older than the one seen is published, is a step of the machine that shows it
 pub view-shown : (s : StateView) (id seen found : ℕ) (x : ShownView) (p : PublishedView) → IsSound s → find (has_id id) s.shown ≡ Some x → x.published ≡ Some p → found ≡ p.version → seen ≤ found → IsStep s s (View id seen) (reply.Shown found)
 view-shown s id seen found x p h is some found_is le =
     let test : nat_lt found seen ≡ false = grind (arith, nat_tests) in
     viewed s id seen (Some x) (reply.Shown found) h is (sym (ap (λ (o : Option PublishedView). view_reply_at seen (option_map (λ q. q.version) o)) some ∙ (ap (λ v. view_reply_at seen (Some v)) (sym found_is) ∙ ap (λ (b : Bool). cond b (reply.Behind seen found) (reply.Shown found)) test)))
 
+-- what a view shows is what is published for the scenario, of its version, and no older than the version seen
 pub view-is : {s v : StateView} (id seen : ℕ) (x : ShownView) (p q : PublishedView) → s ≡ v → IsSound s → find (has_id id) s.shown ≡ Some x → x.published ≡ Some p → q ≡ p → seen ≤ q.version → IsShownFor v id seen q
 view-is {s} {v} id seen x p q is h found some same le =
     let published : x.published ≡ Some q = some ∙ ap (λ (r : PublishedView). Some r) (sym same) in

@@ -9,7 +9,6 @@ module _ {X : Type 0} where
   abbrev pub FirstAre : (X → Type 0) → List (Option X) → ℕ → Type 0
   FirstAre P places count = (p : ℕ) (x : X) → p < count → slice_index_or places p None ≡ Some x → P x
 
-  -- one place more
   pub one_of : (P Q : X → Type 0) (places : List (Option X)) (count : ℕ) → FirstAre P places count → ((x : X) → P x → Q x) → (place : Option X) → count < length places → place ≡ slice_index_or places count place → IfSome place Q → FirstAre Q places (count + 1)
   one_of P Q places count first kept place short e here p x lt is =
       ⊎_elim
@@ -21,16 +20,19 @@ module _ {X : Type 0} where
       (cases_lt p count)
 
 module _ {X : Type 0} (size estimate : X → ℕ) where
+  -- the bounds hold of those who wait at the first places
   abbrev pub FirstAreBelow : LeastsView → List (Option X) → ℕ → Type 0
   FirstAreBelow l places count = FirstAre (λ x. IsBelow l (size x) (estimate x)) places count
 
+  -- bounds that keep these hold of those at one place more, if they hold of who waits there
   pub one_more : (l m : LeastsView) (places : List (Option X)) (count : ℕ) → FirstAreBelow l places count → Keeps l m → (place : Option X) → count < length places → place ≡ slice_index_or places count place → IfSome place (λ x. IsBelow m (size x) (estimate x)) → FirstAreBelow m places (count + 1)
   one_more l m places count first kept place short e here = one_of (λ x. IsBelow l (size x) (estimate x)) (λ x. IsBelow m (size x) (estimate x)) places count first (λ x. kept (size x) (estimate x)) place short e here
 
-  -- the estimates of their classes are no longer than they are
+  -- for those who wait at the first places, the estimate of their class is no longer than their own
   abbrev pub FirstAreShort : List ℕ → List (Option X) → ℕ → Type 0
   FirstAreShort estimates places count = FirstAre (λ x. slice_index_or estimates (class_of (size x)) 0 ≤ estimate x) places count
 
+  -- estimates that are no longer hold at one place more, if that of the class of who waits there is no longer than its own
   pub one_shorter : (old new : List ℕ) (places : List (Option X)) (count : ℕ) → FirstAreShort old places count → ((c : ℕ) → slice_index_or new c 0 ≤ slice_index_or old c 0) → (place : Option X) → count < length places → place ≡ slice_index_or places count place → IfSome place (λ x. slice_index_or new (class_of (size x)) 0 ≤ estimate x) → FirstAreShort new places (count + 1)
   one_shorter old new places count first kept place short e here =
       one_of (λ x. slice_index_or old (class_of (size x)) 0 ≤ estimate x) (λ x. slice_index_or new (class_of (size x)) 0 ≤ estimate x) places count first (λ x below. let less = kept (class_of (size x)) in omega (arith, below, less)) place short e here

@@ -1,4 +1,4 @@
--- The classes of sizes rise with the sizes.
+-- The classes of sizes rise with the sizes; what the class of a size is: a small one, a larger one by its leading zeros, or one of the largest.
 use Rattle.std.proofs.Common.{◌≡◌, ℕ, zero, suc, ◌+◌, ◌-◌, ◌*◌, ◌/◌, ◌^◌, ◌≤◌, ◌<◌, min, nat_lt, refl, sym, ap, ◌∙◌, arith, ⊎_elim}
 use Rattle.std.specs.Int.Count.{count_leading_zeros}
 use Rattle.std.proofs.Math.Nat.{pow-suc}
@@ -18,7 +18,6 @@ none_left : (size : ℕ) → class_in 0 size ≡ min size 7
 unfolding class_in
 none_left size = refl
 
--- a small size is its own class
 ends : (n size : ℕ) → size < 8 → class_in n size ≡ min size 7
 unfolding class_in
 ends zero size l = refl
@@ -42,7 +41,6 @@ least (suc n) size l =
     (λ (s : 8 ≤ size). omega (arith, large n size s))
     (cases_lt size 8)
 
--- a larger size is of no class before it
 rises_in : (n a b : ℕ) → a ≤ b → class_in n a ≤ class_in n b
 unfolding class_in
 rises_in zero a b l = omega arith
@@ -56,13 +54,14 @@ rises_in (suc n) a b l =
     (cases_lt a 8))
     (cases_lt b 8)
 
+-- a larger size is of no class before that of a smaller one
 pub rises : (a b : ℕ) → a ≤ b → class_of a ≤ class_of b
 rises a b l = rises_in 23 a b l
 
+-- the class of each size is below 100
 pub few : (size : ℕ) → class_of size < 100
 few size = omega (arith, bounded 23 size)
 
--- the class of a size that is halved so often until less than 8 is left
 found : (n times size : ℕ) → times ≤ n → 4 * 2 ^ times ≤ size → size < 8 * 2 ^ times → class_in n size ≡ 4 * times + size / 2 ^ times
 found n zero size l low high = let e = ends n size (omega arith) in omega (arith, e)
 found zero (suc times) size l low high = absurd (omega arith)
@@ -73,7 +72,6 @@ found (suc n) (suc times) size l low high =
     let same : size / 2 / 2 ^ times ≡ size / 2 ^ suc times = shr-shr size 1 times ∙ ap (λ (m : ℕ). size / 2 ^ m) (omega arith) in
     omega (arith, large n size (omega arith), half, same)
 
--- the last class
 last : (n times size : ℕ) → n < times → 4 * 2 ^ times ≤ size → class_in n size ≡ 4 * n + 7
 last n zero size l low = absurd (omega arith)
 last zero (suc times) size l low =
@@ -86,7 +84,6 @@ last (suc n) (suc times) size l low =
     let half = last n times (size / 2) (omega arith) (omega arith) in
     omega (arith, large n size (omega arith), half)
 
--- how often a size is halved until less than 8 is left, by its leading zeros
 record IsHalved (size times : ℕ) : Type 0 where
   low : 4 * 2 ^ times ≤ size
   high : size < 8 * 2 ^ times
@@ -107,15 +104,18 @@ by_zeros size zeros l u e = go top.0 top.1 top.2 top.3
         let power : 2 ^ (61 - zeros) ≡ 2 ^ t = ap (λ (m : ℕ). 2 ^ m) times in
         (omega arith, record { low = omega arith; high = omega arith })
 
--- the class of a small size, of a larger one by its leading zeros, and of the largest
+-- a size below 8 is its own class
 pub small_class : (size : ℕ) → size < 8 → size ≡ class_of size
 small_class size l = let e = ends 23 size l in omega (arith, e)
 
+-- a size of 64 bits that is at least 8 has at most 61 leading zeros
 pub some_zeros : (size : ℕ) → 8 ≤ size → size < 2 ^ 64 → count_leading_zeros 64 size ≤ 61
 some_zeros size l u = (by_zeros size (count_leading_zeros 64 size) l u refl).0
 
+-- the class of a size that is at least 8, by its leading zeros, if it is halved at most 23 times until less than 8 is left
 pub large_class : (size : ℕ) → 8 ≤ size → size < 2 ^ 64 → 61 - count_leading_zeros 64 size ≤ 23 → 4 * (61 - count_leading_zeros 64 size) + size / 2 ^ (61 - count_leading_zeros 64 size) ≡ class_of size
 large_class size l u few_times = let h = (by_zeros size (count_leading_zeros 64 size) l u refl).1 in sym (found 23 (61 - count_leading_zeros 64 size) size few_times h.low h.high)
 
+-- a size that is halved more than 23 times until less than 8 is left is of the last class, 99
 pub last_class : (size : ℕ) → 8 ≤ size → size < 2 ^ 64 → 23 < 61 - count_leading_zeros 64 size → 99 ≡ class_of size
 last_class size l u many = let h = (by_zeros size (count_leading_zeros 64 size) l u refl).1 in sym (last 23 (61 - count_leading_zeros 64 size) size many h.low)

@@ -5,17 +5,13 @@ use Rattle.std.proofs.lemmas.List.{get_or_past}
 use Rattle.waiting_places.specs.Places.{IsFirst, NonePasses}
 
 module _ {X : Type 0} (test : Option X → Bool) (places : List (Option X)) (from to next : ℕ) (end : ℕ) where
-  -- none passes in the first part: then it is the first of the second
+  -- the first place that passes in the second part is the first of both, if none passes in the first part
   pub in_second : (r : Option ℕ) → ((p : ℕ) → from ≤ p → to ≤ p → next ≤ p) → from ≤ next → NonePasses test places from to → IsFirst test places next end r → IsFirst test places from end r
   in_second None on after none rest = λ p low high. ⊎_elim (λ (x : p < to). none p low x) (λ (y : to ≤ p). rest p (on p low y) high) (cases_lt p to)
   in_second (Some k) on after none rest =
       let at = rest.0 in
       (omega (arith, at), rest.1, rest.2, λ p low high. ⊎_elim (λ (x : p < to). none p low x) (λ (y : to ≤ p). rest.3 p (on p low y) high) (cases_lt p to))
 
-  pub in_first : (k : ℕ) → to ≤ end → IsFirst test places from to (Some k) → IsFirst test places from end (Some k)
-  in_first k l found = let u = found.1 in (found.0, omega (arith, u, l), found.2, found.3)
-
--- past the last place none passes
 module _ {X : Type 0} (test : Option X → Bool) (places : List (Option X)) (past : test None ≡ false) (from end : ℕ) where
   pub ends_some : (k : ℕ) → IsFirst test places from end (Some k) → IsFirst test places from (length places) (Some k)
   ends_some k found =
@@ -29,8 +25,8 @@ module _ {X : Type 0} (test : Option X → Bool) (places : List (Option X)) (pas
   ends None l none = λ p low high. none p low (omega arith)
   ends (Some k) l found = ends_some k found
 
--- no place of a leaf passes from one on: then it is the first of those behind the leaf
 module _ {X : Type 0} (test : Option X → Bool) (places : List (Option X)) (past : test None ≡ false) (from span : ℕ) (capacity : length places ≤ 64 * span) where
+  -- the first place that passes behind a leaf is the first from a place in the leaf on, if none in the leaf passes
   pub behind_leaf : (r : Option ℕ) → NonePasses test places (max from (64 * (from / 64))) (64 * (from / 64 + 1)) → IsFirst test places (max (64 * (from / 64 + 1)) (64 * 0)) (64 * (0 + span)) r → IsFirst test places from (length places) r
   behind_leaf r none rest =
       let edge = 64 * (from / 64 + 1) in

@@ -8,7 +8,6 @@ use Rattle.waiting_places.specs.Bounds.{IsBelow, LeastsView, least_size, may_fit
 use Rattle.waiting_places.proofs.Classes.{rises}
 
 module _ (l : LeastsView) (size estimate : ℕ) (below : IsBelow l size estimate) where
-  -- one that is at most so long is no smaller
   least : (window : ℕ) → estimate ≤ window → least_size l window ≤ size
   least window short =
       ⊎_elim
@@ -22,6 +21,7 @@ module _ (l : LeastsView) (size estimate : ℕ) (below : IsBelow l size estimate
       omega (arith, is, e))
       (cases_lt l.window window)
 
+  -- where one fits an offer, one of whom its bounds hold may fit it
   pub passes : (offer : Offer) → nat_le size offer.extra || (nat_le size offer.free && nat_le estimate offer.window) ≡ true → may_fit offer l ≡ true
   passes offer fits =
       ⊎_elim

@@ -22,6 +22,7 @@ module _ {X : Type 0} (test : X → Bool) where
       let l = first.1 in
       found_all xs (Some k) (omega arith, omega (arith, l), first.2, behind (Some x) xs k first.3) ∙ sym (cond-false (test x) (Some x) (find test (waiting xs)) (first.3 0 (omega arith) (omega arith)))
 
+  -- what is found at the first place, from one on, whose job passes the test is the first job waiting from there on that passes it
   pub found_fit : (xs : List (Option X)) (from : ℕ) (r : Option ℕ) → IsFirst (holds test) xs from (length xs) r → found_at xs r ≡ find test (waiting (drop from xs))
   found_fit xs zero r first = found_all xs r first
   found_fit [] (suc n) None first = refl
@@ -34,6 +35,7 @@ module _ {X : Type 0} (test : X → Bool) where
       found_fit xs n (Some k) (omega (arith, l), omega (arith, u), first.2, λ p a b. first.3 (suc p) (omega arith) (omega arith))
 
 module _ {X : Type 0} where
+  -- who waits at the first place that passes is the first who waits
   pub found_first : (xs : List (Option X)) (r : Option ℕ) → IsFirst is_some xs 0 (length xs) r → found_at xs r ≡ slice_get (waiting xs) 0
   found_first xs None none = sym (ap (λ (ys : List X). slice_get ys 0) (nobody xs none))
   found_first xs (Some k) first = go (at_place xs k) refl

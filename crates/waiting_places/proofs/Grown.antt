@@ -10,7 +10,6 @@ use Rattle.waiting_places.proofs.Heads.{head_comes}
 use Rattle.waiting_places.proofs.Standing.{no_more, one_comes, one_less}
 
 module _ {X : Type 0} (size estimate : X → ℕ) (nodes : List LeastsView) (places : List (Option X)) (tree : IsTree size estimate nodes places) where
-  -- one comes, and the bounds above its place are lowered
   pub grown : (new : List LeastsView) (more : List (Option X)) (item : X) → length new ≡ length nodes → more ≡ places ++ Some item ∷ [] → length places + 1 ≤ 32 * length nodes → ((k : ℕ) → Keeps (node_at nodes k) (node_at new k))
       → ((times : ℕ) → 1 ≤ halved times (leaf_of (length nodes) (length places)) → IsBelow (node_at new (halved times (leaf_of (length nodes) (length places)))) (size item) (estimate item)) → IsTree size estimate new more
   grown new more item len e capacity kept met = record {
@@ -36,7 +35,6 @@ module _ {X : Type 0} (size estimate : X → ℕ) (nodes : List LeastsView) (pla
           (subst (λ (p : ℕ). 1 ≤ halved times (leaf_of (length nodes) p) → IsBelow (node_at new (halved times (leaf_of (length nodes) p))) (size item) (estimate item)) here (met times) one))
           (cases_lt place (length places))
 
-  -- one leaves
   pub left : (place : ℕ) → IsTree size estimate nodes (set places place None)
   left place = record {
     whole = tree.whole;
@@ -63,9 +61,11 @@ module _ {X : Type 0} (size estimate : X → ℕ) (places : List (Option X)) (no
   few : length places ≤ 2 ^ 46
   few = let list = kept.list in let some = kept.few in omega arith
 
+  -- no more than 2 ^ 46 wait
   pub count_fits : len ≤ 2 ^ 46
   count_fits = let count = kept.count in omega (arith, count, few, no_more places)
 
+  -- one comes at a new place: the fields keep what they kept, if the bounds above its place hold of it
   pub comes : (more : List (Option X)) (new : List LeastsView) (item : X) (wide : ℕ) → more ≡ places ++ Some item ∷ [] → length new ≡ length nodes → ((k : ℕ) → Keeps (node_at nodes k) (node_at new k))
       → ((times : ℕ) → 1 ≤ halved times (leaf_of (length nodes) (length places)) → IsBelow (node_at new (halved times (leaf_of (length nodes) (length places)))) (size item) (estimate item))
       → length places + 1 ≤ capacity_of (length nodes) → length more ≤ wide → IsPlaces size estimate more new (len + 1) head wide
@@ -84,6 +84,7 @@ module _ {X : Type 0} (size estimate : X → ℕ) (places : List (Option X)) (no
             grown size estimate nodes places tree new more item same e (omega (arith, l, many)) keeps met;
       }
 
+  -- one leaves its place: the fields keep what they kept, with one fewer who waits and the place of the next who waits first
   pub leaves : (place : ℕ) (item : X) → at_place places place ≡ Some item → (next : ℕ) → IsHead (set places place None) next → IsPlaces size estimate (set places place None) nodes (len - 1) next capacity
   leaves place item is next first =
       let there = within size estimate places place item is in
@@ -100,8 +101,10 @@ module _ {X : Type 0} (size estimate : X → ℕ) (places : List (Option X)) (no
         tree = λ some. left size estimate nodes places (kept.tree some) place;
       }
 
+  -- who waits has a place below 2 ^ 46
   pub place_fits : (place : ℕ) (item : X) → at_place places place ≡ Some item → place < 2 ^ 46
   place_fits place item is = omega (arith, few, within size estimate places place item is)
 
+  -- where one has a place, at least one waits
   pub somebody : (place : ℕ) (item : X) → at_place places place ≡ Some item → 1 ≤ len
   somebody place item is = let count = kept.count in omega (arith, count, one_less places place item (within size estimate places place item is) is)

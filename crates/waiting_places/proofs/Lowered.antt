@@ -14,6 +14,7 @@ halved-more zero times often n e =
 halved-more (suc more) times zero n e = absurd (omega arith)
 halved-more (suc more) times (suc often) n e = omega (arith, halved-more more times often n (omega arith))
 
+-- from a leaf up to before a node, all bounds hold of this size and estimate; each node keeps what its bounds told
 pub record IsLoweredTo (old new : List LeastsView) (leaf node size estimate : ℕ) : Type 0 where
   pub steps : ℕ
   pub here : node ≡ halved steps leaf
@@ -23,6 +24,7 @@ pub record IsLoweredTo (old new : List LeastsView) (leaf node size estimate : �
   pub met : (times : ℕ) → times < steps → IsBelow (node_at new (halved times leaf)) size estimate
 
 module _ (old new : List LeastsView) (leaf node size estimate : ℕ) (low : IsLoweredTo old new leaf node size estimate) where
+  -- one node further up, if the bounds written there keep its own and hold of the size and estimate
   pub one_up : (here l : LeastsView) → node < length new → here ≡ get_or new node here → Keeps here l → IsBelow l size estimate → IsLoweredTo old (set new node l) leaf (node / 2) size estimate
   one_up here l lt is keeps below =
       let less = low.low in
@@ -45,6 +47,7 @@ module _ (old new : List LeastsView) (leaf node size estimate : ℕ) (low : IsLo
           subst (λ (k : ℕ). IsBelow (node_at (set new node l) k) size estimate) at (subst (λ (m : LeastsView). IsBelow m size estimate) (sym (written new node l lt)) below))
           (cases_lt times low.steps)
 
+  -- at the top, the bounds of the leaf and of all nodes above it hold of this size and estimate
   pub to_the_top : node ≡ 0 → (times : ℕ) → 1 ≤ halved times leaf → IsBelow (node_at new (halved times leaf)) size estimate
   to_the_top top times some =
       ⊎_elim

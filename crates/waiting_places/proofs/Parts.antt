@@ -1,4 +1,5 @@
--- The nodes of a tree, and the places below each.
+-- The nodes of a tree, and the places below each: what is known at a node holds of all who wait below it, also once a node is made anew from
+-- the two below it, or a leaf from its places.
 use Rattle.std.proofs.Common.{◌≡◌, ◌≢◌, ℕ, zero, suc, ◌+◌, ◌*◌, ◌/◌, ◌^◌, ◌≤◌, ◌<◌, Bool, true, false, List, length, get_or, slice_index_or, Option, None, Some, refl, sym, ◌∙◌, ap, arith, subst, ⊎_elim}
 use Rattle.std.proofs.lemmas.Bool.{cases_eq, cases_lt, cases_Bool, true≢false}
 use Rattle.std.proofs.lemmas.List.{get_or_default}
@@ -14,7 +15,6 @@ use Rattle.waiting_places.proofs.Fits.{passes}
 use Rattle.waiting_places.proofs.Lowered.{halved-more}
 use Rattle.waiting_places.proofs.Nodes.{no_node}
 
--- a leaf below a node, halved often enough, is that node
 ancestor : (times k leaf : ℕ) → k * 2 ^ times ≤ leaf → leaf < (k + 1) * 2 ^ times → halved times leaf ≡ k
 ancestor zero k leaf low high = omega arith
 ancestor (suc times) k leaf low high =
@@ -30,7 +30,7 @@ module _ (count node low span : ℕ) (part : IsPart count node low span) where
   some : 1 ≤ span
   some = subst (λ (n : ℕ). 1 ≤ n) (sym part.power) (pow_pos part.height)
 
-  -- it is a node, and not the one before the root
+  -- a node above some leaves is there, and is not the one before the root
   pub is_node : (1 ≤ node) × (node < count)
   is_node = (root node part.start, omega (arith, part.start, part.end, more, some))
     where
@@ -41,7 +41,6 @@ module _ (count node low span : ℕ) (part : IsPart count node low span) where
       root zero e = let l = part.end in absurd (omega (arith, e, l, some))
       root (suc k) e = omega arith
 
-  -- its leaves are those of the two below it
   pub record Halves : Type 0 where
     pub first : IsPart count (2 * node) low (span / 2)
     pub second : IsPart count (2 * node + 1) (low + span / 2) (span / 2)
@@ -49,6 +48,7 @@ module _ (count node low span : ℕ) (part : IsPart count node low span) where
     pub less : span / 2 < span
     pub both : span ≡ span / 2 + span / 2
 
+  -- the leaves below a node are those below its two nodes, half of them each, where they are more than one
   pub halves : span ≢ 1 → Halves
   halves ne = go part.height part.power
     where
@@ -79,12 +79,10 @@ refused offer nodes node l result there is fails = ap (may_fit offer) (get_or_de
 pub root : (count : ℕ) → IsWhole count → IsPart count 1 0 (count / 2)
 root count whole = let e = whole.power in record { height = whole.height; power = omega arith; start = omega arith; end = omega arith }
 
--- what a node and another know is known of the node then
 abbrev pub KeepsBeside : List LeastsView → ℕ → ℕ → List LeastsView → Type 0
 KeepsBeside old node other new = (size estimate : ℕ) → IsBelow (node_at old node) size estimate → IsBelow (node_at old other) size estimate → IsBelow (node_at new node) size estimate
 
 module _ {X : Type 0} (size estimate : X → ℕ) (nodes : List LeastsView) (places : List (Option X)) (tree : IsTree size estimate nodes places) where
-  -- what is known at a node holds of all who wait below it
   pub known : (node low span place : ℕ) (x : X) → IsPart (length nodes) node low span → slice_index_or places place None ≡ Some x → 64 * low ≤ place → place < 64 * (low + span) → IsBelow (node_at nodes node) (size x) (estimate x)
   known node low span place x part is from to =
       let whole = tree.whole.power in
@@ -110,7 +108,7 @@ module _ {X : Type 0} (size estimate : X → ℕ) (nodes : List LeastsView) (pla
           (λ (no : fits size estimate offer x ≡ false). ap (holds (fits size estimate offer)) is ∙ no)
           (cases_Bool (fits size estimate offer x))
 
-  -- a node is made anew from the two below it
+  -- a node that is made anew from the two below it leaves a tree of bounds
   pub raised : (node : ℕ) (new : List LeastsView) → 2 * node + 1 < length nodes → length new ≡ length nodes → KeepsBeside nodes node (2 * node) new → KeepsBeside nodes node (2 * node + 1) new
       → ((k : ℕ) → k ≢ node → node_at new k ≡ node_at nodes k) → IsTree size estimate new places
   raised node new inner len first second others = record {
@@ -144,7 +142,7 @@ module _ {X : Type 0} (size estimate : X → ℕ) (nodes : List LeastsView) (pla
               right : (u : ℕ) → halved (suc u) (leaf_of (length nodes) place) ≡ node → halved u (leaf_of (length nodes) place) ≢ 2 * node → halved u (leaf_of (length nodes) place) ≡ 2 * node + 1
               right u e ne = omega (arith, e, ne)
 
-  -- a leaf is made anew from those who wait at its places
+  -- a leaf that is made anew from those who wait at its places leaves a tree of bounds
   pub raised_leaf : (leaf : ℕ) (new : List LeastsView) → 2 * (leaf + 1) ≤ length nodes → length new ≡ length nodes
       → ((place : ℕ) (x : X) → slice_index_or places place None ≡ Some x → place / 64 ≡ leaf → IsBelow (node_at nodes (length nodes / 2 + leaf)) (size x) (estimate x) → IsBelow (node_at new (length nodes / 2 + leaf)) (size x) (estimate x))
       → ((k : ℕ) → k ≢ length nodes / 2 + leaf → node_at new k ≡ node_at nodes k) → IsTree size estimate new places

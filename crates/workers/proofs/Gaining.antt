@@ -22,7 +22,6 @@ behind_last xs x =
     let is : slice_get (xs ++ x ∷ []) (length xs) ≡ Some x = slice_get-get_or (xs ++ x ∷ []) (length xs) x within ∙ ap Some (get_or-append_seam xs x [] x) in
     ap (option_map (λ (n : Noted). n.reply)) is
 
--- the reply that is noted is that of the result
 noted : (old new : BookView) (who : Caller) (call : BookCall) (answer : Answer) → Answers old new who call answer → reply_behind (length old.journal) new.journal ≡ reply_in answer
 noted old new who call full h = ap (λ (b : BookView). reply_behind (length old.journal) b.journal) h.1 ∙ behind_all old.journal
 noted old new who call memory h = ap (λ (b : BookView). reply_behind (length old.journal) b.journal) h.1 ∙ behind_all old.journal

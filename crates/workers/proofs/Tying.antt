@@ -1,4 +1,4 @@
--- The history stays tied to the book, and a session's front to the history.
+-- The history stays tied to the book, as calls are noted and other events are added, and a session's front stays tied to the history.
 use Rattle.std.proofs.Common.{◌≡◌, ◌<◌, ◌+◌, ◌||◌, ℕ, Bool, true, false, cond, List, [], ◌∷◌, ◌++◌, drop, length, refl, sym, ◌∙◌, ap, subst, arith, length-append, append-nil, inl, inr}
 use Rattle.std.specs.Prelude.{if◌then◌else◌, nat_lt, Option, None, Some, IfSome, IfOk, Result, Err, count_by}
 use Rattle.std.specs.List.{cons_option, slice_get}
@@ -35,8 +35,6 @@ use Rattle.workers.specs.Tied.{AreOne, Hears, IsTied, SharedView, opened_session
 abbrev pub lain : BookView → Seen → ℕ → ℕ → Bool → SharedView
 lain book history sessions workers stopped = record { book = book; history = history; sessions = sessions; workers = workers; stopped = stopped }
 
--- ---- what is noted
-
 behind_all : (xs : List Noted) → slice_get xs (length xs) ≡ None
 behind_all xs = slice_get_past xs (length xs) (omega arith)
 
@@ -45,7 +43,6 @@ behind_last xs x =
     let within : length xs < length (xs ++ x ∷ []) = omega (arith, length-append xs (x ∷ [])) in
     slice_get-get_or (xs ++ x ∷ []) (length xs) x within ∙ ap Some (get_or-append_seam xs x [] x)
 
--- the note of an answer, if there is one
 abbrev noted_by : Caller → BookCall → Answer → Option Noted
 noted_by who call full = None
 noted_by who call memory = None
@@ -64,15 +61,13 @@ fits opening old new history who call full at h = tt
 fits opening old new history who call memory at h = tt
 fits opening old new history who call (outcome reply) at h = subst (λ (m : Machine). IsAccepted m (note_of who call reply)) (sym at) (h.0, h.1)
 
--- the machine accepts what the book noted
+-- where the history is tied to the book, the machine at its end accepts the note of a call that the book answered, if there is one
 pub accepted : (opening : Machine) (old new : BookView) (history : Seen) (sessions workers : ℕ) (stopped : Bool) (who : Caller) (call : BookCall) (answer : Answer) (notes : ℕ)
     → IsTied opening (lain old history sessions workers stopped) → Answers old new who call answer → notes ≡ length old.journal
     → history.kept ≡ true → IfSome (slice_get new.journal notes) (IsAccepted (state_after opening history.events))
 accepted opening old new history sessions workers stopped who call answer notes tied h from kept =
     subst (λ (o : Option Noted). IfSome o (IsAccepted (state_after opening history.events))) (sym (behind old new who call answer notes h from))
     (fits opening old new history who call answer (tied kept).machine h)
-
--- ---- the tie
 
 after_append : (m : Machine) (notes more : List Noted) → after_all m (notes ++ more) ≡ after_all (after_all m notes) more
 after_append m [] more = refl
@@ -83,15 +78,17 @@ counted p xs x =
     let none_more : 0 + cond (p x) 1 0 ≡ cond (p x) 1 0 = omega arith in
     sum_by-append (λ (y : Happened). cond (p y) 1 0) xs (x ∷ []) ∙ ap (λ (n : ℕ). count_by p xs + n) none_more
 
+-- a bool or false is this bool
 pub or_false : (b : Bool) → b ≡ (b || false)
 or_false true = refl
 or_false false = refl
 
+-- a bool or true is true
 pub or_true : (b : Bool) → true ≡ (b || true)
 or_true true = refl
 or_true false = refl
 
--- the next caller's number is how many there were
+-- the number of the next caller is how many were opened before
 pub next_is : (opened n : ℕ) → next_caller opened ≡ Some n → n ≡ opened
 next_is opened n is = go (nat_lt opened callers_limit) is
   where
@@ -132,14 +129,15 @@ hears_by : (old new : BookView) (history later : Seen) (who : Caller) (call : Bo
     → Answers old new who call answer → notes ≡ length old.journal → Hears history (slice_get new.journal notes) later → Hears history (noted_by who call answer) later
 hears_by old new history later who call answer notes h from hears = subst (λ (o : Option Noted). Hears history o later) (behind old new who call answer notes h from) hears
 
--- a call keeps it
+-- the history stays tied to the book where a call was answered and the history heard of its note, if there is one
 pub tied : (opening : Machine) (old new : BookView) (history later : Seen) (sessions workers : ℕ) (stopped : Bool) (who : Caller) (call : BookCall) (answer : Answer) (notes : ℕ)
     → IsTied opening (lain old history sessions workers stopped) → Answers old new who call answer → notes ≡ length old.journal → Hears history (slice_get new.journal notes) later
     → IsTied opening (lain new later sessions workers stopped)
 tied opening old new history later sessions workers stopped who call answer notes before h from hears =
     tied_by opening old new history later sessions workers stopped who call answer before h (hears_by old new history later who call answer notes h from hears)
 
--- so does what is no call
+-- the history stays tied to the book where an event that is no call is added: with a session or worker more if the event opens one,
+-- and stopped if it is a stop
 pub tied_behind : (opening : Machine) (book : BookView) (history later : Seen) (sessions workers sessions' workers' : ℕ) (stopped stopped' : Bool) (e : Happened)
     → note_in e ≡ None → sessions' ≡ sessions + cond (opens_session e) 1 0 → workers' ≡ workers + cond (opens_worker e) 1 0 → stopped' ≡ (stopped || (is_stop e || false))
     → IsTied opening (lain book history sessions workers stopped) → Adds history e later → IsTied opening (lain book later sessions' workers' stopped')
@@ -157,7 +155,7 @@ tied_behind opening book history later sessions workers sessions' workers' stopp
       stopped = st ∙ (ap (λ (b : Bool). b || (is_stop e || false)) t.stopped ∙ sym (ap has_stopped added.1 ∙ list_any-append is_stop history.events (e ∷ [])));
     }
 
--- a history begins where the book stands
+-- a history that begins where the book stands, with no events yet, is tied to it: no caller was opened, and the desk is not stopped
 pub tied_first : (opening : Machine) (book : BookView) (whole : Seen) → opening ≡ machine_of book → whole ≡ nothing_yet → IsTied opening (lain book whole 0 0 false)
 tied_first opening book whole at is = subst (λ (s : Seen). IsTied opening (lain book s 0 0 false)) (sym is) (subst (λ (m : Machine). IsTied m (lain book nothing_yet 0 0 false)) (sym at) (λ kept. record {
   notes = sym (drop_of_length-le book.journal (omega arith));
@@ -167,8 +165,6 @@ tied_first opening book whole at is = subst (λ (s : Seen). IsTied opening (lain
   workers = refl;
   stopped = refl;
 }))
-
--- ---- a session's front
 
 prefix_self : {A : Type 0} (xs : List A) → IsPrefix xs xs
 prefix_self xs = ([], append-nil xs)
@@ -182,7 +178,7 @@ called_at opening old new history later front who call (outcome reply) at h hear
     let fits : IsAccepted (state_after opening history.events) (note_of who call reply) = subst (λ (m : Machine). IsAccepted m (note_of who call reply)) (sym at) (h.0, h.1) in
     (fits.0, fits.1, is ∙ (hears.0 kept).1)
 
--- the call stands in it
+-- where a front followed the history before a call was answered and after it, the history went on and then the call was made
 pub called : (opening : Machine) (old new : BookView) (history later : Seen) (sessions workers : ℕ) (stopped : Bool) (who : Caller) (call : BookCall) (answer : Answer) (notes : ℕ) (front at front' : Seen)
     → IsTied opening (lain old history sessions workers stopped) → Answers old new who call answer → notes ≡ length old.journal → Hears history (slice_get new.journal notes) later
     → Follows front history at → Follows at later front' → Calls opening front who call answer front'
@@ -192,7 +188,7 @@ called opening old new history later sessions workers stopped who call answer no
     let here = called_at opening old new history later front' who call answer (before one.0.1).machine h (hears_by old new history later who call answer notes h from hears) two.0.1 two.1 in
     (one.0.0, (history.events, one.0.2, here))
 
--- and so does a view
+-- where a front followed the history before a view was answered and after it, the history went on and then the scenario was viewed
 pub viewed : (opening : Machine) (old new : BookView) (history later : Seen) (sessions workers : ℕ) (stopped : Bool) (who : Caller) (id seen : ℕ) (shown : Result PublishedView (Refusal ViewFault)) (notes : ℕ) (front at front' : Seen)
     → IsTied opening (lain old history sessions workers stopped) → Answers old new who (View id seen) (view_answer shown) → notes ≡ length old.journal → Hears history (slice_get new.journal notes) later
     → Follows front history at → Follows at later front' → IsBook old → IfOk shown (IsShownFor old.state id seen) → Views opening front who id seen shown front'
@@ -203,9 +199,10 @@ viewed opening old new history later sessions workers stopped who id seen shown 
     let here = called_at opening old new history later front' who (View id seen) (view_answer shown) at_book h (hears_by old new history later who (View id seen) (view_answer shown) notes h from hears) two.0.1 two.1 in
     (one.0.0, (history.events, one.0.2, here, inr (old, book, sym at_book, is)))
 
--- a call for which memory ran out before the lock
+-- a call for which memory ran out before the lock leaves the front as it was
 pub calls_nothing : (opening : Machine) (front : Seen) (who : Caller) (call : BookCall) → Calls opening front who call memory front
 calls_nothing opening front who call = λ kept. (kept, (front.events, prefix_self front.events, refl))
 
+-- a view for which memory ran out before the lock leaves the front as it was
 pub views_nothing : (opening : Machine) (front : Seen) (who : Caller) (id seen : ℕ) → Views opening front who id seen (Err why.Memory) front
 views_nothing opening front who id seen = λ kept. (kept, (front.events, prefix_self front.events, refl, inl refl))

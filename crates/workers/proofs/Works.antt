@@ -1,4 +1,5 @@
--- How a worker's list goes on.
+-- How a worker's list goes on in a round. It works through with claims, each of a ticket that is then finished or given up, unless the worker
+-- ends at a full journal or out of memory: then it works on, and the last ticket may be left.
 use Rattle.std.proofs.Common.{◌≡◌, ◌==◌, ℕ, List, [], ◌∷◌, ◌++◌, refl, sym, ◌∙◌, ap, append_assoc, append-nil, arith, subst, inl, inr}
 use Rattle.std.specs.Prelude.{Option, None, Some, Result, Ok, Err, IfNone, Bool, true, false}
 use Rattle.std.proofs.lemmas.Bool.Decides.{nat_tests}
@@ -17,12 +18,14 @@ use Rattle.workers.specs.declared.worker.WorkerEnd.TheVariants as ends
 use Rattle.workers.specs.Lists.{ListedView, listed_view, Gains}
 use Rattle.workers.specs.Work.{HandsIn, HandsInWhat, held_after, held_after_call, HandsInOnce, WorksOn, WorksThrough, end_of}
 
+-- a list that stays works through
 pub through_stays : (old new : List ListedView) → new ≡ old → WorksThrough old new
 through_stays old new is = ([], is ∙ sym (append-nil old), refl)
 
 pub on_through : (old new : List ListedView) → WorksThrough old new → WorksOn old new
 on_through old new h = (h.0, None, h.1, h.2)
 
+-- a list that stays works on
 pub on_stays : (old new : List ListedView) → new ≡ old → WorksOn old new
 on_stays old new is = on_through old new (through_stays old new is)
 
@@ -34,15 +37,16 @@ held_after-append (x ∷ xs) ys h k is =
       | Some q ↦ held_after-append xs ys q k
     ]) is
 
+-- a list that works through and then works on, works on in all
 pub on_after_through : (a b d : List ListedView) → WorksThrough a b → WorksOn b d → WorksOn a d
 on_after_through a b d h g =
     (h.0 ++ g.0, g.1, g.2 ∙ (ap (λ (xs : List ListedView). xs ++ g.0) h.1 ∙ append_assoc a h.0 g.0), held_after-append h.0 g.0 None None h.2 ∙ g.3)
 
+-- a list that works through and then works through again, does so in all
 pub through_after_through : (a b d : List ListedView) → WorksThrough a b → WorksThrough b d → WorksThrough a d
 through_after_through a b d h g =
     (h.0 ++ g.0, g.1 ∙ (ap (λ (xs : List ListedView). xs ++ g.0) h.1 ∙ append_assoc a h.0 g.0), held_after-append h.0 g.0 None None h.2 ∙ g.2)
 
--- after the calls added, this ticket is held
 abbrev Held : List ListedView → List ListedView → ℕ → Type 0
 Held old mid t = (added : List ListedView) × (mid ≡ old ++ added) × (held_after None added ≡ Some (Some t))
 
@@ -60,7 +64,6 @@ through_held old mid new t call r h lets is =
     let e : List ListedView = listed_view call r ∷ [] in
     (h.0 ++ e, is ∙ (ap (λ (xs : List ListedView). xs ++ e) h.1 ∙ append_assoc old h.0 e), held_after-append h.0 e None (Some t) h.2 ∙ let_go t r call lets)
 
--- what is owed of a round that ends so
 abbrev pub GoesOn : List ListedView → List ListedView → Option WorkerEnd → Type 0
 GoesOn old new end = WorksOn old new × IfNone end (WorksThrough old new) × (end ≡ Some ends.Stopped → WorksThrough old new)
 
@@ -99,7 +102,7 @@ given_up old mid new t end h (Err why.JournalFull) g is = goes_out old new end _
 given_up old mid new t end h (Err (why.Fault fault)) g is = goes_through old new end is (through_give_up old mid new t reply.UnknownTicket h g)
 given_up old mid new t end h (Err why.Memory) g is = goes_out old new end _ is (λ e. cc) (on_held old mid new t h g)
 
--- a ticket that was claimed was handed in or given up
+-- where a ticket was claimed and then handed in or given up, the list works on, and through where the worker does not end or ends at a stop
 pub goes_on : (old mid new : List ListedView) (t id v : ℕ) (base : Option ℕ) (end : Option WorkerEnd) → mid ≡ old ++ listed_view Claim (reply.Claimed t id v base) ∷ [] → HandsInOnce t mid new end → GoesOn old new end
 goes_on old mid new t id v base end is (inl f) = finished old mid new t end (held_claimed old mid t id v base is) f.0 f.1 f.2
 goes_on old mid new t id v base end is (inr g) = given_up old mid new t end (held_claimed old mid t id v base is) g.0 g.1 g.2
@@ -108,6 +111,6 @@ handed_in : (t : ℕ) (made : Option RunView) (old new : List ListedView) (end :
 handed_in t (Some run) old new end h = inl h
 handed_in t None old new end h = inr h
 
--- what came of a task's work was handed in for its ticket
+-- where what came of a task's work was handed in for its ticket, the ticket was handed in or given up
 pub hands_in : (gives : Option RunView → Type 0) (t of : ℕ) (old new : List ListedView) (end : Option WorkerEnd) → t ≡ of → HandsInWhat gives t old new end → HandsInOnce of old new end
 hands_in gives t of old new end is h = subst (λ (n : ℕ). HandsInOnce n old new end) is (handed_in t h.0 old new end h.2)

@@ -7,7 +7,6 @@ use Rattle.easy_rule.specs.Pass.{front}
 use Rattle.easy_rule.specs.Simulation.{joined}
 use Rattle.check_runs.proofs.decisions.decide_two_seconds.Goals as goal
 
--- one arrives after another
 both-join : (s a b : State) (j k : EffectiveJob) → a ≡ arrived s j → b ≡ arrived a k → b ≡ joined s (j ∷ k ∷ [])
 both-join s a b j k e f =
     f ∙ ap (λ (z : State). arrived z k) e

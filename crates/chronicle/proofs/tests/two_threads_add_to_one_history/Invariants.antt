@@ -2,6 +2,5 @@ use Rattle.std.specs.Prelude.{[]}
 use Rattle.book_machine.specs.Machine.{opened}
 use Rattle.chronicle.proofs.tests.two_threads_add_to_one_history.Given as goal
 
--- the history that was just made, of a book that was just opened
 abbrev pub ghosts-added_by_two : goal.ghosts-added_by_two
 ghosts-added_by_two g a = record { book = a.unnamed; opening = opened [] }

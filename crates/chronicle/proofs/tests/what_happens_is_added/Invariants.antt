@@ -2,6 +2,5 @@ use Rattle.std.specs.Prelude.{[]}
 use Rattle.book_machine.specs.Machine.{opened}
 use Rattle.chronicle.proofs.tests.what_happens_is_added.Given as goal
 
--- the history that was just made, of a book that was just opened
 abbrev pub ghosts-added : goal.ghosts-added
 ghosts-added g a = record { book = a.unnamed; opening = opened [] }

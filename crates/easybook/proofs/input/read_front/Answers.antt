@@ -2,14 +2,12 @@ use Rattle.std.proofs.Common.{◌≡◌, ◌+◌, IfSome, Option, Some, None, Li
 use Rattle.std.specs.Option.{option_map}
 use Rattle.easybook.proofs.input.read_front.Goals as goal
 
--- what a reader under a limit had, put behind nothing
 taken : {R : Type 0} (remaining : R → Option (List ℕ)) (inner reader : R) (limit n : ℕ) (old bytes : List ℕ) → inner ≡ reader → limit ≡ n → old ≡ [] → IfSome (option_map (take limit) (remaining inner)) (λ xs. bytes ≡ old ++ xs) → IfSome (option_map (take n) (remaining reader)) (λ front. bytes ≡ front)
 taken {R} remaining inner reader limit n old bytes same_reader same_limit none h =
     let at_limit = subst (λ (m : ℕ). IfSome (option_map (take m) (remaining inner)) (λ xs. bytes ≡ old ++ xs)) same_limit h in
     let at_reader = subst (λ (r : R). IfSome (option_map (take n) (remaining r)) (λ xs. bytes ≡ old ++ xs)) same_reader at_limit in
     subst (λ (l : List ℕ). IfSome (option_map (take n) (remaining reader)) (λ xs. bytes ≡ l ++ xs)) none at_reader
 
--- a fact of a front of what is known is one of what is known
 of_front : (known : Option (List ℕ)) (n : ℕ) (bytes : List ℕ) → IfSome (option_map (take n) known) (λ front. bytes ≡ front) → IfSome known (λ all. bytes ≡ take n all)
 of_front None n bytes h = tt
 of_front (Some all) n bytes h = h

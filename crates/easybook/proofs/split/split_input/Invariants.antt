@@ -2,7 +2,6 @@ use Rattle.std.proofs.Common.{length, ◌-◌, ℕ, ◌≤◌, List, take}
 use Rattle.easybook.proofs.Cuts.{IsWhole}
 use Rattle.easybook.proofs.split.split_input.Given as goal
 
--- what was passed over is whole lines, none of them a mark
 pub record Passed (input : List ℕ) (at : ℕ) : Type 0 where
   pub within : at ≤ length input
   pub whole : IsWhole (take at input)

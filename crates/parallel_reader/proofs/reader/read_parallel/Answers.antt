@@ -4,7 +4,6 @@ use Rattle.parallel_reader.specs.Fronts.{IsReading}
 use Rattle.parallel_reader.proofs.Fronts.{memory_reading, split_front}
 use Rattle.parallel_reader.proofs.reader.read_parallel.Goals as goal
 
--- what was read behind the front is all
 read : (g : _) (c : goal.After-drop-read g) → IsReading c.args.bytes.now c.read_behind.result
 read g c =
     let bytes = c.args.bytes.now in

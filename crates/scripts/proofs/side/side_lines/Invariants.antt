@@ -4,7 +4,6 @@ use Rattle.report.specs.Side.{side_line}
 use Rattle.scripts.specs.Analysts.{AreBeside}
 use Rattle.scripts.proofs.side.side_lines.Given as goal
 
--- this many scenarios were viewed, and there is capacity for the others
 abbrev pub invariant-loop-place : goal.invariant-loop-place
 invariant-loop-place g l = record {
   lines : AreBeside g.S.Analyst.rules g.row.A.Denot l.fn.analyst (take l.place l.list.scenarios) (map side_line l.lines.items) l.analyst;

@@ -22,7 +22,6 @@ noted-from a b e =
     ap (λ (who : Caller). let x : Noted = record { caller = who; call = a.call; reply = a.reply } in x) e.0
     ∙ ap₂ (λ (call : BookCall) (r : Reply). let x : Noted = record { caller = b.caller; call = call; reply = r } in x) e.1.0 e.1.1
 
--- the same caller, call and reply
 abbrev same_noted : Noted → Noted → Bool
 same_noted a b = by_caller.eq-value.it a.caller b.caller && (same_call a.call b.call && by_reply.eq-value.it a.reply b.reply)
 

@@ -6,13 +6,11 @@ use Rattle.blocks.specs.Rows.{flat, is_at}
 use Rattle.cluster_state.proofs.KeyLemmas.{num, left-runners, nobody-due, is-found, keys-leave, once-left, rises-left, sum_by-left, length-left, filter-left}
 use Rattle.cluster_state.proofs.running_set.RunningSet.drop_next.Goals as goal
 
--- nobody ends
 pub returns-in_err-end-clause-later : goal.returns-in_err-end-clause-later
 returns-in_err-end-clause-later g c =
     rw (← c.self.view_is, c.from_residual.ensures)
     (nobody-due (heap_items c.self.inside.ends) (flat c.self.inside.runners.blocks) c.args.t c.self.invariant.kept_ends c.in_err-end.ensures.later)
 
--- one ends
 pub unreachable-requires : goal.unreachable-requires
 unreachable-requires g c =
     let runners = flat c.self.inside.runners.blocks in
