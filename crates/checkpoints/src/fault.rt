@@ -1,5 +1,6 @@
-ghost use Rattle.std.specs.Prelude.{◌≡◌};
+ghost use Rattle.std.specs.Prelude.{◌≡◌, Some};
 ghost use Rattle.checkpoints.specs.declared.fault.RunFault.TheVariants as faults;
+ghost use Rattle.checkpoints.specs.Names.{run_fault_name};
 
 use std::fmt;
 use swf_text;
@@ -15,9 +16,6 @@ pub enum RunFault {
 }
 
 impl fmt::Display for RunFault {
-    ghost use Rattle.std.specs.Prelude.{Some};
-    ghost use Rattle.checkpoints.specs.Names.{run_fault_name};
-
     ghost output = { λ fault. Some (run_fault_name fault) };
 
     fn fmt<W: fmt::Write>(&self, f: &mut fmt::Formatter<W>) -> fmt::Result {

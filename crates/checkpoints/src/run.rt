@@ -1,5 +1,14 @@
 ghost use Rattle.std.specs.Prelude.{◌≡◌, ◌≤◌, ◌+◌, map, length, IfOk};
 ghost use Rattle.std.specs.Arc.{arc_value};
+ghost use Rattle.scenarios.specs.Plan.{jobs_of, plan_of};
+ghost use Rattle.scenarios.specs.PlanView.{plan_in};
+ghost use Rattle.scenarios.specs.Skips.{skips_of};
+ghost use Rattle.easy_rule.specs.Simulation.{sim, start_of};
+ghost use Rattle.checkpoints.specs.Cut.{IsCut};
+ghost use Rattle.checkpoints.specs.Sums.{IsTablesOf};
+ghost use Rattle.checkpoints.specs.Schedule.{rows_of};
+ghost use Rattle.checkpoints.specs.RunView.{IsRun};
+ghost use Rattle.checkpoints.specs.Nodes.{AreFrom};
 
 use crate::merge_tree::MergeTree;
 use crate::row::Row;
@@ -43,16 +52,6 @@ impl<A: Allocator + Copy> Model for Run<A> {
 }
 
 impl<A: Allocator + Copy> Run<A> {
-    ghost use Rattle.scenarios.specs.Plan.{jobs_of, plan_of};
-    ghost use Rattle.scenarios.specs.PlanView.{plan_in};
-    ghost use Rattle.scenarios.specs.Skips.{skips_of};
-    ghost use Rattle.easy_rule.specs.Simulation.{sim, start_of};
-    ghost use Rattle.checkpoints.specs.Cut.{IsCut};
-    ghost use Rattle.checkpoints.specs.Sums.{IsTablesOf};
-    ghost use Rattle.checkpoints.specs.Schedule.{rows_of};
-    ghost use Rattle.checkpoints.specs.RunView.{IsRun};
-    ghost use Rattle.checkpoints.specs.Nodes.{AreFrom};
-
     /// The run of these segments, which are those of the plan's simulation, and of these counts of its
     /// skipped entries. A segment with a place is an old run's at that place.
     ///

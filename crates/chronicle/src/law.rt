@@ -1,5 +1,11 @@
 // The rule of the log, by which its word is its length; callers trade nothing. A step adds an event: the one
 // that a note tells, that a caller was opened, or that the desk was stopped.
+ghost use Rattle.std.specs.Prelude.{[], None};
+ghost use base.Fml.{ftrue};
+ghost use Rattle.chronicle.specs.Rules.{IsCounted, Adds};
+ghost use Rattle.book_machine.specs.Noted.{noted_of};
+ghost use Rattle.chronicle.specs.Events.{Called, Opened, Stopped};
+
 use crate::event::Event;
 use book_machine::{Caller, Note};
 use logbook::{Gain, Plain, Play, Rule};
@@ -8,10 +14,6 @@ use std::alloc::Allocator;
 pub struct Law;
 
 impl Rule<Event, u64> for Law {
-    ghost use Rattle.std.specs.Prelude.{[]};
-    ghost use base.Fml.{ftrue};
-    ghost use Rattle.chronicle.specs.Rules.{IsCounted};
-
     ghost holds = { λ cells log. IsCounted cells log };
 
     ghost first = { [] };
@@ -28,42 +30,28 @@ impl Rule<Event, u64> for Law {
 pub struct Nothing;
 
 impl Gain<Event, u64> for Nothing {
-    ghost use base.Fml.{ftrue};
-
     ghost after = { λ names about answer. ftrue };
 }
 
 pub struct Add;
 
 impl Play<Event, u64> for Add {
-    ghost use Rattle.chronicle.specs.Rules.{Adds};
-
     ghost then = { Adds };
 }
 
 impl<A: Allocator + Copy> Plain<Note<A>, Event, u64> for Add {
-    ghost use Rattle.std.specs.Prelude.{None};
-    ghost use Rattle.book_machine.specs.Noted.{noted_of};
-    ghost use Rattle.chronicle.specs.Events.{Called};
-
     ghost ask = { λ note. Called (noted_of note) };
 
     ghost state = { λ note. None };
 }
 
 impl Plain<Caller, Event, u64> for Add {
-    ghost use Rattle.std.specs.Prelude.{None};
-    ghost use Rattle.chronicle.specs.Events.{Opened};
-
     ghost ask = { λ who. Opened who };
 
     ghost state = { λ who. None };
 }
 
 impl Plain<(), Event, u64> for Add {
-    ghost use Rattle.std.specs.Prelude.{None};
-    ghost use Rattle.chronicle.specs.Events.{Stopped};
-
     ghost ask = { λ nothing. Stopped };
 
     ghost state = { λ nothing. None };

@@ -1,3 +1,6 @@
+ghost use Rattle.std.specs.Prelude.{[]};
+ghost use Rattle.book_machine.specs.Machine.{opened};
+
 use std::marker::Brand;
 
 /// Which history it is, and the state of the machine from which it goes on. Each call of a program
@@ -12,9 +15,6 @@ pub trait Naming {
 }
 
 impl Naming for Brand {
-    ghost use Rattle.std.specs.Prelude.{[]};
-    ghost use Rattle.book_machine.specs.Machine.{opened};
-
     ghost book = { record { number = 0; log_name = 0; cells_name = 0 } };
 
     ghost opening = { opened [] };

@@ -2,6 +2,8 @@
 ghost use Rattle.std.specs.Prelude.{◌≡◌, ◌<◌, ◌≤◌, ◌+◌, ◌↔◌, OnOk, OnErr, IfNone, IfSome, IsOk, IsTrue, Some, drop, count_by, nat_eq, slice_get};
 ghost use Rattle.scenarios.specs.Limits.{seconds_end};
 ghost use Rattle.waiting_places.specs.Places.{at_place, waiting};
+ghost use Rattle.cluster_state.specs.State.{arrived, after_start, started, free, ended_until, holders, CanArrive, CanStart};
+ghost use Rattle.cluster_state.specs.Candidates.{CanStartAt};
 
 use crate::by_end::RunningByEnd;
 use crate::cluster::Cluster;
@@ -11,10 +13,6 @@ use std::alloc::Allocator;
 use swf_text::Memory;
 
 impl<A: Allocator + Copy> Cluster<A> {
-    ghost use Rattle.cluster_state.specs.State.{arrived, after_start, started, free};
-    ghost use Rattle.cluster_state.specs.State.{ended_until, holders, CanArrive, CanStart};
-    ghost use Rattle.cluster_state.specs.Candidates.{CanStartAt};
-
     /// Whether a job may join the queue: no job of its number waits or runs, and it is not larger
     /// than the machine.
     pub fn can_arrive(&self, job: &Job) -> bool

@@ -4,6 +4,12 @@ ghost use Rattle.scenarios.specs.Limits.{procs_limit};
 ghost use Rattle.scenarios.specs.declared.order.Order.TheVariants.{Arrival, Shortest};
 ghost use Rattle.waiting_places.specs.Offers.{holds};
 ghost use Rattle.waiting_places.specs.Places.{IsFirst, at_place, waiting};
+ghost use Rattle.scenarios.specs.Placed.{real_end};
+ghost use Rattle.cluster_state.specs.State.{empty, free, IsSound, RisesByNumber, busy};
+ghost use Rattle.cluster_state.specs.Candidates.{fits_offer, AreCandidates};
+ghost use Rattle.cluster_state.specs.Ends.{by_end, IsPast, RisesByEnd, block_limit};
+ghost use Rattle.scenarios.specs.PlanView.{plan_in};
+ghost use Rattle.cluster_state.specs.Snapshot.{numbers_of, restored, Fits};
 
 use crate::by_end::RunningByEnd;
 use crate::lookup::running_in;
@@ -42,13 +48,6 @@ impl<A: Allocator + Copy> Model for Cluster<A> {
 }
 
 impl<A: Allocator + Copy> Cluster<A> {
-    ghost use Rattle.scenarios.specs.Placed.{real_end};
-    ghost use Rattle.cluster_state.specs.State.{empty, free, IsSound, RisesByNumber, busy};
-    ghost use Rattle.cluster_state.specs.Candidates.{fits_offer, AreCandidates};
-    ghost use Rattle.cluster_state.specs.Ends.{by_end, IsPast, RisesByEnd, block_limit};
-    ghost use Rattle.scenarios.specs.PlanView.{plan_in};
-    ghost use Rattle.cluster_state.specs.Snapshot.{numbers_of, restored, Fits};
-
     /// An empty machine of `procs` processors, with backfills in order of arrival.
     pub fn new(alloc: A, procs: u64) -> Cluster<A>
         requires { procs ≤ procs_limit }

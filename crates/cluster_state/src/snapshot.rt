@@ -2,8 +2,9 @@ ghost use Rattle.std.specs.Prelude.{◌≡◌, ◌≤◌, ◌↔◌, ℕ, IfOk, 
 ghost use Rattle.std.specs.Arc.{arc_value};
 ghost use Rattle.frames.specs.Frames.{standing_at};
 ghost use Rattle.scenarios.specs.Job.{EffectiveJob};
-ghost use Rattle.cluster_state.specs.Snapshot.{number_of, NumbersRise};
+ghost use Rattle.cluster_state.specs.Snapshot.{number_of, NumbersRise, Fits, IsSnapshot, standing, standing_there};
 ghost use Rattle.cluster_state.specs.Ends.{by_end, by_number};
+ghost use Rattle.scenarios.specs.PlanView.{plan_in};
 
 use crate::lookup::{can_run, have_jobs};
 use crate::queue::Queue;
@@ -62,10 +63,6 @@ impl<A: Allocator + Copy> Model for Snapshot<A> {
 }
 
 impl<A: Allocator + Copy> Snapshot<A> {
-    ghost use Rattle.std.specs.Arc.{arc_value};
-    ghost use Rattle.scenarios.specs.PlanView.{plan_in};
-    ghost use Rattle.cluster_state.specs.Snapshot.{Fits, IsSnapshot, standing, standing_there};
-
     /// The numbers that stand at a place of two frames, those of the waiting jobs and those of the
     /// running ones. It shares the frames; Memory where 2^63 share one already.
     pub fn at(

@@ -1,3 +1,6 @@
+ghost use Rattle.std.specs.Prelude.{◌≡◌, Some};
+ghost use Rattle.commands.specs.Names.{command_fault_name, command_fault_text};
+
 use std::fmt;
 use thiserror::Error;
 
@@ -18,9 +21,6 @@ pub enum CommandFault {
 }
 
 impl CommandFault {
-    ghost use Rattle.std.specs.Prelude.{◌≡◌};
-    ghost use Rattle.commands.specs.Names.{command_fault_name};
-
     /// The fault's name, which is the variant's own.
     pub fn name(&self) -> &'static str
         ensures { result.now ≡ command_fault_name self.now }
@@ -36,9 +36,6 @@ impl CommandFault {
 }
 
 impl fmt::Display for CommandFault {
-    ghost use Rattle.std.specs.Prelude.{Some};
-    ghost use Rattle.commands.specs.Names.{command_fault_text};
-
     ghost output = { λ fault. Some (command_fault_text fault) };
 
     fn fmt<W: fmt::Write>(&self, f: &mut fmt::Formatter<W>) -> fmt::Result {

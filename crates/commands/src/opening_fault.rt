@@ -1,5 +1,6 @@
-ghost use Rattle.std.specs.Prelude.{◌≡◌};
+ghost use Rattle.std.specs.Prelude.{◌≡◌, Some};
 ghost use Rattle.commands.specs.declared.opening_fault.OpenTextFault.TheVariants.{Memory as no_memory};
+ghost use Rattle.commands.specs.Names.{open_fault_name};
 
 use std::fmt;
 use swf_text::Memory;
@@ -17,9 +18,6 @@ pub enum OpenTextFault {
 }
 
 impl fmt::Display for OpenTextFault {
-    ghost use Rattle.std.specs.Prelude.{Some};
-    ghost use Rattle.commands.specs.Names.{open_fault_name};
-
     ghost output = { λ fault. Some (open_fault_name fault) };
 
     fn fmt<W: fmt::Write>(&self, f: &mut fmt::Formatter<W>) -> fmt::Result {

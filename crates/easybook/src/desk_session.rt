@@ -1,5 +1,6 @@
 ghost use Rattle.std.specs.Prelude.{◌≡◌};
 ghost use Rattle.easybook.specs.Along.{ended_by};
+ghost use Rattle.easybook.specs.DeskRules.{desk_rules};
 
 use book_machine::SettleState;
 use chronicle::Naming;
@@ -42,8 +43,6 @@ fn state_of(ended: Settled) -> SettleState
 }
 
 impl<'d, A: Allocator + Copy, J: Naming, R: Wait> Analyst<A> for DeskSession<'d, A, J, R> {
-    ghost use Rattle.easybook.specs.DeskRules.{desk_rules};
-
     ghost rules = { desk_rules J.opening };
 
     fn edit(&mut self, edit: &Edit<A>) -> Result<u64, EditRefusal> {

@@ -1,5 +1,7 @@
-ghost use Rattle.std.specs.Prelude.{◌≡◌};
+ghost use Rattle.std.specs.Prelude.{◌≡◌, Some};
 ghost use Rattle.easybook.specs.declared.fault.ProgramFault.TheVariants.{Memory as OutOfMemory, Write as WriteFailed};
+ghost use Rattle.easybook.specs.Texts.{fault_line};
+ghost use Rattle.easybook.specs.Fault.{fault_of, fault_of_opening, fault_of_scripts, fault_of_talk};
 
 use crate::shared_fault::SharedFault;
 use commands::OpenTextFault;
@@ -32,9 +34,6 @@ pub enum ProgramFault {
 }
 
 impl fmt::Display for ProgramFault {
-    ghost use Rattle.std.specs.Prelude.{Some};
-    ghost use Rattle.easybook.specs.Texts.{fault_line};
-
     ghost output = { λ fault. Some (fault_line fault) };
 
     fn fmt<W: fmt::Write>(&self, f: &mut fmt::Formatter<W>) -> fmt::Result {
@@ -52,9 +51,6 @@ impl fmt::Display for ProgramFault {
 }
 
 impl From<SwfFault> for ProgramFault {
-    ghost use Rattle.std.specs.Prelude.{◌≡◌};
-    ghost use Rattle.easybook.specs.Fault.{fault_of};
-
     ghost from_gives = { λ fault given. given ≡ fault_of fault };
 
     fn from(fault: SwfFault) -> ProgramFault {
@@ -66,9 +62,6 @@ impl From<SwfFault> for ProgramFault {
 }
 
 impl From<OpenTextFault> for ProgramFault {
-    ghost use Rattle.std.specs.Prelude.{◌≡◌};
-    ghost use Rattle.easybook.specs.Fault.{fault_of_opening};
-
     ghost from_gives = { λ fault given. given ≡ fault_of_opening fault };
 
     fn from(fault: OpenTextFault) -> ProgramFault {
@@ -81,9 +74,6 @@ impl From<OpenTextFault> for ProgramFault {
 }
 
 impl From<SharedFault> for ProgramFault {
-    ghost use Rattle.std.specs.Prelude.{◌≡◌};
-    ghost use Rattle.easybook.specs.Fault.{fault_of_scripts};
-
     ghost from_gives = { λ fault given. given ≡ fault_of_scripts fault };
 
     fn from(fault: SharedFault) -> ProgramFault {
@@ -95,9 +85,6 @@ impl From<SharedFault> for ProgramFault {
 }
 
 impl From<LiveFault> for ProgramFault {
-    ghost use Rattle.std.specs.Prelude.{◌≡◌};
-    ghost use Rattle.easybook.specs.Fault.{fault_of_talk};
-
     ghost from_gives = { λ fault given. given ≡ fault_of_talk fault };
 
     fn from(fault: LiveFault) -> ProgramFault {

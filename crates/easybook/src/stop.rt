@@ -1,7 +1,9 @@
-ghost use Rattle.std.specs.Prelude.{◌≡◌};
+ghost use Rattle.std.specs.Prelude.{◌≡◌, Some};
 ghost use Rattle.easybook.specs.declared.fault.ProgramFault.TheVariants.{Memory as OutOfMemory};
 ghost use Rattle.std.specs.IoError.{error_kind};
 ghost use Rattle.easybook.specs.declared.stop.Stop.TheVariants.{Fault as fault_stop, Words as words_stop};
+ghost use Rattle.easybook.specs.Texts.{stop_line};
+ghost use Rattle.easybook.specs.Stop.{status_of, stop_of_kind};
 
 use crate::fault::ProgramFault;
 use crate::words::WordsFault;
@@ -20,9 +22,6 @@ pub enum Stop {
 }
 
 impl fmt::Display for Stop {
-    ghost use Rattle.std.specs.Prelude.{Some};
-    ghost use Rattle.easybook.specs.Texts.{stop_line};
-
     ghost output = { λ stop. Some (stop_line stop) };
 
     fn fmt<W: fmt::Write>(&self, f: &mut fmt::Formatter<W>) -> fmt::Result {
@@ -34,9 +33,6 @@ impl fmt::Display for Stop {
 }
 
 impl Stop {
-    ghost use Rattle.std.specs.Prelude.{◌≡◌};
-    ghost use Rattle.easybook.specs.Stop.{status_of};
-
     /// The exit status: 2 for bad arguments, otherwise 1.
     pub fn status(&self) -> u8
         ensures { result ≡ status_of self.now }
@@ -66,9 +62,6 @@ impl From<ProgramFault> for Stop {
 
 /// The words could not be read: one is not UTF-8, or memory ran out.
 impl From<io::Error> for Stop {
-    ghost use Rattle.std.specs.Prelude.{◌≡◌};
-    ghost use Rattle.easybook.specs.Stop.{stop_of_kind};
-
     ghost from_gives = { λ error stop. stop ≡ stop_of_kind (error_kind error) };
 
     fn from(error: io::Error) -> Stop {

@@ -7,7 +7,8 @@ ghost use Rattle.scenarios.specs.Limits.{procs_limit};
 ghost use Rattle.checkpoints.specs.Spacing.{spacing_limit};
 ghost use Rattle.workers.specs.Callers.{callers_limit};
 ghost use Rattle.easybook.specs.Words.{IsWordsFault, choice_of, chosen, command_line, found_scripts, is_allowed, is_live, live_rule, option_rule, procs_of, script_rule, spacing_of, with_numbers, workers_of};
-ghost use Rattle.easybook.specs.declared.words.WordsFault.TheVariants.{BadWords};
+ghost use Rattle.easybook.specs.declared.words.WordsFault.TheVariants.{BadWords, Memory};
+ghost use Rattle.easybook.specs.Texts.{words_line};
 
 use crate::options::Options;
 use checkpoints::MAX_SPACING;
@@ -36,9 +37,6 @@ pub enum WordsFault {
 }
 
 impl fmt::Display for WordsFault {
-    ghost use Rattle.std.specs.Prelude.{Some};
-    ghost use Rattle.easybook.specs.Texts.{words_line};
-
     ghost output = { λ fault. Some (words_line fault) };
 
     fn fmt<W: fmt::Write>(&self, f: &mut fmt::Formatter<W>) -> fmt::Result {
@@ -50,9 +48,6 @@ impl fmt::Display for WordsFault {
 }
 
 impl From<AllocError> for WordsFault {
-    ghost use Rattle.std.specs.Prelude.{◌≡◌};
-    ghost use Rattle.easybook.specs.declared.words.WordsFault.TheVariants.{Memory};
-
     ghost from_gives = { λ _ fault. fault ≡ Memory };
 
     fn from(_error: AllocError) -> WordsFault {

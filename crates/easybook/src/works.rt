@@ -1,3 +1,5 @@
+ghost use Rattle.std.specs.Prelude.{[]};
+
 use std::marker::Brand;
 
 // Which scripts are worked side by side, and which comments their log has. Each call picks both.
@@ -10,8 +12,6 @@ pub(crate) trait Works {
 }
 
 impl Works for Brand {
-    ghost use Rattle.std.specs.Prelude.{[]};
-
     ghost comments = { [] };
 
     ghost scripts = { [] };

@@ -1,5 +1,8 @@
 ghost use Rattle.std.specs.Prelude.{◌≡◌, ◌+◌, ◌<◌, ◌^◌, None, IfOk, IfErr, length, true, false};
-ghost use Rattle.event_loop.specs.Events.{earlier};
+ghost use Rattle.event_loop.specs.Events.{earlier, IsNextEvent, begun};
+ghost use Rattle.scenarios.specs.PlanView.{plan_in};
+ghost use Rattle.cluster_state.specs.Snapshot.{numbers_of};
+ghost use Rattle.easy_rule.specs.Simulation.{before};
 
 use crate::fault::EngineFault;
 use crate::upcoming::Upcoming;
@@ -38,11 +41,6 @@ impl<A: Allocator + Copy> Model for Engine<A> {
 }
 
 impl<A: Allocator + Copy> Engine<A> {
-    ghost use Rattle.scenarios.specs.PlanView.{plan_in};
-    ghost use Rattle.cluster_state.specs.Snapshot.{numbers_of};
-    ghost use Rattle.easy_rule.specs.Simulation.{before};
-    ghost use Rattle.event_loop.specs.Events.{IsNextEvent, begun};
-
     /// An engine of a plan before second 0.
     pub fn new(alloc: A, plan: Plan<A>) -> Engine<A>
         ensures { result ≡ begun (plan_in plan) 0 }

@@ -1,5 +1,6 @@
-ghost use Rattle.std.specs.Prelude.{◌≡◌};
+ghost use Rattle.std.specs.Prelude.{◌≡◌, Some};
 ghost use Rattle.event_loop.specs.declared.fault.EngineFault.TheVariants as faults;
+ghost use Rattle.event_loop.specs.Names.{engine_fault_name};
 
 use std::fmt;
 use swf_text;
@@ -15,9 +16,6 @@ pub enum EngineFault {
 }
 
 impl fmt::Display for EngineFault {
-    ghost use Rattle.std.specs.Prelude.{Some};
-    ghost use Rattle.event_loop.specs.Names.{engine_fault_name};
-
     ghost output = { λ fault. Some (engine_fault_name fault) };
 
     fn fmt<W: fmt::Write>(&self, f: &mut fmt::Formatter<W>) -> fmt::Result {

@@ -1,5 +1,11 @@
 //! How an engine goes on: it works event seconds, one, or all before a second, or all that are left.
 ghost use Rattle.std.specs.Prelude.{◌≡◌, ◌+◌, ◌++◌, ◌≤◌, ◌<◌, [], Some, None, IfOk, OnOk, OnErr, IfSome, IfErr, IfNone, MatchOption, true, false};
+ghost use Rattle.easy_rule.specs.Simulation.{starts_before, starts_in, sim};
+ghost use Rattle.scenarios.specs.SoundPlan.{IsPlan};
+ghost use Rattle.timeline.specs.Laws.{IsQuiet};
+ghost use Rattle.event_loop.specs.Events.{IsNextEvent};
+ghost use Rattle.event_loop.specs.Going.{IsStepFault, IsTellFault, IsRunFault, IsRunOn, IsLast};
+ghost use Rattle.event_loop.specs.Stepped.{StartIn};
 
 use crate::arriving::arrive_and_decide;
 use crate::engine::Engine;
@@ -12,13 +18,6 @@ use std::alloc::Allocator;
 use swf_text::Memory;
 
 impl<A: Allocator + Copy> Engine<A> {
-    ghost use Rattle.easy_rule.specs.Simulation.{starts_before, starts_in, sim};
-    ghost use Rattle.scenarios.specs.SoundPlan.{IsPlan};
-    ghost use Rattle.timeline.specs.Laws.{IsQuiet};
-    ghost use Rattle.event_loop.specs.Events.{IsNextEvent};
-    ghost use Rattle.event_loop.specs.Going.{IsStepFault, IsTellFault, IsRunFault, IsRunOn, IsLast};
-    ghost use Rattle.event_loop.specs.Stepped.{StartIn};
-
     /// Works the next event second, where there is one.
     ///
     /// Failed in an engine that has failed. Memory where a growth was refused; the engine has failed

@@ -5,7 +5,7 @@ ghost use Rattle.scenarios.specs.PlanView.{plan_in};
 ghost use Rattle.cluster_state.specs.State.{IsSound};
 ghost use Rattle.easy_rule.specs.Simulation.{joined, submitted};
 ghost use Rattle.scenarios.specs.SoundPlan.{IsPlan};
-ghost use Rattle.event_loop.specs.Upcoming.{first_submit};
+ghost use Rattle.event_loop.specs.Upcoming.{first_submit, IsUpcoming, next_of, without_first};
 
 use crate::arrivals::{arrive_all, fill, next_submit, only_at};
 use cluster_state::Cluster;
@@ -30,8 +30,6 @@ impl<A: Allocator + Copy> Model for Upcoming<A> {
 }
 
 impl<A: Allocator + Copy> Upcoming<A> {
-    ghost use Rattle.event_loop.specs.Upcoming.{IsUpcoming, next_of, without_first};
-
     pub(crate) fn at(alloc: A, plan: &PlanRef<'_, A>, second: u64) -> Upcoming<A>
         ensures plan { IsPlan (plan_in plan.now) }
         ensures upcoming { IsUpcoming result second (plan_in plan.now).jobs }

@@ -1,5 +1,6 @@
-ghost use Rattle.std.specs.Prelude.{◌≡◌};
+ghost use Rattle.std.specs.Prelude.{◌≡◌, Some};
 ghost use Rattle.job_table.specs.declared.fault.EditFault.TheVariants as faults;
+ghost use Rattle.job_table.specs.Names.{edit_fault_name};
 
 use std::fmt;
 use thiserror::Error;
@@ -22,9 +23,6 @@ pub enum EditFault {
 }
 
 impl EditFault {
-    ghost use Rattle.std.specs.Prelude.{◌≡◌};
-    ghost use Rattle.job_table.specs.Names.{edit_fault_name};
-
     /// The fault's name, which is the variant's own.
     pub fn name(&self) -> &'static str
         ensures { result.now ≡ edit_fault_name self.now }
@@ -41,9 +39,6 @@ impl EditFault {
 }
 
 impl fmt::Display for EditFault {
-    ghost use Rattle.std.specs.Prelude.{Some};
-    ghost use Rattle.job_table.specs.Names.{edit_fault_name};
-
     ghost output = { λ fault. Some (edit_fault_name fault) };
 
     fn fmt<W: fmt::Write>(&self, f: &mut fmt::Formatter<W>) -> fmt::Result {

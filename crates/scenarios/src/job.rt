@@ -1,4 +1,5 @@
 ghost use Rattle.std.specs.Prelude.{◌≡◌};
+ghost use Rattle.scenarios.specs.Job.{IsWithinLimits};
 
 use std::marker::Model;
 
@@ -30,8 +31,6 @@ impl Model for Job {
 }
 
 impl Job {
-    ghost use Rattle.scenarios.specs.Job.{IsWithinLimits};
-
     /// The job number, at most 1,000,000,000,000.
     pub fn number(&self) -> u64
         ensures value { result ≡ self.now.number }

@@ -1,5 +1,6 @@
-ghost use Rattle.std.specs.Prelude.{◌≡◌};
+ghost use Rattle.std.specs.Prelude.{◌≡◌, Some};
 ghost use Rattle.scenarios.specs.declared.list_fault.AddFault.TheVariants.{Memory as no_memory};
+ghost use Rattle.scenarios.specs.Names.{add_fault_name, no_such_scenario_name};
 
 use std::fmt;
 use swf_text::Memory;
@@ -19,9 +20,6 @@ pub enum AddFault {
 }
 
 impl AddFault {
-    ghost use Rattle.std.specs.Prelude.{◌≡◌};
-    ghost use Rattle.scenarios.specs.Names.{add_fault_name};
-
     /// The fault's name, which is the variant's own.
     pub fn name(&self) -> &'static str
         ensures { result.now ≡ add_fault_name self.now }
@@ -36,9 +34,6 @@ impl AddFault {
 }
 
 impl fmt::Display for AddFault {
-    ghost use Rattle.std.specs.Prelude.{Some};
-    ghost use Rattle.scenarios.specs.Names.{add_fault_name};
-
     ghost output = { λ fault. Some (add_fault_name fault) };
 
     fn fmt<W: fmt::Write>(&self, f: &mut fmt::Formatter<W>) -> fmt::Result {
@@ -59,9 +54,6 @@ impl From<Memory> for AddFault {
 pub struct NoSuchScenario;
 
 impl NoSuchScenario {
-    ghost use Rattle.std.specs.Prelude.{◌≡◌};
-    ghost use Rattle.scenarios.specs.Names.{no_such_scenario_name};
-
     /// The fault's name, which is that of its type.
     pub fn name(&self) -> &'static str
         ensures { result.now ≡ no_such_scenario_name }
@@ -71,9 +63,6 @@ impl NoSuchScenario {
 }
 
 impl fmt::Display for NoSuchScenario {
-    ghost use Rattle.std.specs.Prelude.{Some};
-    ghost use Rattle.scenarios.specs.Names.{no_such_scenario_name};
-
     ghost output = { λ _. Some no_such_scenario_name };
 
     fn fmt<W: fmt::Write>(&self, f: &mut fmt::Formatter<W>) -> fmt::Result {

@@ -1,5 +1,6 @@
 ghost use Rattle.std.specs.Prelude.{◌≡◌};
 ghost use Rattle.scenarios.specs.declared.order.Order.TheVariants.{Arrival};
+ghost use Rattle.scenarios.specs.Scenario.{scenario_with, IsScenario};
 
 use crate::order::Order;
 use std::marker::Model;
@@ -33,8 +34,6 @@ impl Model for Scenario {
 }
 
 impl Scenario {
-    ghost use Rattle.scenarios.specs.Scenario.{scenario_with, IsScenario};
-
     /// A machine of `procs` processors, estimates times `factor` thousandths, and backfills in
     /// order of arrival.
     ///

@@ -1,6 +1,7 @@
 ghost use Rattle.std.specs.Prelude.{◌≡◌, length, map, slice_get, None, IfOk, OnOk, OnErr, MatchOption, IsOkUnless};
 ghost use Rattle.std.specs.Option.{option_map, ok_or};
 ghost use Rattle.scenarios.specs.declared.list_fault.AddFault.TheVariants.{Memory as no_memory};
+ghost use Rattle.scenarios.specs.ScenarioList.{IsListing, empty, id_of, add_fault, with_scenario, without_scenario};
 
 use crate::list_fault::{AddFault, NoSuchScenario};
 use crate::name::is_name;
@@ -41,8 +42,6 @@ impl<A: Allocator + Copy> Model for ScenarioList<A> {
 }
 
 impl<A: Allocator + Copy> ScenarioList<A> {
-    ghost use Rattle.scenarios.specs.ScenarioList.{IsListing, empty, id_of, add_fault, with_scenario, without_scenario};
-
     /// A list without scenarios. Takes no memory.
     pub fn new(alloc: A) -> ScenarioList<A>
         ensures { result ≡ empty }

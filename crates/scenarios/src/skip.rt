@@ -1,3 +1,6 @@
+ghost use Rattle.std.specs.Prelude.{◌≡◌, Some};
+ghost use Rattle.scenarios.specs.Names.{skip_name};
+
 use std::fmt;
 use thiserror::Error;
 
@@ -15,9 +18,6 @@ pub enum Skip {
 }
 
 impl Skip {
-    ghost use Rattle.std.specs.Prelude.{◌≡◌};
-    ghost use Rattle.scenarios.specs.Names.{skip_name};
-
     /// The reason's name, which is the variant's own.
     pub fn name(&self) -> &'static str
         ensures { result.now ≡ skip_name self.now }
@@ -32,9 +32,6 @@ impl Skip {
 }
 
 impl fmt::Display for Skip {
-    ghost use Rattle.std.specs.Prelude.{Some};
-    ghost use Rattle.scenarios.specs.Names.{skip_name};
-
     ghost output = { λ skip. Some (skip_name skip) };
 
     fn fmt<W: fmt::Write>(&self, f: &mut fmt::Formatter<W>) -> fmt::Result {

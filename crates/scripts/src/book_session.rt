@@ -4,6 +4,7 @@ ghost use Rattle.std.specs.Prelude.{◌≡◌, map};
 ghost use Rattle.version_book.specs.Book.{machine_of};
 ghost use Rattle.scripts.specs.Replies.{reply_text};
 ghost use Rattle.scripts.specs.Transcript.{IsLine};
+ghost use Rattle.scripts.specs.BookRules.{book_rules};
 
 use crate::analyst::Analyst;
 use crate::reply::Reply;
@@ -64,8 +65,6 @@ impl<A: Allocator + Copy> BookSession<A> {
 }
 
 impl<A: Allocator + Copy> Analyst<A> for BookSession<A> {
-    ghost use Rattle.scripts.specs.BookRules.{book_rules};
-
     ghost rules = { book_rules };
 
     fn edit(&mut self, edit: &Edit<A>) -> Result<u64, EditRefusal> {

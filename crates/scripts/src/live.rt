@@ -7,6 +7,7 @@ ghost use Rattle.scripts.specs.Live.{IsSaid, Talks, Turns};
 ghost use Rattle.scripts.specs.Replies.{reply_text};
 ghost use Rattle.scripts.specs.Session.{Session};
 ghost use Rattle.scripts.specs.Transcript.{IsLine, is_quit};
+ghost use Rattle.scripts.specs.declared.live.LiveFault.TheVariants.{Read as ReadFailed, Write as WriteFailed, Memory as OutOfMemory};
 
 use crate::book_session::BookSession;
 use crate::hearing::{Line, LineEnd, ReadFault, next_line, pass_line};
@@ -42,9 +43,6 @@ impl fmt::Display for LiveFault {
 }
 
 impl From<ReadFault> for LiveFault {
-    ghost use Rattle.std.specs.Prelude.{◌≡◌};
-    ghost use Rattle.scripts.specs.declared.live.LiveFault.TheVariants.{Read as ReadFailed};
-
     ghost from_gives = { λ _ fault. fault ≡ ReadFailed };
 
     fn from(_fault: ReadFault) -> LiveFault {
@@ -53,9 +51,6 @@ impl From<ReadFault> for LiveFault {
 }
 
 impl From<WriteFault> for LiveFault {
-    ghost use Rattle.std.specs.Prelude.{◌≡◌};
-    ghost use Rattle.scripts.specs.declared.live.LiveFault.TheVariants.{Write as WriteFailed};
-
     ghost from_gives = { λ _ fault. fault ≡ WriteFailed };
 
     fn from(_fault: WriteFault) -> LiveFault {
@@ -64,9 +59,6 @@ impl From<WriteFault> for LiveFault {
 }
 
 impl From<AllocError> for LiveFault {
-    ghost use Rattle.std.specs.Prelude.{◌≡◌};
-    ghost use Rattle.scripts.specs.declared.live.LiveFault.TheVariants.{Memory as OutOfMemory};
-
     ghost from_gives = { λ _ fault. fault ≡ OutOfMemory };
 
     fn from(_error: AllocError) -> LiveFault {

@@ -1,5 +1,7 @@
-ghost use Rattle.std.specs.Prelude.{◌≡◌};
+ghost use Rattle.std.specs.Prelude.{◌≡◌, Some};
 ghost use Rattle.swf_text.specs.declared.fault.FaultKind.TheVariants.{Memory as no_memory};
+ghost use Rattle.swf_text.specs.Names.{kind_name, kind_text, fault_text, entry_fault_name, write_fault_name};
+ghost use Rattle.swf_text.specs.Fault.{kind_of};
 
 use crate::line::LineFault;
 use crate::memory::Memory;
@@ -33,9 +35,6 @@ pub enum FaultKind {
 }
 
 impl FaultKind {
-    ghost use Rattle.std.specs.Prelude.{◌≡◌};
-    ghost use Rattle.swf_text.specs.Names.{kind_name};
-
     /// The kind's name, which is the variant's own.
     pub fn name(&self) -> &'static str
         ensures { result.now ≡ kind_name self.now }
@@ -56,9 +55,6 @@ impl FaultKind {
 }
 
 impl fmt::Display for FaultKind {
-    ghost use Rattle.std.specs.Prelude.{Some};
-    ghost use Rattle.swf_text.specs.Names.{kind_text};
-
     ghost output = { λ fault. Some (kind_text fault) };
 
     fn fmt<W: fmt::Write>(&self, f: &mut fmt::Formatter<W>) -> fmt::Result {
@@ -70,9 +66,6 @@ impl fmt::Display for FaultKind {
 }
 
 impl From<LineFault> for FaultKind {
-    ghost use Rattle.std.specs.Prelude.{◌≡◌};
-    ghost use Rattle.swf_text.specs.Fault.{kind_of};
-
     ghost from_gives = { λ fault kind. kind ≡ kind_of fault };
 
     fn from(fault: LineFault) -> FaultKind {
@@ -117,9 +110,6 @@ pub struct SwfFault {
 }
 
 impl fmt::Display for SwfFault {
-    ghost use Rattle.std.specs.Prelude.{Some};
-    ghost use Rattle.swf_text.specs.Names.{fault_text};
-
     ghost output = { λ fault. Some (fault_text fault) };
 
     fn fmt<W: fmt::Write>(&self, f: &mut fmt::Formatter<W>) -> fmt::Result {
@@ -143,9 +133,6 @@ pub enum EntryFault {
 }
 
 impl fmt::Display for EntryFault {
-    ghost use Rattle.std.specs.Prelude.{Some};
-    ghost use Rattle.swf_text.specs.Names.{entry_fault_name};
-
     ghost output = { λ fault. Some (entry_fault_name fault) };
 
     fn fmt<W: fmt::Write>(&self, f: &mut fmt::Formatter<W>) -> fmt::Result {
@@ -166,9 +153,6 @@ pub enum WriteFault {
 }
 
 impl fmt::Display for WriteFault {
-    ghost use Rattle.std.specs.Prelude.{Some};
-    ghost use Rattle.swf_text.specs.Names.{write_fault_name};
-
     ghost output = { λ fault. Some (write_fault_name fault) };
 
     fn fmt<W: fmt::Write>(&self, f: &mut fmt::Formatter<W>) -> fmt::Result {

@@ -1,3 +1,6 @@
+ghost use Rattle.std.specs.Prelude.{Some};
+ghost use Rattle.swf_text.specs.Names.{line_fault_text};
+
 use crate::fault::FaultKind;
 use crate::value::Value;
 use std::fmt;
@@ -21,9 +24,6 @@ pub enum LineFault {
 }
 
 impl fmt::Display for LineFault {
-    ghost use Rattle.std.specs.Prelude.{Some};
-    ghost use Rattle.swf_text.specs.Names.{line_fault_text};
-
     ghost output = { λ fault. Some (line_fault_text fault) };
 
     fn fmt<W: fmt::Write>(&self, f: &mut fmt::Formatter<W>) -> fmt::Result {

@@ -1,4 +1,4 @@
-ghost use Rattle.std.specs.Prelude.{◌≡◌};
+ghost use Rattle.std.specs.Prelude.{◌≡◌, Some, codes};
 
 use std::alloc::{AllocError, AllocFailed};
 use std::fmt;
@@ -9,8 +9,6 @@ use thiserror::Error;
 pub struct Memory;
 
 impl fmt::Display for Memory {
-    ghost use Rattle.std.specs.Prelude.{Some, codes};
-
     ghost output = { λ _. Some (codes "out of memory") };
 
     fn fmt<W: fmt::Write>(&self, f: &mut fmt::Formatter<W>) -> fmt::Result {

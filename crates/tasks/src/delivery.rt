@@ -1,5 +1,9 @@
 //! How a task delivers its run to its ticket. The run needs no comparison with what the ticket asks for.
 
+ghost use Rattle.std.specs.Prelude.{◌≡◌};
+ghost use Rattle.std.specs.Arc.{arc_value};
+ghost use Rattle.tasks.specs.Tickets.{IsRunOf};
+
 use checkpoints::Run;
 use handover::{Receiver, Response, Sender};
 use scenarios::Plan;
@@ -22,9 +26,6 @@ impl<A: Allocator + Copy> Model for MadeRun<A> {
 }
 
 impl<A: Allocator + Copy> MadeRun<A> {
-    ghost use Rattle.std.specs.Prelude.{◌≡◌};
-    ghost use Rattle.std.specs.Arc.{arc_value};
-
     pub(crate) fn new(run: Arc<Run<A>, A>) -> MadeRun<A>
         ensures { result ≡ arc_value run }
     {
@@ -40,8 +41,6 @@ impl<A: Allocator + Copy> MadeRun<A> {
 }
 
 impl<A: Allocator + Copy> Response<Plan<A>> for MadeRun<A> {
-    ghost use Rattle.tasks.specs.Tickets.{IsRunOf};
-
     ghost answers = { IsRunOf };
 }
 

@@ -8,6 +8,7 @@ ghost use Rattle.checkpoints.specs.Cut.{IsShortCut};
 ghost use Rattle.checkpoints.specs.RunView.{IsRun};
 ghost use Rattle.rejoin.specs.Patch.{IsRejoined};
 ghost use Rattle.tasks.specs.Tasks.{IsMade, IsTask, ticket_for};
+ghost use Rattle.std.specs.Option.{option_map};
 
 use crate::base::Base;
 use crate::delivery::{MadeRun, RunSender};
@@ -84,8 +85,6 @@ impl<A: Allocator + Copy> Model for Task<A> {
 }
 
 impl<A: Allocator + Copy> Task<A> {
-    ghost use Rattle.std.specs.Option.{option_map};
-
     /// A task of these. Its condition is what holds of every task.
     pub fn new(
         alloc: A,

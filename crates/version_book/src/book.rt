@@ -1,7 +1,14 @@
-ghost use Rattle.std.specs.Prelude.{◌≡◌, length, IfOk, IfErr, OnOk};
+ghost use Rattle.std.specs.Prelude.{◌≡◌, length, IfOk, IfErr, OnOk, [], map};
 ghost use Rattle.std.specs.Arc.{arc_value};
 ghost use Rattle.book_machine.specs.Noted.{noted_of};
 ghost use Rattle.checkpoints.specs.Spacing.{IsRefusal, IsSpacing};
+ghost use Rattle.scenarios.specs.ScenarioList.{id_of};
+ghost use Rattle.book_machine.specs.Machine.{current, settled};
+ghost use Rattle.version_book.specs.Book.{machine_of};
+ghost use Rattle.version_book.specs.Reading.{moment_of, present};
+ghost use Rattle.version_book.specs.Sound.{IsBook};
+ghost use Rattle.version_book.specs.Steps.{opening_state};
+ghost use Rattle.version_book.specs.Tasks.{free_due};
 
 use crate::reading::Reading;
 use crate::state::State;
@@ -41,15 +48,6 @@ impl<A: Allocator + Copy> Model for Book<A> {
 }
 
 impl<A: Allocator + Copy> Book<A> {
-    ghost use Rattle.std.specs.Prelude.{[], map};
-    ghost use Rattle.scenarios.specs.ScenarioList.{id_of};
-    ghost use Rattle.book_machine.specs.Machine.{current, settled};
-    ghost use Rattle.version_book.specs.Book.{machine_of};
-    ghost use Rattle.version_book.specs.Reading.{moment_of, present};
-    ghost use Rattle.version_book.specs.Sound.{IsBook};
-    ghost use Rattle.version_book.specs.Steps.{opening_state};
-    ghost use Rattle.version_book.specs.Tasks.{free_due};
-
     /// A book that opens a log: version 0, no scenario, no note. Runs are to be made in segments of
     /// at most `spacing` event seconds. BadSpacing where that is not within 1 to 65,536; Memory
     /// where a growth was refused.

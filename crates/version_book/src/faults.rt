@@ -1,3 +1,5 @@
+ghost use Rattle.version_book.specs.Names.{view_fault_name, too_many_tickets_name, finish_fault_name, unknown_ticket_name};
+
 use crate::named::Named;
 
 /// Why no run is shown, in the order of checks.
@@ -12,8 +14,6 @@ pub enum ViewFault {
 }
 
 impl Named for ViewFault {
-    ghost use Rattle.version_book.specs.Names.{view_fault_name};
-
     ghost name = { view_fault_name };
 
     fn name(&self) -> &'static str {
@@ -30,8 +30,6 @@ impl Named for ViewFault {
 pub struct TooManyTickets;
 
 impl Named for TooManyTickets {
-    ghost use Rattle.version_book.specs.Names.{too_many_tickets_name};
-
     ghost name = { λ _. too_many_tickets_name };
 
     fn name(&self) -> &'static str {
@@ -51,8 +49,6 @@ pub enum FinishFault {
 }
 
 impl Named for FinishFault {
-    ghost use Rattle.version_book.specs.Names.{finish_fault_name};
-
     ghost name = { finish_fault_name };
 
     fn name(&self) -> &'static str {
@@ -69,8 +65,6 @@ impl Named for FinishFault {
 pub struct UnknownTicket;
 
 impl Named for UnknownTicket {
-    ghost use Rattle.version_book.specs.Names.{unknown_ticket_name};
-
     ghost name = { λ _. unknown_ticket_name };
 
     fn name(&self) -> &'static str {

@@ -1,4 +1,7 @@
 ghost use Rattle.std.specs.Prelude.{◌≡◌, ◌≤◌, ℕ, List, length};
+ghost use Rattle.job_table.specs.Names.{edit_fault_name};
+ghost use Rattle.scenarios.specs.Names.{add_fault_name, no_such_scenario_name};
+ghost use Rattle.version_book.specs.Names.{memory_name};
 
 use job_table::EditFault;
 use scenarios::{AddFault, NoSuchScenario};
@@ -15,8 +18,6 @@ pub trait Named {
 }
 
 impl Named for EditFault {
-    ghost use Rattle.job_table.specs.Names.{edit_fault_name};
-
     ghost name = { edit_fault_name };
 
     fn name(&self) -> &'static str {
@@ -25,8 +26,6 @@ impl Named for EditFault {
 }
 
 impl Named for AddFault {
-    ghost use Rattle.scenarios.specs.Names.{add_fault_name};
-
     ghost name = { add_fault_name };
 
     fn name(&self) -> &'static str {
@@ -35,8 +34,6 @@ impl Named for AddFault {
 }
 
 impl Named for NoSuchScenario {
-    ghost use Rattle.scenarios.specs.Names.{no_such_scenario_name};
-
     ghost name = { λ _. no_such_scenario_name };
 
     fn name(&self) -> &'static str {
@@ -45,8 +42,6 @@ impl Named for NoSuchScenario {
 }
 
 impl Named for Memory {
-    ghost use Rattle.version_book.specs.Names.{memory_name};
-
     ghost name = { λ _. memory_name };
 
     fn name(&self) -> &'static str {

@@ -1,5 +1,7 @@
-ghost use Rattle.std.specs.Prelude.{◌≡◌};
+ghost use Rattle.std.specs.Prelude.{◌≡◌, Some};
 ghost use Rattle.version_book.specs.declared.refusal.Refusal.TheVariants as why;
+ghost use Rattle.version_book.specs.Names.{refusal_name};
+ghost use Rattle.version_book.specs.Answers.{refusal_of};
 
 use crate::faults::{FinishFault, TooManyTickets, UnknownTicket, ViewFault};
 use crate::named::Named;
@@ -46,8 +48,6 @@ pub type FinishRefusal = Refusal<FinishFault>;
 pub type GiveUpRefusal = Refusal<UnknownTicket>;
 
 impl<F: Named> Named for Refusal<F> {
-    ghost use Rattle.version_book.specs.Names.{refusal_name};
-
     ghost name = { refusal_name F.name };
 
     fn name(&self) -> &'static str {
@@ -60,9 +60,6 @@ impl<F: Named> Named for Refusal<F> {
 }
 
 impl<F: Named> fmt::Display for Refusal<F> {
-    ghost use Rattle.std.specs.Prelude.{Some};
-    ghost use Rattle.version_book.specs.Names.{refusal_name};
-
     ghost output = { λ refusal. Some (refusal_name F.name refusal) };
 
     fn fmt<W: fmt::Write>(&self, f: &mut fmt::Formatter<W>) -> fmt::Result {
@@ -79,8 +76,6 @@ impl<F> From<Memory> for Refusal<F> {
 }
 
 impl From<AddFault> for AddRefusal {
-    ghost use Rattle.version_book.specs.Answers.{refusal_of};
-
     ghost from_gives = { λ fault refusal. refusal ≡ refusal_of fault };
 
     fn from(fault: AddFault) -> AddRefusal {

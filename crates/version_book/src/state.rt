@@ -1,9 +1,12 @@
-ghost use Rattle.std.specs.Prelude.{◌≡◌, ◌≤◌, length, map, IfOk};
+ghost use Rattle.std.specs.Prelude.{◌≡◌, ◌≤◌, length, map, IfOk, ℕ};
 ghost use Rattle.std.specs.Arc.{arc_value};
 ghost use Rattle.job_table.specs.Edit.{edit_of};
 ghost use Rattle.checkpoints.specs.Spacing.{IsSpacing};
 ghost use Rattle.version_book.specs.Book.{StateView, machine_at};
 ghost use Rattle.version_book.specs.Sound.{IsSound};
+ghost use Rattle.version_book.specs.Steps.{opening_state};
+ghost use Rattle.book_machine.specs.Machine.{settled};
+ghost use Rattle.version_book.specs.Tasks.{free_due};
 
 use crate::lookups::{first_due, settled};
 use crate::shown::Shown;
@@ -50,8 +53,6 @@ impl<A: Allocator + Copy> Model for State<A> {
 }
 
 impl<A: Allocator + Copy> State<A> {
-    ghost use Rattle.version_book.specs.Steps.{opening_state};
-
     pub(crate) fn new(alloc: A, table: JobTable<A>, spacing: u32) -> Result<State<A>, Memory>
         requires { IsSpacing spacing }
         ensures state { IfOk result (λ s. s ≡ opening_state table spacing) }
@@ -82,10 +83,6 @@ impl<A: Allocator + Copy> State<A> {
 }
 
 impl<A: Allocator + Copy> State<A> {
-    ghost use Rattle.std.specs.Prelude.{ℕ};
-    ghost use Rattle.book_machine.specs.Machine.{settled};
-    ghost use Rattle.version_book.specs.Tasks.{free_due};
-
     pub(crate) fn current(&self) -> &Arc<JobTable<A>, A>
         ensures { arc_value result.now ≡ self.now.current }
     {

@@ -1,3 +1,6 @@
+ghost use Rattle.std.specs.Prelude.{Some};
+ghost use Rattle.workers.specs.Names.{close_fault_name};
+
 use std::fmt;
 use thiserror::Error;
 
@@ -11,9 +14,6 @@ pub enum CloseFault {
 }
 
 impl fmt::Display for CloseFault {
-    ghost use Rattle.std.specs.Prelude.{Some};
-    ghost use Rattle.workers.specs.Names.{close_fault_name};
-
     ghost output = { λ fault. Some (close_fault_name fault) };
 
     fn fmt<W: fmt::Write>(&self, f: &mut fmt::Formatter<W>) -> fmt::Result {

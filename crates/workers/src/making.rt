@@ -1,4 +1,6 @@
 // `gives` tells which results the making may have: this run, or none. A task leaves its run at the ticket.
+ghost use Rattle.workers.specs.Work.{IsWanted};
+
 use checkpoints::Run;
 use std::alloc::Allocator;
 use std::sync::Arc;
@@ -18,8 +20,6 @@ pub(crate) trait Making<A: Allocator + Copy> {
 }
 
 impl<A: Allocator + Copy> Making<A> for Task<A> {
-    ghost use Rattle.workers.specs.Work.{IsWanted};
-
     ghost gives = { IsWanted };
 
     fn make(&mut self) -> Result<Arc<Run<A>, A>, Memory> {

@@ -1,4 +1,4 @@
-ghost use Rattle.std.specs.Prelude.{◌≡◌, ◌↔◌, ◌≤◌, IfOk, IsTrue, OnErr};
+ghost use Rattle.std.specs.Prelude.{◌≡◌, ◌↔◌, ◌≤◌, IfOk, IsTrue, OnErr, map};
 ghost use Rattle.job_table.specs.Edit.{edit_of};
 ghost use Rattle.book_machine.specs.declared.caller.Caller.TheVariants as caller;
 ghost use Rattle.book_machine.specs.Call.{AddScenario, DropScenario, Edit as Edits, Retry, View};
@@ -6,7 +6,7 @@ ghost use Rattle.chronicle.specs.Fronts.{Begins};
 ghost use Rattle.version_book.specs.Answers.{add_answer, drop_answer, edit_answer, retry_answer, view_answer};
 ghost use Rattle.workers.specs.Callers.{new_session, seen_after};
 ghost use Rattle.workers.specs.History.{Calls, Views};
-ghost use Rattle.workers.specs.Lists.{Gains};
+ghost use Rattle.workers.specs.Lists.{Gains, listed_of};
 ghost use Rattle.workers.specs.Readings.{IsShownOnce};
 
 use crate::desk::Desk;
@@ -47,9 +47,6 @@ impl<A: Allocator + Copy, J: Naming> Model for Session<A, J> {
 }
 
 impl<A: Allocator + Copy, J: Naming> Session<A, J> {
-    ghost use Rattle.std.specs.Prelude.{map};
-    ghost use Rattle.workers.specs.Lists.{listed_of};
-
     pub(crate) fn new(alloc: A, number: u64, front: Front<J>) -> Session<A, J>
         ensures { result ≡ new_session number front }
     {

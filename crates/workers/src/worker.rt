@@ -1,9 +1,10 @@
 // A worker makes the run for a ticket without the lock.
-ghost use Rattle.std.specs.Prelude.{◌≡◌, Err, IfNone, Some};
+ghost use Rattle.std.specs.Prelude.{◌≡◌, Err, IfNone, Some, map};
 ghost use Rattle.workers.specs.Callers.{new_worker};
 ghost use Rattle.workers.specs.declared.worker.WorkerEnd.TheVariants as ends;
 ghost use Rattle.workers.specs.Readings.{LackedMemory, WasFull};
 ghost use Rattle.workers.specs.Work.{Finishes, GainsClaim, GivesUp, HandsInOnce, HandsInWhat, WorksOn, WorksThrough, end_of};
+ghost use Rattle.workers.specs.Lists.{listed_of};
 
 use crate::desk::Desk;
 use crate::gate::Gate;
@@ -64,9 +65,6 @@ fn end_of<T: Copy, F: Copy>(outcome: Result<T, Refusal<F>>) -> Option<WorkerEnd>
 }
 
 impl<A: Allocator + Copy> Worker<A> {
-    ghost use Rattle.std.specs.Prelude.{map};
-    ghost use Rattle.workers.specs.Lists.{listed_of};
-
     pub(crate) fn new(alloc: A, number: u64) -> Worker<A>
         ensures { result ≡ new_worker number }
     {
