@@ -174,7 +174,7 @@ module _ {X : Type 0} where
     pub groups_same : (cs new : List (List X)) (groups kept : List Group) → new ≡ cs → kept ≡ groups → AreGroups f cs groups → AreGroups f new kept
     groups_same cs new groups kept e k all = subst (λ (r : List (List X)). AreGroups f r kept) (sym e) (subst (AreGroups f cs) (sym k) all)
 
-    -- no groups are the groups of any blocks
+    -- a list without groups is one of groups of any blocks
     pub groups_none : (cs : List (List X)) (groups : List Group) → length groups ≡ 0 → AreGroups f cs groups
     groups_none cs groups none number other lt = absurd (omega (arith, none, lt))
 

@@ -13,12 +13,12 @@ pub all_end : {X : Type 0} (P : X → Type 0) (xs : List X) (x : X) → AllByRec
 all_end P [] x all h = (h, tt)
 all_end P (y ∷ xs) x all h = (all.0, all_end P xs x all.1 h)
 
--- where a change gives each element with one property another, all changed elements have the other
+-- where all elements have one property, and a change gives each with it another, all changed elements have the other
 pub all_map : {X : Type 0} (P Q : X → Type 0) (f : X → X) → ((x : X) → P x → Q (f x)) → (xs : List X) → AllByRecursion P xs → AllByRecursion Q (map f xs)
 all_map P Q f h [] all = tt
 all_map P Q f h (x ∷ xs) all = (h x all.0, all_map P Q f h xs all.1)
 
--- where each element with one property that passes a test has another, all that pass have the other
+-- where all elements have one property, and each with it that passes a test has another, all that pass have the other
 pub all_filter : {X : Type 0} (P Q : X → Type 0) (test : X → Bool) → ((x : X) → test x ≡ true → P x → Q x) → (xs : List X) → AllByRecursion P xs → AllByRecursion Q (filter test xs)
 all_filter P Q test h [] all = tt
 all_filter P Q test h (x ∷ xs) all = go (test x) refl (all_filter P Q test h xs all.1)

@@ -63,7 +63,7 @@ working-more old now new xs zs ps qs js t count h p next e outcome put more =
 pub working-stretch : (old now : Progress) (starts : List Start) (placed : List Placed) (count : ℕ) → Working old now starts placed count → (count ≡ 0 → ⊥) → WorksStretch old now starts placed
 working-stretch old now starts placed count h ne = record { run = h.run; ends = h.some (omega (arith, ne)); jobs = h.jobs }
 
--- where n event seconds were worked, or fewer and no more of them come before the end, the engine has worked up to n
+-- where n event seconds were worked, or fewer and no more of them come before the end, and the engine isn't past the end, it has worked up to n
 pub working-up-to : (old now : Progress) (starts : List Start) (placed : List Placed) (count n : ℕ) (end : Option ℕ) → Working old now starts placed count → IfSome end (λ e. now.position ≤ e) → count ≤ n → (count ≡ n) ⊎ NoneComes now end → WorksUpTo old now n end
 working-up-to old now starts placed count n end h within few full = record {
   within = within;

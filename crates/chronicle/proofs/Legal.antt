@@ -20,18 +20,18 @@ legal_end : (m : Machine) (notes : List Noted) (note : Noted) → IsLegal m note
 legal_end m [] note legal fits = (fits.0, fits.1, tt)
 legal_end m (n ∷ notes) note legal fits = (legal.0, legal.1, legal_end (after n.call m) notes note legal.2 fits)
 
--- a legal history is one with a call more that is accepted where it ends
+-- a legal history stays legal with a call more that is accepted where it ends
 pub legal_called : (m : Machine) (events : List Happened) (note : Noted) → IsLegalFrom m events → IsAccepted (state_after m events) note → IsLegalFrom m (events ++ Called note ∷ [])
 legal_called m events note legal fits = subst (IsLegal m) (sym (notes_append events (Called note ∷ []))) (legal_end m (notes_of events) note legal fits)
 
 same_notes : (events : List Happened) → notes_of events ++ [] ≡ notes_of events
 same_notes events = append-nil (notes_of events)
 
--- a legal history is one with a caller opened behind it
+-- a legal history stays legal with a caller opened behind it
 pub legal_opened : (m : Machine) (events : List Happened) (who : Caller) → IsLegalFrom m events → IsLegalFrom m (events ++ Opened who ∷ [])
 legal_opened m events who legal = subst (IsLegal m) (sym (notes_append events (Opened who ∷ []) ∙ same_notes events)) legal
 
--- a legal history is one with the stop of the desk behind it
+-- a legal history stays legal with the stop of the desk behind it
 pub legal_stopped : (m : Machine) (events : List Happened) → IsLegalFrom m events → IsLegalFrom m (events ++ Stopped ∷ [])
 legal_stopped m events legal = subst (IsLegal m) (sym (notes_append events (Stopped ∷ []) ∙ same_notes events)) legal
 

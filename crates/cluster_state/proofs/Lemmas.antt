@@ -1,5 +1,5 @@
--- What crates above cite of these proofs, passed on from one place: a state with one running job more or less, a job that starts as it arrives, the
--- orders by estimate and by expected end, and the numbers of a state, which give it back. Declares nothing.
+-- What crates above cite of these proofs, passed on from one place: a state with one running job more or one waiting job less, a job that starts as
+-- it arrives, the orders by estimate and by expected end, and the numbers of a state, which give it back. Declares nothing.
 pub use Rattle.cluster_state.proofs.StateLemmas.{sum_by-placed, All-placed, sum_by-without, All-without, All-find, test-find, sum_by-filter-le, sound-arrived, sound-started, without-none, without-some, placed-position}
 pub use Rattle.cluster_state.proofs.ArrivingLemmas.{without-last}
 pub use Rattle.cluster_state.proofs.CandidatesLemmas.{put-before, put-behind, RisesByEstimate, rises-by_estimate, All-by_estimate, by_estimate-All, in_order-All, without-by_estimate, find-put, find-in_order, sum_by-by_estimate}

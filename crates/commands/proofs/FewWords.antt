@@ -1,4 +1,4 @@
--- A command takes nineteen words at most, and a scenario's comment four: what follows makes no difference.
+-- A command takes nineteen words at most, and a scenario's comment four: what follows the first twenty words makes no difference.
 use Rattle.std.proofs.Common.{◌≡◌, ℕ, ◌≤◌, false, eqb, List, [], ◌∷◌, length, take, get_or, cond, Ok, Option, Some, None, refl, ap, arith, inl, inr}
 use Rattle.std.proofs.lemmas.Bool.{cases_lt}
 use Rattle.std.proofs.lemmas.Grind.{common_steps}

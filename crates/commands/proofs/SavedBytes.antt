@@ -110,7 +110,7 @@ saved_read comments entries list sound fields table listing = read_again (saved_
 same_list : (a b : Listing) (r : Result Listing OpenTextFault) → r ≡ Ok a → r ≡ Ok b → a ≡ b
 same_list a b r p q = cc
 
--- the bytes that are saved of a log after any edits, opened and saved again, are the same, and no others
+-- the bytes that are saved of a log with a scenario or more, after any edits, opened and saved again, are the same, and no others
 pub saves_edited : SavesEditedBytes
 saves_edited comments entries list sound fields table listing some procs =
     let text : LogText = saved_of comments entries list in

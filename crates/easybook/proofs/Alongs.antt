@@ -1,5 +1,5 @@
--- The responses to a session at a desk are responses along the history of the desk, once that has all its calls: where none is missing in the
--- end, none was missing before, and none came between.
+-- The responses to a session at a desk are responses along the history of the desk, where the session's list has all its calls there: if it
+-- lacks none in the end, it lacked none before, and none came between.
 use Rattle.std.proofs.Common.{◌≡◌, ℕ, ◌+◌, ◌≤◌, true, List, length, Result, Err, refl, sym, ap, subst, ◌∙◌, arith, inl, inr}
 use mathlib.Core.List.{IsPrefix}
 use Rattle.scenarios.specs.ScenarioList.{id_of}

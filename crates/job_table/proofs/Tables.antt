@@ -1,5 +1,5 @@
--- Logs in their order: what holds of one after an edit. Numbers counted at most once are distinct; lengths, soundness and order are
--- kept with an entry put in its place, taken out, or moved, and from a second on.
+-- Logs in their order: what holds of one after an edit. Numbers counted at most once are distinct; soundness, order and distinct numbers
+-- are kept with an entry put in its place, which makes a log one longer, taken out, or moved, and from a second on.
 use Rattle.std.proofs.Common.{◌≡◌, ◌≢◌, ℕ, zero, suc, ◌+◌, ◌<◌, ◌≤◌, List, [], ◌∷◌, Some, Bool, true, false, ◌==◌, nat_eq, nat_le, not, cond, filter, length, drop, count_by, refl, ap, sym, subst, ◌∙◌, arith, if◌then◌else◌}
 use Rattle.std.specs.List.{AllByRecursion, position_or_len}
 use Rattle.std.proofs.lemmas.Bool.{eq-eqb, cond-true}

@@ -50,7 +50,7 @@ stands-few c n at false now ss handled reused (us, count, going, plan, on) = let
 abbrev pub Passes : {A : Type 0} → ChangeView → ℕ → Ledger A → Ledger A → Type 0
 Passes c at old new = (position : ℕ) → MayBegin c.is position → IsNoted c at position old → IsNoted c (at + 1) position new
 
--- a step that brings every re-simulation behind a reused segment one place on, unless it fails, brings this one on
+-- a step that goes one place on behind a reused segment, unless it fails, however many event seconds a segment may hold, does so for n of them
 pub next-of : {A T E : Type 0} (c : ChangeView) (n at : ℕ) (old new : Patch A) (r : Result T E) → OnOk r ((m : ℕ) → IsBehindReused c m at old → IsUpTo c m (at + 1) new) → IsBehindReused c n at old → OnOk r (IsUpTo c n (at + 1) new)
 next-of c n at old new (Ok x) next behind = next n behind
 next-of c n at old new (Err e) next behind = tt

@@ -57,7 +57,7 @@ module _ {K : Type 0} (bytes : K → List ℕ) where
   rows-same (e ∷ es) [] h = absurd h
   rows-same (e ∷ es) (f ∷ fs) h = let rest = rows-same es fs h.1 in let text = h.0.0 in let id = h.0.1.0 in let scenario = h.0.1.1 in cc
 
--- the other way round
+-- bytes that the test does not find equal, it does not find equal the other way round
 pub bytes_eq-swap : (a b : List ℕ) → bytes_eq a b ≡ false → bytes_eq b a ≡ false
 bytes_eq-swap a b h = go (bytes_eq b a) refl
   where
@@ -72,7 +72,7 @@ pub is_none-option_map : {A B : Type 0} (f : A → B) (o : Option A) → is_some
 is_none-option_map f None h = refl
 is_none-option_map f (Some x) h = let wrong : true ≡ false = h in absurd (cc)
 
--- a name that differs from that of a scenario behind the others isn't found there
+-- a name that isn't found among scenarios, and differs from that of one more behind them, isn't found with that one more either
 pub named-append : (name : List ℕ) (ss : List Listed) (s : Listed) → named name ss ≡ None → bytes_eq name s.name ≡ false → named name (ss ++ s ∷ []) ≡ None
 named-append name [] s h other = rw other refl
 named-append name (t ∷ ss) s h other = go (bytes_eq name t.name) refl h (named-append name ss s)

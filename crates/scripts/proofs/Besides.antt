@@ -1,4 +1,4 @@
--- Views of scenarios that stand side by side, one after another: the next one has its line, or is refused.
+-- Views of scenarios that stand side by side, one after another: the next one has its line, or none if it was dropped, or is refused.
 use Rattle.std.proofs.Common.{◌≡◌, ℕ, ◌+◌, List, [], ◌∷◌, ◌++◌, take, drop, suc, zero, append-nil, append_assoc, refl, sym, ◌∙◌, ap, subst, inr}
 use Rattle.std.specs.Prelude.{Option, Some, Ok, Err, slice_get}
 use Rattle.std.proofs.lemmas.List.{take-append-drop}

@@ -74,7 +74,7 @@ fields-next bs left = fields-from_first bs ∙ fields-word (from_first bs) left 
 pub fields-end : (bs : List ℕ) → length (from_first bs) ≡ 0 → fields bs ≡ []
 fields-end bs none = fields-from_first bs ∙ ap fields (nil_from_length (from_first bs) none)
 
--- the first word is empty only where no word is left
+-- where the first word has a byte, a word is left
 pub word_left : (bs : List ℕ) → 0 < length (first_word bs) → 0 < length (from_first bs)
 word_left bs some = elim (cases_lt 0 (length (from_first bs))) [
   | inl lt ↦ lt

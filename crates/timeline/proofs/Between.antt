@@ -314,7 +314,8 @@ module _ (plan : Plan) (starts : List Start) (t a u : ℕ) (p : IsPlan plan) (l 
       )
       ))
 
--- the waiting numbers before a second from a to u stand at its place of the stretches of who waits before a or comes before u, by the starts made there
+-- the waiting numbers before a second from a to u stand at its place of the stretches of who waits before a or comes from a on and
+-- before u, by the starts made there
 pub waiting-stand-in-a-stretch : WaitingStandInAStretch
 waiting-stand-in-a-stretch plan seconds starts place t a u p rising e l m split =
     let at = is-at seconds place t rising e in

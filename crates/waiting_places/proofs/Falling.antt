@@ -24,7 +24,7 @@ falls_all (suc n) v zero (suc j) l = at_most n v j
 falls_all (suc n) v (suc i) zero l = absurd (omega arith)
 falls_all (suc n) v (suc i) (suc j) l = falls_all n v i j (omega arith)
 
--- those before a place are each the least of the old ones up to it; none of these is below the last of them
+-- those before a place fall, and each is no greater than any of the old ones up to it; none of these, new or old, is below the least
 pub record IsFallen (old new : List ℕ) (to least : ℕ) : Type 0 where
   pub len : length new ≡ length old
   pub falls : (i j : ℕ) → i ≤ j → j < to → slice_index_or new j 0 ≤ slice_index_or new i 0

@@ -82,6 +82,6 @@ module _ {X : Type 0} (places : List (Option X)) (head : ℕ) (kept : IsHead pla
       (λ (ne : p ≡ place → ⊥). get_or-set_other places place p None None ne ∙ kept.ahead p before)
       (cases_eq p place)
 
-  -- the place of the first is no further than the last place once one has left
+  -- the place of the first is no further than just behind the last place once one has left
   pub within_set : (place : ℕ) → head ≤ length (set places place None)
   within_set place = let front = kept.front in omega (arith, front, length-set {A = Option X} places place None)
