@@ -33,6 +33,10 @@ plus-assoc a b c = let n : (k l m : ℕ) → (k + l) + m ≡ k + (l + m) = λ k 
 pub plus-swap : (a b c : UserSums) → plus (plus a b) c ≡ plus (plus a c) b
 plus-swap a b c = let n : (k l m : ℕ) → (k + l) + m ≡ (k + m) + l = λ k l m. omega arith in same_sums (plus (plus a b) c) (plus (plus a c) b) (n a.count b.count c.count) (n a.wait b.wait c.wait) (n a.slowdown b.slowdown c.slowdown) (n a.busy b.busy c.busy)
 
+added_if : (b : Bool) (a t s : UserSums) → t.count ≡ a.count + cond b s.count 0 → t.wait ≡ a.wait + cond b s.wait 0 → t.slowdown ≡ a.slowdown + cond b s.slowdown 0 → t.busy ≡ a.busy + cond b s.busy 0 → t ≡ plus a (cond b s no_sums)
+added_if true a t s c w d u = same_sums t (plus a s) c w d u
+added_if false a t s c w d u = same_sums t (plus a no_sums) c w d u
+
 pub user-set : (q : ℤ) (es : List (ℤ × UserSums)) (i : ℕ) (d w : ℤ × UserSums) (s : UserSums) → i < length es → w.0 ≡ (get_or es i d).0 → w.1 ≡ plus (get_or es i d).1 s → user_total q (set es i w) ≡ plus (user_total q es) (cond (int_eq q w.0) s no_sums)
 user-set q es i d w s l same more = added_if (int_eq q w.0) (user_total q es) (user_total q (set es i w)) s
     (total-set int_cmp_total (λ x. x.count) q es i d w s.count l same (ap (λ (x : UserSums). x.count) more))
