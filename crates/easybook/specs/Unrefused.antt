@@ -19,7 +19,7 @@ pub record IsUnrefusedAnswer (A : Type 0) (log : List ℕ) (procs : Option ℕ) 
   pub is_opened : IsOpened log procs comments table scenarios
   pub transcript : IsUnrefused A comments (begun table scenarios.scenarios) script text
 
--- there is one such text of the same bytes and options
+-- there is at most one such text of the same bytes and options
 abbrev pub ThereIsOneAnswer : Type 0 → Type 0
 ThereIsOneAnswer A =
     (log : List ℕ) (procs : Option ℕ) (script text other : List ℕ)

@@ -20,7 +20,7 @@ pub fn words_law()
 {}
 
 /// Where no memory is refused, the transcript of a script on a log follows from the bytes of both and the
-/// machine that is named: there is exactly one, and it is one of those that `run_alone` may write.
+/// machine that is named: there is at most one, and it is one of those that `run_alone` may write.
 pub fn script_law<A: Allocator>()
     ensures one { ThereIsOneAnswer A }
     ensures answer { ItIsAnAnswer A }
