@@ -1,4 +1,4 @@
--- What crates above cite of these proofs, passed on from one place: one transcript where no memory is refused, scenarios added one after
+-- What crates above cite of these proofs, passed on from one place: at most one transcript where no memory is refused, scenarios added one after
 -- another, the report on them side by side, the schedule of the first one, what a book shows, and rules that lead to others. Declares nothing.
 pub use Rattle.scripts.proofs.OneTranscript.{one-unrefused, unrefused-too}
 pub use Rattle.scripts.proofs.Starts.{with-one}

@@ -1,4 +1,4 @@
--- Where memory doesn't run out, a command has one response, and leads to one state.
+-- Where memory doesn't run out, a command has at most one response, and leads to at most one state.
 use Rattle.std.proofs.Common.{◌≡◌, ℕ, ◌<◌, List, [], ◌∷◌, ◌++◌, length, sym, ◌∙◌, ap, ap₂, subst, true, false, inl, inr, ◌⊎◌, arith}
 use Rattle.std.specs.Prelude.{None, Some, IsTrue, is_some, codes}
 use Rattle.swf_text.specs.Entry.{LogEntry}

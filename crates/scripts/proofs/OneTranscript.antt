@@ -1,4 +1,4 @@
--- Where memory doesn't run out, a script has one transcript, and it is one of those where memory may run out.
+-- Where memory doesn't run out, a script has at most one transcript, which is one of those where memory may run out.
 use Rattle.std.proofs.Common.{◌≡◌, ℕ, ◌+◌, List, [], ◌∷◌, ◌++◌, true, false, Option, Some, None, Result, Ok, Err, inl, inr, sym, ◌∙◌, ap₂, subst}
 use Rattle.commands.specs.declared.command.Command.{Command}
 use Rattle.commands.specs.declared.command.Command.TheVariants as asks

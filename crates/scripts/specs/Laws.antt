@@ -17,13 +17,13 @@ use Rattle.scripts.specs.BookRules.{IsTrueOf}
 use Rattle.scripts.specs.Session.{Session}
 use Rattle.scripts.specs.Transcript.{IsLineIf, IsTranscriptOf, IsUnrefused}
 
--- a line has one response, and leads to one state
+-- a line has at most one response, and leads to at most one state
 abbrev pub LinesAreOne : Type 0 → Type 0
 LinesAreOne A =
     (comments : List (List ℕ)) (old : Session) (number : ℕ) (asked : Result (Option (Command A)) CommandFault) (text other : List ℕ) (new next : Session)
     → IsLineIf false comments old number asked text new → IsLineIf false comments old number asked other next → (text ≡ other) × (new ≡ next)
 
--- a script has one transcript
+-- a script has at most one transcript
 abbrev pub TranscriptsAreOne : Type 0 → Type 0
 TranscriptsAreOne A =
     (comments : List (List ℕ)) (first : Session) (script out other : List ℕ)

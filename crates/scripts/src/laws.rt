@@ -6,8 +6,9 @@ use crate::lifting::Lifting;
 use std::alloc::Allocator;
 
 /// Where no memory is refused, the transcript of a script follows from the state of the book that it
-/// begins with, the comments and its bytes: a line has one response and leads to one state, and a script
-/// has one transcript. That is one of those that `run_lines` and `run_live` may write.
+/// begins with, the comments and its bytes: a line has at most one response and leads to at most one
+/// state, and a script has at most one transcript. Each such one is among those that `run_lines` and
+/// `run_live` may write.
 pub fn unrefused_transcripts_are_one<A: Allocator>()
     ensures line { LinesAreOne A }
     ensures one { TranscriptsAreOne A }
