@@ -19,17 +19,22 @@ fn copied<A: Allocator + Copy>(alloc: A, notes: &[Note<A>]) -> Result<Vec<Note<A
     Ok(copies)
 }
 
-// Whether the notes are one with their copies, and all are right by the plain program of the book.
-fn are_right<A: Allocator + Copy>(alloc: A, notes: &[Note<A>]) -> Result<bool, Memory> {
+/// Whether the notes of a book of this log are one with their copies, and all are right by the plain
+/// program of the book.
+pub(crate) fn are_right<A: Allocator + Copy>(
+    alloc: A,
+    log: &[u8],
+    notes: &[Note<A>],
+) -> Result<bool, Memory> {
     let copies = copied(alloc, notes)?;
-    let Some(log) = table_of(alloc, LONG) else {
+    let Some(log) = table_of(alloc, log) else {
         return Err(Memory);
     };
     Ok(copies.as_slice() == notes && first_wrong(alloc, log, &copies)?.is_none())
 }
 
 fn judged<A: Allocator + Copy>(alloc: A, notes: &[Note<A>]) -> Outcome {
-    match are_right(alloc, notes) {
+    match are_right(alloc, LONG, notes) {
         Ok(are_right) => Outcome::right_if(are_right),
         Err(Memory) => Outcome::Memory,
     }
@@ -56,7 +61,7 @@ struct History(usize, &'static [(Said, Answered)]);
 
 impl Trial for History {
     fn outcome<A: Allocator + Copy>(&self, alloc: A) -> Outcome {
-        match Player::new(alloc) {
+        match Player::new(alloc, LONG, 1) {
             Some(mut player) => played(&mut player, self.0, self.1),
             None => Outcome::Before,
         }
@@ -88,7 +93,7 @@ fn each_call_is_refused_capacity_for_its_note(rt: HostRuntime) {
 // The place of the first wrong note of the runs' history, where the note at a place is answered another
 // reply, if there is one.
 fn wrong_place(alloc: Global, place: usize) -> Option<Option<usize>> {
-    let mut player = Player::new(alloc)?;
+    let mut player = Player::new(alloc, LONG, 1)?;
     let _right = player.plays(RUNS);
     let mut notes = copied(alloc, player.book.journal()).ok()?;
     if let Some(note) = notes.get_mut(place) {

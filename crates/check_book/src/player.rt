@@ -1,6 +1,7 @@
-use crate::rows::{Answered, LONG, Said};
-use checking::{FOUR, Written, edit_of, shared_table, table_of};
+use crate::rows::{Answered, Said};
+use checking::{Written, edit_of, table_of};
 use checkpoints::{Run, simulate};
+use job_table::JobTable;
 use refusing::Outcome;
 use rejoin::Work;
 use scenarios::{Plan, Scenario, ScenarioId};
@@ -12,13 +13,15 @@ use version_book::{Book, FinishRefusal, Named, Published, Refusal, Task};
 /// What is answered where a growth is refused.
 const MEMORY: Answered = Answered::Refused("Memory");
 
-/// A book, the ids that it gave, and its tasks.
+/// A book, who calls it, the ids that it gave, and its tasks, ticket by ticket.
 #[derive(Drop)]
 pub(crate) struct Player<A: Allocator + Copy> {
     pub(crate) alloc: A,
     pub(crate) book: Book<A>,
-    ids: Vec<ScenarioId, A>,
-    tasks: Vec<Task<A>, A>,
+    pub(crate) session: u64,
+    pub(crate) worker: u64,
+    pub(crate) ids: Vec<ScenarioId, A>,
+    pub(crate) tasks: Vec<Task<A>, A>,
 }
 
 fn refused<F: Named>(refusal: &Refusal<F>) -> Answered {
@@ -52,37 +55,56 @@ fn of_view<A: Allocator + Copy>(published: &Published<A>) -> Answered {
     }
 }
 
-fn other_run<A: Allocator + Copy>(alloc: A) -> Option<Arc<Run<A>, A>> {
-    let plan = Plan::new(shared_table(alloc, FOUR)?, Scenario::new(10, 1000)?);
-    Arc::new(alloc, simulate(alloc, plan, 1).ok()?).ok()
+/// A value that no field of the second job has.
+const OTHER: &[u8] = b"33";
+
+// The log in which one field of the second job is another.
+fn other_log<A: Allocator + Copy>(alloc: A, log: &JobTable<A>, field: u8) -> Option<JobTable<A>> {
+    let edit = edit_of(alloc, Written::Change(2, field, OTHER))?;
+    let mut other = log.copy().ok()?;
+    other.apply(&edit).ok()?;
+    Some(other)
+}
+
+fn other_run<A: Allocator + Copy>(alloc: A, task: &Task<A>, field: u8) -> Option<Arc<Run<A>, A>> {
+    let log = Arc::new(alloc, other_log(alloc, task.table(), field)?).ok()?;
+    let run = simulate(alloc, Plan::new(log, task.scenario()), 1).ok()?;
+    Arc::new(alloc, run).ok()
 }
 
 impl<A: Allocator + Copy> Player<A> {
-    /// A book of two jobs, a segment of which has one event second; none where memory is short.
-    pub(crate) fn new(alloc: A) -> Option<Player<A>> {
+    /// A book of a log, in segments of so many event seconds; none where memory is short, or the log is
+    /// none.
+    pub(crate) fn new(alloc: A, log: &[u8], spacing: u32) -> Option<Player<A>> {
         Some(Player {
             alloc,
-            book: Book::new(alloc, table_of(alloc, LONG)?, 1).ok()?,
+            book: Book::new(alloc, table_of(alloc, log)?, spacing).ok()?,
+            session: 7,
+            worker: 1,
             ids: Vec::with_capacity(alloc, 2).ok()?,
             tasks: Vec::with_capacity(alloc, 4).ok()?,
         })
     }
 
-    fn edit(&mut self, written: Written) -> Answered {
+    pub(crate) fn edit(&mut self, written: Written) -> Answered {
         let Some(edit) = edit_of(self.alloc, written) else {
             return MEMORY;
         };
-        match self.book.edit(7, &edit) {
+        match self.book.edit(self.session, &edit) {
             Ok(version) => Answered::Number(version),
             Err(refusal) => refused(&refusal),
         }
     }
 
-    fn add(&mut self, name: &str) -> Answered {
-        let Some(scenario) = Scenario::new(10, 1000) else {
-            return Answered::Nothing;
-        };
-        match self.book.add_scenario(7, name, scenario) {
+    fn add_ten(&mut self, name: &str) -> Answered {
+        match Scenario::new(10, 1000) {
+            Some(scenario) => self.add(name, scenario),
+            None => Answered::Nothing,
+        }
+    }
+
+    pub(crate) fn add(&mut self, name: &str, scenario: Scenario) -> Answered {
+        match self.book.add_scenario(self.session, name, scenario) {
             Ok(id) => self.keep_id(id),
             Err(refusal) => refused(&refusal),
         }
@@ -95,35 +117,35 @@ impl<A: Allocator + Copy> Player<A> {
         }
     }
 
-    fn drop_named(&mut self, name: &str) -> Answered {
-        match self.book.drop_scenario(7, name) {
+    pub(crate) fn drop_named(&mut self, name: &str) -> Answered {
+        match self.book.drop_scenario(self.session, name) {
             Ok(id) => Answered::Number(u64::from(id.number())),
             Err(refusal) => refused(&refusal),
         }
     }
 
-    fn retry(&mut self, place: usize) -> Answered {
+    pub(crate) fn retry(&mut self, place: usize) -> Answered {
         let Some(id) = self.ids.get(place) else {
             return Answered::Nothing;
         };
-        match self.book.retry(7, *id) {
+        match self.book.retry(self.session, *id) {
             Ok(()) => Answered::Done,
             Err(refusal) => refused(&refusal),
         }
     }
 
-    fn view(&mut self, place: usize, seen: u64) -> Answered {
+    pub(crate) fn view(&mut self, place: usize, seen: u64) -> Answered {
         let Some(id) = self.ids.get(place) else {
             return Answered::Nothing;
         };
-        match self.book.view(7, *id, seen) {
+        match self.book.view(self.session, *id, seen) {
             Ok(published) => of_view(&published),
             Err(refusal) => refused(&refusal),
         }
     }
 
-    fn claim(&mut self) -> Answered {
-        match self.book.claim(1) {
+    pub(crate) fn claim(&mut self) -> Answered {
+        match self.book.claim(self.worker) {
             Ok(Some(task)) => self.keep(task),
             Ok(None) => Answered::Nothing,
             Err(refusal) => refused(&refusal),
@@ -142,21 +164,26 @@ impl<A: Allocator + Copy> Player<A> {
         self.tasks.get_mut(ticket.wrapping_sub(1) as usize)
     }
 
-    fn deliver(&mut self, ticket: u64) -> Answered {
+    pub(crate) fn deliver(&mut self, ticket: u64) -> Answered {
         match self.task(ticket) {
             Some(task) => of_work(task.deliver()),
             None => Answered::Nothing,
         }
     }
 
-    fn run(&mut self, ticket: u64) -> Option<Arc<Run<A>, A>> {
+    pub(crate) fn run(&mut self, ticket: u64) -> Option<Arc<Run<A>, A>> {
         let (run, _work) = self.task(ticket)?.work().ok()?;
         Some(run)
     }
 
-    fn finish(&mut self, ticket: u64, run: Option<Arc<Run<A>, A>>) -> Answered {
+    pub(crate) fn other(&mut self, ticket: u64, field: u8) -> Option<Arc<Run<A>, A>> {
+        let alloc = self.alloc;
+        other_run(alloc, self.task(ticket)?, field)
+    }
+
+    pub(crate) fn finish(&mut self, ticket: u64, run: Option<Arc<Run<A>, A>>) -> Answered {
         match run {
-            Some(run) => of_finish(self.book.finish(1, ticket, run)),
+            Some(run) => of_finish(self.book.finish(self.worker, ticket, run)),
             None => MEMORY,
         }
     }
@@ -166,23 +193,28 @@ impl<A: Allocator + Copy> Player<A> {
         self.finish(ticket, run)
     }
 
+    fn finish_other(&mut self, ticket: u64, field: u8) -> Answered {
+        let run = self.other(ticket, field);
+        self.finish(ticket, run)
+    }
+
     fn hand_in(&mut self, ticket: u64) -> Answered {
         match self.run(ticket) {
-            Some(run) => of_finish(self.book.hand_in(1, ticket, run)),
+            Some(run) => of_finish(self.book.hand_in(self.worker, ticket, run)),
             None => MEMORY,
         }
     }
 
-    fn finish_left(&mut self, ticket: u64) -> Answered {
-        match self.book.finish_delivered(2, ticket) {
+    pub(crate) fn finish_left(&mut self, ticket: u64) -> Answered {
+        match self.book.finish_delivered(self.worker, ticket) {
             Ok(Some(version)) => Answered::Number(version),
             Ok(None) => Answered::Nothing,
             Err(refusal) => refused(&refusal),
         }
     }
 
-    fn give_up(&mut self, ticket: u64) -> Answered {
-        match self.book.give_up(1, ticket) {
+    pub(crate) fn give_up(&mut self, ticket: u64) -> Answered {
+        match self.book.give_up(self.worker, ticket) {
             Ok(()) => Answered::Done,
             Err(refusal) => refused(&refusal),
         }
@@ -191,7 +223,7 @@ impl<A: Allocator + Copy> Player<A> {
     fn answered(&mut self, said: Said) -> Answered {
         match said {
             Said::Edit(written) => self.edit(written),
-            Said::Add(name) => self.add(name),
+            Said::Add(name) => self.add_ten(name),
             Said::DropNamed(name) => self.drop_named(name),
             Said::Retry(place) => self.retry(place),
             Said::View(place, seen) => self.view(place, seen),
@@ -199,7 +231,7 @@ impl<A: Allocator + Copy> Player<A> {
             Said::Deliver(ticket) => self.deliver(ticket),
             Said::Finish(ticket) => self.finish_own(ticket),
             Said::HandIn(ticket) => self.hand_in(ticket),
-            Said::FinishOther(ticket) => self.finish(ticket, other_run(self.alloc)),
+            Said::FinishOther(ticket, field) => self.finish_other(ticket, field),
             Said::FinishLeft(ticket) => self.finish_left(ticket),
             Said::GiveUp(ticket) => self.give_up(ticket),
             Said::Settled(seen) => Answered::Settled(self.book.settled(seen)),

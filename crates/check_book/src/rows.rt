@@ -24,8 +24,8 @@ pub(crate) enum Said {
     Finish(u64),
     /// The same, where the task has left none.
     HandIn(u64),
-    /// The run of another log is.
-    FinishOther(u64),
+    /// The run of a log is in which this field of job 2 is another.
+    FinishOther(u64, u8),
     /// What the ticket's task has left is.
     FinishLeft(u64),
     GiveUp(u64),
@@ -73,6 +73,8 @@ const MADE: Answered = Answered::Made(Some((3, 1)));
 
 const UNKNOWN: Answered = Answered::Refused("UnknownTicket");
 
+const STRANGER: Answered = Answered::Refused("Stranger");
+
 const NO_SCENARIO: Answered = Answered::Refused("NoSuchScenario");
 
 type Rows = &'static [(Said, Answered)];
@@ -111,7 +113,7 @@ pub(crate) const RUNS: Rows = &[
     (Said::Finish(1), UNKNOWN),
     (INSERT, Answered::Number(3)),
     (Said::Claim, Answered::Claimed(3, 3, Some((2, 1)))),
-    (Said::FinishOther(3), Answered::Refused("Stranger")),
+    (Said::FinishOther(3, 3), STRANGER),
     (Said::View(0, 3), Answered::Refused("Behind")),
     (Said::View(0, 2), Answered::Number(2)),
     (Said::HandIn(3), Answered::Number(3)),
@@ -185,5 +187,30 @@ const GIVEN_UP: Rows = &[
     (Said::Settled(3), Answered::Settled(SettleState::Waiting)),
 ];
 
+/// The run of a log in which one field is another is a stranger, whatever field it is, and the ticket
+/// stands on.
+const OTHERS: Rows = &[
+    (Said::Add("base"), Answered::Number(1)),
+    (Said::Claim, Answered::Claimed(1, 0, None)),
+    (Said::FinishOther(1, 2), STRANGER),
+    (Said::FinishOther(1, 3), STRANGER),
+    (Said::FinishOther(1, 4), STRANGER),
+    (Said::FinishOther(1, 5), STRANGER),
+    (Said::FinishOther(1, 6), STRANGER),
+    (Said::FinishOther(1, 7), STRANGER),
+    (Said::FinishOther(1, 8), STRANGER),
+    (Said::FinishOther(1, 9), STRANGER),
+    (Said::FinishOther(1, 10), STRANGER),
+    (Said::FinishOther(1, 11), STRANGER),
+    (Said::FinishOther(1, 12), STRANGER),
+    (Said::FinishOther(1, 13), STRANGER),
+    (Said::FinishOther(1, 14), STRANGER),
+    (Said::FinishOther(1, 15), STRANGER),
+    (Said::FinishOther(1, 16), STRANGER),
+    (Said::FinishOther(1, 17), STRANGER),
+    (Said::FinishOther(1, 18), STRANGER),
+    (Said::Finish(1), Answered::Number(0)),
+];
+
 /// All of them, but for `EACH`.
-pub(crate) const HISTORIES: &[Rows] = &[RUNS, LEFT, DROPPED, GIVEN_UP];
+pub(crate) const HISTORIES: &[Rows] = &[RUNS, LEFT, DROPPED, GIVEN_UP, OTHERS];

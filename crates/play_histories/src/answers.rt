@@ -1,11 +1,9 @@
-// What the calls of a book or at a desk answer, written as the replies of the book machine.
+// What the calls of a session answer, written as the replies of the book machine.
 use book_machine::Reply;
 use scenarios::{NoSuchScenario, ScenarioId};
-use std::alloc::{Allocator, Global};
+use std::alloc::Allocator;
 use version_book::{
-    AddRefusal, Base, ClaimRefusal, DropRefusal, EditRefusal, FinishFault, FinishRefusal,
-    GiveUpRefusal, Published, RetryRefusal, Task, TooManyTickets, UnknownTicket, ViewFault,
-    ViewRefusal,
+    AddRefusal, DropRefusal, EditRefusal, Published, RetryRefusal, ViewFault, ViewRefusal,
 };
 
 /// Why a call has no reply.
@@ -75,49 +73,5 @@ pub(crate) fn of_view<A: Allocator + Copy>(outcome: &Result<Published<A>, ViewRe
             version: published.version(),
         }),
         Err(refusal) => of_view_refusal(*refusal),
-    }
-}
-
-fn version_of(base: Option<&Base<Global>>) -> Option<u64> {
-    match base {
-        Some(base) => Some(base.version()),
-        None => None,
-    }
-}
-
-pub(crate) fn of_claim(outcome: &Result<Option<Task<Global>>, ClaimRefusal>) -> Answer {
-    match outcome {
-        Ok(None) => Ok(Reply::NoneDue),
-        Ok(Some(task)) => Ok(Reply::Claimed {
-            ticket: task.ticket(),
-            id: task.id(),
-            version: task.version(),
-            base: version_of(task.base()),
-        }),
-        Err(ClaimRefusal::Fault(TooManyTickets)) => Ok(Reply::TooManyTickets),
-        Err(ClaimRefusal::JournalFull) => Err(Unanswered::JournalFull),
-        Err(ClaimRefusal::Memory) => Err(Unanswered::Memory),
-    }
-}
-
-pub(crate) fn of_finish(outcome: Result<u64, FinishRefusal>) -> Answer {
-    match outcome {
-        Ok(version) => Ok(Reply::Finished { version }),
-        Err(FinishRefusal::Fault(FinishFault::UnknownTicket)) => Ok(Reply::UnknownTicket),
-        Err(FinishRefusal::Fault(FinishFault::Stranger)) => Ok(Reply::Stranger),
-        Err(FinishRefusal::Fault(FinishFault::Stale { published })) => Ok(Reply::Stale {
-            published,
-        }),
-        Err(FinishRefusal::JournalFull) => Err(Unanswered::JournalFull),
-        Err(FinishRefusal::Memory) => Err(Unanswered::Memory),
-    }
-}
-
-pub(crate) fn of_give_up(outcome: Result<(), GiveUpRefusal>) -> Answer {
-    match outcome {
-        Ok(()) => Ok(Reply::GivenUp),
-        Err(GiveUpRefusal::Fault(UnknownTicket)) => Ok(Reply::UnknownTicket),
-        Err(GiveUpRefusal::JournalFull) => Err(Unanswered::JournalFull),
-        Err(GiveUpRefusal::Memory) => Err(Unanswered::Memory),
     }
 }

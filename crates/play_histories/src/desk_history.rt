@@ -1,16 +1,14 @@
 // Eight sessions and four workers at one desk, each on a thread of its own.
 use crate::desk_handle::DeskHandle;
-use crate::inputs;
 use crate::known_log::{book_of, opening, ten};
 use crate::session_call::SessionCall;
-use crate::tally::Tally;
 use crate::threads::{Callers, Script, is_right_with};
 use crate::wrong::{Wrong, right_if};
 use book_machine::{Note, Reply};
-use checking::Chance;
+use checking::{Chance, Written, edit_of};
 use chronicle::Naming;
 use oracle_book::first_wrong;
-use scenarios::ScenarioId;
+use scenarios::{Scenario, ScenarioId};
 use std::alloc::{Allocator, Global};
 use std::sync::Wait;
 use std::thread::Threads;
@@ -28,13 +26,46 @@ const CALLS: usize = 1_250;
 /// In so many calls it settles once.
 const ROUND: usize = 50;
 
-/// The numbers of the jobs that are edited are below this.
-const JOBS: u64 = 40;
+/// The stream of chances of each session.
+const STREAM: u64 = 31;
 
-/// So many kinds of replies, the first ones of a tally, come so often at least.
-const KINDS: usize = 9;
+/// Jobs that join.
+const JOINING: [&[u8]; 8] = [
+    b"5 4 -1 500 2 -1 -1 2 500 -1 1 8 -1 -1 -1 -1 -1 -1\n",
+    b"6 0 -1 30 -1 -1 -1 9 40 -1 1 1 -1 -1 -1 -1 -1 -1\n",
+    b"7 5 -1 0 -1 -1 -1 1 0 -1 1 2 -1 -1 -1 -1 -1 -1\n",
+    b"8 10 -1 25 -1 -1 -1 4 20 -1 1 7 -1 -1 -1 -1 -1 -1\n",
+    b"9 35 -1 5 -1 -1 -1 10 5 -1 1 8 -1 -1 -1 -1 -1 -1\n",
+    b"10 20 -1 15 -1 -1 -1 6 30 -1 1 2 -1 -1 -1 -1 -1 -1\n",
+    b"11 0 -1 20 -1 -1 -1 2 35 -1 1 7 -1 -1 -1 -1 -1 -1\n",
+    b"12 15 -1 30 -1 -1 -1 8 10 -1 1 1 -1 -1 -1 -1 -1 -1\n",
+];
 
+/// The fields that are changed, by which jobs come later, run longer, or take and ask for more or less.
+const FIELDS: [u8; 4] = [2, 4, 8, 9];
+
+/// The values that they get.
+const VALUES: [&[u8]; 4] = [b"0", b"3.5", b"7", b"35"];
+
+/// The names of scenarios.
+const NAMES: [&str; 4] = ["base", "big", "fast", "s-1"];
+
+/// Replies of each kind that is counted come so often at least.
 const FEWEST: u64 = 20;
+
+// An edit of one of the jobs 1 to 12, some of which there are.
+fn written(chance: &mut Chance) -> Written {
+    let number = 1 + chance.below(12);
+    match chance.below(4) {
+        0 => Written::Remove(number),
+        1 => Written::Insert(JOINING[chance.place(8)]),
+        _ => Written::Change(number, FIELDS[chance.place(4)], VALUES[chance.place(4)]),
+    }
+}
+
+fn name(chance: &mut Chance) -> &'static str {
+    NAMES[chance.place(4)]
+}
 
 impl<R: Wait, J: Naming> DeskHandle<'_, R, Global, J> {
     fn edits(
@@ -43,7 +74,7 @@ impl<R: Wait, J: Naming> DeskHandle<'_, R, Global, J> {
         session: &mut Session<Global, J>,
         chance: &mut Chance,
     ) -> Result<Reply, Wrong> {
-        match inputs::edit(alloc, chance, JOBS) {
+        match edit_of(alloc, written(chance)) {
             Some(edit) => self.reply(session, &SessionCall::Edit(&edit)),
             None => Err(Wrong::Input),
         }
@@ -55,7 +86,7 @@ impl<R: Wait, J: Naming> DeskHandle<'_, R, Global, J> {
         chance: &mut Chance,
         name: &'static str,
     ) -> Result<Reply, Wrong> {
-        match inputs::scenario(chance) {
+        match Scenario::new(4 + chance.below(13), 1000) {
             Some(scenario) => self.reply(session, &SessionCall::Add { name, scenario }),
             None => Err(Wrong::Input),
         }
@@ -63,7 +94,7 @@ impl<R: Wait, J: Naming> DeskHandle<'_, R, Global, J> {
 
     // A call of a scenario that stands, or that another session just dropped; of none, one more.
     fn tries(&self, session: &mut Session<Global, J>, chance: &mut Chance) -> Result<Reply, Wrong> {
-        let name = inputs::name(chance, false);
+        let name = name(chance);
         match self.find(session, name) {
             Some(id) if chance.below(4) == 0 => self.reply(session, &SessionCall::Retry { id }),
             Some(id) => self.reply(session, &SessionCall::View { id }),
@@ -80,15 +111,10 @@ impl<R: Wait, J: Naming> DeskHandle<'_, R, Global, J> {
         match chance.below(8) {
             0..=2 => self.edits(alloc, session, chance),
             3 => {
-                let name = inputs::name(chance, false);
+                let name = name(chance);
                 self.adds(session, chance, name)
             }
-            4 => self.reply(
-                session,
-                &SessionCall::Drop {
-                    name: inputs::name(chance, false),
-                },
-            ),
+            4 => self.reply(session, &SessionCall::Drop { name: name(chance) }),
             _ => self.tries(session, chance),
         }
     }
@@ -143,7 +169,7 @@ impl Script<Global> for Chances {
         handle: &DeskHandle<'_, R, Global, J>,
         session: &mut Session<Global, J>,
     ) -> Result<(), Wrong> {
-        let mut chance = Chance::new(session.number(), inputs::STREAM);
+        let mut chance = Chance::new(session.number(), STREAM);
         for place in 0..CALLS {
             handle.turn(self.alloc, session, &mut chance, place)?;
         }
@@ -165,10 +191,26 @@ pub(crate) fn is_legal<A: Allocator + Copy>(alloc: A, notes: &[Note<A>]) -> Resu
     right_if(wrong.is_none(), Wrong::Journal)
 }
 
+// How often the rarest reply came of an edit, a scenario that joined or left, a run that was published or
+// shown, and a refusal.
 fn fewest(notes: &[Note<Global>]) -> u64 {
-    let mut tally = Tally::NONE;
-    tally.add(notes);
-    tally.fewest(KINDS)
+    let mut counts = [0u64; 6];
+    for note in notes {
+        let kind = match note.reply {
+            Reply::Edited { .. } => 0,
+            Reply::Added { .. } => 1,
+            Reply::Dropped { .. } => 2,
+            Reply::Finished { .. } => 3,
+            Reply::Shown { .. } => 4,
+            _ => 5usize,
+        };
+        counts[kind] = counts[kind].saturating_add(1);
+    }
+    let mut fewest = u64::MAX;
+    for count in counts.iter() {
+        fewest = fewest.min(*count);
+    }
+    fewest
 }
 
 /// Plays all sessions beside all workers, closes the desk and judges its journal.

@@ -2,13 +2,11 @@
 ghost use Rattle.std.specs.Prelude.{◌≡◌};
 ghost use Rattle.version_book.specs.Book.{machine_of};
 
-use crate::answers;
 use crate::desk_handle::DeskHandle;
 use crate::known_log::with_base;
 use crate::open_desk::OpenDesk;
 use crate::threads::{Callers, Script, is_right_with};
 use crate::wrong::{Wrong, right_if};
-use book_machine::Reply;
 use chronicle::{Naming, Unnamed};
 use std::alloc::Global;
 use std::marker::Brand;
@@ -18,8 +16,8 @@ use version_book::Book;
 use workers::{NoGate, Session, Settled, Worker, WorkerEnd};
 
 fn gives_up(book: &mut Book<Global>) -> bool {
-    match answers::of_claim(&book.claim(0)) {
-        Ok(Reply::Claimed { ticket, .. }) => book.give_up(0, ticket).is_ok(),
+    match book.claim(0) {
+        Ok(Some(task)) => book.give_up(0, task.ticket()).is_ok(),
         _ => false,
     }
 }

@@ -4,7 +4,7 @@ use scenarios::AddFault;
 use std::alloc::Global;
 
 /// How many kinds of replies are counted.
-pub(crate) const KINDS: usize = 24;
+const KINDS: usize = 24;
 
 fn kind_of_edit(fault: EditFault) -> usize {
     match fault {
@@ -68,10 +68,10 @@ impl Tally {
         }
     }
 
-    // How often the rarest of the first so many kinds came.
-    pub(crate) fn fewest(&self, kinds: usize) -> u64 {
+    /// How often the rarest kind came.
+    pub(crate) fn fewest(&self) -> u64 {
         let mut fewest = u64::MAX;
-        for count in self.counts.iter().take(kinds) {
+        for count in self.counts.iter() {
             fewest = fewest.min(*count);
         }
         fewest
