@@ -50,7 +50,10 @@ const VALUES: [&[u8]; 4] = [b"0", b"3.5", b"7", b"35"];
 /// The names of scenarios.
 const NAMES: [&str; 4] = ["base", "big", "fast", "s-1"];
 
-/// Replies of each kind that is counted come so often at least.
+/// How many kinds of replies are counted.
+const KINDS: usize = 9;
+
+/// How often each of them surely comes.
 const FEWEST: u64 = 20;
 
 // An edit of one of the jobs 1 to 12, some of which there are.
@@ -191,20 +194,29 @@ pub(crate) fn is_legal<A: Allocator + Copy>(alloc: A, notes: &[Note<A>]) -> Resu
     right_if(wrong.is_none(), Wrong::Journal)
 }
 
-// How often the rarest reply came of an edit, a scenario that joined or left, a run that was published or
-// shown, and a refusal.
+// The kind of a reply, from 0; that of replies that are not counted is the number of kinds.
+fn kind_of(reply: &Reply) -> usize {
+    match reply {
+        Reply::Edited { .. } => 0,
+        Reply::Added { .. } => 1,
+        Reply::Dropped { .. } => 2,
+        Reply::Retried => 3,
+        Reply::Shown { .. } => 4,
+        Reply::Claimed { base: Some(_), .. } => 5,
+        Reply::Finished { .. } => 6,
+        Reply::EditRefused(_) => 7,
+        Reply::AddRefused(_) => 8,
+        _ => KINDS,
+    }
+}
+
+// How often the rarest kind of replies came.
 fn fewest(notes: &[Note<Global>]) -> u64 {
-    let mut counts = [0u64; 6];
+    let mut counts = [0u64; 9];
     for note in notes {
-        let kind = match note.reply {
-            Reply::Edited { .. } => 0,
-            Reply::Added { .. } => 1,
-            Reply::Dropped { .. } => 2,
-            Reply::Finished { .. } => 3,
-            Reply::Shown { .. } => 4,
-            _ => 5usize,
-        };
-        counts[kind] = counts[kind].saturating_add(1);
+        if let Some(count) = counts.get_mut(kind_of(&note.reply)) {
+            *count = count.saturating_add(1);
+        }
     }
     let mut fewest = u64::MAX;
     for count in counts.iter() {
