@@ -96,12 +96,38 @@ class Decisions(unittest.TestCase):
     def test_rows_told_again_are_taken_once_and_the_last_counts(self):
         that = made(row(State="RUNNING", End="Unknown", ElapsedRaw="5"), HEAD, row(), row())
         self.assertEqual([tuple(it) for it in that.jobs], [line()])
-        self.says(that, "2 rows that a later row tells again skipped")
+        self.says(that, "2 rows that another row tells again skipped")
         self.says(that, "1 further first line skipped")
+
+    def test_a_row_that_knows_more_counts_wherever_it_stands(self):
+        runs = [row(State="RUNNING", End="Unknown", ElapsedRaw=it) for it in ("5", "9")]
+        waits = row(State="PENDING", Start="Unknown", End="Unknown", ElapsedRaw="0", AllocNodes="0", NodeList="None assigned")
+        for rows in ([row(), runs[0]], [runs[1], row(), runs[0], waits], [waits, runs[0], row()]):
+            that = made(*rows)
+            self.assertEqual([tuple(it) for it in that.jobs], [line()])
+            self.says(that, f"{len(rows) - 1} row{'s' * (len(rows) > 2)} that another row tells again skipped")
+            self.assertFalse([it for it in that.decided if "running at the dump" in it])
+        for rows in (runs, runs[::-1]):
+            self.assertEqual(jobs(*rows), [line(run=9, status=-1)])
+        gone = row(**NEVER)
+        for rows in ([gone, waits], [waits, gone]):
+            self.assertEqual(jobs(*rows), [line(wait=-1, run=-1, allocated=-1, size=4, status=5)])
+        # Of two executions of a job each has its own rows.
+        first, second = row(State="REQUEUED"), {"Submit": "1040", "Eligible": "1160", "Start": "1165"}
+        that = made(first, row(ElapsedRaw="20", **second), row(State="RUNNING", End="Unknown", ElapsedRaw="3", **second), runs[0])
+        self.assertEqual([tuple(it) for it in that.jobs], [line(8, status=0), line(7, submit=160, wait=5, run=20)])
+        self.says(that, "2 rows that another row tells again skipped")
 
     def test_a_wait_that_became_a_start_is_one_job(self):
         waiting = row(7, State="PENDING", Start="Unknown", End="Unknown", AllocNodes="0")
         self.assertEqual(jobs(waiting, row()), [line()])
+
+    def test_a_number_too_great_to_leave_others_is_refused(self):
+        most = 999_999_999_999
+        rows = [row(most, State="REQUEUED", Start=start) for start in ("1010", "1050")]
+        self.assertEqual([it.number for it in made(rows[0], row(most, Start="1100")).jobs], [10**12, most])
+        with self.assertRaisesRegex(easybook.DumpFault, r"^line 3 of the dump: the job number 999999999999 leaves no greater ones for .*: mend or leave out the row$"):
+            made(row(), *rows, row(most, Start="1100"))
 
     def test_arrays_and_heterogeneous_jobs_have_slurms_numbers(self):
         that = made(row(22, JobID="21_1"), row(21, JobID="21_8"), row(37, JobID="37+0"), row(38, JobID="37+1"))
@@ -123,6 +149,9 @@ class Decisions(unittest.TestCase):
         self.assertEqual(jobs(row(Submit="900", Eligible="Unknown")), [line(wait=110)])
         self.says(made(row(Eligible="Unknown"), row(8)), "1 job without a time from which they were eligible (a column Eligible): they arrive when submitted")
         self.assertEqual(made(row(Eligible="Unknown"), arrival="submit").warned, [])
+        self.assertEqual(tuple(made(row(Submit="900"), head=HEAD.replace("Submit", "X")).jobs[0]), line())
+        with self.assertRaisesRegex(easybook.DumpFault, "^line 1 of the dump: there is no column Submit: dump with"):
+            made(row(Submit="900"), head=HEAD.replace("Submit", "X"), arrival="submit")
 
     def test_a_start_before_it_was_eligible(self):
         that = made(row(Eligible="1020"))
@@ -141,11 +170,39 @@ class Decisions(unittest.TestCase):
         head = "JobID|Submit|Start|End|State|AllocCPUS|Suspended"
         self.assertEqual(made("7|10|20|50|COMPLETED|8|00:07", head=head).jobs[0].run, 23)
 
+    def test_suspension_that_no_column_tells(self):
+        head, plain = "JobID|Submit|Start|End|State|AllocCPUS", "7|10|20|50|COMPLETED|8"
+        that = made(plain, "8|10|Unknown|Unknown|PENDING|8", head=head)
+        self.assertEqual(that.jobs[0].run, 30)
+        self.says(that, "run times are End less Start; estimates are the limits")
+        told = "1 job of unknown suspension: the run time is End less Start, with any suspension in it (a column ElapsedRaw leaves it out)"
+        self.says(that, told)
+        self.assertIn(told, that.warned)
+        that = made(f"{plain}|00:00:30", "8|10|20|50|COMPLETED|8|", head=f"{head}|Elapsed")
+        self.says(that, "run times are without suspension, where the dump tells it; estimates are the limits")
+        self.says(that, told)
+        for column, value in (("Elapsed", "00:00:30"), ("ElapsedRaw", "30"), ("Suspended", "00:00:00")):
+            that = made(f"{plain}|{value}", head=f"{head}|{column}")
+            self.says(that, "run times are without suspension; estimates are the limits")
+            self.assertNotIn("suspension", "".join(that.warned))
+        self.says(made(row()), "run times are without suspension; estimates are the limits, in minutes, times 60")
+
+    def test_sizes_that_no_column_tells(self):
+        requested = made(row(), head=HEAD.replace("AllocCPUS", "X"))
+        self.assertEqual(tuple(requested.jobs[0]), line(allocated=-1, size=4))
+        self.says(requested, "1 job without processors allocated (a column AllocCPUS): those requested are taken")
+        allocated = made(row(), row(8), row(9, **NEVER), head=HEAD.replace("ReqCPUS", "X"), size="req")
+        self.assertEqual([it.size for it in allocated.jobs], [8, 8, 8])
+        self.says(allocated, "2 jobs without processors requested (a column ReqCPUS): those allocated are taken")
+        self.says(made(row(), head=HEAD.replace("AllocNodes", "X"), size="nodes"), "1 job without nodes allocated (a column AllocNodes): those requested are taken")
+        for size in ("alloc", "req", "nodes"):
+            self.assertEqual(made(row(), row(8, **NEVER), size=size).warned, [])
+
     def test_limits(self):
         for text, want in [("3", 180), ("UNLIMITED", 31_536_000), ("0", 31_536_000), ("Partition_Limit", -1), ("", -1)]:
             self.assertEqual(jobs(row(TimelimitRaw=text))[0][8], want)
         head = "JobID|Submit|Start|End|State|AllocCPUS|Timelimit"
-        for text, want in [("00:03:00", 180), ("2-00:00:00", 172_800), ("UNLIMITED", 31_536_000), ("Partition_Limit", -1)]:
+        for text, want in [("00:03:00", 180), ("2-00:00:00", 172_800), ("UNLIMITED", 31_536_000), ("00:00:00", 31_536_000), ("Partition_Limit", -1)]:
             self.assertEqual(made(f"7|10|20|50|COMPLETED|8|{text}", head=head).jobs[0].estimate, want)
 
     def test_limits_given(self):
@@ -153,6 +210,9 @@ class Decisions(unittest.TestCase):
         self.assertEqual([it.estimate for it in that.jobs], [86_400, 3_600])
         self.says(that, "1 job of unlimited time: the estimate is 86400 seconds (--unlimited)")
         self.says(that, "1 job without a limit: the estimate is 3600 seconds (--no-limit)")
+        for word, given in (("--unlimited", {"unlimited": 0}), ("--no-limit", {"no_limit": 0})):
+            with self.assertRaisesRegex(easybook.BadWord, f"^{word} 0 is no estimate: give a limit of at least a second, .* or leave it out$"):
+                made(row(), **given)
 
     def test_warnings_of_limits(self):
         that = made(row(TimelimitRaw=""), row(8, ElapsedRaw="61"), row(9, TimelimitRaw="1666667"))
@@ -198,6 +258,8 @@ class Decisions(unittest.TestCase):
         that = made(row(User="a\u2028\x07\udcffé;\rb"), row(8, User="x" * 5000))
         self.assertIn(r"; Note: user 1 is a\u2028\x07\xff\xe9;\rb", that.comments)
         self.assertTrue(all(it.isascii() and it.isprintable() and len(it) < 2000 for it in that.comments))
+        left = made(row(), row(8, Partition="x"), partitions=frozenset(["main", "\u00e9\nb"]))
+        self.assertIn(r"; Note: 1 job of other partitions than main, \xe9\nb left out", left.comments)
         room = io.BytesIO()
         that.write(room)
         self.assertEqual(easybook.parse(room.getvalue()).jobs, that.jobs)
@@ -212,6 +274,7 @@ class Refusals(unittest.TestCase):
         self.refuses(r"^line 3 of the dump: 20 columns where line 1 names 19: a value holds '\|' or a line's end; leave out", row(), row(8, User="a|b"))
         self.refuses(r"^line 2 of the dump: 10 columns where line 1 names 19", row(User="a\nb"))
         self.refuses(r"^line 2 of the dump: 20 columns where line 1 names 19: a value", row() + "|x", head=HEAD + "|")
+        self.refuses(r"^line 2 of the dump: 1 column where line 1 names 19: a value", "x")
         self.refuses(r"^line 2 of the dump: the state 'LOST' is not known", row(State="LOST"))
         self.refuses(r"^line 1 of the dump: there is no column Start: dump with sacct -a -X -D -P -o", head="JobID|Submit|State|AllocCPUS")
         self.refuses(r"no column AllocCPUS or NCPUS or ReqCPUS", head="JobID|Submit|Start|End|State")
@@ -220,14 +283,17 @@ class Refusals(unittest.TestCase):
         self.refuses(r"the column 'State' stands there twice", head="JobID|State|State")
         self.refuses(r"^line 1 of the dump: it names no columns between '\|': dump with", head="JobID   JobName")
         self.refuses(r"^line 1 of the dump: no job stands behind it")
-        self.refuses(r"^line 2 of the dump: 'x' is no job", row(JobID="x"))
-        self.refuses(r"^line 2 of the dump: JobIDRaw '1e3' is no job's number", row(JobIDRaw="1e3"))
+        self.refuses(r"^line 2 of the dump: 'x' is no job: mend", row(JobID="x"))
+        self.refuses(r"^line 2 of the dump: JobIDRaw '1e3' is no job's number: mend", row(JobIDRaw="1e3"))
         self.refuses(r"^line 2 of the dump: '.u0663' is no number of processors", row(AllocCPUS="٣"))
-        self.refuses(r"^line 2 of the dump: ElapsedRaw '-5' is no number", row(ElapsedRaw="-5"))
+        self.refuses(r"^line 2 of the dump: ElapsedRaw '-5' is no number of seconds: mend or leave out the row$", row(ElapsedRaw="-5"))
+        self.refuses(r"^line 2 of the dump: '1:2:3:4' is no length of time such as 1-02:03:04: mend or leave out the row$", row(Suspended="1:2:3:4"))
+        self.refuses(r"^line 2 of the dump: '1.5' is no limit in minutes: mend or leave out the row$", row(TimelimitRaw="1.5"))
+        self.refuses(r"^line 2 of the dump: no zone is '.99:00' from UTC: mend or leave out the row$", row(Submit="2026-02-03T00:00:00+99:00"))
         self.refuses(r"^line 2 of the dump: the job has no submit time", row(Submit="Unknown", Eligible="Unknown"))
         self.refuses(r"^line 2 of the dump: '11/25-22:22:43' is no time: dump with SLURM_TIME_FORMAT", row(Submit="11/25-22:22:43"))
-        self.refuses(r"^line 2 of the dump: '2026-02-30T00:00:00' is no time of the calendar", row(Submit="2026-02-30T00:00:00"))
-        self.refuses(r"over 1048576 bytes", row(User="x" * 1_100_000))
+        self.refuses(r"^line 2 of the dump: '2026-02-30T00:00:00' is no time of the calendar: mend or leave out the row$", row(Submit="2026-02-30T00:00:00"))
+        self.refuses(r"^line 2 of the dump: over 1048576 bytes, so this is no dump of sacct: dump with sacct -a", row(User="x" * 1_100_000))
 
     def test_a_spoiled_dump_is_refused_or_gives_a_log(self):
         chance = random.Random(11)

@@ -35,6 +35,38 @@ class Times(unittest.TestCase):
         with self.assertRaises(Unreadable):
             clock.read("2026-07-01T00:60:00")
 
+    def test_days_behind_a_change_of_the_clock(self):
+        def told(begin, end, name, **options):
+            rows = [f"{number}|{it}|{it}|{it}|COMPLETED|8" for number, it in enumerate((begin, end), 1)]
+            return made(*rows, head="JobID|Submit|Start|End|State|AllocCPUS", zone=zone(name), zone_name=name, **options)
+
+        that = told("2026-03-01T10:00:00", "2026-03-30T00:10:00", "Europe/Berlin", zero="midnight")
+        # 29 days and ten minutes behind midnight of 1 March by the calendar, and by the second an hour less.
+        self.assertEqual([it.submit for it in that.jobs], [36_000, 29 * 86_400 + 600 - 3_600])
+        note = "the clock changes on 2026-03-29: days are of 86400 seconds, so those behind it begin at 01:00"
+        self.assertIn(note, that.warned)
+        self.assertIn(f"; Note: {note}", that.comments)
+        for begin, end, name, want in [
+                ("2026-03-01T10:00:00", "2026-03-29T01:59:59", "Europe/Berlin", None), ("2026-03-29T10:00:00", "2026-03-29T11:00:00", "UTC", None),
+                ("2026-03-01T10:00:00", "2026-10-26T00:00:00", "-05:00", None), ("2026-03-29T01:00:00", "2026-03-29T03:00:00", "Europe/Berlin", "2026-03-29: 01:00"),
+                ("2026-10-30T10:00:00", "2026-11-02T10:00:00", "America/New_York", "2026-11-01: 23:00"),
+                ("2026-09-01T10:00:00", "2026-09-07T10:00:00", "America/Santiago", "2026-09-06: 01:00"),
+                ("2026-04-01T10:00:00", "2026-04-09T10:00:00", "Australia/Lord_Howe", "2026-04-05: 23:30"),
+                ("2026-03-01T10:00:00", "2026-10-26T00:00:00", "Europe/Berlin", "2026-03-29 and 1 time more: 01:00"),
+                ("2025-03-01T10:00:00", "2026-10-26T00:00:00", "Europe/Berlin", "2025-03-30 and 3 times more: 01:00")]:
+            with self.subTest((begin, name)):
+                lines = [it for it in told(begin, end, name, zero="midnight").warned if "clock changes" in it]
+                want = [] if want is None else ["the clock changes on " + want.replace(": ", ": days are of 86400 seconds, so those behind it begin at ")]
+                self.assertEqual(lines, want)
+                self.assertFalse([it for it in told(begin, end, name).warned if "clock changes" in it])
+
+    def test_midnight_is_of_the_zone(self):
+        epoch = row(Submit="1782900000", Eligible="1782900000", Start="1782900010", End="1782900040")
+        self.assertEqual(made(epoch, zero="midnight").decided[0], "second 0 is midnight before the first arrival; midnight is that of UTC (--tz names another zone)")
+        self.assertEqual(made(epoch, zero="midnight", zone=zone("Europe/Paris"), zone_name="Europe/Paris").decided[0],
+                         "second 0 is midnight before the first arrival; midnight and times without a zone are of Europe/Paris")
+        self.assertEqual(made(epoch).decided[0], "second 0 is the first arrival")
+
     def test_no_zone(self):
         for name in ("Mars/Olympus", "../etc/passwd", "", "+99:00"):
             with self.assertRaises(Unreadable):

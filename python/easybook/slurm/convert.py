@@ -25,7 +25,7 @@ class Options(NamedTuple):
     `procs`: the machine's processors, or its nodes where `size` is `nodes`. `arrival`: `eligible` or `submit`. `size`:
     `alloc`, `req` or `nodes`. `unlimited` and `no_limit`: the estimate, in seconds, of jobs of unlimited time and of
     those without a limit. `partitions`: those whose jobs are taken (empty: all). `zero`: second 0 of the log is the
-    `first` arrival, or `midnight` before it. `zone`: where times without a zone are of (None: UTC, unsaid).
+    `first` arrival, or `midnight` before it. `zone`: where times without a zone, and midnight, are of (None: UTC, unsaid).
     """
 
     procs: int
@@ -94,19 +94,22 @@ def _estimate(it: Execution, options: Options, counts: "Counter[str]") -> int:
     return int(it.limit)
 
 
+def _wants(it: Execution, options: Options) -> Tuple[int, int]:
+    """The processors, or nodes, that it asks the simulated machine for, and those that count where these are missing."""
+    is_requested = options.size == "req" or it.start is None
+    return (it.requested, it.allocated) if is_requested else (it.allocated, it.requested)
+
+
 def _size(it: Execution, options: Options) -> int:
-    """The processors, or nodes, that it asks the simulated machine for."""
-    wants = (it.requested, it.allocated)
-    if options.size != "req" and it.start is not None:
-        wants = (it.allocated, it.requested)
-    return next((size for size in wants if size > 0), MISSING)
+    """The processors, or nodes, that it takes of the simulated machine."""
+    return next((size for size in _wants(it, options) if size > 0), MISSING)
 
 
 def _count(it: Execution, size: int, estimate: int, options: Options, counts: "Counter[str]") -> None:
     """Counts what is to be said of a job."""
     counts["tasks"] += it.is_array_task
     counts["parts"] += it.is_part
-    counts["suspended"] += it.was_suspended
+    counts["suspended"] += bool(it.was_suspended)
     counts["no size"] += size == MISSING
     counts["long"] += estimate > GREATEST_ESTIMATE
     if it.start is None:
@@ -114,7 +117,10 @@ def _count(it: Execution, size: int, estimate: int, options: Options, counts: "C
         counts["pending"] += it.fate in (Fate.PENDING, Fate.RUNNING)
         return
     counts["running"] += it.fate is Fate.RUNNING
+    counts["other size"] += _wants(it, options)[0] <= 0 < size
     counts["no run"] += it.run is None
+    counts["runs"] += it.run is not None
+    counts["suspension unknown"] += it.was_suspended is None
     counts["large"] += size > options.procs
     counts["past limit"] += it.run is not None and 0 < estimate < it.run
 
@@ -129,6 +135,11 @@ def _job(that: Numbered, zero: int, arrival: int, places: _Places, options: Opti
                run=it.run if has_run and it.run is not None else MISSING, allocated=it.allocated if has_run else MISSING,
                processors=size, estimate=estimate, status=status, user=places.user[it.user],
                group=places.account[it.account], queue=places.qos[it.qos], partition=places.partition[it.partition])
+
+
+def _last(it: Execution, arrival: int) -> int:
+    """The last second that is told of it."""
+    return max(arrival, it.end or 0, (it.start or 0) + (it.run or 0))
 
 
 _HALF = 1 << 25
@@ -182,8 +193,14 @@ def convert(file: BinaryIO, options: Options) -> Made:
     """The log of a dump. Raises `DumpFault` at the first row that can't be taken."""
     if not 1 <= options.procs <= MOST_PROCESSORS:
         raise BadWord(f"the machine has 1 to {MOST_PROCESSORS} processors, not {options.procs}")
+    for word, seconds in (("unlimited", options.unlimited), ("no-limit", options.no_limit)):
+        if seconds == 0:
+            raise BadWord(f"--{word} 0 is no estimate: give a limit of at least a second, such as 7-0 for a week, or leave it "
+                          "out")
     clock = Clock(options.zone)
     dump = Dump(file, options.delimiter)
+    if options.arrival == "submit":
+        dump.columns.need("Submit")
     reader = Reader(dump.columns, clock, options.size == "nodes")
     counts = reader.counts
     executions = _read(dump, reader, options, counts)
@@ -200,8 +217,10 @@ def convert(file: BinaryIO, options: Options) -> Made:
     jobs = [_job(it, zero, arrival, places, options, counts) for it, arrival in zip(numbered, arrivals)]
     peak, when = _peak(numbered, options, zero)
     counts["first lines"] = dump.further_first_lines
+    lasts = (_last(it.execution, arrival) for it, arrival in zip(numbered, arrivals))
+    changes = clock.changes(zero, max(lasts)) if options.zero == "midnight" else []
     facts = Facts(counts, options, clock, len(jobs), zero, peak, when, len({it.partition for it in jobs}),
-                  next((it.number for it in numbered if it.legend), None))
+                  next((it.number for it in numbered if it.legend), None), reader.has_minutes, changes)
     said, warnings = decided(facts), warned(facts)
     legend += [f"job {it.number} is {_shown(it.legend)}" for it in numbered if it.legend]
     return Made(_comments(facts, said + warnings + legend), jobs, said, warnings)
@@ -220,4 +239,4 @@ def _comments(facts: Facts, notes: List[str]) -> List[str]:
              f"UnixStartTime: {facts.zero}"]
     if options.zone_name:
         lines.append(f"TimeZoneString: {_shown(options.zone_name)}")
-    return [f"; {it}" for it in lines] + [f"; Note: {it}" for it in notes]
+    return [f"; {it}" for it in lines] + [f"; Note: {_shown(it)}" for it in notes]

@@ -8,14 +8,15 @@ from typing import Dict, List, NamedTuple, Optional, Set, Tuple, Union
 
 from ..errors import DumpFault
 from .rows import Columns, Row
-from .values import UNLIMITED, Clock, Fate, Unreadable, fate, length, limit, quoted
+from .values import MEND, UNLIMITED, Clock, Fate, Unreadable, fate, length, limit, quoted
 
 _JOB_ID = re.compile(r"(\d+)(_(?:\d+|\[[^\]]*\])|\+\d+)?", re.ASCII)
 _NODE_LISTS_OF_NONE = ("None assigned", "None", "(null)")
 
 
 class Execution(NamedTuple):
-    """An execution, or a job that never started. Times are seconds since 1970; what is missing is None, sizes are -1."""
+    """An execution, or a job that never started. Times are seconds since 1970; what is missing is None, sizes are -1.
+    Where the run time may have suspension in it, since the dump tells neither, `was_suspended` is None."""
 
     line: int
     number: Optional[int]
@@ -33,7 +34,12 @@ class Execution(NamedTuple):
     account: int
     partition: int
     qos: int
-    was_suspended: bool
+    was_suspended: Optional[bool]
+
+    @property
+    def is_over(self) -> bool:
+        """Whether it has ended, or will never start."""
+        return self.fate not in (Fate.PENDING, Fate.RUNNING)
 
     @property
     def is_array_task(self) -> bool:
@@ -89,6 +95,11 @@ class Reader:
             it.need(*(("AllocNodes", "NNodes", "ReqNodes") if nodes else ("AllocCPUS", "NCPUS", "ReqCPUS")))
         self._one_cluster: Optional[str] = None
 
+    @property
+    def has_minutes(self) -> bool:
+        """Whether the dump tells limits in minutes."""
+        return self._minutes is not None
+
     def read(self, row: Row) -> Optional[Execution]:
         """The execution of a row; None for a step's."""
         try:
@@ -114,15 +125,15 @@ class Reader:
         alloc, req = self._count(values, self._alloc), self._count(values, self._req)
         start = self._clock.read(values[self._start])
         end = None if self._end is None else self._clock.read(values[self._end])
-        suspended = (None if self._suspended is None else length(values[self._suspended])) or 0
-        run = self._run(values, start, end, suspended)
+        suspended = None if self._suspended is None else length(values[self._suspended])
+        run, is_told = self._run(values, start, end, suspended)
         if not self._has_started(values, is_what, start, run, alloc):
             start = run = end = None
         return Execution(row.line, self._number(label, raw), label, submit, eligible, start, run, end, alloc, req,
                          self._limit_of(values), is_what, self._name(self.users, values, self._user),
                          self._name(self.accounts, values, self._account),
                          self._name(self.partitions, values, self._partition), self._name(self.qos, values, self._qos),
-                         suspended > 0)
+                         bool(suspended) if is_told else None)
 
     @staticmethod
     def _name(names: Names, values: List[str], place: Optional[int]) -> int:
@@ -143,10 +154,10 @@ class Reader:
         """Slurm's own number of the job; None where the dump doesn't tell it."""
         match = _JOB_ID.fullmatch(label)
         if match is None:
-            raise Unreadable(f"{quoted(label)} is no job: mend or leave out the row")
+            raise Unreadable(f"{quoted(label)} is no job: {MEND}")
         if raw is not None:
             if not (raw.isdigit() and raw.isascii() and len(raw) <= 12):
-                raise Unreadable(f"JobIDRaw {quoted(raw)} is no job's number: mend or leave out the row")
+                raise Unreadable(f"JobIDRaw {quoted(raw)} is no job's number: {MEND}")
             return int(raw)
         return int(match.group(1)) if len(match.group(1)) <= 12 and match.group(2) in (None, "+0") else None
 
@@ -160,18 +171,20 @@ class Reader:
             raise Unreadable(f"{quoted(text)} is no number of processors or nodes: dump with --noconvert, or mend the row")
         return int(text)
 
-    def _run(self, values: List[str], start: Optional[int], end: Optional[int], suspended: int) -> Optional[int]:
-        """The seconds that it ran, without those in which it was suspended."""
+    def _run(self, values: List[str], start: Optional[int], end: Optional[int],
+             suspended: Optional[int]) -> Tuple[Optional[int], bool]:
+        """The seconds that it ran, without those in which it was suspended; and whether the dump tells of these, so that
+        none are among them."""
         text = "" if self._elapsed_raw is None else values[self._elapsed_raw]
         if text:
             if not (text.isdigit() and text.isascii() and len(text) <= 12):
-                raise Unreadable(f"ElapsedRaw {quoted(text)} is no number of seconds")
-            return int(text)
+                raise Unreadable(f"ElapsedRaw {quoted(text)} is no number of seconds: {MEND}")
+            return int(text), True
         if self._elapsed is not None and values[self._elapsed]:
-            return length(values[self._elapsed])
+            return length(values[self._elapsed]), True
         if start is None or end is None:
-            return None
-        return max(0, end - start - suspended)
+            return None, True
+        return max(0, end - start - (suspended or 0)), suspended is not None
 
     def _has_started(self, values: List[str], is_what: Fate, start: Optional[int], run: Optional[int], alloc: int) -> bool:
         """Whether it ran. A job that was cancelled while it waited has a start, and processors as requested."""

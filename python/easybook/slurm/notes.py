@@ -23,6 +23,8 @@ class Facts(NamedTuple):
     when: int
     partitions: int
     first_fresh: Optional[int]
+    has_minutes: bool
+    changes: List[Tuple[str, str]]
 
 
 _SIZES = {
@@ -30,17 +32,39 @@ _SIZES = {
     "req": "processors are those requested (ReqCPUS)",
     "nodes": "a processor of this log is a node: those allocated (AllocNodes); of a job that never started those requested",
 }
+_OTHER_SIZES = {
+    "alloc": "{} job{} without processors allocated (a column AllocCPUS): those requested are taken",
+    "req": "{} job{} without processors requested (a column ReqCPUS): those allocated are taken",
+    "nodes": "{} job{} without nodes allocated (a column AllocNodes): those requested are taken",
+}
+
+
+def _zero(options: "Options") -> str:
+    """What second 0 is, and whose the times are."""
+    zone = options.zone_name or (str(options.zone) if options.zone else "")
+    if options.zero == "midnight":
+        of_utc = "midnight is that of UTC (--tz names another zone)"
+        whose = f"midnight and times without a zone are of {zone}" if zone else of_utc
+        return f"second 0 is midnight before the first arrival; {whose}"
+    return "second 0 is the first arrival" + (f"; times without a zone are of {zone}" if zone else "")
+
+
+def _runs(counts: "Counter[str]") -> str:
+    """What run times are."""
+    unknown = counts["suspension unknown"]
+    if unknown and unknown == counts["runs"]:
+        return "run times are End less Start"
+    return "run times are without suspension" + (", where the dump tells it" if unknown else "")
 
 
 def _choices(facts: Facts) -> List[str]:
     options = facts.options
     eligible = "a job arrives when it is eligible, or submitted where that is missing"
-    zone = f"; times without a zone are of {options.zone_name}" if options.zone_name else ""
     return [
-        f"second 0 is {'midnight before the first arrival' if options.zero == 'midnight' else 'the first arrival'}{zone}",
+        _zero(options),
         eligible if options.arrival == "eligible" else "a job arrives when it is submitted",
         _SIZES[options.size],
-        "run times are without suspension; estimates are the limits, in minutes, times 60",
+        f"{_runs(facts.counts)}; estimates are the limits{', in minutes, times 60' if facts.has_minutes else ''}",
         "field 3 is the wait on the cluster; group is the account, queue the QOS",
     ]
 
@@ -56,7 +80,7 @@ def decided(facts: Facts) -> List[str]:
     return _choices(facts) + _counted(facts.counts, [
         ("steps", "{} row{} of steps skipped"),
         ("first lines", "{} further first line{} skipped"),
-        ("repeated", "{} row{} that a later row tells again skipped"),
+        ("repeated", "{} row{} that another row tells again skipped"),
         ("other partitions", "{} job{} of other partitions than " + ", ".join(sorted(options.partitions)) + " left out"),
         ("never", "{} job{} that never started: without a run time, and so not simulated"),
         ("pending", "{} of these pending at the dump"),
@@ -83,6 +107,9 @@ def warned(facts: Facts) -> List[str]:
         ("large", "{} job{} larger than " + machine + ": not simulated (--procs)"),
         ("no size", "{} job{} without a number of processors: not simulated"),
         ("no run", "{} job{} without a run time: not simulated"),
+        ("other size", _OTHER_SIZES[options.size]),
+        ("suspension unknown", "{} job{} of unknown suspension: the run time is End less Start, with any suspension in it "
+                               "(a column ElapsedRaw leaves it out)"),
         ("guessed", "{} cancelled job{} of no run time taken as never started: a column AllocNodes or NodeList would tell"),
         ("no eligible", "{} job{} without a time from which they were eligible (a column Eligible): they arrive when submitted"),
         ("started early", "{} job{} started before they were eligible: the start is taken as arrival"),
@@ -91,6 +118,10 @@ def warned(facts: Facts) -> List[str]:
         ("folded", "{} time{} of an hour that the clocks repeat: the first is taken (SLURM_TIME_FORMAT=%s tells them apart)"),
         ("skipped", "{} time{} of an hour that the clocks skip: is --tz the cluster's zone?"),
     ])
+    for date, begin in facts.changes[:1]:
+        again = len(facts.changes) - 1
+        more = f" and {again} time{'' if again == 1 else 's'} more" if again else ""
+        lines.append(f"the clock changes on {date}{more}: days are of 86400 seconds, so those behind it begin at {begin}")
     if facts.peak > options.procs:
         lines.append(f"{facts.peak} processors in use at second {facts.when}, more than {machine}: is --procs too small?")
     if facts.partitions > 1 and not options.partitions:

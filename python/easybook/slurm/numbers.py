@@ -5,7 +5,10 @@ from __future__ import annotations
 from collections import Counter
 from typing import Dict, Hashable, List, NamedTuple, Optional, Set, Tuple
 
+from ..errors import DumpFault
+from ..swf import GREATEST_NUMBER
 from .executions import Execution
+from .values import MEND
 
 
 class Numbered(NamedTuple):
@@ -20,14 +23,21 @@ def _identity(it: Execution) -> Hashable:
     return it.label if it.number is None else it.number
 
 
+def _how_far(it: Execution) -> Tuple[bool, int]:
+    """How much a row knows of its execution: one that is over tells more than one that runs, and of two that run the one
+    that has run longer."""
+    return it.is_over, 0 if it.is_over else it.run or 0
+
+
 def _told_again(executions: List[Tuple[int, Execution]]) -> List[Tuple[int, Execution]]:
-    """Of rows of one job, those that no later row tells again: the same submission and start, or a wait that has become
-    a start since. Sorted by when they were submitted and started."""
-    last: Dict[Tuple[int, Optional[int]], Tuple[int, Execution]] = {}
+    """Of rows of one job, those that no other row tells again: of those of one submission and start the one that knows
+    most, the last of several, and no wait that has become a start. Sorted by when they were submitted and started."""
+    best: Dict[Tuple[int, Optional[int]], Tuple[int, Execution]] = {}
     for place, it in executions:
-        last[it.submit, it.start] = (place, it)
-    started = {submit for submit, start in last if start is not None}
-    kept = [pair for (submit, start), pair in last.items() if start is not None or submit not in started]
+        if (it.submit, it.start) not in best or _how_far(best[it.submit, it.start][1]) <= _how_far(it):
+            best[it.submit, it.start] = (place, it)
+    started = {submit for submit, start in best if start is not None}
+    kept = [pair for (submit, start), pair in best.items() if start is not None or submit not in started]
     return sorted(kept, key=lambda pair: (pair[1].submit, pair[1].start is None, pair[1].start or 0, pair[0]))
 
 
@@ -56,9 +66,11 @@ def _last_of_several(executions: List[Execution], counts: "Counter[str]") -> Dic
 
 def number_all(executions: List[Execution], counts: "Counter[str]") -> List[Numbered]:
     """The executions in the order of the dump. The last of a job has Slurm's number, where the dump tells it; earlier
-    ones, and tasks of arrays whose number it doesn't tell, have numbers above all of these."""
+    ones, and tasks of arrays whose number it doesn't tell, have numbers above all of these. Raises `DumpFault` where a
+    log allows none so great."""
     is_last = _last_of_several(executions, counts)
-    fresh = max((it.number for it in executions if it.number is not None), default=0)
+    greatest = max((it.number for it in executions if it.number is not None), default=0)
+    fresh = greatest
     numbered: List[Numbered] = []
     for place, it in enumerate(executions):
         last = is_last.get(place, True)
@@ -67,6 +79,10 @@ def number_all(executions: List[Execution], counts: "Counter[str]") -> List[Numb
         if last and it.number is not None:
             numbered.append(Numbered(it.number, it, None))
             continue
+        if fresh == GREATEST_NUMBER:
+            line = next(it.line for it in executions if it.number == greatest)
+            raise DumpFault(line, f"the job number {greatest} leaves no greater ones for executions that have none of their "
+                                  f"own: {MEND}")
         fresh += 1
         numbered.append(Numbered(fresh, it, it.label if last else f"an earlier execution of {it.label}"))
     return numbered

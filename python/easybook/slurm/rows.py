@@ -56,7 +56,7 @@ def _text_lines(file: BinaryIO) -> Iterator[str]:
             return
         count += 1
         if len(raw) > MOST_BYTES_OF_LINE:
-            raise DumpFault(count, f"over {MOST_BYTES_OF_LINE} bytes: this is no dump of sacct")
+            raise DumpFault(count, f"over {MOST_BYTES_OF_LINE} bytes, so this is no dump of sacct: {_ADVICE}")
         if count == 1 and raw.startswith(codecs.BOM_UTF8):
             raw = raw[len(codecs.BOM_UTF8) :]
         yield raw.rstrip(b"\r\n").decode("utf-8", "surrogateescape")
@@ -92,6 +92,7 @@ class Dump:
         values = text.split(self._delimiter)
         if len(values) != self._count or (self._ends and values[-1]):
             told, named = len(values) - (self._ends and values[-1] == ""), self._count - self._ends
-            raise DumpFault(line, f"{told} columns where line 1 names {named}: a value holds {quoted(self._delimiter)} or a "
-                            "line's end; leave out columns such as JobName and SubmitLine, or dump and read with another --delimiter")
+            raise DumpFault(line, f"{told} column{'' if told == 1 else 's'} where line 1 names {named}: a value holds "
+                            f"{quoted(self._delimiter)} or a line's end; leave out columns such as JobName and SubmitLine, "
+                            "or dump and read with another --delimiter")
         return values

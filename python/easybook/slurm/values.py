@@ -5,7 +5,7 @@ from __future__ import annotations
 import enum
 import re
 from datetime import datetime, timedelta, timezone, tzinfo
-from typing import Dict, Optional, Tuple, Union
+from typing import Dict, List, Optional, Tuple, Union
 from zoneinfo import ZoneInfo, ZoneInfoNotFoundError
 
 UNLIMITED = "UNLIMITED"
@@ -18,7 +18,10 @@ _LENGTH = re.compile(r"(?:(\d{1,7})-)?(?:(\d{1,7}):)?(\d{1,7}):(\d{1,7})(?:\.\d+
 _EPOCH = datetime(1970, 1, 1)
 _OF_HOUR = {f"{it // 60:02}:{it % 60:02}": it for it in range(3600)}
 _MOST_HOURS = 100_000
+_MOST_DAYS = 36_525
 _LATEST = 200_000_000_000
+MEND = "mend or leave out the row"
+_A_ZONE = "give one such as Europe/Paris, UTC or +01:00"
 
 
 class Unreadable(ValueError):
@@ -40,13 +43,13 @@ def whole(delta: timedelta) -> int:
     return delta.days * A_DAY + delta.seconds
 
 
-def _offset(text: str) -> timezone:
+def _offset(text: str, advice: str) -> timezone:
     match = _OFFSET.fullmatch(text)
     if match is None:
         return timezone.utc
     minutes = int(match.group(2)) * 60 + int(match.group(3))
     if minutes >= 24 * 60:
-        raise Unreadable(f"no zone is {quoted(text)} from UTC")
+        raise Unreadable(f"no zone is {quoted(text)} from UTC: {advice}")
     return timezone(timedelta(minutes=-minutes if match.group(1) == "-" else minutes))
 
 
@@ -57,11 +60,11 @@ def zone(name: str) -> tzinfo:
     datetime.timezone(datetime.timedelta(days=-1, seconds=68400))
     """
     if name == "UTC" or _OFFSET.fullmatch(name):
-        return _offset(name)
+        return _offset(name, _A_ZONE)
     try:
         return ZoneInfo(name)
     except (ZoneInfoNotFoundError, ValueError, OSError):
-        raise Unreadable(f"no zone is known by the name {quoted(name)}: give one such as Europe/Paris, UTC or +01:00") from None
+        raise Unreadable(f"no zone is known by the name {quoted(name)}: {_A_ZONE}") from None
 
 
 class Clock:
@@ -85,7 +88,7 @@ class Clock:
             return begin + rest
         seconds = int(text) if text.isdigit() and text.isascii() and len(text) <= 12 else self._read(text)
         if not 0 <= seconds <= _LATEST:
-            raise Unreadable(f"{quoted(text)} is no time of a cluster: mend or leave out the row")
+            raise Unreadable(f"{quoted(text)} is no time of a cluster: {MEND}")
         return seconds
 
     def _read(self, text: str) -> int:
@@ -96,9 +99,9 @@ class Clock:
         try:
             there = datetime.fromisoformat(f"{match.group(1)}T{match.group(2)}")
         except ValueError:
-            raise Unreadable(f"{quoted(text)} is no time of the calendar") from None
+            raise Unreadable(f"{quoted(text)} is no time of the calendar: {MEND}") from None
         if match.group(3):
-            return whole(there - _EPOCH) - whole(_offset(match.group(3)).utcoffset(None))
+            return whole(there - _EPOCH) - whole(_offset(match.group(3), MEND).utcoffset(None))
         if not 1970 <= there.year < 9000:
             return -1
         return self._in_zone(there)
@@ -132,11 +135,29 @@ class Clock:
 
     def midnight(self, seconds: int) -> int:
         """The last midnight of the zone that is not after a time."""
-        there = datetime.fromtimestamp(seconds, self._local or timezone.utc)
-        day = there.replace(hour=0, minute=0, second=0, microsecond=0, fold=0)
+        day = self._there(seconds).replace(hour=0, minute=0, second=0, microsecond=0, fold=0)
         offset = day.utcoffset()
         assert offset is not None
         return whole(day.replace(tzinfo=None) - _EPOCH) - whole(offset)
+
+    def changes(self, begin: int, end: int) -> List[Tuple[str, str]]:
+        """The dates at which the zone's clock changes from one second to another, at most a hundred years apart, each
+        with the time at which the next of the days of 86,400 seconds from the first second on begins."""
+        found: List[Tuple[str, str]] = []
+        for day in range(begin, min(end, begin + _MOST_DAYS * A_DAY), A_DAY):
+            before, first, last = self._there(day).utcoffset(), day, day + A_DAY
+            if before == self._there(last).utcoffset():
+                continue
+            while last - first > 1:
+                middle = (first + last) // 2
+                first, last = (middle, last) if self._there(middle).utcoffset() == before else (first, middle)
+            if last <= end:
+                found.append((f"{self._there(last):%Y-%m-%d}", f"{self._there(day + A_DAY):%H:%M}"))
+        return found
+
+    def _there(self, seconds: int) -> datetime:
+        """What the zone's calendar and clock show."""
+        return datetime.fromtimestamp(seconds, self._local or timezone.utc)
 
 
 def length(text: str) -> Optional[int]:
@@ -149,7 +170,7 @@ def length(text: str) -> Optional[int]:
         return None
     match = _LENGTH.fullmatch(text)
     if match is None:
-        raise Unreadable(f"{quoted(text)} is no length of time such as 1-02:03:04")
+        raise Unreadable(f"{quoted(text)} is no length of time such as 1-02:03:04: {MEND}")
     days, hours, minutes, seconds = (int(it or 0) for it in match.groups())
     return ((days * 24 + hours) * 60 + minutes) * 60 + seconds
 
@@ -157,7 +178,7 @@ def length(text: str) -> Optional[int]:
 def limit(text: str, is_minutes: bool) -> Union[int, str, None]:
     """The seconds of a time limit, UNLIMITED, or None where the job has none of its own.
 
-    >>> limit("3", True), limit("2-00:00:00", False), limit("UNLIMITED", True), limit("Partition_Limit", False)
+    >>> limit("3", True), limit("2-00:00:00", False), limit("00:00:00", False), limit("Partition_Limit", False)
     (180, 172800, 'UNLIMITED', None)
     """
     if text.upper() in (UNLIMITED, "INFINITE") or text == "0":
@@ -165,10 +186,10 @@ def limit(text: str, is_minutes: bool) -> Union[int, str, None]:
     if text in _MISSING or text.lower() == "partition_limit":
         return None
     if not is_minutes:
-        return length(text)
+        return length(text) or UNLIMITED
     if not (text.isdigit() and text.isascii() and len(text) <= 10):
-        raise Unreadable(f"{quoted(text)} is no limit in minutes")
-    return int(text) * 60
+        raise Unreadable(f"{quoted(text)} is no limit in minutes: {MEND}")
+    return int(text) * 60 or UNLIMITED
 
 
 _DURATION = re.compile(
@@ -221,5 +242,5 @@ def fate(state: str) -> Fate:
     name = state.split(" ", 1)[0].rstrip("+")
     if name not in _FATE_OF:
         raise Unreadable(f"the state {quoted(state)} is not known: if it is one of Slurm's, tell easybook's makers; otherwise "
-                         "mend or leave out the row")
+                         f"{MEND}")
     return _FATE_OF[name]
