@@ -15,6 +15,7 @@ from typing import Any, BinaryIO, Callable, Iterator, List, Optional, Sequence, 
 
 from . import waits as _waits
 from .errors import EasybookError
+from .program import as_file
 from .runs import ORDERS, Row, Scenario
 from .slurm import Options, convert
 from .slurm.convert import A_YEAR
@@ -58,9 +59,17 @@ def _delimiter(text: str) -> str:
     return text
 
 
+def _say(text: str) -> None:
+    """Says a line on standard error; nothing where it is closed, since `print` would then write to standard output."""
+    if sys.stderr is not None:
+        print(f"easybook: {text}", file=sys.stderr)
+
+
 @contextlib.contextmanager
 def _dump(path: str) -> Iterator[BinaryIO]:
     if path == "-":
+        if sys.stdin is None:
+            raise EasybookError("standard input is closed: give the dump's file")
         yield sys.stdin.buffer
         return
     with open(path, "rb") as file:
@@ -75,11 +84,11 @@ def _sacct(words: argparse.Namespace) -> int:
         made = convert(file, options)
     made.write(sys.stdout.buffer)
     sys.stdout.flush()
-    print(f"easybook: {len(made.jobs)} jobs", file=sys.stderr)
+    _say(f"{len(made.jobs)} job{'' if len(made.jobs) == 1 else 's'}")
     for line in made.decided:
-        print(f"easybook: {line}", file=sys.stderr)
+        _say(line)
     for line in made.warned:
-        print(f"easybook: warning: {line}", file=sys.stderr)
+        _say(f"warning: {line}")
     return 0
 
 
@@ -105,7 +114,7 @@ def _sweep(words: argparse.Namespace) -> int:
     if rows:
         _table(Row._fields, rows, words.csv)
     for failure in rows.failures:
-        print(f"easybook: {failure}", file=sys.stderr)
+        _say(str(failure))
     return 1 if rows.failures else 0
 
 
@@ -114,13 +123,14 @@ def _ratio(group: _waits.Group) -> Optional[Decimal]:
 
 
 def _waits_of(words: argparse.Namespace) -> int:
-    pairs = _waits.compare(words.log, words.procs, words.factor, words.order, program=words.program)
+    with as_file(words.log) as path:
+        pairs = _waits.compare(path, words.procs, words.factor, words.order, program=words.program)
+        names = {str(user): name for user, name in _waits.user_names(path).items()}
     if not pairs:
-        print(f"easybook: no job of {words.log} that is simulated has a wait in field 3", file=sys.stderr)
+        _say(f"no job of {words.log} that is simulated has a wait in field 3")
         return 1
     groups = [(it, "all") for it in _waits.summary(pairs)]
     groups += [(it, f"size {it.group}") for it in _waits.summary(pairs, _waits.by_size)]
-    names = {str(user): name for user, name in _waits.user_names(words.log).items()}
     groups += [(it, f"user {names.get(str(it.group), it.group)}") for it in _waits.summary(pairs, _waits.by_user)]
     _table(("group", *_waits.Group._fields[1:]), [(name, *it[1:-1], _ratio(it)) for it, name in groups], words.csv)
     return 0
@@ -133,7 +143,7 @@ def _parser() -> argparse.ArgumentParser:
     it.set_defaults(work=_sacct)
     it.add_argument("dump", help="what `sacct -P` or `sacct -p` printed; - is standard input")
     it.add_argument("--procs", type=_whole, required=True, help="the machine's processors (with --size nodes: its nodes)")
-    it.add_argument("--tz", help="the zone of times without one, such as Europe/Paris, UTC or +01:00")
+    it.add_argument("--tz", help="the zone of times without one, and of midnight, such as Europe/Paris, UTC or -05:00")
     it.add_argument("--arrival", choices=("eligible", "submit"), default="eligible", help="when a job arrives")
     it.add_argument("--size", choices=("alloc", "req", "nodes"), default="alloc", help="what a job takes")
     it.add_argument("--unlimited", type=_duration, default=A_YEAR,
@@ -144,7 +154,7 @@ def _parser() -> argparse.ArgumentParser:
     it.add_argument("--delimiter", type=_delimiter, default="|", help="what stands between the columns; | without this")
     it = commands.add_parser("sweep", help="simulate logs under many scenarios")
     it.set_defaults(work=_sweep)
-    it.add_argument("log", nargs="+", help="a log's file (.gz: it is unpacked)")
+    it.add_argument("log", nargs="+", help="a log's file (.gz: it is unpacked), or a pipe")
     it.add_argument("--procs", type=_listed(_whole), default=[None], help="processors: A,B,C; the log's own machine without this")
     it.add_argument("--factor", type=_listed(_whole), default=[1000], help="thousandths of the estimates: A,B,C")
     it.add_argument("--order", type=_listed(_order), default=["arrival"], help="orders of backfills: arrival,shortest")
@@ -152,7 +162,7 @@ def _parser() -> argparse.ArgumentParser:
     _common(it)
     it = commands.add_parser("waits", help="set the waits that a log records beside the simulated ones")
     it.set_defaults(work=_waits_of)
-    it.add_argument("log", help="a log's file (.gz: it is unpacked)")
+    it.add_argument("log", help="a log's file (.gz: it is unpacked), or a pipe")
     it.add_argument("--procs", type=_whole, help="processors; the log's own machine without this")
     it.add_argument("--factor", type=_whole, default=1000, help="thousandths of the estimates")
     it.add_argument("--order", type=_order, default="arrival", help="arrival or shortest")
@@ -160,27 +170,57 @@ def _parser() -> argparse.ArgumentParser:
     return parser
 
 
+def _joined(words: Sequence[str]) -> List[str]:
+    """The words, where a value that begins with a minus, such as the zone -05:00, is joined to its option: alone it would
+    be taken for one.
+
+    >>> _joined(["sacct", "-", "--tz", "-05:00", "--procs", "8"])
+    ['sacct', '-', '--tz=-05:00', '--procs', '8']
+    """
+    made: List[str] = []
+    for word in words:
+        is_value = word.startswith("-") and word not in ("-", "-h") and not word.startswith("--")
+        before = made[-1] if made and "--" not in made else ""
+        if is_value and before.startswith("--") and "=" not in before and before not in ("--csv", "--help"):
+            made[-1] += f"={word}"
+        else:
+            made.append(word)
+    return made
+
+
 def _common(it: argparse.ArgumentParser) -> None:
     it.add_argument("--csv", action="store_true", help="print a table with commas")
     it.add_argument("--program", help="the program easybook; without this $EASYBOOK, or the one on the PATH")
 
 
+def _drop_output() -> None:
+    """Has nothing more go to standard output, where what couldn't be written would be tried again at the end."""
+    try:
+        sys.stdout.flush()
+    except OSError:
+        os.dup2(os.open(os.devnull, os.O_WRONLY), sys.stdout.fileno())
+
+
 def main(words: Optional[Sequence[str]] = None) -> int:
     """Works a command; the exit status."""
+    if sys.stdout is None:
+        _say("standard output is closed: send it to a file or to another program")
+        return 1
     for it in (sys.stdout, sys.stderr):
         if isinstance(it, io.TextIOWrapper):
             it.reconfigure(errors="surrogateescape")  # names of files may be any bytes
     try:
-        asked = _parser().parse_args(words)
+        asked = _parser().parse_args(_joined(sys.argv[1:] if words is None else words))
         status: int = asked.work(asked)
+        sys.stdout.flush()
         return status
     except BrokenPipeError:
-        os.dup2(os.open(os.devnull, os.O_WRONLY), sys.stdout.fileno())
-        return 1
+        _drop_output()
     except (EasybookError, Unreadable) as it:
-        print(f"easybook: {it}", file=sys.stderr)
+        _say(str(it))
     except OSError as it:
-        print(f"easybook: {it.filename or ''}{': ' if it.filename else ''}{it.strerror or it}", file=sys.stderr)
+        _say(f"{it.filename or ''}{': ' if it.filename else ''}{it.strerror or it}")
+        _drop_output()
     except KeyboardInterrupt:
         return 130
     return 1

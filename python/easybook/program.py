@@ -6,6 +6,7 @@ from __future__ import annotations
 import contextlib
 import os
 import shutil
+import stat
 import subprocess
 import tempfile
 import threading
@@ -29,8 +30,10 @@ def find(program: Optional[Path] = None) -> str:
         beside = os.path.join(os.path.dirname(os.path.abspath(__file__)), "..", "..", "easybook")
         found = shutil.which("easybook") or (shutil.which(beside) if os.path.isfile(beside) else None)
     if found is None:
-        raise NoProgram(f"there is no program {given}" if given else
-                        "the program easybook is not on the PATH: give program=PATH, or set EASYBOOK")
+        where = "" if program else ", which EASYBOOK names"
+        raise NoProgram(f"there is no program {given}{where}" if given else
+                        "the program easybook is not on the PATH: set EASYBOOK to its path, or give --program PATH (in Python "
+                        "program=PATH)")
     return os.path.abspath(found)
 
 
@@ -203,15 +206,27 @@ class Live:
             raise self._why()
 
 
+def is_read_once(log: Path) -> bool:
+    """Whether a log can be read by its path once alone, or by no other program: a pipe, or what only this process has
+    open, such as `/dev/stdin`."""
+    path = os.path.abspath(log)
+    if path == "/dev/stdin" or path.startswith(("/dev/fd/", "/proc/")):
+        return True
+    with contextlib.suppress(OSError, ValueError):
+        mode = os.stat(path).st_mode
+        return not (stat.S_ISREG(mode) or stat.S_ISDIR(mode))
+    return False
+
+
 @contextlib.contextmanager
 def as_file(log: Path) -> Iterator[str]:
-    """The path of a log as the program can read it: an unpacked copy, for as long as this stands, where its name ends
-    in `.gz`."""
+    """The path of a log as the program can read it, as often as it likes: that of a copy, for as long as this stands,
+    where the log's name ends in `.gz`, of which it is unpacked, and where it is read once."""
     path = os.fspath(log)
-    if not path.endswith(".gz"):
+    if not path.endswith(".gz") and not is_read_once(path):
         yield path
         return
-    with tempfile.NamedTemporaryFile(prefix="easybook-", suffix=".swf") as copy, opened(path) as packed:
-        shutil.copyfileobj(packed, copy, 1 << 20)
+    with tempfile.NamedTemporaryFile(prefix="easybook-", suffix=".swf") as copy, opened(path) as file:
+        shutil.copyfileobj(file, copy, 1 << 20)
         copy.flush()
         yield copy.name

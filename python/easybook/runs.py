@@ -197,10 +197,11 @@ def simulate(log: Path, procs: Optional[int] = None, factor: int = 1000, order: 
 
 
 def side(log: Path, scenarios: Sequence[Scenario], program: Optional[Path] = None,
-         stopper: Optional[_program.Stopper] = None) -> Tuple[List[Row], List[Failure]]:
-    """The rows of at most 64 scenarios of one log, by one program; and those whose runs found no memory."""
+         stopper: Optional[_program.Stopper] = None, copy: Optional[str] = None) -> Tuple[List[Row], List[Failure]]:
+    """The rows of at most 64 scenarios of one log, by one program; and those whose runs found no memory. The log is read
+    from the copy, if there is one."""
     name = os.fspath(log)
-    with _program.as_file(log) as path:
+    with _program.as_file(copy or log) as path:
         it = _open(path, scenarios, program)
         with _program.answers(path, it.script(["settle", "side"]), it.procs, None, program, stopper) as told:
             it.begin(told)

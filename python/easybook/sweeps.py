@@ -11,8 +11,8 @@ from collections import Counter
 from concurrent.futures import CancelledError, Executor, Future, ThreadPoolExecutor, TimeoutError, as_completed
 from typing import Dict, Iterable, Iterator, List, NamedTuple, Optional, Sequence, TextIO, Tuple, Union
 
-from .errors import BadWord, LogFault, NoProgram
-from .program import Stopper, find
+from .errors import BadWord, LogFault, NoProgram, shown
+from .program import Stopper, as_file, find, is_read_once
 from .runs import MOST_SCENARIOS, Failure, Row, Scenario, side
 from .swf import Path
 
@@ -28,11 +28,13 @@ class Rows(List[Row]):
 
 
 class Task(NamedTuple):
-    """What one program is asked: some scenarios of a log."""
+    """What one program is asked: some scenarios of a log. `copy` is where a log lies that could be read once alone, or
+    why it could not be."""
 
     log: str
     scenarios: Tuple[Scenario, ...]
     program: Optional[str]
+    copy: Union[str, OSError, None] = None
 
 
 class Done(NamedTuple):
@@ -52,7 +54,9 @@ def work(task: Task, stopper: Optional[Stopper] = None) -> Done:
     """Works a task; a failure is told for each of its scenarios. Where it may be the fault of one of them, each is tried
     by a program of its own. It can be sent to another process or machine."""
     try:
-        return Done(*side(task.log, task.scenarios, task.program, stopper))
+        if isinstance(task.copy, OSError):
+            raise task.copy
+        return Done(*side(task.log, task.scenarios, task.program, stopper, task.copy))
     except Exception as it:  # whatever it is, the other tasks go on, and this one is told
         if len(task.scenarios) == 1 or isinstance(it, _OF_THE_WHOLE):
             return _failed(task, it)
@@ -83,16 +87,16 @@ def tasks(logs: Sequence[str], scenarios: Sequence[Scenario], program: Optional[
     [64, 64, 2]
     """
     spread = -(-len(logs) * len(scenarios) // (_TASKS_OF_A_PROCESSOR * (os.cpu_count() or 1)))
-    most = max(1, min(MOST_SCENARIOS, spread if at_once is None else at_once))
+    most = min(MOST_SCENARIOS, max(1, spread) if at_once is None else at_once)
     return [Task(log, tuple(scenarios[it : it + most]), program) for log in logs for it in range(0, len(scenarios), most)]
 
 
 class _Progress:
     """A line on a terminal that says how many are done and how long the rest will take; nothing on anything else."""
 
-    def __init__(self, count: int, to: TextIO) -> None:
-        self._count, self._done, self._to, self._began = count, 0, to, time.monotonic()
-        self._is_shown = to.isatty()
+    def __init__(self, count: int, to: Optional[TextIO]) -> None:
+        self._count, self._done, self._began = count, 0, time.monotonic()
+        self._to = to if to is not None and to.isatty() else None
         self._tell()
 
     def add(self, count: int) -> None:
@@ -112,7 +116,7 @@ class _Progress:
         self._say("\r\033[K")
 
     def _say(self, text: str) -> None:
-        if self._is_shown:
+        if self._to is not None:
             self._to.write(text)
             self._to.flush()
 
@@ -180,7 +184,8 @@ def sweep(logs: Union[Path, Iterable[Path]], scenarios: Iterable[Scenario], exec
 
     The work goes to the executor, in tasks of at most 64 scenarios of a log, each worked by a program of its own
     (`at_once`: at most so many). Without an executor there are as many threads as this machine has processors. On other
-    machines the logs and the program must have the same paths.
+    machines the logs and the program must have the same paths. A log that is no regular file, such as a pipe, is read
+    once, into a temporary file of this machine.
 
     What fails is told by a warning, with its log and scenario, and in `failures` of what is answered; the others' rows are
     all there. Where this is interrupted, the programs that run under its own threads are ended.
@@ -191,20 +196,40 @@ def sweep(logs: Union[Path, Iterable[Path]], scenarios: Iterable[Scenario], exec
     return rows
 
 
+@contextlib.contextmanager
+def _copies(names: Iterable[str]) -> Iterator[Dict[str, Union[str, OSError]]]:
+    """Copies of those logs that can be read once alone, for as long as this stands, or why there is none."""
+    with contextlib.ExitStack() as stack:
+        copies: Dict[str, Union[str, OSError]] = {}
+        for name in filter(is_read_once, dict.fromkeys(names)):
+            try:
+                copies[name] = stack.enter_context(as_file(name))
+            except OSError as it:
+                copies[name] = it
+        yield copies
+
+
+def _worked(todo: List[Task], executor: Optional[Executor]) -> List[Done]:
+    """Works tasks over an executor, or over threads, whose programs end with this."""
+    if executor is not None:
+        return _over(executor, todo, None)
+    stopper = Stopper()
+    with ThreadPoolExecutor(os.cpu_count() or 1) as threads:
+        try:
+            return _over(threads, todo, stopper)
+        finally:
+            stopper.stop()
+
+
 def _sweep(logs: Union[Path, Iterable[Path]], scenarios: Iterable[Scenario], executor: Optional[Executor],
            at_once: Optional[int], program: Optional[Path]) -> Rows:
     names, asked = _checked(logs, scenarios)
+    if at_once is not None and (not isinstance(at_once, int) or isinstance(at_once, bool) or at_once < 1):
+        raise BadWord(f"scenarios at once: a whole number from 1 on, not {shown(at_once)}")
     own = None if executor is not None else find(program)
     todo = tasks(names, asked, own or (None if program is None else os.fspath(program)), at_once)
-    if executor is not None:
-        done = _over(executor, todo, None)
-    else:
-        stopper = Stopper()
-        with ThreadPoolExecutor(os.cpu_count() or 1) as threads:
-            try:
-                done = _over(threads, todo, stopper)
-            finally:
-                stopper.stop()
+    with _copies(names) as copies:
+        done = _worked([it._replace(copy=copies.get(it.log)) for it in todo], executor)
     return Rows((row for it in done for row in it.rows), (failure for it in done for failure in it.failures))
 
 

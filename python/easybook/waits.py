@@ -66,13 +66,14 @@ def rows_of(path: Path) -> Iterator[Recorded]:
 
 
 def recorded(log: Path) -> List[Recorded]:
-    """The log's own waits, a row a job, in the order of the log; jobs whose field 3 is missing have none."""
+    """The log's own waits, a row a job, in the order of the file's lines, which may not be that of a schedule; jobs whose
+    field 3 is missing have none."""
     return list(rows_of(log))
 
 
 def compare(log: Path, procs: Optional[int] = None, factor: int = 1000, order: str = "arrival", *,
             program: Optional[Path] = None) -> List[Pair]:
-    """Each job that was simulated and whose wait the log tells, with both waits, in the order of the log."""
+    """Each job that was simulated and whose wait the log tells, with both waits, in the order of the file's lines."""
     with as_file(log) as path:
         starts = {it.number: it for it in simulate(path, procs, factor, order, program=program).schedule}
         return [Pair(it.number, it.user, starts[it.number].processors, it.wait, starts[it.number].wait)

@@ -23,6 +23,18 @@ def a_log(text=FOUR, name="a.swf"):
 
 
 @contextlib.contextmanager
+def a_pipe(text=FOUR):
+    """The path of a pipe that gives this text once."""
+    end, begin = os.pipe()
+    with os.fdopen(begin, "w", encoding="utf-8") as file:
+        file.write(text)
+    try:
+        yield f"/dev/fd/{end}"
+    finally:
+        os.close(end)
+
+
+@contextlib.contextmanager
 def a_program(body):
     """The path of a program that, beside answering for the empty log, does what these lines of shell do."""
     with tempfile.TemporaryDirectory() as room:

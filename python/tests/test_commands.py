@@ -1,6 +1,7 @@
 """python -m easybook: what it prints, its one-line errors and its exit status."""
 
 import collections
+import gzip
 import io
 import os
 import subprocess
@@ -38,6 +39,12 @@ def ran(*words, given=b""):
     return Ran(status, rooms[1].buffer.getvalue(), rooms[2].buffer.getvalue())
 
 
+def shell(words):
+    """What the module did in a process of its own, called by a shell; its output is gathered before it is written, as it is where no variable tells otherwise."""
+    alone = {name: it for name, it in os.environ.items() if name != "PYTHONUNBUFFERED"}
+    return subprocess.run(["timeout", "60", "sh", "-c", f"{sys.executable} -m easybook {words}"], env=alone, capture_output=True, text=True, check=False)
+
+
 class Commands(unittest.TestCase):
     def test_a_dump_becomes_a_log_that_the_program_reads(self):
         it = ran("sacct", "-", "--procs", "8", "--tz", "UTC", given=DUMP.encode())
@@ -63,6 +70,66 @@ class Commands(unittest.TestCase):
                       ("sweep", "/no/such/log", "--procs", "8"), ("waits", "/no/such/log"), ("sweep", "x", "--program", "/no/such/program")):
             it = ran(*words)
             self.assertEqual((it.returncode, it.stdout, it.stderr.count(b"\n")), (1, b"", 1), it.stderr)
+
+    def test_one_job_is_no_jobs(self):
+        it = ran("sacct", "-", "--procs", "8", given="".join(DUMP.splitlines(True)[:2]).encode())
+        self.assertEqual(it.stderr.splitlines()[0], b"easybook: 1 job")
+        self.assertEqual(ran("sacct", "-", "--procs", "8", given=DUMP.encode()).stderr.splitlines()[0], b"easybook: 2 jobs")
+
+    def test_values_that_begin_with_a_minus(self):
+        # Ten o'clock five hours west of Greenwich is three in the afternoon there.
+        for words in (("--tz", "-05:00"), ("--tz", "-0500"), ("--tz=-05:00",), ("--tz", "-05:00", "--delimiter", "->")):
+            it = ran("sacct", "-", "--procs", "8", *words, given=DUMP.replace("|", words[-1] if words[-1] == "->" else "|").encode())
+            self.assertEqual(it.returncode, 0, it.stderr)
+            self.assertIn(b"; UnixStartTime: 1782918000\n", it.stdout)
+        for words, want in ((("--procs", "-8"), b"'-8' is no whole number"), (("--procs", "8", "--tz", "--zero", "midnight"), b"argument --tz: expected one argument"),
+                            (("--procs", "8", "--unlimited", "-1:x"), b"'-1:x' is no time limit")):
+            it = ran("sacct", "-", *words)
+            self.assertEqual((it.returncode, want in it.stderr), (2, True), it.stderr)
+        self.assertEqual(ran("sacct", "-", "--procs", "8", "--tz", "-5").stderr.count(b"\n"), 1)
+
+    def test_words_that_are_taken_for_something_else_are_refused_in_one_line(self):
+        for words, want in ((("sacct", "-", "--procs", "8", "--unlimited", "0"), b"easybook: --unlimited 0 is no estimate: give a limit"),
+                            (("sacct", "-", "--procs", "8", "--no-limit", "0:00:00"), b"easybook: --no-limit 0 is no estimate: give a limit"),
+                            (("sweep", "x", "--procs", "8", "--at-once", "0"), b"easybook: scenarios at once: a whole number from 1 on, not 0")):
+            it = ran(*words, given=DUMP.encode())
+            self.assertEqual((it.returncode, it.stdout, it.stderr.count(b"\n")), (1, b"", 1), it.stderr)
+            self.assertTrue(it.stderr.startswith(want), it.stderr)
+
+    def test_logs_that_are_pipes(self):
+        python = f"{sys.executable} -m easybook"
+        head = "log,scenario,procs,factor,order,jobs,mean_wait,mean_slowdown,utilization\n"
+        ten, big = "10-1000,10,1000,arrival,4,47,1.539,39.864\n", "16-1000,16,1000,arrival,4,12,1.136,29.324\n"
+        waits = "all,2,4,0,9,49,0,99,0.090\n"
+        with a_log() as log:
+            pipe = os.path.join(os.path.dirname(log), "pipe")
+            os.mkfifo(pipe)
+            with gzip.open(f"{log}.gz", "wb") as file:
+                file.write(FOUR.encode())
+            for command, want in ((f"cat {log} | {python} sweep /dev/stdin --procs 10,16 --at-once 1 --csv", f"{head}/dev/stdin,{ten}/dev/stdin,{big}"),
+                                  (f"{python} sweep /dev/stdin --procs 10,16 --csv <{log}", f"{head}/dev/stdin,{ten}/dev/stdin,{big}"),
+                                  (f"cat {log} >{pipe} & {python} sweep {pipe} {log} --procs 10 --csv", f"{head}{pipe},{ten}{log},{ten}"),
+                                  (f"cat {log} >{pipe} & {python} waits {pipe} --procs 10 --csv | sed -n 2p", waits),
+                                  (f"{python} waits {log}.gz --procs 10 --csv | sed -n 2p", waits),
+                                  (f"cat {log} | {python} waits /dev/stdin --procs 10 --csv | sed -n 2p", waits)):
+                with self.subTest(command):
+                    it = subprocess.run(["timeout", "60", "sh", "-c", command], capture_output=True, text=True, check=False)
+                    self.assertEqual((it.stdout, it.stderr), (want, ""))
+
+    def test_standard_files_that_are_closed_or_full(self):
+        closed, full = "easybook: standard output is closed: send it to a file or to another program\n", "easybook: No space left on device\n"
+        with a_log("; MaxProcs: 10\n" + FOUR) as log, a_log(DUMP, "dump.txt") as dump:
+            sacct = f"sacct {dump} --procs 8"
+            for words, want in ((f"{sacct} >&-", closed), (f"sweep {log} >&-", closed), (f"waits {log} >&-", closed), ("--help >&-", closed),
+                                (f"sweep {log} >&- <&-", closed), (f"sweep {log} >/dev/full", full), (f"waits {log} >/dev/full", full),
+                                (f"{sacct} >/dev/full", full), ("sacct - --procs 8 <&-", "easybook: standard input is closed: give the dump's file\n")):
+                with self.subTest(words):
+                    it = shell(words)
+                    self.assertEqual((it.returncode, it.stdout, it.stderr), (1, "", want))
+            for words in (sacct, f"sweep {log}", f"waits {log}"):
+                with self.subTest(words):
+                    it = shell(f"{words} 2>&-")
+                    self.assertEqual((it.returncode, it.stdout), (0, shell(words).stdout))
 
     def test_bad_words(self):
         for words in ((), ("jump",), ("sacct", "-"), ("sacct", "-", "--procs", "1e3"), ("sweep", "x", "--order", "fast"), ("sweep", "x", "--procs", "8,,9"),

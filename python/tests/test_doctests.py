@@ -25,7 +25,7 @@ def back(test):
 
 def load_tests(loader, tests, pattern):
     """Adds the examples of each module."""
-    names = [it.name for it in pkgutil.walk_packages(easybook.__path__, "easybook.") if not it.name.endswith("__main__")]
+    names = [it.name for it in pkgutil.walk_packages(easybook.__path__, "easybook.")]
     for name in ["easybook", *names]:
         tests.addTests(doctest.DocTestSuite(importlib.import_module(name), setUp=to_top, tearDown=back))
     return tests

@@ -8,10 +8,11 @@ import threading
 import time
 import unittest
 from decimal import Decimal
+from unittest import mock
 
 import easybook
 from easybook import Scenario, program, runs
-from tests.cluster import FOUR, a_log, a_program, is_running
+from tests.cluster import FOUR, a_log, a_pipe, a_program, is_running
 
 
 class Simulating(unittest.TestCase):
@@ -53,6 +54,22 @@ class Simulating(unittest.TestCase):
             with gzip.open(f"{log}.gz", "wb") as file:
                 file.write(FOUR.encode())
             self.assertEqual(easybook.simulate(f"{log}.gz", 10).table.mean_wait, 47)
+
+    def test_a_log_that_is_read_once(self):
+        with a_pipe() as log:
+            self.assertEqual(easybook.simulate(log, 10).table.mean_wait, 47)
+        with a_pipe() as log:
+            self.assertEqual([(it.log, it.mean_wait) for it in easybook.run(log, Scenario(10), Scenario(16))], [(log, 47), (log, 12)])
+        with a_pipe() as log, easybook.open(log, 10) as it:
+            self.assertEqual((it.settle(), it.table("base").mean_wait), (0, 47))
+        with a_pipe() as log:
+            self.assertEqual(len(easybook.read(log).jobs), 4)
+        self.assertEqual([program.is_read_once(it) for it in ("/dev/stdin", "/proc/self/fd/0", os.devnull, "/", "/no/such/log", __file__)], [True] * 3 + [False] * 3)
+
+    def test_a_file_that_this_process_alone_has_open(self):
+        with a_log() as path, open(path, "rb") as file:
+            os.remove(path)
+            self.assertEqual(easybook.simulate(f"/dev/fd/{file.fileno()}", 10).table.mean_wait, 47)
 
     def test_rows_of_several_scenarios(self):
         with a_log() as log:
@@ -100,6 +117,17 @@ class Faults(unittest.TestCase):
             for path in ("/no/such/program", "/bin/true", log):
                 with self.subTest(path), self.assertRaises(easybook.NoProgram):
                     easybook.simulate(log, 10, program=path)
+
+    def test_what_to_do_where_there_is_none_is_said(self):
+        without = {name: it for name, it in os.environ.items() if name != "EASYBOOK"}
+        with mock.patch.dict(os.environ, {**without, "PATH": "/no/such/folder"}, clear=True), mock.patch.object(program, "__file__", "/no/such/site/easybook/program.py"):
+            with self.assertRaisesRegex(easybook.NoProgram, r"^the program .* PATH: set EASYBOOK to its path, or give --program PATH \(in Python program=PATH\)$"):
+                program.find()
+        with mock.patch.dict(os.environ, EASYBOOK="/no/such/program"):
+            with self.assertRaisesRegex(easybook.NoProgram, "^there is no program /no/such/program, which EASYBOOK names$"):
+                program.find()
+            with self.assertRaisesRegex(easybook.NoProgram, "^there is no program /no/such/other$"):
+                program.find("/no/such/other")
 
     def test_a_program_that_is_killed(self):
         with a_log() as log, a_program("kill -9 $$") as fake, self.assertRaises(easybook.Ended) as caught:

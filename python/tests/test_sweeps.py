@@ -16,7 +16,7 @@ from unittest import mock
 
 import easybook
 from easybook import Scenario, program, sweeps
-from tests.cluster import FOUR, a_log, a_program, is_running, pids
+from tests.cluster import FOUR, a_log, a_pipe, a_program, is_running, pids
 
 
 class Sweeping(unittest.TestCase):
@@ -95,6 +95,29 @@ class Sweeping(unittest.TestCase):
             easybook.sweep(["/no/such/log"], [Scenario(10), Scenario(10, order="fast")])
         with self.assertRaises(easybook.BadWord):
             easybook.sweep(["/no/such/log"], [Scenario(10, name="a"), Scenario(11, name="a")], at_once=1)
+
+    def test_logs_that_are_read_once(self):
+        scenarios = [Scenario(it) for it in (10, 16)]
+        with a_pipe() as one, a_log() as other, a_pipe(FOUR.replace("6 100", "1 100")) as two:
+            rows = easybook.sweep([one, other, two, one], scenarios, at_once=1)
+        self.assertEqual([it.log for it in rows], [log for log in (one, other, two, one) for _ in scenarios])
+        # With a first job of 1 processor the second starts at once, and on 10 the third and the fourth at 51: (49 + 48) / 4.
+        self.assertEqual([it.mean_wait for it in rows], [47, 12, 47, 12, 24, 0, 47, 12])
+        with a_pipe() as log, concurrent.futures.ProcessPoolExecutor(2) as executor:
+            self.assertEqual([it.mean_wait for it in easybook.sweep(log, scenarios, executor, at_once=1)], [47, 12])
+
+    def test_a_log_that_cannot_be_copied_loses_no_other(self):
+        with a_pipe() as gone, a_pipe() as log, warnings.catch_warnings():
+            warnings.simplefilter("ignore")
+            with mock.patch.object(program.shutil, "copyfileobj", side_effect=[OSError("no room"), mock.DEFAULT], wraps=shutil.copyfileobj):
+                rows = easybook.sweep([gone, log], [Scenario(10), Scenario(16)])
+        self.assertEqual([(it.log, it.mean_wait) for it in rows], [(log, 47), (log, 12)])
+        self.assertEqual([str(it) for it in rows.failures], [f"{gone}, scenario {it}: no room" for it in ("10-1000", "16-1000")])
+
+    def test_how_many_at_once_is_checked(self):
+        for it in (0, -1, True, 1.5, "4"):
+            with self.subTest(it), self.assertRaisesRegex(easybook.BadWord, "^scenarios at once: a whole number from 1 on, not "):
+                easybook.sweep(["/no/such/log"], [Scenario(10)], at_once=it)
 
     def test_nothing_asked_is_nothing_answered(self):
         with a_log() as log:
@@ -194,6 +217,8 @@ class Progress(unittest.TestCase):
                 with mock.patch.object(sweeps.sys, "stderr", screen):
                     easybook.sweep(log, [Scenario(it) for it in range(8, 12)], at_once=1)
                 self.assertEqual("4 of 4 scenarios done, about 0 s left" in screen.getvalue(), is_shown)
+            with mock.patch.object(sweeps.sys, "stderr", None):
+                self.assertEqual(len(easybook.sweep(log, [Scenario(10)])), 1)
 
     def test_it_begins_with_none_and_moves(self):
         screen = Terminal()

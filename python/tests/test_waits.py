@@ -7,7 +7,7 @@ from decimal import Decimal
 import easybook
 from easybook import waits
 from easybook.__main__ import _ratio
-from tests.cluster import FOUR, a_log
+from tests.cluster import FOUR, a_log, a_pipe
 
 
 class Recorded(unittest.TestCase):
@@ -15,6 +15,17 @@ class Recorded(unittest.TestCase):
         with a_log() as log:
             rows = easybook.recorded(log)
         self.assertEqual([tuple(it) for it in rows], [(2, 1, 9, 10, 50, 8, 8, -1), (3, 2, 0, 2, 90, 4, 7, -1)])
+
+    def test_rows_are_in_the_order_of_the_files_lines(self):
+        lines = FOUR.splitlines(True)
+        with a_log("".join(lines[::-1])) as log:
+            self.assertEqual([it.number for it in easybook.recorded(log)], [3, 2])
+            self.assertEqual([it.number for it in easybook.compare(log, 10)], [3, 2])
+            self.assertEqual([it.number for it in easybook.simulate(log, 10).schedule], [1, 2, 3, 4])
+
+    def test_a_log_that_is_read_once(self):
+        with a_pipe() as log:
+            self.assertEqual(easybook.compare(log, 10), [easybook.Pair(2, 8, 8, 9, 99), easybook.Pair(3, 7, 4, 0, 0)])
 
     def test_pairs_are_of_jobs_that_are_simulated_too(self):
         with a_log(FOUR + "5 4 7 -1 -1 -1 -1 2 5 -1 5 9 -1 -1 -1 -1 -1 -1\n") as log:
