@@ -1,7 +1,5 @@
 //! How a task delivers its run to its ticket. The run needs no comparison with what the ticket asks for.
 
-ghost use Rattle.std.specs.Prelude.{◌≡◌};
-ghost use Rattle.std.specs.Arc.{arc_value};
 ghost use Rattle.tasks.specs.Tickets.{IsRunOf};
 
 use checkpoints::Run;
@@ -13,7 +11,7 @@ use std::sync::Arc;
 
 #[derive(Drop)]
 pub(crate) struct MadeRun<A: Allocator + Copy> {
-    run: Arc<Run<A>, A>,
+    pub(crate) run: Arc<Run<A>, A>,
 }
 
 impl<A: Allocator + Copy> Model for MadeRun<A> {
@@ -23,21 +21,6 @@ impl<A: Allocator + Copy> Model for MadeRun<A> {
     ghost Value = { RunView };
 
     ghost view = { λ m. arc_value m.run };
-}
-
-impl<A: Allocator + Copy> MadeRun<A> {
-    pub(crate) fn new(run: Arc<Run<A>, A>) -> MadeRun<A>
-        ensures { result ≡ arc_value run }
-    {
-        MadeRun { run }
-    }
-
-    pub(crate) fn into_run(self) -> Arc<Run<A>, A>
-        ensures { arc_value result ≡ self }
-    {
-        let MadeRun { run } = self;
-        run
-    }
 }
 
 impl<A: Allocator + Copy> Response<Plan<A>> for MadeRun<A> {

@@ -117,7 +117,12 @@ impl<A: Allocator + Copy> Task<A> {
     {
         let (sender, receiver) = open(self.alloc, self.plan.copy()?)?;
         self.sender = Some(sender);
-        Ok(Ticket::new(self.ticket, self.id, self.version, receiver))
+        Ok(Ticket {
+            number: self.ticket,
+            id: self.id,
+            version: self.version,
+            receiver,
+        })
     }
 
     /// The ticket's number, from 1 on; none is used twice.
@@ -174,10 +179,7 @@ impl<A: Allocator + Copy> Task<A> {
     pub fn base_version(&self) -> Option<u64>
         ensures { result ≡ option_map (λ b. b.version) self.now.base }
     {
-        match &self.base {
-            Some(base) => Some(base.version()),
-            None => None,
-        }
+        Some(self.base.as_ref()?.version())
     }
 
     /// The run that is requested, and the work of making it from the base: by `rerun` where there is a
@@ -211,7 +213,7 @@ impl<A: Allocator + Copy> Task<A> {
     {
         let (run, work) = self.work()?;
         if let Some(sender) = &mut self.sender {
-            sender.send(MadeRun::new(run.clone()?));
+            sender.send(MadeRun { run: run.clone()? });
         }
         Ok((run, work))
     }

@@ -4,7 +4,7 @@ ghost use Rattle.std.specs.Prelude.{◌≡◌, ◌==◌, ◌&&◌, ◌↔◌, If
 ghost use Rattle.std.specs.Arc.{arc_value};
 ghost use Rattle.tasks.specs.Tickets.{HasThoseOf, has_number};
 
-use crate::delivery::RunReceiver;
+use crate::delivery::{MadeRun, RunReceiver};
 use checkpoints::Run;
 use scenarios::ScenarioId;
 use std::alloc::Allocator;
@@ -14,10 +14,10 @@ use std::sync::Arc;
 /// A standing ticket: a run of this scenario is being made of this version's log.
 #[derive(Drop)]
 pub struct Ticket<A: Allocator + Copy> {
-    number: u64,
-    id: ScenarioId,
-    version: u64,
-    receiver: RunReceiver<A>,
+    pub(crate) number: u64,
+    pub(crate) id: ScenarioId,
+    pub(crate) version: u64,
+    pub(crate) receiver: RunReceiver<A>,
 }
 
 impl<A: Allocator + Copy> Model for Ticket<A> {
@@ -29,22 +29,6 @@ impl<A: Allocator + Copy> Model for Ticket<A> {
 }
 
 impl<A: Allocator + Copy> Ticket<A> {
-    pub(crate) fn new(
-        number: u64,
-        id: ScenarioId,
-        version: u64,
-        receiver: RunReceiver<A>,
-    ) -> Ticket<A>
-        ensures { result ≡ record { number = number; id = id; version = version; log = receiver.log; scenario = receiver.scenario } }
-    {
-        Ticket {
-            number,
-            id,
-            version,
-            receiver,
-        }
-    }
-
     pub(crate) fn has_number(&self, number: u64) -> bool
         ensures { result ≡ has_number number self.now }
     {
@@ -81,8 +65,8 @@ impl<A: Allocator + Copy> Ticket<A> {
         ensures run { IfSome result (λ run. HasThoseOf (Some self.old) (arc_value run)) }
         ensures ticket { self.new ≡ self.old }
     {
-        let made = self.receiver.receive()?;
-        Some(made.into_run())
+        let MadeRun { run } = self.receiver.receive()?;
+        Some(run)
     }
 
     /// Whether a run has the ticket's log and scenario. The logs are compared by value.
