@@ -1,4 +1,4 @@
-ghost use Rattle.std.specs.Prelude.{◌≡◌, ◌↔◌, IfOk, IsTrue};
+ghost use Rattle.std.specs.Prelude.{◌≡◌, ◌↔◌, IsTrue};
 ghost use Rattle.std.specs.Cmp.{partial_equiv_from_equiv};
 ghost use Rattle.std.specs.Ordering.{on};
 ghost use Rattle.std.proofs.lemmas.Cmp.{on_equiv};
@@ -10,7 +10,6 @@ use crate::name::NotedName;
 use crate::noted_edit::NotedEdit;
 use scenarios::{Scenario, ScenarioId};
 use std::alloc::Allocator;
-use swf_text::Memory;
 
 /// A call of the book, with its arguments. A run that is handed in is written as whether it fits
 /// its ticket.
@@ -97,31 +96,5 @@ impl<A: Allocator + Copy> Call<A> {
         ensures { IsTrue result ↔ (call_of self.now ≡ call_of other.now) }
     {
         *self == *other
-    }
-
-    /// The same call once more, on the allocator that its arguments keep; Memory where a growth is
-    /// refused.
-    pub fn copy(&self) -> Result<Call<A>, Memory>
-        ensures { IfOk result (λ call. call_of call ≡ call_of self.now) }
-    {
-        match self {
-            Call::Edit(edit) => Ok(Call::Edit(edit.copy()?)),
-            Call::AddScenario { name, scenario } => Ok(Call::AddScenario {
-                name: name.copy()?,
-                scenario: *scenario,
-            }),
-            Call::DropScenario { name } => Ok(Call::DropScenario { name: name.copy()? }),
-            Call::Retry { id } => Ok(Call::Retry { id: *id }),
-            Call::Claim => Ok(Call::Claim),
-            Call::Finish { ticket, fits } => Ok(Call::Finish {
-                ticket: *ticket,
-                fits: *fits,
-            }),
-            Call::GiveUp { ticket } => Ok(Call::GiveUp { ticket: *ticket }),
-            Call::View { id, seen } => Ok(Call::View {
-                id: *id,
-                seen: *seen,
-            }),
-        }
     }
 }

@@ -52,12 +52,4 @@ impl<A: Allocator + Copy> NotedName<A> {
     {
         self.text.as_str()
     }
-
-    /// The same name once more, on the allocator that this one keeps; Memory where the growth for
-    /// it is refused.
-    pub fn copy(&self) -> Result<NotedName<A>, Memory>
-        ensures { IfOk result (λ name. name ≡ self.now) }
-    {
-        NotedName::new(*self.text.allocator(), self.text.as_str())
-    }
 }

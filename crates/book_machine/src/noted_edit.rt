@@ -95,24 +95,4 @@ impl<A: Allocator + Copy> NotedEdit<A> {
             }),
         }
     }
-
-    /// The same once more, on the allocator that its entry keeps; Memory where a growth is
-    /// refused.
-    pub fn copy(&self) -> Result<NotedEdit<A>, Memory>
-        ensures { IfOk result (λ noted. noted_edit_of noted ≡ noted_edit_of self.now) }
-    {
-        match self {
-            NotedEdit::Insert(noted) => Ok(NotedEdit::Insert(noted.copy()?)),
-            NotedEdit::Remove(number) => Ok(NotedEdit::Remove(*number)),
-            NotedEdit::Change {
-                number,
-                field,
-                value,
-            } => Ok(NotedEdit::Change {
-                number: *number,
-                field: *field,
-                value: *value,
-            }),
-        }
-    }
 }

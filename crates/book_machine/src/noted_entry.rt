@@ -51,12 +51,4 @@ impl<A: Allocator + Copy> NotedEntry<A> {
     {
         &self.entry
     }
-
-    /// The same entry once more, on the allocator that this one keeps; Memory where a growth is
-    /// refused.
-    pub fn copy(&self) -> Result<NotedEntry<A>, Memory>
-        ensures { IfOk result (λ noted. noted ≡ self.now) }
-    {
-        NotedEntry::new(*Box::allocator(&self.entry), &self.entry)
-    }
 }

@@ -2,7 +2,7 @@
 // it is refused for memory, has changed nothing, and is answered the same when it is made once more.
 use crate::player::Player;
 use crate::rows::{Answered, EACH, HISTORIES, LONG, RUNS, Said};
-use book_machine::{Note, Reply};
+use book_machine::Note;
 use checking::table_of;
 use oracle_book::first_wrong;
 use refusing::{Outcome, Trial, survives_refusals};
@@ -11,26 +11,26 @@ use std::mem::size_of;
 use std::process::Abort;
 use swf_text::Memory;
 
-fn copied<A: Allocator + Copy>(alloc: A, notes: &[Note<A>]) -> Result<Vec<Note<A>, A>, Memory> {
-    let mut copies = Vec::new(alloc);
-    for note in notes {
-        copies.push(note.copy()?)?;
+// The place of the first note that is wrong by the plain program of the book, where the book is of this
+// log, if there is one.
+fn wrong_place<A: Allocator + Copy>(
+    alloc: A,
+    log: &[u8],
+    notes: &[Note<A>],
+) -> Result<Option<usize>, Memory> {
+    match table_of(alloc, log) {
+        Some(log) => first_wrong(alloc, log, notes),
+        None => Err(Memory),
     }
-    Ok(copies)
 }
 
-/// Whether the notes of a book of this log are one with their copies, and all are right by the plain
-/// program of the book.
+/// Whether the notes of a book of this log are right by the plain program of the book.
 pub(crate) fn are_right<A: Allocator + Copy>(
     alloc: A,
     log: &[u8],
     notes: &[Note<A>],
 ) -> Result<bool, Memory> {
-    let copies = copied(alloc, notes)?;
-    let Some(log) = table_of(alloc, log) else {
-        return Err(Memory);
-    };
-    Ok(copies.as_slice() == notes && first_wrong(alloc, log, &copies)?.is_none())
+    Ok(wrong_place(alloc, log, notes)?.is_none())
 }
 
 fn judged<A: Allocator + Copy>(alloc: A, notes: &[Note<A>]) -> Outcome {
@@ -50,7 +50,7 @@ fn played<A: Allocator + Copy>(
         return Outcome::Before;
     }
     match player.plays(rows) {
-        Outcome::Right => judged(player.alloc, player.book.journal()),
+        Outcome::Right => judged(player.alloc, player.analyst.book.journal()),
         other => other,
     }
 }
@@ -90,23 +90,25 @@ fn each_call_is_refused_capacity_for_its_note(rt: HostRuntime) {
     }
 }
 
-// The place of the first wrong note of the runs' history, where the note at a place is answered another
-// reply, if there is one.
-fn wrong_place(alloc: Global, place: usize) -> Option<Option<usize>> {
+/// A log in which job 5 stands already.
+const FIFTH: &[u8] = b"1 0 -1 50 10 -1 -1 10 100 -1 1 7 -1 -1 -1 -1 -1 -1
+2 10 -1 10 10 -1 -1 10 100 -1 1 7 -1 -1 -1 -1 -1 -1
+5 20 -1 10 10 -1 -1 10 100 -1 1 7 -1 -1 -1 -1 -1 -1
+";
+
+// The place of the first wrong note of the runs' history, if its book were of this log.
+fn wrong_run(alloc: Global, log: &[u8]) -> Option<Option<usize>> {
     let mut player = Player::new(alloc, LONG, 1)?;
     let _right = player.plays(RUNS);
-    let mut notes = copied(alloc, player.book.journal()).ok()?;
-    if let Some(note) = notes.get_mut(place) {
-        note.reply = Reply::TooManyTickets;
-    }
-    first_wrong(alloc, table_of(alloc, LONG)?, &notes).ok()
+    wrong_place(alloc, log, player.analyst.book.journal()).ok()
 }
 
+// Without a log the first edit would find no job, and with job 5 it could not join.
 #[test]
 fn notes_are_judged(rt: HostRuntime) {
-    for (place, wrong) in [(99, None), (8, Some(8)), (0, Some(0))] {
-        assert!(rt; wrong_place(rt.alloc(), place) == Some(wrong));
-    }
+    assert!(rt; wrong_run(rt.alloc(), LONG) == Some(None));
+    assert!(rt; wrong_run(rt.alloc(), b"") == Some(Some(2)));
+    assert!(rt; wrong_run(rt.alloc(), FIFTH) == Some(Some(10)));
 }
 
 /// The capacity of a journal of a million notes, which doubles as it grows, in notes.

@@ -9,6 +9,7 @@ use checkpoints::Run;
 use scenarios::{Order, Scenario, ScenarioId, ScenarioList};
 use std::alloc::Global;
 use std::sync::Arc;
+use version_book::Analyst;
 
 /// The stream of chances of each list.
 const STREAM: u64 = 31;
@@ -208,7 +209,7 @@ impl Player<Global> {
                 self.give_up(ticket)
             }
             _ => {
-                let seen = seen(chance, self.book.version());
+                let seen = seen(chance, self.analyst.version());
                 self.view(place(chance), seen)
             }
         }
@@ -217,7 +218,7 @@ impl Player<Global> {
     // Makes so many calls, of which the first ones fill the book with scenarios and tickets.
     fn play(&mut self, chance: &mut Chance, calls: u64, crowding: u64) {
         for place in 0..calls {
-            self.session = chance.below(4);
+            self.analyst.number = chance.below(4);
             self.worker = chance.below(4);
             let _answered = if place < crowding {
                 self.crowd(chance)
@@ -228,7 +229,8 @@ impl Player<Global> {
     }
 }
 
-// Plays a list, and counts its replies; whether all are right. None where memory is short.
+// Plays a list, at whose end its session settles, and counts its replies; whether all are right. None
+// where memory is short.
 fn plays_right(alloc: Global, seed: u64, tally: &mut Tally) -> Option<bool> {
     let mut chance = Chance::new(seed, STREAM);
     let log = LOGS[chance.place(3)];
@@ -239,8 +241,9 @@ fn plays_right(alloc: Global, seed: u64, tally: &mut Tally) -> Option<bool> {
     } else {
         player.play(&mut chance, CROWDED_CALLS, CROWDING);
     }
-    tally.add(player.book.journal());
-    are_right(alloc, log, player.book.journal()).ok()
+    let _settled = player.analyst.settle();
+    tally.add(player.analyst.book.journal());
+    are_right(alloc, log, player.analyst.book.journal()).ok()
 }
 
 #[test]

@@ -8,17 +8,17 @@ use scenarios::{Plan, Scenario, ScenarioId};
 use std::alloc::Allocator;
 use std::sync::Arc;
 use swf_text::Memory;
-use version_book::{Book, FinishRefusal, Named, Published, Refusal, Task};
+use version_book::{Analyst, Book, BookSession, FinishRefusal, Named, Published, Refusal, Task};
 
 /// What is answered where a growth is refused.
 const MEMORY: Answered = Answered::Refused("Memory");
 
-/// A book, who calls it, the ids that it gave, and its tasks, ticket by ticket.
+/// A session with a book, the worker that calls it too, the ids that it gave, and its tasks, ticket by
+/// ticket.
 #[derive(Drop)]
 pub(crate) struct Player<A: Allocator + Copy> {
     pub(crate) alloc: A,
-    pub(crate) book: Book<A>,
-    pub(crate) session: u64,
+    pub(crate) analyst: BookSession<A>,
     pub(crate) worker: u64,
     pub(crate) ids: Vec<ScenarioId, A>,
     pub(crate) tasks: Vec<Task<A>, A>,
@@ -55,6 +55,11 @@ fn of_view<A: Allocator + Copy>(published: &Published<A>) -> Answered {
     }
 }
 
+// The session has seen this version.
+fn see<A: Allocator + Copy>(analyst: &mut BookSession<A>, version: u64) {
+    analyst.seen = version;
+}
+
 /// A value that no field of the second job has.
 const OTHER: &[u8] = b"33";
 
@@ -76,10 +81,10 @@ impl<A: Allocator + Copy> Player<A> {
     /// A book of a log, in segments of so many event seconds; none where memory is short, or the log is
     /// none.
     pub(crate) fn new(alloc: A, log: &[u8], spacing: u32) -> Option<Player<A>> {
+        let book = Book::new(alloc, table_of(alloc, log)?, spacing).ok()?;
         Some(Player {
             alloc,
-            book: Book::new(alloc, table_of(alloc, log)?, spacing).ok()?,
-            session: 7,
+            analyst: BookSession::new(book),
             worker: 1,
             ids: Vec::with_capacity(alloc, 2).ok()?,
             tasks: Vec::with_capacity(alloc, 4).ok()?,
@@ -90,7 +95,7 @@ impl<A: Allocator + Copy> Player<A> {
         let Some(edit) = edit_of(self.alloc, written) else {
             return MEMORY;
         };
-        match self.book.edit(self.session, &edit) {
+        match self.analyst.edit(&edit) {
             Ok(version) => Answered::Number(version),
             Err(refusal) => refused(&refusal),
         }
@@ -104,7 +109,7 @@ impl<A: Allocator + Copy> Player<A> {
     }
 
     pub(crate) fn add(&mut self, name: &str, scenario: Scenario) -> Answered {
-        match self.book.add_scenario(self.session, name, scenario) {
+        match self.analyst.add_scenario(name, scenario) {
             Ok(id) => self.keep_id(id),
             Err(refusal) => refused(&refusal),
         }
@@ -118,7 +123,7 @@ impl<A: Allocator + Copy> Player<A> {
     }
 
     pub(crate) fn drop_named(&mut self, name: &str) -> Answered {
-        match self.book.drop_scenario(self.session, name) {
+        match self.analyst.drop_scenario(name) {
             Ok(id) => Answered::Number(u64::from(id.number())),
             Err(refusal) => refused(&refusal),
         }
@@ -128,7 +133,7 @@ impl<A: Allocator + Copy> Player<A> {
         let Some(id) = self.ids.get(place) else {
             return Answered::Nothing;
         };
-        match self.book.retry(self.session, *id) {
+        match self.analyst.retry(*id) {
             Ok(()) => Answered::Done,
             Err(refusal) => refused(&refusal),
         }
@@ -138,14 +143,15 @@ impl<A: Allocator + Copy> Player<A> {
         let Some(id) = self.ids.get(place) else {
             return Answered::Nothing;
         };
-        match self.book.view(self.session, *id, seen) {
+        see(&mut self.analyst, seen);
+        match self.analyst.view(*id) {
             Ok(published) => of_view(&published),
             Err(refusal) => refused(&refusal),
         }
     }
 
     pub(crate) fn claim(&mut self) -> Answered {
-        match self.book.claim(self.worker) {
+        match self.analyst.book.claim(self.worker) {
             Ok(Some(task)) => self.keep(task),
             Ok(None) => Answered::Nothing,
             Err(refusal) => refused(&refusal),
@@ -183,7 +189,7 @@ impl<A: Allocator + Copy> Player<A> {
 
     pub(crate) fn finish(&mut self, ticket: u64, run: Option<Arc<Run<A>, A>>) -> Answered {
         match run {
-            Some(run) => of_finish(self.book.finish(self.worker, ticket, run)),
+            Some(run) => of_finish(self.analyst.book.finish(self.worker, ticket, run)),
             None => MEMORY,
         }
     }
@@ -200,13 +206,13 @@ impl<A: Allocator + Copy> Player<A> {
 
     fn hand_in(&mut self, ticket: u64) -> Answered {
         match self.run(ticket) {
-            Some(run) => of_finish(self.book.hand_in(self.worker, ticket, run)),
+            Some(run) => of_finish(self.analyst.book.hand_in(self.worker, ticket, run)),
             None => MEMORY,
         }
     }
 
     pub(crate) fn finish_left(&mut self, ticket: u64) -> Answered {
-        match self.book.finish_delivered(self.worker, ticket) {
+        match self.analyst.book.finish_delivered(self.worker, ticket) {
             Ok(Some(version)) => Answered::Number(version),
             Ok(None) => Answered::Nothing,
             Err(refusal) => refused(&refusal),
@@ -214,9 +220,23 @@ impl<A: Allocator + Copy> Player<A> {
     }
 
     pub(crate) fn give_up(&mut self, ticket: u64) -> Answered {
-        match self.book.give_up(self.worker, ticket) {
+        match self.analyst.book.give_up(self.worker, ticket) {
             Ok(()) => Answered::Done,
             Err(refusal) => refused(&refusal),
+        }
+    }
+
+    fn find(&mut self, name: &str) -> Answered {
+        match self.analyst.find(name) {
+            Some(id) => Answered::Number(u64::from(id.number())),
+            None => Answered::Nothing,
+        }
+    }
+
+    fn read(&mut self) -> Answered {
+        match self.analyst.current() {
+            Ok(reading) => Answered::Number(reading.version),
+            Err(Memory) => MEMORY,
         }
     }
 
@@ -234,7 +254,9 @@ impl<A: Allocator + Copy> Player<A> {
             Said::FinishOther(ticket, field) => self.finish_other(ticket, field),
             Said::FinishLeft(ticket) => self.finish_left(ticket),
             Said::GiveUp(ticket) => self.give_up(ticket),
-            Said::Settled(seen) => Answered::Settled(self.book.settled(seen)),
+            Said::Find(name) => self.find(name),
+            Said::Read => self.read(),
+            Said::Settled(seen) => Answered::Settled(self.analyst.book.settled(seen)),
         }
     }
 
@@ -245,7 +267,7 @@ impl<A: Allocator + Copy> Player<A> {
                 return false;
             }
         }
-        self.book.journal().len() == notes
+        self.analyst.book.journal().len() == notes
     }
 
     /// Says all this in turn, each once more where memory runs out.

@@ -29,6 +29,10 @@ pub(crate) enum Said {
     /// What the ticket's task has left is.
     FinishLeft(u64),
     GiveUp(u64),
+    /// The id of a scenario by its name.
+    Find(&'static str),
+    /// The version of what is read of one moment.
+    Read,
     /// How far all scenarios are, beside a version that was seen.
     Settled(u64),
 }
@@ -45,7 +49,7 @@ pub(crate) enum Answered {
     Made(Option<(u64, u64)>),
     Settled(SettleState),
     Done,
-    /// No scenario is due, or the task has left no run.
+    /// No scenario is due or has the name, or the task has left no run.
     Nothing,
     Refused(&'static str),
 }
@@ -82,6 +86,7 @@ type Rows = &'static [(Said, Answered)];
 /// Each call goes well.
 pub(crate) const EACH: Rows = &[
     (Said::Add("base"), Answered::Number(1)),
+    (Said::Find("base"), Answered::Number(1)),
     (Said::Claim, Answered::Claimed(1, 0, None)),
     (Said::HandIn(1), Answered::Number(0)),
     (Said::View(0, 0), Answered::Number(0)),
@@ -96,7 +101,9 @@ pub(crate) const EACH: Rows = &[
     (Said::Claim, Answered::Claimed(4, 2, Some((1, 1)))),
     (Said::Finish(4), Answered::Number(2)),
     (REMOVE, Answered::Number(3)),
+    (Said::Read, Answered::Number(3)),
     (Said::DropNamed("base"), Answered::Number(1)),
+    (Said::Find("base"), Answered::Nothing),
 ];
 
 /// Runs come late, twice and from strangers.

@@ -21,9 +21,9 @@ use Rattle.workers.specs.Callers.{SessionView}
 use Rattle.workers.specs.History.{CalledAt, IsShownAt, Settles}
 use Rattle.workers.specs.declared.settled.Settled.{Settled}
 use Rattle.scripts.specs.Analysts.{IsViewed}
-use Rattle.scripts.specs.BookRules.{IsPresent, IsTrueOf}
+use Rattle.version_book.specs.BookRules.{IsPresent, IsTrueOf}
 use Rattle.scripts.specs.Lifting.{Leads, Lifts}
-use Rattle.scripts.proofs.Lemmas.{shown-true}
+use Rattle.version_book.proofs.Lemmas.{shown-true}
 use Rattle.easybook.specs.Along.{Goes, Looks, Makes, Place, Waits, ended_by, rules_along}
 use Rattle.easybook.specs.DeskRules.{IsListed, IsRead, desk_rules}
 use Rattle.easybook.proofs.Own.{goes_by_others, list_noted, noted, own, own_grows, own_noted}

@@ -19,9 +19,9 @@ use Rattle.workers.specs.declared.settled.Settled.TheVariants as settled_as
 use Rattle.workers.specs.History.{CalledAt, IsSettledAt}
 use Rattle.workers.specs.Lists.{part_of}
 use Rattle.scripts.specs.Analysts.{LinesBy}
-use Rattle.scripts.specs.BookRules.{IsPresent, IsTrueOf}
-use Rattle.scripts.specs.Rules.{Rules}
-use Rattle.scripts.specs.Session.{seen_of}
+use Rattle.version_book.specs.BookRules.{IsPresent, IsTrueOf}
+use Rattle.version_book.specs.Rules.{Rules}
+use Rattle.version_book.specs.Session.{seen_of}
 use Rattle.scripts.specs.Transcript.{looked_at}
 
 -- the state of an analyst: the history up to its last response, and the greatest version that an edit or a view returned

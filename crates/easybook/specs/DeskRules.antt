@@ -11,9 +11,9 @@ use Rattle.workers.specs.Callers.{IsNewSession, SessionView}
 use Rattle.workers.specs.History.{Calls, Reads, Settles, Views}
 use Rattle.workers.specs.Lists.{Gains}
 use Rattle.scripts.specs.Analysts.{LinesBy}
-use Rattle.scripts.specs.BookRules.{IsPresent}
-use Rattle.scripts.specs.Rules.{Rules}
-use Rattle.scripts.specs.Session.{seen_of}
+use Rattle.version_book.specs.BookRules.{IsPresent}
+use Rattle.version_book.specs.Rules.{Rules}
+use Rattle.version_book.specs.Session.{seen_of}
 use Rattle.scripts.specs.Transcript.{looked_at}
 use Rattle.easybook.specs.Along.{ended_by}
 

@@ -6,13 +6,12 @@ use book_machine::SettleState;
 use chronicle::Naming;
 use job_table::Edit;
 use scenarios::{Scenario, ScenarioId};
-use scripts::Analyst;
 use std::alloc::Allocator;
 use std::marker::Model;
 use std::sync::Wait;
 use swf_text::Memory;
 use version_book::{
-    AddRefusal, DropRefusal, EditRefusal, Published, Reading, RetryRefusal, ViewRefusal,
+    AddRefusal, Analyst, DropRefusal, EditRefusal, Published, Reading, RetryRefusal, ViewRefusal,
 };
 use workers::{Desk, Session, Settled};
 

@@ -6,7 +6,7 @@ use Rattle.scenarios.specs.ScenarioList.{Listed}
 use Rattle.version_book.specs.declared.faults.ViewFault.{ViewFault}
 use Rattle.version_book.specs.declared.refusal.Refusal.{Refusal}
 use Rattle.scripts.specs.Analysts.{AreBeside, NotBeside, StandsSo, lines_of}
-use Rattle.scripts.specs.Rules.{Rules}
+use Rattle.version_book.specs.Rules.{Rules}
 use Rattle.scripts.specs.declared.views.Beside.{Beside}
 use Rattle.scripts.proofs.Sides.{take-more}
 

@@ -27,13 +27,15 @@ use Rattle.scripts.specs.declared.views.Beside.TheVariants as beside
 use Rattle.scripts.specs.declared.view_report.Report.{Report}
 use Rattle.scripts.specs.declared.view_report.Report.TheVariants as reports
 use Rattle.scripts.specs.Analysts.{AnswersBy, AreBeside, CallBy, IsLogText, LineBy, LinesBy, LogBy, NamedBy, NotBeside, SavedBy, SettledBy, SideBy, SideOf, StandsSo, ViewBy, lines_of}
-use Rattle.scripts.specs.BookRules.{IsAnswered, IsTrueOf, book_rules}
+use Rattle.version_book.specs.BookRules.{IsAnswered, IsTrueOf, book_rules}
 use Rattle.scripts.specs.Lines.{refused, version_line}
-use Rattle.scripts.specs.Looks.{IsListedAs, IsUnseen, NotLooked}
+use Rattle.version_book.specs.Looks.{IsListedAs}
+use Rattle.scripts.specs.Looks.{IsUnseen, NotLooked}
 use Rattle.scripts.specs.Reports.{IsReport}
 use Rattle.version_book.specs.Reading.{Moment, present}
 use Rattle.scripts.specs.Scripts.{TellsBy}
-use Rattle.scripts.specs.Session.{Session, IsCall}
+use Rattle.version_book.specs.Session.{Session}
+use Rattle.scripts.specs.Session.{IsCall}
 use Rattle.scripts.specs.Steps.{Answers, AreSeen, IsMade, IsNamed, IsSeen, IsSettledIf, IsSide, IsView, saved_text, settle_line}
 use Rattle.scripts.specs.Transcript.{IsLine, IsTranscript, Tells, looked_at}
 use Rattle.scripts.proofs.Looking.{beside-shown, named-viewed, not-viewed, side-behind, side-not_yet}

@@ -4,7 +4,6 @@ use Rattle.std.specs.Prelude.{Result, Ok, Err}
 use Rattle.book_machine.specs.declared.reply.Reply.{Reply}
 use Rattle.book_machine.specs.Call.{BookCall}
 use Rattle.version_book.specs.Answers.{answer_of}
-use Rattle.version_book.specs.Book.{BookView, machine_of}
 use Rattle.version_book.specs.Names.{refusal_name}
 use Rattle.version_book.specs.declared.refusal.Refusal.{Refusal}
 use Rattle.version_book.specs.declared.refusal.Refusal.TheVariants as why
@@ -12,10 +11,9 @@ use Rattle.version_book.specs.Steps.{outcome}
 use Rattle.scripts.specs.Analysts.{CallBy}
 use Rattle.scripts.specs.Answers.{scenario_says, says_of}
 use Rattle.scripts.specs.Lines.{refused, scenario_line}
-use Rattle.scripts.specs.Rules.{Rules}
+use Rattle.version_book.specs.Rules.{Rules}
 use Rattle.scripts.specs.Answered.{became_word, scenario_outcome}
 use Rattle.scripts.specs.declared.answer.Became.{Became}
-use Rattle.scripts.specs.Session.{Session}
 
 says-refusal : {T F : Type 0} (says : Reply → List ℕ) (replied : T → Reply) (because : F → Reply) (fault_name : F → List ℕ) → ((fault : F) → says (because fault) ≡ refused (fault_name fault)) → (refusal : Refusal F) → refused (refusal_name fault_name refusal) ≡ says_of says (answer_of replied because (Err refusal))
 says-refusal says replied because fault_name named why.JournalFull = refl
@@ -34,7 +32,3 @@ pub call-scenario : {S T F : Type 0} (rules : Rules S) (old new : S) (call : Boo
 call-scenario rules old new call name what replied because fault_name done named (Ok value) text h is = (outcome (replied value), h, is ∙ sym (done value))
 call-scenario rules old new call name what replied because fault_name done named (Err refusal) text h is =
     call-refused rules old new call (scenario_says name) replied because fault_name named refusal text h is
-
--- a session with a book, which has seen this version
-abbrev pub with : BookView → ℕ → Session
-with b seen = record { machine = machine_of b; seen = seen }

@@ -15,7 +15,7 @@ use Rattle.commands.specs.declared.fault.CommandFault.TheVariants.{TooLong}
 use Rattle.commands.specs.Commands.{command_of_line}
 use Rattle.scripts.specs.Hearing.{HasNoFeed, IsBegun, IsHeard, MayFollow, Reads}
 use Rattle.scripts.specs.Live.{AreWholeLines, IsReadTo, IsSaid, NoneQuits, Turns, answered_of}
-use Rattle.scripts.specs.Session.{Session}
+use Rattle.version_book.specs.Session.{Session}
 use Rattle.scripts.specs.Transcript.{IsLine, IsTranscript, IsTranscriptOf, is_quit, looked_at}
 use Rattle.scripts.specs.declared.hearing.LineEnd.{LineEnd}
 use Rattle.scripts.specs.declared.hearing.LineEnd.TheVariants.{Feed, Input, Open}

@@ -17,7 +17,7 @@ use Rattle.book_machine.specs.declared.reply.Reply.TheVariants as reply
 use Rattle.book_machine.specs.Call.{View}
 use Rattle.book_machine.specs.Machine.{Machine, Progress, after, progress_of, settled, view_reply_at}
 use Rattle.scripts.specs.Lines.{settled_line}
-use Rattle.scripts.specs.Session.{Session}
+use Rattle.version_book.specs.Session.{Session}
 use Rattle.scripts.specs.Steps.{IsNamed, IsSchedule, IsSettled, IsViewIf, settle_line}
 use Rattle.scripts.specs.Transcript.{IsLineIf, IsTranscriptIf, IsUnrefused, is_quit, looked_at}
 use Rattle.scripts.specs.FirstSchedule.{SchedulesTheFirst}

@@ -10,7 +10,7 @@ use Rattle.scenarios.specs.ScenarioList.{Listed, Listing, IdsRise}
 use Rattle.book_machine.specs.declared.settle_state.SettleState.TheVariants as settle
 use Rattle.book_machine.specs.Call.{Claim, Finish}
 use Rattle.book_machine.specs.Machine.{Machine, Progress, Ticket, after, are_all_out, changed, closed, fresh, is_due, is_good, is_waiting, note_limit, noted, publish, settled, ticket_of, version}
-use Rattle.scripts.specs.Settling.{Ended, Published, AreWorked, IsWorked, Settles}
+use Rattle.version_book.specs.Settling.{Ended, Published, AreWorked, IsWorked, Settles}
 use Rattle.scripts.proofs.Starts.{fresh_of, start, state}
 
 -- a scenario shows the log as it was opened

@@ -1,5 +1,4 @@
 mod Writings
-mod Settlings
 mod Transcripts
 mod CallAnswers
 mod Named

@@ -18,7 +18,7 @@ use Rattle.scripts.specs.Analysts.{AnswersBy, AreBeside, CallBy, FoundBy, LineBy
 use Rattle.scripts.specs.Answers.{edit_says, scenario_says}
 use Rattle.scripts.specs.Lifting.{Leads, Lifts, LinesLift}
 use Rattle.version_book.specs.Reading.{Moment}
-use Rattle.scripts.specs.Rules.{Rules}
+use Rattle.version_book.specs.Rules.{Rules}
 use Rattle.scripts.specs.Steps.{settle_line}
 
 module _ {S : Type 0} (Inv Good : S → Type 0) where

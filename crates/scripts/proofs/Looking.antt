@@ -1,8 +1,7 @@
 -- Views of a session: what a view returns is true of the book, and its response is the report, the line beside others, or why nothing is
 -- shown.
-use Rattle.std.proofs.Common.{◌≡◌, ℕ, List, ◌++◌, map, refl, sym, ◌∙◌, ap, subst, Bool, true, false, cond, inl, inr, ◌⊎◌}
-use Rattle.std.specs.Prelude.{codes, find, nat_lt, Option, None, Some, Result, Ok, Err, IfOk}
-use Rattle.std.specs.Option.{option_map}
+use Rattle.std.proofs.Common.{◌≡◌, ℕ, List, ◌++◌, refl, sym, ◌∙◌, ap, subst, inl, inr, ◌⊎◌}
+use Rattle.std.specs.Prelude.{codes, Some}
 use Rattle.swf_text.specs.Entry.{LogEntry}
 use Rattle.scenarios.specs.Scenario.{ScenarioView}
 use Rattle.scenarios.specs.Plan.{plan_of}
@@ -11,78 +10,24 @@ use Rattle.checkpoints.specs.Sums.{IsTablesOf}
 use Rattle.report.specs.Pieces.{left}
 use Rattle.report.specs.Schedule.{schedule_text}
 use Rattle.report.specs.Side.{shown_line}
-use Rattle.book_machine.specs.declared.caller.Caller.{Caller}
 use Rattle.book_machine.specs.declared.reply.Reply.TheVariants as reply
 use Rattle.book_machine.specs.Call.{View}
-use Rattle.book_machine.specs.Machine.{Machine, Progress, progress_of, reply_to, view_reply, view_reply_at}
+use Rattle.book_machine.specs.Machine.{Machine}
 use Rattle.tasks.specs.Published.{PublishedView}
 use Rattle.version_book.specs.declared.faults.ViewFault.{ViewFault}
 use Rattle.version_book.specs.declared.faults.ViewFault.TheVariants as view
 use Rattle.version_book.specs.declared.refusal.Refusal.{Refusal}
 use Rattle.version_book.specs.declared.refusal.Refusal.TheVariants as why
-use Rattle.version_book.specs.Answers.{view_answer}
-use Rattle.version_book.specs.Book.{BookView, ShownView, progress_of_shown, machine_of}
-use Rattle.version_book.specs.Lookups.{has_id}
-use Rattle.version_book.specs.Sound.{IsBook}
-use Rattle.version_book.specs.Steps.{Answers as Answered}
-use Rattle.version_book.specs.Tasks.{IsShownFor}
-use Rattle.version_book.proofs.Lemmas.{progress-shown}
 use Rattle.scripts.specs.declared.view_report.Report.{Report}
 use Rattle.scripts.specs.declared.view_report.Report.TheVariants as report
 use Rattle.scripts.specs.Lines.{refused}
-use Rattle.scripts.specs.BookRules.{IsTrueOf}
-use Rattle.scripts.specs.Laws.{ShownIsTrue}
-use Rattle.scripts.specs.Looks.{IsListedAs, IsLooked, IsOf, NotLooked, unseen_line}
-use Rattle.scripts.specs.Session.{Session, IsStep}
-use Rattle.scripts.specs.Steps.{IsView, IsSeen, log_of_version}
+use Rattle.version_book.specs.Looks.{IsListedAs, IsLooked, IsOf}
+use Rattle.scripts.specs.Looks.{NotLooked, unseen_line}
+use Rattle.version_book.specs.Session.{Session, IsStep}
+use Rattle.scripts.specs.Steps.{IsView, IsSeen}
+use Rattle.version_book.specs.Looks.{log_of_version}
 use Rattle.scripts.specs.Reports.{IsReport, report_text}
-use Rattle.scripts.proofs.CallAnswers.{with}
-use Rattle.scripts.proofs.Named.{shown-at, place-of, name-found}
-
-looked : (b : BookView) (id seen : ℕ) (p : PublishedView) → IsBook b → IsShownFor b.state id seen p → IsLooked (machine_of b) id p
-looked b id seen p book h s listed =
-    let shown = shown-at b listed.place s book listed.listed in
-    let found : find (has_id s.id) b.state.shown ≡ Some h.scenario = subst (λ (n : ℕ). find (has_id n) b.state.shown ≡ Some h.scenario) (sym listed.id) h.found in
-    let same : h.scenario ≡ shown.0 = cc (found, shown.1) in
-    record {
-      log = h.version.log;
-      scenario = h.version.scenario ∙ (ap (λ (x : ShownView). x.scenario) same ∙ shown.2);
-      run = h.version.run;
-    }
-
-not-missing-at : (seen : ℕ) (o : Option ℕ) → reply.NoSuchScenario ≡ view_reply_at seen o → ⊥
-not-missing-at seen None is = cc
-not-missing-at seen (Some found) is = go (nat_lt found seen) is
-  where
-    go : (b : Bool) → reply.NoSuchScenario ≡ cond b (reply.Behind seen found) (reply.Shown found) → ⊥
-    go true e = cc
-    go false e = cc
-
-not-missing : (b : BookView) (id seen : ℕ) (s : Listed) → IsBook b → IsListedAs (machine_of b) id s → reply.NoSuchScenario ≡ view_reply id seen (machine_of b) → ⊥
-not-missing b id seen s book listed is =
-    let shown = shown-at b listed.place s book listed.listed in
-    let at : find (has_id id) b.state.shown ≡ Some shown.0 = subst (λ (n : ℕ). find (has_id n) b.state.shown ≡ Some shown.0) listed.id shown.1 in
-    let found : progress_of id (map progress_of_shown b.state.shown) ≡ Some (progress_of_shown shown.0) = progress-shown id b.state.shown ∙ ap (option_map progress_of_shown) at in
-    not-missing-at seen (progress_of_shown shown.0).published (is ∙ ap (λ (o : Option Progress). elim o [ None ↦ reply.NoSuchScenario | Some p ↦ view_reply_at seen p.published ]) found)
-
--- what a view returns is true of the book
-pub shown-true : ShownIsTrue
-shown-true b id seen (Ok p) book shown missing = looked b id seen p book shown
-shown-true b id seen (Err why.JournalFull) book shown missing = tt
-shown-true b id seen (Err (why.Fault view.NoSuchScenario)) book shown missing = λ s listed. not-missing b id seen s book listed (sym (missing refl))
-shown-true b id seen (Err (why.Fault view.NotYet)) book shown missing = tt
-shown-true b id seen (Err (why.Fault (view.Behind x y))) book shown missing = tt
-shown-true b id seen (Err why.Memory) book shown missing = tt
-
-missing-replied : (b new : BookView) (who : Caller) (id seen : ℕ) (result : Result PublishedView (Refusal ViewFault)) → Answered b new who (View id seen) (view_answer result)
-    → result ≡ Err (why.Fault view.NoSuchScenario) → reply_to (View id seen) (machine_of b) ≡ reply.NoSuchScenario
-missing-replied b new who id seen result h is =
-    let there = subst (λ (r : Result PublishedView (Refusal ViewFault)). Answered b new who (View id seen) (view_answer r)) is h in
-    sym there.1
-
--- what a view returns is true of the state of a session with the book
-pub view-true-as : {u : Session} (b new : BookView) (who : Caller) (id seen : ℕ) (result : Result PublishedView (Refusal ViewFault)) → with b seen ≡ u → IsBook b → IfOk result (IsShownFor b.state id seen) → Answered b new who (View id seen) (view_answer result) → IsTrueOf u.machine id result
-view-true-as {u} b new who id seen result is book shown h = subst (λ (w : Session). IsTrueOf w.machine id result) is (shown-true b id seen result book shown (missing-replied b new who id seen result h))
+use Rattle.scripts.proofs.Named.{place-of, name-found}
 
 schedule-as : (name : List ℕ) (v : ℕ) {log log' : List LogEntry} {under under' : ScenarioView} → log ≡ log' → under ≡ under' → schedule_text name v (plan_of log under) ≡ schedule_text name v (plan_of log' under')
 schedule-as name v is is' = cc

@@ -1,14 +1,10 @@
 -- Scenarios by their names, what a book shows of them, and a search by name, place after place.
-use Rattle.std.proofs.Common.{◌≡◌, ℕ, ◌+◌, ◌≤◌, ◌<◌, ◌==◌, List, [], ◌∷◌, map, drop, length, suc, zero, refl, sym, ◌∙◌, ap, subst, Bool, true, false, cond, arith}
-use Rattle.std.specs.Prelude.{Option, None, Some, find, slice_get}
+use Rattle.std.proofs.Common.{◌≡◌, ℕ, ◌+◌, ◌≤◌, List, [], ◌∷◌, drop, length, suc, zero, refl, sym, ◌∙◌, ap, subst, Bool, true, false, cond, arith}
+use Rattle.std.specs.Prelude.{Option, None, Some, slice_get}
 use Rattle.std.specs.Option.{option_map}
 use Rattle.std.proofs.Math.ListN.{drop_of_length-le}
-use Rattle.std.proofs.lemmas.Bool.{eq-eqb, ne_eqb}
 use Rattle.std.proofs.lemmas.Slice.Eq.{bytes_eq-Decides}
-use Rattle.scenarios.specs.ScenarioList.{Listed, IdsRise, has_name, named}
-use Rattle.version_book.specs.Book.{ShownView, BookView}
-use Rattle.version_book.specs.Lookups.{has_id}
-use Rattle.version_book.specs.Sound.{Under, IsBook, under_of_shown, under_of_listed}
+use Rattle.scenarios.specs.ScenarioList.{Listed, has_name, named}
 
 -- where no id is found, no scenario is
 pub id-none : (o : Option Listed) → None ≡ option_map (λ (s : Listed). s.id) o → o ≡ None
@@ -30,43 +26,6 @@ name-here name s t ss false has later is = later is
 pub name-found : (name : List ℕ) (t : Listed) (ss : List Listed) → named name ss ≡ Some t → t.name ≡ name
 name-found name t [] is = cc
 name-found name t (s ∷ ss) is = name-here name s t ss (has_name name s) refl (name-found name t ss) is
-
-abbrev pub IsShown : List ShownView → Listed → Type 0
-IsShown xs s = (x : ShownView) × (find (has_id s.id) xs ≡ Some x) × (x.scenario ≡ s.scenario)
-
-show-first : (x : ShownView) (xs : List ShownView) (s : Listed) → under_of_shown x ≡ under_of_listed s → IsShown (x ∷ xs) s
-show-first x xs s u =
-    let id : x.id ≡ s.id = ap (λ (p : Under). p.0) u in
-    let test : (x.id == s.id) ≡ true = eq-eqb x.id s.id id in
-    (x, ap (λ (b : Bool). cond b (Some x) (find (has_id s.id) xs)) test, ap (λ (p : Under). p.1) u)
-
-show-later : (x : ShownView) (xs : List ShownView) (s : Listed) → x.id < s.id → IsShown xs s → IsShown (x ∷ xs) s
-show-later x xs s lt h =
-    let test : (x.id == s.id) ≡ false = ne_eqb x.id s.id (λ e. omega arith) in
-    (h.0, ap (λ (b : Bool). cond b (Some x) (find (has_id s.id) xs)) test ∙ h.1, h.2)
-
-id-above : (first : ℕ) (ss : List Listed) (next k : ℕ) (s : Listed) → IdsRise first ss next → slice_get ss k ≡ Some s → first ≤ s.id
-id-above first [] next k s h is = cc
-id-above first (t ∷ ss) next zero s h is = let same : t ≡ s = cc in subst (λ (u : Listed). first ≤ u.id) same h.0
-id-above first (t ∷ ss) next (suc k) s h is = let more = id-above (t.id + 1) ss next k s h.1 is in omega (arith, h.0)
-
-show-at : (first : ℕ) (xs : List ShownView) (ss : List Listed) (next k : ℕ) (s : Listed) → map under_of_shown xs ≡ map under_of_listed ss → IdsRise first ss next → slice_get ss k ≡ Some s → IsShown xs s
-show-at first xs [] next k s same h is = cc
-show-at first [] (t ∷ ss) next k s same h is = cc
-show-at first (x ∷ xs) (t ∷ ss) next zero s same h is =
-    let u : under_of_shown x ≡ under_of_listed t = cc in
-    let e : t ≡ s = cc in
-    show-first x xs s (u ∙ ap under_of_listed e)
-show-at first (x ∷ xs) (t ∷ ss) next (suc k) s same h is =
-    let u : under_of_shown x ≡ under_of_listed t = cc in
-    let us : map under_of_shown xs ≡ map under_of_listed ss = cc in
-    let id : x.id ≡ t.id = ap (λ (p : Under). p.0) u in
-    let above = id-above (t.id + 1) ss next k s h.1 is in
-    show-later x xs s (omega arith) (show-at (t.id + 1) xs ss next k s us h.1 is)
-
--- a book shows each listed scenario under its id, as it is listed
-pub shown-at : (b : BookView) (k : ℕ) (s : Listed) → IsBook b → slice_get b.state.listing.scenarios k ≡ Some s → IsShown b.state.shown s
-shown-at b k s h is = show-at 1 b.state.shown b.state.listing.scenarios b.state.listing.next k s h.sound.listed h.sound.ids is
 
 place-here : (name : List ℕ) (s t : Listed) (ss : List Listed) (b : Bool) → (named name ss ≡ Some t → (k : ℕ) × (slice_get ss k ≡ Some t)) → cond b (Some s) (named name ss) ≡ Some t → (k : ℕ) × (slice_get (s ∷ ss) k ≡ Some t)
 place-here name s t ss true later is = (0, is)

@@ -25,10 +25,12 @@ use Rattle.book_machine.specs.Call.{BookCall, Edit, AddScenario, DropScenario, R
 use Rattle.book_machine.specs.Machine.{Machine, version, current, settled, due, after, note_limit}
 use Rattle.scripts.specs.Lines.{refused}
 use Rattle.scripts.specs.Answers.{edit_says, scenario_says}
-use Rattle.scripts.specs.Session.{Session, IsStep, IsCallIf, seen_by}
-use Rattle.scripts.specs.Settling.{Ended, Published, GivenUp, AreWorked, CanClaim, Halts, IsAtRest, IsUnnoted, IsWorked}
-use Rattle.scripts.specs.Steps.{AnswersIf, AreSeen, IsDays, IsMadeIf, IsNamed, IsSchedule, IsSeen, IsSettled, IsSideIf, IsSideLine, IsTable, IsAnswered, IsUsers, IsViewIf, log_of_version, saved_text, settle_line, side_of}
-use Rattle.scripts.proofs.Settlings.{claim-notes}
+use Rattle.version_book.specs.Session.{Session, IsStep, seen_by}
+use Rattle.scripts.specs.Session.{IsCallIf}
+use Rattle.version_book.specs.Settling.{Ended, Published, GivenUp, AreWorked, CanClaim, Halts, IsAtRest, IsUnnoted, IsWorked}
+use Rattle.scripts.specs.Steps.{AnswersIf, AreSeen, IsDays, IsMadeIf, IsNamed, IsSchedule, IsSeen, IsSettled, IsSideIf, IsSideLine, IsTable, IsAnswered, IsUsers, IsViewIf, saved_text, settle_line, side_of}
+use Rattle.version_book.specs.Looks.{log_of_version}
+use Rattle.version_book.proofs.Lemmas.{claim-notes}
 
 -- one text, and one state
 abbrev pub IsSame : List ℕ → List ℕ → Session → Session → Type 0

@@ -10,7 +10,8 @@ use Rattle.book_machine.specs.declared.reply.Reply.{Reply}
 use Rattle.book_machine.specs.declared.reply.Reply.TheVariants as reply
 use Rattle.book_machine.specs.Call.{BookCall}
 use Rattle.book_machine.specs.Machine.{Machine}
-use Rattle.scripts.specs.Session.{Session, IsCallIf}
+use Rattle.version_book.specs.Session.{Session}
+use Rattle.scripts.specs.Session.{IsCallIf}
 use Rattle.scripts.specs.Steps.{AnswersIf, IsDays, IsMadeIf, IsNamed, IsSchedule, IsSideIf, IsTable, IsAnswered, IsUsers, IsViewIf}
 use Rattle.scripts.specs.Transcript.{IsLineIf, IsTranscriptIf, IsTranscriptOf, IsUnrefused, looked_at}
 use Rattle.scripts.proofs.OneAnswer.{IsSame, one-answer}

@@ -8,7 +8,7 @@ use Rattle.swf_text.specs.Text.{lines, is_feed}
 use Rattle.swf_text.proofs.Lemmas.{lines-next}
 use Rattle.commands.specs.Commands.{command_of_line}
 use Rattle.scripts.specs.Analysts.{LineBy, LinesBy}
-use Rattle.scripts.specs.Rules.{Rules}
+use Rattle.version_book.specs.Rules.{Rules}
 use Rattle.scripts.specs.Transcript.{is_quit, looked_at}
 use Rattle.scripts.proofs.Writings.{front_after}
 

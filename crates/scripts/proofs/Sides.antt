@@ -9,7 +9,7 @@ use Rattle.book_machine.specs.Machine.{Machine}
 use Rattle.report.specs.declared.side.SideLine.{SideLine}
 use Rattle.report.specs.Side.{side_line, side_text}
 use Rattle.scripts.specs.Lines.{refused}
-use Rattle.scripts.specs.Session.{Session}
+use Rattle.version_book.specs.Session.{Session}
 use Rattle.scripts.specs.Steps.{IsSeen, IsSide, side_of}
 
 take-next : {X : Type 0} (xs : List X) (k : ℕ) (x : X) → slice_get xs k ≡ Some x → take (suc k) xs ≡ take k xs ++ x ∷ []

@@ -29,7 +29,7 @@ use Rattle.scripts.specs.Lines.{version_line, bye_line, fault_line, refused}
 use Rattle.scripts.specs.Looks.{beside_line, unseen_line}
 use Rattle.scripts.specs.Reports.{report_text}
 use Rattle.version_book.specs.Reading.{Moment}
-use Rattle.scripts.specs.Rules.{Rules}
+use Rattle.version_book.specs.Rules.{Rules}
 use Rattle.scripts.specs.Steps.{saved_text, settle_line, side_of}
 
 -- ---- responses, as text

@@ -2,7 +2,6 @@ pub mod Lines
 pub mod Answered
 pub mod Answers
 pub mod Session
-pub mod Settling
 pub mod Steps
 pub mod Replies
 pub mod Reports
@@ -11,9 +10,7 @@ pub mod Transcript
 pub mod FirstSchedule
 pub mod Hearing
 pub mod Live
-pub mod Rules
 pub mod Analysts
 pub mod Scripts
-pub mod BookRules
 pub mod Lifting
 pub mod Laws

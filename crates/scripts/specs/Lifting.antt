@@ -8,7 +8,7 @@ use Rattle.version_book.specs.declared.refusal.Refusal.{Refusal}
 use Rattle.version_book.specs.Steps.{Answer}
 use Rattle.scripts.specs.Analysts.{IsViewed, LinesBy}
 use Rattle.version_book.specs.Reading.{Moment}
-use Rattle.scripts.specs.Rules.{Rules}
+use Rattle.version_book.specs.Rules.{Rules}
 
 -- A step keeps the invariant. Whether the fact holds may be known at the end alone: where the new state is good, it does, and
 -- the old one was good.

@@ -6,7 +6,7 @@ use Rattle.swf_text.specs.Limits.{line_limit}
 use Rattle.swf_text.specs.Text.{lines}
 use Rattle.commands.specs.Commands.{command_of_line}
 use Rattle.scripts.specs.Hearing.{HasNoFeed, IsLongIfOpen, Reads}
-use Rattle.scripts.specs.Session.{Session}
+use Rattle.version_book.specs.Session.{Session}
 use Rattle.scripts.specs.Transcript.{IsTranscript, IsTranscriptOf, is_quit, looked_at}
 use Rattle.scripts.specs.declared.hearing.LineEnd.{LineEnd}
 use Rattle.scripts.specs.declared.hearing.LineEnd.TheVariants.{Feed, Input, Open}

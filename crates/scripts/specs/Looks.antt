@@ -1,13 +1,11 @@
 -- What a look at a scenario's published run gives.
-use Rattle.std.specs.Prelude.{◌≡◌, ℕ, List, ◌++◌, Some, ◌⊎◌, slice_get, codes}
+use Rattle.std.specs.Prelude.{◌≡◌, ℕ, List, ◌++◌, ◌⊎◌, codes}
 use Rattle.report.specs.Pieces.{left}
 use Rattle.report.specs.Side.{shown_line}
 use Rattle.scenarios.specs.ScenarioList.{Listed}
-use Rattle.checkpoints.specs.RunView.{IsRun}
 use Rattle.book_machine.specs.declared.reply.Reply.TheVariants as reply
 use Rattle.book_machine.specs.Call.{View}
-use Rattle.book_machine.specs.Machine.{Machine, note_limit}
-use Rattle.tasks.specs.Published.{PublishedView}
+use Rattle.book_machine.specs.Machine.{note_limit}
 use Rattle.version_book.specs.declared.faults.ViewFault.{ViewFault}
 use Rattle.version_book.specs.declared.faults.ViewFault.TheVariants as view
 use Rattle.version_book.specs.declared.refusal.Refusal.{Refusal}
@@ -16,24 +14,8 @@ use Rattle.version_book.specs.Names.{refusal_name, view_fault_name}
 use Rattle.scripts.specs.declared.views.Beside.{Beside}
 use Rattle.scripts.specs.declared.views.Beside.TheVariants as beside
 use Rattle.scripts.specs.Lines.{refused, behind_line}
-use Rattle.scripts.specs.Session.{Session, IsStep}
-use Rattle.scripts.specs.Steps.{log_of_version}
-
--- the run that is published is of its version's log, under the scenario
-pub record IsOf (m : Machine) (s : Listed) (p : PublishedView) : Type 0 where
-  pub log : p.run.log ≡ log_of_version m p.version
-  pub scenario : p.run.scenario ≡ s.scenario
-  pub run : IsRun p.run
-
--- a scenario of the list, at some place, with this id
-pub record IsListedAs (m : Machine) (wanted : ℕ) (s : Listed) : Type 0 where
-  pub place : ℕ
-  pub listed : slice_get m.listing.scenarios place ≡ Some s
-  pub id : s.id ≡ wanted
-
--- the run is that of the listed scenario with this id
-abbrev pub IsLooked : Machine → ℕ → PublishedView → Type 0
-IsLooked m id p = (s : Listed) → IsListedAs m id s → IsOf m s p
+use Rattle.version_book.specs.Session.{Session, IsStep}
+use Rattle.version_book.specs.Looks.{IsListedAs}
 
 -- nothing is shown: no call was noted, or the book replied why; a listed scenario is there
 abbrev pub NotLooked : Refusal ViewFault → Session → ℕ → Session → Type 0

@@ -3,7 +3,7 @@ use Rattle.std.specs.Prelude.{◌≡◌, ℕ, List, ◌++◌, take, Option, Resu
 use Rattle.std.specs.Io.KnownBytes.{Appends}
 use Rattle.swf_text.specs.Text.{lines}
 use Rattle.scripts.specs.Analysts.{LinesBy}
-use Rattle.scripts.specs.Rules.{Rules}
+use Rattle.version_book.specs.Rules.{Rules}
 use Rattle.scripts.specs.Transcript.{looked_at}
 
 -- What was written responds to all lines up to the first `quit`; or where the writer failed, it is a beginning of what responds

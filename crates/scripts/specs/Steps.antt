@@ -3,10 +3,9 @@
 use Rattle.std.specs.Prelude.{◌≡◌, ℕ, ◌<◌, List, [], ◌∷◌, ◌++◌, length, count_by, None, Some, ◌⊎◌, codes, Bool, true, false}
 use Rattle.std.specs.List.{flat_map}
 use Rattle.std.specs.Fmt.{decimal}
-use Rattle.swf_text.specs.Entry.{LogEntry}
 use Rattle.swf_text.specs.Text.{LogText, is_feed}
 use Rattle.swf_text.specs.Writing.{text_bytes}
-use Rattle.job_table.specs.Edit.{Insert, Remove, Change, log_at}
+use Rattle.job_table.specs.Edit.{Insert, Remove, Change}
 use Rattle.scenarios.specs.Names.{no_such_scenario_name}
 use Rattle.scenarios.specs.Plan.{plan_of}
 use Rattle.scenarios.specs.ScenarioList.{Listed, named}
@@ -30,8 +29,10 @@ use Rattle.book_machine.specs.Call.{Edit, AddScenario, DropScenario, Retry, View
 use Rattle.book_machine.specs.Machine.{Machine, version, current, settled, note_limit}
 use Rattle.scripts.specs.Lines.{version_line, settled_line, failed_line, stopped_line, saved_line, bye_line, refused}
 use Rattle.scripts.specs.Answers.{edit_says, scenario_says, view_says}
-use Rattle.scripts.specs.Settling.{Settles}
-use Rattle.scripts.specs.Session.{Session, IsStep, IsRefused, IsFull, IfShort, WantsMemory, IsCallIf}
+use Rattle.version_book.specs.Settling.{Settles}
+use Rattle.version_book.specs.Session.{Session, IsStep}
+use Rattle.scripts.specs.Session.{IsRefused, IsFull, IfShort, WantsMemory, IsCallIf}
+use Rattle.version_book.specs.Looks.{log_of_version}
 
 -- ---- a scenario by its name
 
@@ -42,10 +43,6 @@ IsNamed old name follows text new =
     ⊎ ((s : Listed) × (named name old.machine.listing.scenarios ≡ Some s) × follows s)
 
 -- ---- views
-
--- the log of a version
-abbrev pub log_of_version : Machine → ℕ → List LogEntry
-log_of_version m v = log_at m.opening m.edits v
 
 -- the tables of a version's log under a scenario
 abbrev pub AreTables : Machine → Listed → ℕ → TableRows → Type 0

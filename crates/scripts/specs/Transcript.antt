@@ -11,7 +11,7 @@ use Rattle.commands.specs.Commands.{command_of_line}
 use Rattle.book_machine.specs.Call.{AddScenario}
 use Rattle.book_machine.specs.Machine.{Machine, opened, after}
 use Rattle.scripts.specs.Lines.{fault_line}
-use Rattle.scripts.specs.Session.{Session}
+use Rattle.version_book.specs.Session.{Session}
 use Rattle.scripts.specs.Steps.{AnswersIf}
 
 -- a log with its scenarios, each added by a call of its own; the session has seen nothing

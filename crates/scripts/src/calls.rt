@@ -4,13 +4,13 @@ ghost use Rattle.scripts.specs.Analysts.{CallBy, NamedBy, SettledBy, VersionBy};
 ghost use Rattle.scripts.specs.Answers.{edit_says, scenario_says};
 ghost use Rattle.scripts.specs.Answered.{answer_line};
 
-use crate::analyst::Analyst;
 use crate::answer::{Answer, Became};
 use book_machine::SettleState;
 use commands::ScenarioName;
 use job_table::Edit;
 use scenarios::{NoSuchScenario, Scenario};
 use std::alloc::Allocator;
+use version_book::Analyst;
 
 pub(crate) fn edit<S: Analyst<A>, A: Allocator + Copy>(analyst: &mut S, edit: &Edit<A>) -> Answer
     ensures { CallBy S.rules analyst.old (Edits (edit_of edit.now)) edit_says (answer_line result) analyst.new }

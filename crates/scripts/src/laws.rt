@@ -1,5 +1,5 @@
 ghost use Rattle.scripts.specs.FirstSchedule.{SchedulesTheFirst};
-ghost use Rattle.scripts.specs.Laws.{LinesAreOne, ShownIsTrue, TranscriptsAreOne, TranscriptsAreSome};
+ghost use Rattle.scripts.specs.Laws.{LinesAreOne, TranscriptsAreOne, TranscriptsAreSome};
 ghost use Rattle.scripts.specs.Lifting.{LinesLift};
 
 use crate::lifting::Lifting;
@@ -20,12 +20,6 @@ pub fn unrefused_transcripts_are_one<A: Allocator>()
 /// log under that scenario.
 pub fn the_first_schedule<A: Allocator>()
     ensures { SchedulesTheFirst A }
-{}
-
-/// What a view of a book shows is true of the book: a run is that of the log of its version under the
-/// scenario, and a scenario is not listed where the book replies that there is none.
-pub fn what_is_shown_is_true()
-    ensures { ShownIsTrue }
 {}
 
 /// Where the rules of one analyst lead to those of another, a transcript of a script by the first is one

@@ -3,9 +3,7 @@
 //! a desk.
 #![tactic(auto)]
 
-mod analyst;
 mod answer;
-mod book_session;
 mod calls;
 mod hearing;
 mod laws;
@@ -15,15 +13,11 @@ mod refusal_name;
 mod reply;
 mod run;
 mod saving;
-mod settling;
 mod side;
 mod view_report;
 mod views;
 
-pub use analyst::Analyst;
-pub use laws::{
-    the_first_schedule, transcripts_lift, unrefused_transcripts_are_one, what_is_shown_is_true,
-};
+pub use laws::{the_first_schedule, transcripts_lift, unrefused_transcripts_are_one};
 pub use lifting::Lifting;
 pub use live::{LiveFault, run_live};
 pub use run::{run_lines, work_lines};

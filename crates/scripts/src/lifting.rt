@@ -1,7 +1,7 @@
 /// Two sets of rules for analysts, and the map from the states of the first to those of the second. A law
 /// speaks of all such pairs; no value is one.
 pub trait Lifting {
-    ghost use Rattle.scripts.specs.Rules.{Rules};
+    ghost use Rattle.version_book.specs.Rules.{Rules};
 
     /// The state of the first.
     ghost State: { Type 0 };

@@ -5,21 +5,20 @@ ghost use Rattle.version_book.specs.Book.{machine_of};
 ghost use Rattle.scripts.specs.Hearing.{MayFollow};
 ghost use Rattle.scripts.specs.Live.{IsSaid, Talks, Turns};
 ghost use Rattle.scripts.specs.Replies.{reply_text};
-ghost use Rattle.scripts.specs.Session.{Session};
+ghost use Rattle.version_book.specs.Session.{Session};
 ghost use Rattle.scripts.specs.Transcript.{IsLine, is_quit};
 ghost use Rattle.scripts.specs.declared.live.LiveFault.TheVariants.{Read as ReadFailed, Write as WriteFailed, Memory as OutOfMemory};
 
-use crate::book_session::BookSession;
 use crate::hearing::{Line, LineEnd, ReadFault, next_line, pass_line};
 use crate::reply::Reply;
-use crate::run::is_quit;
-use commands::parse_command;
+use crate::run::{answer_line, is_quit};
+use commands::{Command, CommandFault, parse_command};
 use std::alloc::{AllocError, Allocator};
 use std::fmt;
 use std::io::{BufRead, Write};
 use swf_text::{Memory, WriteFault};
 use thiserror::Error;
-use version_book::Book;
+use version_book::{Book, BookSession};
 
 /// Why a conversation ended before its input did.
 #[derive(Clone, Copy, Debug, PartialEq, Eq, Error)]
@@ -76,8 +75,21 @@ fn say<W: Write, A: Allocator + Copy>(reply: &Reply<A>, writer: &mut W) -> Resul
     }
 }
 
+fn answer_on_book<A: Allocator + Copy>(
+    analyst: &mut BookSession<A>,
+    alloc: A,
+    comments: &[Vec<u8, A>],
+    line: u64,
+    asked: Result<Option<Command<A>>, CommandFault>,
+) -> Reply<A>
+    ensures { IsLine (map (λ c. c.items) comments.now) analyst.old line asked (reply_text result) analyst.new }
+{
+    answer_line(analyst, alloc, comments, line, asked)
+}
+
 fn answer<W: Write, A: Allocator + Copy>(
     analyst: &mut BookSession<A>,
+    alloc: A,
     comments: &[Vec<u8, A>],
     number: u64,
     line: &[u8],
@@ -86,9 +98,12 @@ fn answer<W: Write, A: Allocator + Copy>(
     ensures outcome { (text : List ℕ) × IsLine (map (λ c. c.items) comments.now) analyst.old number (command_of_line {A = A} line.now) text analyst.new × Writes result (W.contents writer.old) (W.contents writer.new) text }
     ensures quits { IfOk result (λ quits. quits ≡ is_quit (command_of_line {A = A} line.now)) }
 {
-    let asked = parse_command(analyst.alloc, line);
+    let asked = parse_command(alloc, line);
     let quits = is_quit(&asked);
-    say(&analyst.answer_line(comments, number, asked), writer)?;
+    say(
+        &answer_on_book(analyst, alloc, comments, number, asked),
+        writer,
+    )?;
     Ok(quits)
 }
 
@@ -108,6 +123,7 @@ fn may_follow<R: BufRead, A: Allocator>(
 
 fn turn<R: BufRead, W: Write, A: Allocator + Copy>(
     analyst: &mut BookSession<A>,
+    alloc: A,
     comments: &[Vec<u8, A>],
     number: u64,
     line: &mut Line<A>,
@@ -119,7 +135,7 @@ fn turn<R: BufRead, W: Write, A: Allocator + Copy>(
         → Turns A (map (λ c. c.items) comments.now) first from (R.remaining reader.new) old (W.contents writer.new) analyst.new number result }
 {
     let end = next_line(reader, line)?;
-    let quits = answer(analyst, comments, number, line.as_slice(), writer)?;
+    let quits = answer(analyst, alloc, comments, number, line.as_slice(), writer)?;
     if quits {
         return Ok(false);
     }
@@ -151,9 +167,17 @@ pub fn run_live<R: BufRead, W: Write, A: Allocator + Copy>(
     ensures { Talks A (map (λ c. c.items) comments.now) (record { machine = machine_of book; seen = 0 }) (R.remaining reader.old) (R.remaining reader.new) (W.contents writer.old) (W.contents writer.new) result }
 {
     let mut line = Line::new(alloc)?;
-    let mut analyst = BookSession::new(alloc, book);
+    let mut analyst = BookSession::new(book);
     for number in 1..u64::MAX {
-        let follows = turn(&mut analyst, comments, number, &mut line, reader, writer)?;
+        let follows = turn(
+            &mut analyst,
+            alloc,
+            comments,
+            number,
+            &mut line,
+            reader,
+            writer,
+        )?;
         if !follows {
             return Ok(());
         }

@@ -5,9 +5,7 @@ ghost use Rattle.scripts.specs.Replies.{reply_text};
 ghost use Rattle.scripts.specs.Scripts.{TellsBy};
 ghost use Rattle.scripts.specs.Transcript.{Tells, is_quit};
 
-use crate::analyst::Analyst;
 use crate::answer::Answer;
-use crate::book_session::BookSession;
 use crate::calls::{add, drop_named, edit, retry, settle, version};
 use crate::reply::Reply;
 use crate::saving::{log, save};
@@ -19,7 +17,7 @@ use job_table::Edit;
 use std::alloc::Allocator;
 use std::io::Write;
 use swf_text::{WriteFault, split_line};
-use version_book::Book;
+use version_book::{Analyst, Book, BookSession};
 
 fn answer<S: Analyst<A>, A: Allocator + Copy>(
     analyst: &mut S,
@@ -126,6 +124,6 @@ pub fn run_lines<W: Write, A: Allocator + Copy>(
 ) -> Result<(), WriteFault>
     ensures { Tells A (map (λ c. c.items) comments.now) (record { machine = machine_of book; seen = 0 }) script.now (W.contents writer.old) (W.contents writer.new) result }
 {
-    let mut session = BookSession::new(alloc, book);
+    let mut session = BookSession::new(book);
     work_lines(&mut session, alloc, comments, script, writer)
 }

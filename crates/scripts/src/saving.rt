@@ -8,14 +8,13 @@ ghost use Rattle.version_book.specs.Reading.{moment_of};
 ghost use Rattle.scripts.specs.Analysts.{IsLogOf, LogBy, NamedBy, SavedBy};
 ghost use Rattle.scripts.specs.Replies.{reply_text};
 
-use crate::analyst::Analyst;
 use crate::reply::Reply;
 use commands::{ScenarioName, save_text};
 use report::log_text;
 use scenarios::{NoSuchScenario, Scenario, ScenarioList};
 use std::alloc::Allocator;
 use swf_text::{Memory, SwfText, write_swf};
-use version_book::Reading;
+use version_book::{Analyst, Reading};
 
 fn scenario_of<A: Allocator + Copy>(list: &ScenarioList<A>, name: &str) -> Option<Scenario>
     ensures { result ≡ option_map (λ s. s.scenario) (named name.now list.now.scenarios) }

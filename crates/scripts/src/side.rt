@@ -4,14 +4,13 @@ ghost use Rattle.report.specs.Side.{side_line};
 ghost use Rattle.scripts.specs.Analysts.{AreBeside, NotBeside, SideBy, StandsSo, beside_of, lines_of};
 ghost use Rattle.scripts.specs.Replies.{reply_text};
 
-use crate::analyst::Analyst;
 use crate::reply::Reply;
 use crate::views::Beside;
 use report::{SideLine, side_text};
 use scenarios::{ScenarioId, ScenarioList};
 use std::alloc::Allocator;
 use swf_text::Memory;
-use version_book::{Published, Refusal, ViewFault, ViewRefusal};
+use version_book::{Analyst, Published, Refusal, ViewFault, ViewRefusal};
 
 fn beside_of<A: Allocator + Copy>(
     outcome: Result<Published<A>, ViewRefusal>,

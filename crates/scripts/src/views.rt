@@ -5,7 +5,6 @@ ghost use Rattle.scripts.specs.Looks.{beside_line, unseen_line};
 ghost use Rattle.scripts.specs.Replies.{reply_text};
 ghost use Rattle.scripts.specs.Answered.{answer_line};
 
-use crate::analyst::Analyst;
 use crate::answer::Answer;
 use crate::reply::Reply;
 use crate::view_report::Report;
@@ -14,7 +13,7 @@ use report::SideLine;
 use scenarios::NoSuchScenario;
 use std::alloc::Allocator;
 use swf_text::Memory;
-use version_book::{Published, Refusal, ViewFault, ViewRefusal};
+use version_book::{Analyst, Published, Refusal, ViewFault, ViewRefusal};
 
 /// What is shown of a scenario beside others.
 #[derive(Drop)]

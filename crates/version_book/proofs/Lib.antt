@@ -9,4 +9,6 @@ mod WorkerSteps
 mod Histories
 mod Readings
 mod Claimed
+mod Looking
+mod Settlings
 pub mod Lemmas

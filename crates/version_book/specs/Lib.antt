@@ -6,3 +6,9 @@ pub mod Steps
 pub mod Tasks
 pub mod Lookups
 pub mod Names
+pub mod Session
+pub mod Settling
+pub mod Rules
+pub mod Looks
+pub mod BookRules
+pub mod Laws

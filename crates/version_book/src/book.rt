@@ -81,14 +81,14 @@ impl<A: Allocator + Copy> Book<A> {
         ensures value { arc_value result.now ≡ self.now.state.current }
         ensures log { self.now.state.current ≡ current (machine_of self.now) }
     {
-        self.state.current()
+        &self.state.current
     }
 
     /// The scenarios, in the order in which they were added.
     pub fn scenarios(&self) -> &ScenarioList<A>
         ensures { result.now ≡ self.now.state.listing }
     {
-        self.state.scenarios()
+        &self.state.scenarios
     }
 
     /// The version, its log and the scenarios, all of this moment. Memory where a growth is refused.
@@ -106,14 +106,14 @@ impl<A: Allocator + Copy> Book<A> {
     pub fn id_of(&self, name: &str) -> Option<ScenarioId>
         ensures { result ≡ id_of name.now self.now.state.listing }
     {
-        self.state.scenarios().id_of(name)
+        self.state.scenarios.id_of(name)
     }
 
     /// The most event seconds that a segment of a new run may hold.
     pub fn spacing(&self) -> u32
         ensures { result ≡ self.now.state.spacing }
     {
-        self.state.spacing()
+        self.state.spacing
     }
 
     /// The scenario for which a claim would return a task; also none while 256 tickets stand.

@@ -1,4 +1,4 @@
-ghost use Rattle.std.specs.Prelude.{◌≡◌, ◌<◌, ◌++◌, map, length, nat_le, IfErr, OnOk, vec_len, vec_capacity};
+ghost use Rattle.std.specs.Prelude.{◌≡◌, ◌<◌, ◌++◌, map, length, IfErr, OnOk, vec_len, vec_capacity};
 ghost use Rattle.book_machine.specs.Machine.{note_limit};
 ghost use Rattle.book_machine.specs.Noted.{call_of, noted_of};
 ghost use Rattle.version_book.specs.Steps.{IsNoNote, notes_of};
@@ -9,12 +9,6 @@ use std::alloc::Allocator;
 
 const NOTE_LIMIT: usize = 1_000_000;
 
-fn is_full<A: Allocator + Copy>(journal: &Vec<Note<A>, A>) -> bool
-    ensures { result ≡ nat_le note_limit (length journal.now.items) }
-{
-    journal.len() >= NOTE_LIMIT
-}
-
 pub(crate) fn reserve_note<F, A: Allocator + Copy>(
     journal: &mut Vec<Note<A>, A>,
 ) -> Result<(), Refusal<F>>
@@ -23,7 +17,7 @@ pub(crate) fn reserve_note<F, A: Allocator + Copy>(
     ensures few { OnOk result (length journal.old.items < note_limit) }
     ensures refused { IfErr result (IsNoNote (length journal.old.items)) }
 {
-    if is_full(journal) {
+    if journal.len() >= NOTE_LIMIT {
         return Err(Refusal::JournalFull);
     }
     match journal.reserve(1) {

@@ -67,10 +67,7 @@ pub(crate) fn published_version<A: Allocator + Copy>(
 ) -> Option<u64>
     ensures { result ≡ version_shown id shown.now }
 {
-    match shown_of(shown, id) {
-        Some(shown) => shown.published_version(),
-        None => None,
-    }
+    shown_of(shown, id)?.published_version()
 }
 
 fn place_of<A: Allocator + Copy>(shown: &[Shown<A>], id: ScenarioId) -> Option<usize>

@@ -82,10 +82,7 @@ impl<A: Allocator + Copy> Shown<A> {
     pub(crate) fn published_version(&self) -> Option<u64>
         ensures { result ≡ published_version self.now }
     {
-        match &self.published {
-            Some(published) => Some(published.version()),
-            None => None,
-        }
+        Some(self.published.as_ref()?.version())
     }
 
     pub(crate) fn is_marked(&self, version: u64) -> bool

@@ -80,26 +80,6 @@ impl<A: Allocator + Copy> State<A> {
     {
         self.edits.len() as u64
     }
-}
-
-impl<A: Allocator + Copy> State<A> {
-    pub(crate) fn current(&self) -> &Arc<JobTable<A>, A>
-        ensures { arc_value result.now ≡ self.now.current }
-    {
-        &self.current
-    }
-
-    pub(crate) fn scenarios(&self) -> &ScenarioList<A>
-        ensures { result.now ≡ self.now.listing }
-    {
-        &self.scenarios
-    }
-
-    pub(crate) fn spacing(&self) -> u32
-        ensures { result ≡ self.now.spacing }
-    {
-        self.spacing
-    }
 
     pub(crate) fn due(&self) -> Option<ScenarioId>
         ensures { result ≡ free_due self.now }

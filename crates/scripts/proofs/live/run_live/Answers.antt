@@ -1,7 +1,7 @@
 use Rattle.std.proofs.Common.{rules, ◌≡◌, Bool, true, false, [], map, refl, sym, subst, Ok, Err}
 use Rattle.version_book.specs.Book.{machine_of}
 use Rattle.scripts.specs.Live.{IsSaid, Turns}
-use Rattle.scripts.specs.Session.{Session}
+use Rattle.version_book.specs.Session.{Session}
 use Rattle.scripts.specs.declared.live.LiveFault.TheVariants as faults
 use Rattle.scripts.proofs.Conversations.{unbegun, unheard, unsaid}
 use Rattle.scripts.proofs.live.run_live.Goals as goal

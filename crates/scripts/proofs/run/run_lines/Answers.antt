@@ -1,5 +1,5 @@
 use Rattle.std.proofs.Common.{map, subst}
-use Rattle.scripts.specs.Session.{Session}
+use Rattle.version_book.specs.Session.{Session}
 use Rattle.scripts.specs.Transcript.{Tells}
 use Rattle.scripts.proofs.BookAnswers.{tells-of-book}
 use Rattle.scripts.proofs.run.run_lines.Goals as goal

@@ -1,8 +1,0 @@
-use Rattle.std.proofs.Common.{map}
-use Rattle.scripts.specs.Replies.{reply_text}
-use Rattle.scripts.proofs.BookAnswers.{line-of-book}
-use Rattle.scripts.proofs.book_session.BookSession.answer_line.Goals as goal
-
-pub returns : goal.returns
-returns g c =
-    line-of-book {A = g.row.A.Denot} (map (λ c'. c'.items) c.args.comments.now) c.args.self.now c.args.line c.args.asked (reply_text c.answer_line.result) c.answer_line.new.analyst c.answer_line.ensures
