@@ -7,11 +7,8 @@ use Rattle.version_book.specs.Book.{BookView, machine_of}
 use Rattle.scripts.specs.Transcript.{begun}
 use Rattle.easybook.specs.Along.{AreAnsweredAlong}
 use Rattle.easybook.specs.Book.{IsBookOf}
-use Rattle.easybook.specs.Fault.{fault_of_scripts}
-use Rattle.easybook.specs.declared.shared_fault.SharedFault.{SharedFault}
-use Rattle.easybook.specs.declared.shared_fault.SharedFault.TheVariants as shared
 use Rattle.easybook.specs.Program.{Ends, EndsOnScripts, EndsWith, Sources, log_known}
-use Rattle.easybook.specs.Shared.{AreAnswered, AreWithin, RunsShared, headed}
+use Rattle.easybook.specs.Shared.{AreAnswered, AreWithin, IsSharedFault, RunsShared, headed}
 use Rattle.easybook.specs.Words.{Choice, chosen}
 use Rattle.easybook.specs.declared.fault.ProgramFault.{ProgramFault}
 use Rattle.easybook.specs.declared.fault.ProgramFault.TheVariants as faults
@@ -63,11 +60,17 @@ shared_unopened {X} outcome A log procs scripts old fault is within h = subst (�
   go (faults.Close f) h = absurd h
 
 -- why scripts side by side end without their texts, with nothing written, is a result for them
-pub shared_failed : {X : Type 0} (outcome : Result X ProgramFault) (A : Type 0) (log : List ℕ) (procs : Option ℕ) (scripts : List (List ℕ)) (old : Option (List ℕ)) (fault : SharedFault) → outcome ≡ Err (fault_of_scripts fault) → RunsShared A log procs scripts old old outcome
-shared_failed {X} outcome A log procs scripts old fault is = subst (λ (r : Result X ProgramFault). RunsShared A log procs scripts old old r) (sym is) (go fault) where
-  go : (f : SharedFault) → RunsShared {X = X} A log procs scripts old old (Err (fault_of_scripts f))
-  go (shared.Close f) = keeps old
-  go shared.Memory = keeps old
+pub shared_failed : {X : Type 0} (outcome : Result X ProgramFault) (A : Type 0) (log : List ℕ) (procs : Option ℕ) (scripts : List (List ℕ)) (old : Option (List ℕ)) (fault : ProgramFault) → outcome ≡ Err fault → IsSharedFault fault → RunsShared A log procs scripts old old outcome
+shared_failed {X} outcome A log procs scripts old fault is h = subst (λ (r : Result X ProgramFault). RunsShared A log procs scripts old old r) (sym is) (go fault h) where
+  go : (f : ProgramFault) → IsSharedFault f → RunsShared {X = X} A log procs scripts old old (Err f)
+  go (faults.Close f) h = keeps old
+  go faults.Memory h = keeps old
+  go faults.TooLong h = absurd h
+  go (faults.Log f) h = absurd h
+  go faults.NoMachine h = absurd h
+  go faults.BadMachine h = absurd h
+  go faults.Read h = absurd h
+  go faults.Write h = absurd h
 
 -- where scripts are named, a result for them side by side is one for what the words choose
 pub ends_with : {X : Type 0} (sources : Sources) (scripts : List Text) (log : Option Text) (live : Bool) (procs : Option ℕ) (known old new : Option (List ℕ)) (result : Result X ProgramFault) → 0 < length scripts → EndsOnScripts sources scripts procs (log_known sources log known) old new result → EndsWith sources scripts log live procs known old new result

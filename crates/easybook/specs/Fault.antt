@@ -6,8 +6,6 @@ use Rattle.commands.specs.declared.opening_fault.OpenTextFault.{OpenTextFault}
 use Rattle.commands.specs.declared.opening_fault.OpenTextFault.TheVariants as openings
 use Rattle.scripts.specs.declared.live.LiveFault.{LiveFault}
 use Rattle.scripts.specs.declared.live.LiveFault.TheVariants as live
-use Rattle.easybook.specs.declared.shared_fault.SharedFault.{SharedFault}
-use Rattle.easybook.specs.declared.shared_fault.SharedFault.TheVariants as shared
 use Rattle.easybook.specs.declared.fault.ProgramFault.{ProgramFault}
 use Rattle.easybook.specs.declared.fault.ProgramFault.TheVariants as faults
 
@@ -24,11 +22,6 @@ abbrev pub fault_of_opening : OpenTextFault → ProgramFault
 fault_of_opening openings.NoMachine = faults.NoMachine
 fault_of_opening openings.BadMachine = faults.BadMachine
 fault_of_opening openings.Memory = faults.Memory
-
--- why scripts side by side end without their texts
-abbrev pub fault_of_scripts : SharedFault → ProgramFault
-fault_of_scripts (shared.Close fault) = faults.Close fault
-fault_of_scripts shared.Memory = faults.Memory
 
 -- why a conversation ended before its input did
 abbrev pub fault_of_talk : LiveFault → ProgramFault

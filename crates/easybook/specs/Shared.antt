@@ -37,6 +37,12 @@ pub record AreAnswered (A : Type 0) (log : List ℕ) (procs : Option ℕ) (scrip
   pub is_opened : IsOpened log procs comments table scenarios
   pub along : AreAnsweredAlong A comments (begun table scenarios.scenarios).machine scripts texts
 
+-- why scripts that were opened end without their texts: out of memory, or a history that is not the callers'
+abbrev pub IsSharedFault : ProgramFault → Type 0
+IsSharedFault faults.Memory = Unit {0}
+IsSharedFault (faults.Close fault) = Unit {0}
+IsSharedFault fault = ⊥
+
 -- What was written, by the result: a text for each script, or where the writer failed a beginning of that, or nothing.
 -- The lengths are judged before the log; out of memory, and a history that is not the callers', say nothing of either.
 abbrev pub RunsShared : {X : Type 0} → Type 0 → List ℕ → Option ℕ → List (List ℕ) → Option (List ℕ) → Option (List ℕ) → Result X ProgramFault → Type 0

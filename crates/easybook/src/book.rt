@@ -10,11 +10,11 @@ ghost use Rattle.easybook.specs.Opened.{IsOpened};
 ghost use Rattle.easybook.specs.Plain.{IsFaultOf};
 
 use crate::fault::ProgramFault;
-use crate::input::BegunInput;
 use crate::opened::{opening_behind, opening_of};
 use crate::options::Options;
 use commands::Opening;
 use job_table::JobTable;
+use parallel_reader::BegunLog;
 use scenarios::{Scenario, ScenarioList};
 use std::alloc::Allocator;
 use std::marker::Sync;
@@ -106,14 +106,13 @@ pub(crate) fn opened_book<T: Threads + Sync, A: Allocator + Copy>(
     ensures fault { IfErr result (IsFaultOf log.now options.procs) }
 {
     let opening = opening_of(rt, alloc, log, options.procs)?;
-    let opened = book_over(alloc, opening, options.spacing)?;
-    Ok(opened)
+    Ok(book_over(alloc, opening, options.spacing)?)
 }
 
 pub(crate) fn begun_book<T: Threads + Sync, A: Allocator + Copy>(
     rt: &T,
     alloc: A,
-    begun: BegunInput<A>,
+    begun: BegunLog<A>,
     options: Options,
 ) -> Result<OpenedBook<A>, ProgramFault>
     requires { (read : List ℕ) × IsFront read begun.front }
@@ -123,6 +122,5 @@ pub(crate) fn begun_book<T: Threads + Sync, A: Allocator + Copy>(
     let (front, rest) = (begun.front, begun.rest);
     let opening = opening_behind(rt, alloc, front, rest.as_slice(), options.procs)?;
     drop(rest);
-    let opened = book_over(alloc, opening, options.spacing)?;
-    Ok(opened)
+    Ok(book_over(alloc, opening, options.spacing)?)
 }

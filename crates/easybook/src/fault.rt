@@ -1,13 +1,14 @@
 ghost use Rattle.std.specs.Prelude.{◌≡◌, Some};
 ghost use Rattle.easybook.specs.declared.fault.ProgramFault.TheVariants.{Memory as OutOfMemory, Write as WriteFailed};
 ghost use Rattle.easybook.specs.Texts.{fault_line};
-ghost use Rattle.easybook.specs.Fault.{fault_of, fault_of_opening, fault_of_scripts, fault_of_talk};
+ghost use Rattle.easybook.specs.Fault.{fault_of, fault_of_opening, fault_of_talk};
+ghost use Rattle.easybook.specs.Input.{IsReadFault};
 
-use crate::shared_fault::SharedFault;
 use commands::OpenTextFault;
 use scripts::LiveFault;
 use std::alloc::{AllocError, AllocFailed};
-use std::fmt;
+use std::io::ErrorKind;
+use std::{fmt, io};
 use swf_text::{FaultKind, Memory, SwfFault, WriteFault};
 use thiserror::Error;
 use workers::CloseFault;
@@ -73,17 +74,6 @@ impl From<OpenTextFault> for ProgramFault {
     }
 }
 
-impl From<SharedFault> for ProgramFault {
-    ghost from_gives = { λ fault given. given ≡ fault_of_scripts fault };
-
-    fn from(fault: SharedFault) -> ProgramFault {
-        match fault {
-            SharedFault::Close(fault) => ProgramFault::Close(fault),
-            SharedFault::Memory => ProgramFault::Memory,
-        }
-    }
-}
-
 impl From<LiveFault> for ProgramFault {
     ghost from_gives = { λ fault given. given ≡ fault_of_talk fault };
 
@@ -92,6 +82,17 @@ impl From<LiveFault> for ProgramFault {
             LiveFault::Read => ProgramFault::Read,
             LiveFault::Write => ProgramFault::Write,
             LiveFault::Memory => ProgramFault::Memory,
+        }
+    }
+}
+
+impl From<io::Error> for ProgramFault {
+    ghost from_gives = { λ _ fault. IsReadFault fault };
+
+    fn from(error: io::Error) -> ProgramFault {
+        match error.kind() {
+            ErrorKind::OutOfMemory => ProgramFault::Memory,
+            _ => ProgramFault::Read,
         }
     }
 }

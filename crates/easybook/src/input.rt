@@ -3,21 +3,11 @@ ghost use Rattle.std.specs.Io.KnownBytes.{IsAtEnd};
 ghost use Rattle.easybook.specs.Input.{IsBegun, IsBegunUpTo, IsInputFault, IsReadFault};
 
 use crate::fault::ProgramFault;
-use parallel_reader::{BegunLog, LogFront, begin_log};
+use parallel_reader::{BegunLog, begin_log};
 use std::alloc::Allocator;
-use std::io;
-use std::io::{ErrorKind, Read};
+use std::io::Read;
 use std::marker::Sync;
 use std::thread::Threads;
-
-pub(crate) fn fault_of_reader(error: io::Error) -> ProgramFault
-    ensures { IsReadFault result }
-{
-    match error.kind() {
-        ErrorKind::OutOfMemory => ProgramFault::Memory,
-        _ => ProgramFault::Read,
-    }
-}
 
 pub(crate) fn read_front<R: Read + Drop, A: Allocator + Copy>(
     alloc: A,
@@ -29,10 +19,8 @@ pub(crate) fn read_front<R: Read + Drop, A: Allocator + Copy>(
     ensures fault { IfErr result IsReadFault }
 {
     let mut bytes = Vec::new(alloc);
-    match reader.take(limit + 1).read_to_end(&mut bytes) {
-        Ok(_) => Ok(bytes),
-        Err(error) => Err(fault_of_reader(error)),
-    }
+    reader.take(limit + 1).read_to_end(&mut bytes)?;
+    Ok(bytes)
 }
 
 /// Reads all that a reader has, at most `limit` bytes.
@@ -56,13 +44,6 @@ pub fn read_input<R: Read + Drop, A: Allocator + Copy>(
     Ok(bytes)
 }
 
-/// An input of which the front of its log was read.
-#[derive(Drop)]
-pub(crate) struct BegunInput<A: Allocator + Copy> {
-    pub(crate) front: LogFront<A>,
-    pub(crate) rest: Vec<u8, A>,
-}
-
 fn read_rest<R: Read, A: Allocator + Copy>(
     reader: &mut R,
     rest: &mut Vec<u8, A>,
@@ -72,13 +53,10 @@ fn read_rest<R: Read, A: Allocator + Copy>(
     ensures whole { OnOk result (IfSome (R.remaining reader.old) (λ more. rest.new.items ≡ rest.old.items ++ more)) }
     ensures fault { IfErr result IsReadFault }
 {
-    if is_end {
-        return Ok(());
+    if !is_end {
+        reader.read_to_end(rest)?;
     }
-    match reader.read_to_end(rest) {
-        Ok(_) => Ok(()),
-        Err(error) => Err(fault_of_reader(error)),
-    }
+    Ok(())
 }
 
 pub(crate) fn begin_front<T: Threads + Sync, R: Read + Drop, A: Allocator + Copy>(
@@ -86,23 +64,15 @@ pub(crate) fn begin_front<T: Threads + Sync, R: Read + Drop, A: Allocator + Copy
     alloc: A,
     reader: R,
     limit: u64,
-) -> Result<BegunInput<A>, ProgramFault>
+) -> Result<BegunLog<A>, ProgramFault>
     requires { limit < 2 ^ 63 }
     ensures front { IfOk result (λ b. IsBegunUpTo (limit + 1) (R.remaining reader) b.front b.rest.items) }
     ensures fault { IfErr result IsReadFault }
 {
     let mut reader = reader.take(limit + 1);
-    let read = match begin_log(rt, alloc, &mut reader) {
-        Ok(read) => read,
-        Err(error) => return Err(fault_of_reader(error)),
-    };
-    let BegunLog {
-        front,
-        mut rest,
-        is_end,
-    } = read;
-    read_rest(&mut reader, &mut rest, is_end)?;
-    Ok(BegunInput { front, rest })
+    let mut begun = begin_log(rt, alloc, &mut reader)?;
+    read_rest(&mut reader, &mut begun.rest, begun.is_end)?;
+    Ok(begun)
 }
 
 pub(crate) fn begin_input<T: Threads + Sync, R: Read + Drop, A: Allocator + Copy>(
@@ -110,7 +80,7 @@ pub(crate) fn begin_input<T: Threads + Sync, R: Read + Drop, A: Allocator + Copy
     alloc: A,
     reader: R,
     limit: u64,
-) -> Result<BegunInput<A>, ProgramFault>
+) -> Result<BegunLog<A>, ProgramFault>
     requires { limit < 2 ^ 63 }
     ensures whole { IfOk result (λ b. IsBegun (R.remaining reader) b.front b.rest.items) }
     ensures fault { IfErr result (IsInputFault (R.remaining reader) limit) }

@@ -18,7 +18,6 @@ mod program;
 mod script_list;
 mod script_thread;
 mod shared;
-mod shared_fault;
 mod sources;
 mod split;
 mod stop;

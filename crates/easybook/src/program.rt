@@ -11,7 +11,7 @@ ghost use Rattle.easybook.specs.Program.{AreFronts, Ends, EndsFrom, EndsOnFile, 
 use crate::alone::{SCRIPT_LIMIT, work_script};
 use crate::book::{begun_book, book_over};
 use crate::fault::ProgramFault;
-use crate::input::{BegunInput, begin_front, begin_input, fault_of_reader, read_front};
+use crate::input::{begin_front, begin_input, read_front};
 use crate::live::talk_on_file;
 use crate::opened::{LOG_LIMIT, opening_behind};
 use crate::options::Options;
@@ -22,6 +22,7 @@ use crate::split::split_input;
 use crate::stop::Stop;
 use crate::words::{Words, read_words};
 use commands::Opening;
+use parallel_reader::BegunLog;
 use std::alloc::{Allocator, Global};
 use std::io::{Read, Write};
 use std::marker::Sync;
@@ -97,7 +98,7 @@ fn read_script<S: Sources>(alloc: Global, sources: &S, name: &str) -> Result<Vec
     ensures front { IfOk result (λ bytes. IfSome (S.known sources.now name.now) (λ all. bytes.items ≡ take (script_limit + 1) all)) }
     ensures fault { IfErr result IsReadFault }
 {
-    read_front(alloc, open(sources, name)?, SCRIPT_LIMIT)
+    read_front(alloc, sources.source(name)?, SCRIPT_LIMIT)
 }
 
 fn read_scripts<S: Sources>(
@@ -121,11 +122,11 @@ fn begin_named<S: Sources, T: Threads + Sync>(
     rt: &T,
     sources: &S,
     name: &str,
-) -> Result<BegunInput<Global>, ProgramFault>
+) -> Result<BegunLog<Global>, ProgramFault>
     ensures front { IfOk result (λ b. IsBegunUpTo (log_limit + 1) (S.known sources.now name.now) b.front b.rest.items) }
     ensures fault { IfErr result IsReadFault }
 {
-    begin_front(rt, alloc, open(sources, name)?, LOG_LIMIT as u64)
+    begin_front(rt, alloc, sources.source(name)?, LOG_LIMIT as u64)
 }
 
 fn begin_log<S: Sources, T: Threads + Sync, R: Read + Drop>(
@@ -134,7 +135,7 @@ fn begin_log<S: Sources, T: Threads + Sync, R: Read + Drop>(
     sources: &S,
     name: Option<&str>,
     reader: R,
-) -> Result<BegunInput<Global>, ProgramFault>
+) -> Result<BegunLog<Global>, ProgramFault>
     ensures front { IfOk result (λ b. IsBegunLog (log_known (S.known sources.now) (option_map (λ n. n.now) name.entry) (R.remaining reader)) b.front b.rest.items) }
     ensures fault { IfErr result IsNotHad }
 {
@@ -159,16 +160,6 @@ fn run_beside<S: Sources, T: Threads + Wait + Sync, R: Read + Drop, W: Write>(
     run_shared_begun(rt, alloc, scripts.as_slice(), writer, begun, words.options)
 }
 
-fn open<S: Sources>(sources: &S, name: &str) -> Result<S::Source, ProgramFault>
-    ensures known { IfOk result (λ source. IfSome (S.known sources.now name.now) (λ bytes. S.Source.remaining source ≡ Some bytes)) }
-    ensures fault { IfErr result IsReadFault }
-{
-    match sources.source(name) {
-        Ok(source) => Ok(source),
-        Err(error) => Err(fault_of_reader(error)),
-    }
-}
-
 fn run_on_named<S: Sources, T: Threads + Sync, R: Read + Drop, W: Write>(
     alloc: Global,
     rt: &T,
@@ -180,7 +171,7 @@ fn run_on_named<S: Sources, T: Threads + Sync, R: Read + Drop, W: Write>(
 ) -> Result<(), ProgramFault>
     ensures { EndsFrom (S.known sources.now) (Some name.now) words.now.live words.now.options.procs (R.remaining reader) (W.contents writer.old) (W.contents writer.new) result }
 {
-    let log = open(sources, name)?;
+    let log = sources.source(name)?;
     if words.live {
         return talk_on_file(rt, alloc, log, reader, writer, words.options);
     }

@@ -49,7 +49,7 @@ impl<'d, A: Allocator + Copy, J: Naming + Works, R: Wait> Place<'d, A, J, R> {
 #[derive(Drop)]
 pub(crate) struct ScriptThread<A: Allocator + Copy, J: Naming + Works> {
     session: Option<Session<A, J>>,
-    answered: Option<Answered<A, J>>,
+    pub(crate) answered: Option<Answered<A, J>>,
 }
 
 impl<A: Allocator + Copy, J: Naming + Works> Model for ScriptThread<A, J> {
@@ -78,10 +78,6 @@ impl<A: Allocator + Copy, J: Naming + Works> ScriptThread<A, J> {
             return;
         };
         self.answered = work_session(place, session);
-    }
-
-    pub(crate) fn into_answered(self) -> Option<Answered<A, J>> {
-        self.answered
     }
 }
 

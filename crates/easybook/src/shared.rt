@@ -9,12 +9,12 @@ ghost use Rattle.easybook.specs.Shared.{RunsShared, head_line, headed};
 use crate::alone::SCRIPT_LIMIT;
 use crate::book::{OpenedBook, begun_book, opened_book};
 use crate::fault::ProgramFault;
-use crate::input::BegunInput;
 use crate::opened::LOG_LIMIT;
 use crate::options::Options;
 use crate::threads::run_scripts;
 use chronicle::Unnamed;
 use itoa::Buffer;
+use parallel_reader::BegunLog;
 use std::alloc::Allocator;
 use std::io::Write;
 use std::marker::Brand;
@@ -160,7 +160,7 @@ pub(crate) fn run_shared_begun<
     alloc: A,
     scripts: &[Vec<u8, A>],
     writer: &mut W,
-    begun: BegunInput<A>,
+    begun: BegunLog<A>,
     options: Options,
 ) -> Result<(), ProgramFault>
     requires { (read : List ℕ) × IsFront read begun.front }

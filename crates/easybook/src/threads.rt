@@ -1,14 +1,15 @@
 // Scripts side by side: a thread for each, and one for each worker. Once the scripts' have ended the desk is
 // stopped, and the workers end; where a thread cannot be started it is stopped at once. It does not happen
 // that the callers' lists are not the book's history, or a session does not have the number of its script.
-ghost use Rattle.std.specs.Prelude.{◌≡◌, IfOk, OnOk, map, vec_len};
+ghost use Rattle.std.specs.Prelude.{◌≡◌, IfErr, IfOk, OnOk, map, vec_len};
 ghost use Rattle.version_book.specs.Book.{machine_of};
 ghost use Rattle.easybook.specs.Along.{AreAnsweredAlong};
 ghost use Rattle.easybook.specs.DeskRules.{AreAtDesk};
+ghost use Rattle.easybook.specs.Shared.{IsSharedFault};
 
+use crate::fault::ProgramFault;
 use crate::script_list::ScriptList;
 use crate::script_thread::{Place, ScriptThread};
-use crate::shared_fault::SharedFault;
 use crate::works::Works;
 use chronicle::{Naming, Unnamed};
 use std::alloc::Allocator;
@@ -97,14 +98,15 @@ fn take_output<A: Allocator + Copy, J: Naming + Works>(
     sessions: &mut Vec<Session<A, J>, A>,
     texts: &mut Vec<Vec<u8, A>, A>,
     thread: ScriptThread<A, J>,
-) -> Result<(), SharedFault>
+) -> Result<(), ProgramFault>
     requires { AreAtDesk A J.opening J.comments J.scripts sessions.old.items (map (λ t. t.items) texts.old.items) }
-    ensures { OnOk result (AreAtDesk A J.opening J.comments J.scripts sessions.new.items (map (λ t. t.items) texts.new.items)) }
+    ensures outputs { OnOk result (AreAtDesk A J.opening J.comments J.scripts sessions.new.items (map (λ t. t.items) texts.new.items)) }
+    ensures fault { IfErr result IsSharedFault }
 {
-    let answered = thread.into_answered().ok_or(Memory)?;
+    let answered = thread.answered.ok_or(Memory)?;
     let (session, text) = answered.into_both();
     if session.number() != texts.len() as u64 {
-        return Err(SharedFault::Close(CloseFault::Mismatch));
+        return Err(ProgramFault::Close(CloseFault::Mismatch));
     }
     sessions.push(session)?;
     texts.push(text)?;
@@ -121,8 +123,9 @@ struct Outputs<A: Allocator + Copy, J: Naming> {
 fn outputs_of<A: Allocator + Copy, J: Naming + Works>(
     alloc: A,
     threads: Vec<ScriptThread<A, J>, A>,
-) -> Result<Outputs<A, J>, SharedFault>
-    ensures { IfOk result (λ outputs. AreAtDesk A J.opening J.comments J.scripts outputs.sessions.items (map (λ t. t.items) outputs.texts.items)) }
+) -> Result<Outputs<A, J>, ProgramFault>
+    ensures outputs { IfOk result (λ outputs. AreAtDesk A J.opening J.comments J.scripts outputs.sessions.items (map (λ t. t.items) outputs.texts.items)) }
+    ensures fault { IfErr result IsSharedFault }
 {
     let mut sessions = Vec::with_capacity(alloc, threads.len())?;
     let mut texts = Vec::with_capacity(alloc, threads.len())?;
@@ -146,12 +149,13 @@ pub(crate) fn run_scripts<
     scripts: &[Vec<u8, A>],
     workers: u32,
     gate: &G,
-) -> Result<Vec<Vec<u8, A>, A>, SharedFault>
+) -> Result<Vec<Vec<u8, A>, A>, ProgramFault>
     requires name { unnamed ≡ J.book }
     requires opening { J.opening ≡ machine_of book }
     requires comments { J.comments ≡ map (λ c. c.items) comments.now }
     requires scripts { J.scripts ≡ map (λ s. s.items) scripts.now }
-    ensures { IfOk result (λ texts. AreAnsweredAlong A (map (λ c. c.items) comments.now) (machine_of book) (map (λ s. s.items) scripts.now) (map (λ t. t.items) texts.items)) }
+    ensures along { IfOk result (λ texts. AreAnsweredAlong A (map (λ c. c.items) comments.now) (machine_of book) (map (λ s. s.items) scripts.now) (map (λ t. t.items) texts.items)) }
+    ensures fault { IfErr result IsSharedFault }
 {
     let desk = Desk::<A, J>::new(alloc, book, unnamed);
     let list = ScriptList::<A, J>::new(comments, scripts);
@@ -166,10 +170,10 @@ pub(crate) fn run_scripts<
     let are_started = run_threads(rt, alloc, &place, &mut threads, &mut pool, gate);
     let Outputs { sessions, texts } = outputs_of(alloc, threads)?;
     if !are_started || texts.len() != list.count() {
-        return Err(SharedFault::Memory);
+        return Err(ProgramFault::Memory);
     }
     match close(desk, sessions, pool) {
         Ok(_) => Ok(texts),
-        Err((fault, _, _, _)) => Err(SharedFault::Close(fault)),
+        Err((fault, _, _, _)) => Err(ProgramFault::Close(fault)),
     }
 }

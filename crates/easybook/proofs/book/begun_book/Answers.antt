@@ -6,7 +6,7 @@ use Rattle.easybook.proofs.book.begun_book.Goals as goal
 
 pub returns-clause-book : goal.returns-clause-book
 returns-clause-book g c =
-    λ read is. c.in_ok-opened.ensures (read ++ c.args.begun.rest.items) c.args.options.procs
+    λ read is. c.in_ok-book_over.ensures (read ++ c.args.begun.rest.items) c.args.options.procs
     (subst (λ (bytes : List ℕ). IsOpened (read ++ bytes) c.args.options.procs (map (λ x. x.items) c.in_ok-opening.opening.comments.items) c.in_ok-opening.opening.table c.in_ok-opening.opening.scenarios) c.as_slice.ensures.value (c.in_ok-opening.ensures.opened read is))
 
 pub returns-in_err-opening-clause-fault : goal.returns-in_err-opening-clause-fault

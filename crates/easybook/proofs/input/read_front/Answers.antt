@@ -12,6 +12,6 @@ of_front : (known : Option (List ℕ)) (n : ℕ) (bytes : List ℕ) → IfSome (
 of_front None n bytes h = tt
 of_front (Some all) n bytes h = h
 
-pub returns-in-Ok-clause-front : goal.returns-in-Ok-clause-front
-returns-in-Ok-clause-front g c =
-    of_front (g.R.Read.remaining c.args.reader) (c.args.limit + 1) c.read_to_end.new.buf.items (taken (g.R.Read.remaining) c.take.result.inner c.args.reader c.take.result.limit (c.args.limit + 1) c.new-bytes.result.items c.read_to_end.new.buf.items c.take.ensures.inner c.take.ensures.limit c.new-bytes.ensures.items c.in-Ok.ensures.bytes)
+pub returns-clause-front : goal.returns-clause-front
+returns-clause-front g c =
+    of_front (g.R.Read.remaining c.args.reader) (c.args.limit + 1) c.read_to_end.new.buf.items (taken (g.R.Read.remaining) c.take.result.inner c.args.reader c.take.result.limit (c.args.limit + 1) c.new-bytes.result.items c.read_to_end.new.buf.items c.take.ensures.inner c.take.ensures.limit c.new-bytes.ensures.items c.in_ok-read_to_end.ensures.bytes)
