@@ -1,6 +1,5 @@
 mod Gaining
 mod Tying
 mod Closed
-mod Causes
 mod Works
 mod Portions

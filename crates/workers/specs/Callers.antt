@@ -11,11 +11,10 @@ pub record SessionView : Type 0 where
   pub seen : ℕ
   pub front : Seen
 
--- a worker: its number, the calls that it made with their replies, and for how many more its list has capacity
+-- a worker: its number, and the calls that it made with their replies
 pub record WorkerView : Type 0 where
   pub number : ℕ
   pub list : List ListedView
-  pub capacity : ℕ
 
 -- the most sessions that a desk opens, and the most workers
 abbrev pub callers_limit : ℕ
@@ -34,7 +33,7 @@ abbrev pub new_session : ℕ → Seen → SessionView
 new_session number front = record { number = number; list = []; seen = 0; front = front }
 
 abbrev pub new_worker : ℕ → WorkerView
-new_worker number = record { number = number; list = []; capacity = 0 }
+new_worker number = record { number = number; list = [] }
 
 -- one that was just opened, under a number below the limit
 abbrev pub IsNewSession : SessionView → Type 0

@@ -1,8 +1,7 @@
 // A worker makes the run for a ticket without the lock.
-ghost use Rattle.std.specs.Prelude.{◌≡◌, Err, IfNone, Some, map};
+ghost use Rattle.std.specs.Prelude.{◌≡◌, IfNone, Some, map};
 ghost use Rattle.workers.specs.Callers.{new_worker};
 ghost use Rattle.workers.specs.declared.worker.WorkerEnd.TheVariants as ends;
-ghost use Rattle.workers.specs.Readings.{LackedMemory, WasFull};
 ghost use Rattle.workers.specs.Work.{Finishes, GainsClaim, GivesUp, HandsInOnce, HandsInWhat, WorksOn, WorksThrough, end_of};
 ghost use Rattle.workers.specs.Lists.{listed_of};
 
@@ -45,13 +44,13 @@ pub struct Worker<A: Allocator + Copy> {
 }
 
 impl<A: Allocator + Copy> Model for Worker<A> {
-    ghost use Rattle.std.specs.Prelude.{◌-◌, map, vec_capacity, vec_len};
+    ghost use Rattle.std.specs.Prelude.{map};
     ghost use Rattle.workers.specs.Callers.{WorkerView};
     ghost use Rattle.workers.specs.Lists.{listed_of};
 
     ghost Value = { WorkerView };
 
-    ghost view = { λ w. record { number = w.number; list = map listed_of w.list.items; capacity = vec_capacity w.list - vec_len w.list } };
+    ghost view = { λ w. record { number = w.number; list = map listed_of w.list.items } };
 }
 
 fn end_of<T: Copy, F: Copy>(outcome: Result<T, Refusal<F>>) -> Option<WorkerEnd>
@@ -90,8 +89,6 @@ impl<A: Allocator + Copy> Worker<A> {
 
     fn claim<J: Naming, R: Wait>(&mut self, rt: &R, desk: &Desk<A, J>) -> Result<Task<A>, WorkerEnd>
         ensures list { GainsClaim result self.old.list self.new.list }
-        ensures full { result ≡ Err ends.Full → WasFull }
-        ensures memory { result ≡ Err ends.Memory → LackedMemory self.new }
         ensures number { self.new.number ≡ self.old.number }
     {
         reserve_call(&mut self.list)?;
@@ -106,8 +103,6 @@ impl<A: Allocator + Copy> Worker<A> {
         run: Arc<Run<A>, A>,
     ) -> Option<WorkerEnd>
         ensures list { Finishes ticket self.old.list self.new.list result }
-        ensures full { result ≡ Some ends.Full → WasFull }
-        ensures memory { result ≡ Some ends.Memory → LackedMemory self.new }
         ensures number { self.new.number ≡ self.old.number }
     {
         if reserve_call(&mut self.list).is_err() {
@@ -128,8 +123,6 @@ impl<A: Allocator + Copy> Worker<A> {
         ticket: u64,
     ) -> Option<WorkerEnd>
         ensures list { GivesUp ticket self.old.list self.new.list result }
-        ensures full { result ≡ Some ends.Full → WasFull }
-        ensures memory { result ≡ Some ends.Memory → LackedMemory self.new }
         ensures number { self.new.number ≡ self.old.number }
     {
         if reserve_call(&mut self.list).is_err() {
@@ -152,8 +145,6 @@ impl<A: Allocator + Copy> Worker<A> {
         making: &mut M,
     ) -> Option<WorkerEnd>
         ensures list { HandsInWhat (M.gives making.old) ticket self.old.list self.new.list result }
-        ensures full { result ≡ Some ends.Full → WasFull }
-        ensures memory { result ≡ Some ends.Memory → LackedMemory self.new }
         ensures number { self.new.number ≡ self.old.number }
     {
         gate.before_work(ticket);
@@ -174,8 +165,6 @@ impl<A: Allocator + Copy> Worker<A> {
         mut task: Task<A>,
     ) -> Option<WorkerEnd>
         ensures list { HandsInOnce task.ticket self.old.list self.new.list result }
-        ensures full { result ≡ Some ends.Full → WasFull }
-        ensures memory { result ≡ Some ends.Memory → LackedMemory self.new }
         ensures number { self.new.number ≡ self.old.number }
     {
         let ticket = task.ticket();
@@ -191,8 +180,6 @@ impl<A: Allocator + Copy> Worker<A> {
         ensures on { WorksOn self.old.list self.new.list }
         ensures through { IfNone result (WorksThrough self.old.list self.new.list) }
         ensures stopped { result ≡ Some ends.Stopped → WorksThrough self.old.list self.new.list }
-        ensures full { result ≡ Some ends.Full → WasFull }
-        ensures memory { result ≡ Some ends.Memory → LackedMemory self.new }
         ensures number { self.new.number ≡ self.old.number }
     {
         match self.claim(rt, desk) {
@@ -214,8 +201,6 @@ impl<A: Allocator + Copy> Worker<A> {
     ) -> WorkerEnd
         ensures list { WorksOn self.old.list self.new.list }
         ensures stopped { result ≡ ends.Stopped → WorksThrough self.old.list self.new.list }
-        ensures full { result ≡ ends.Full → WasFull }
-        ensures memory { result ≡ ends.Memory → LackedMemory self.new }
         ensures number { self.new.number ≡ self.old.number }
     {
         for _ in rt.forever() {

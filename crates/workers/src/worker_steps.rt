@@ -1,5 +1,5 @@
 // What a worker does while it holds the lock: one call of the book, which its list then gains.
-ghost use Rattle.std.specs.Prelude.{◌≡◌, ◌<◌, false, map, Err, IfOk, Some, vec_len, vec_capacity};
+ghost use Rattle.std.specs.Prelude.{◌≡◌, ◌<◌, false, map, IfOk, vec_len, vec_capacity};
 ghost use Rattle.std.specs.Option.{option_map};
 ghost use Rattle.std.specs.Arc.{arc_value};
 ghost use Rattle.book_machine.specs.declared.caller.Caller.TheVariants as caller;
@@ -7,11 +7,9 @@ ghost use Rattle.book_machine.specs.Call.{Claim, Finish, GiveUp};
 ghost use Rattle.version_book.specs.Answers.{TakesWhatFits, claim_answer, finish_answer, fitted, give_up_answer};
 ghost use Rattle.version_book.specs.Steps.{Answers};
 ghost use Rattle.version_book.specs.Tasks.{Fits, due_shown, task_for};
-ghost use Rattle.version_book.specs.Sound.{IsBook};
 ghost use Rattle.workers.specs.Lists.{Gains, listed_of};
-ghost use Rattle.workers.specs.Readings.{WasFull, WasRefused, is_idle};
-ghost use Rattle.workers.specs.Work.{Finds, GainsClaim, end_of};
-ghost use Rattle.workers.specs.declared.worker.WorkerEnd.TheVariants as ends;
+ghost use Rattle.workers.specs.Readings.{is_idle};
+ghost use Rattle.workers.specs.Work.{Finds, GainsClaim};
 
 use crate::hearing::{heard, notes_in};
 use crate::listed_call::{ListedCall, keep};
@@ -43,7 +41,6 @@ impl<A: Allocator + Copy, J: Naming> Shared<A, J> {
         ensures book { Answers self.old.book self.new.book (caller.Worker worker) Claim (claim_answer result) }
         ensures list { Gains (map listed_of list.old.items) (map listed_of list.new.items) Claim (claim_answer result) }
         ensures task { IfOk result (λ task. task ≡ option_map (task_for self.old.book.state) (due_shown self.old.book.state)) }
-        ensures is_book { IsBook self.old.book }
     {
         let notes = notes_in(&self.book);
         let outcome = self.book.claim(worker);
@@ -61,8 +58,6 @@ impl<A: Allocator + Copy, J: Naming> Shared<A, J> {
         requires busy { is_idle self.old.stopped self.old.book.state ≡ false }
         ensures book { Finds result self.old.stopped (caller.Worker worker) self.old.book self.new.book }
         ensures list { GainsClaim result (map listed_of list.old.items) (map listed_of list.new.items) }
-        ensures full { result ≡ Err ends.Full → WasFull }
-        ensures memory { result ≡ Err ends.Memory → WasRefused (caller.Worker worker) }
     {
         if self.stopped {
             return Err(WorkerEnd::Stopped);
@@ -87,8 +82,6 @@ impl<A: Allocator + Copy, J: Naming> Shared<A, J> {
         ensures book { Answers self.old.book self.new.book (caller.Worker worker) (Finish ticket (fitted result)) (finish_answer result) }
         ensures list { Gains (map listed_of list.old.items) (map listed_of list.new.items) (Finish ticket (fitted result)) (finish_answer result) }
         ensures fits { TakesWhatFits (Fits self.old.book.state ticket (arc_value run)) result }
-        ensures full { end_of result ≡ Some ends.Full → WasFull }
-        ensures memory { end_of result ≡ Some ends.Memory → WasRefused (caller.Worker worker) }
     {
         let notes = notes_in(&self.book);
         let outcome = self.book.hand_in(worker, ticket, run);
@@ -107,8 +100,6 @@ impl<A: Allocator + Copy, J: Naming> Shared<A, J> {
         requires capacity { vec_len list.old < vec_capacity list.old }
         ensures book { Answers self.old.book self.new.book (caller.Worker worker) (GiveUp ticket) (give_up_answer result) }
         ensures list { Gains (map listed_of list.old.items) (map listed_of list.new.items) (GiveUp ticket) (give_up_answer result) }
-        ensures full { end_of result ≡ Some ends.Full → WasFull }
-        ensures memory { end_of result ≡ Some ends.Memory → WasRefused (caller.Worker worker) }
     {
         let notes = notes_in(&self.book);
         let outcome = self.book.give_up(worker, ticket);

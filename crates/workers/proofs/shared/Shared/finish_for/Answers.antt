@@ -2,7 +2,6 @@ use Rattle.std.proofs.Common.{ap}
 use Rattle.book_machine.specs.declared.caller.Caller.TheVariants as caller
 use Rattle.version_book.specs.Answers.{fitted}
 use Rattle.book_machine.specs.Call.{Finish}
-use Rattle.workers.proofs.Causes.{refused-finish}
 use Rattle.workers.proofs.Gaining.{gains}
 use Rattle.workers.proofs.Tying.{accepted, tied}
 use Rattle.workers.proofs.shared.Shared.finish_for.Goals as goal
@@ -12,9 +11,6 @@ heard-reply-requires g c = record { accepted = accepted _ _ _ _ _ _ _ (caller.Wo
 
 pub returns-clause-list : goal.returns-clause-list
 returns-clause-list g c = gains _ _ _ _ _ _ _ _ _ _ c.hand_in-outcome.ensures.answer c.notes_in-notes.ensures.count c.heard-reply.ensures.reply (ap (λ f. Finish c.args.ticket f) c.is_fitting-fits.ensures) c.keep.ensures
-
-pub returns-clause-memory : goal.returns-clause-memory
-returns-clause-memory g c = λ e. refused-finish _ _ _ c.args.ticket c.hand_in-outcome.result c.notes_in-notes.ensures.book c.hand_in-outcome.ensures.answer e
 
 pub invariant_of-self : goal.invariant_of-self
 invariant_of-self g c = tied _ _ _ _ _ _ _ _ (caller.Worker c.args.worker) (Finish c.args.ticket (fitted c.hand_in-outcome.result)) _ _ c.self.invariant c.hand_in-outcome.ensures.answer c.notes_in-notes.ensures.count c.heard-reply.ensures.whole

@@ -1,7 +1,6 @@
 use Rattle.std.proofs.Common.{refl}
 use Rattle.book_machine.specs.declared.caller.Caller.TheVariants as caller
 use Rattle.book_machine.specs.Call.{GiveUp}
-use Rattle.workers.proofs.Causes.{refused-give-up}
 use Rattle.workers.proofs.Gaining.{gains}
 use Rattle.workers.proofs.Tying.{accepted, tied}
 use Rattle.workers.proofs.shared.Shared.give_up_for.Goals as goal
@@ -11,9 +10,6 @@ heard-reply-requires g c = record { accepted = accepted _ _ _ _ _ _ _ (caller.Wo
 
 pub returns-clause-list : goal.returns-clause-list
 returns-clause-list g c = gains _ _ _ _ _ _ _ _ _ _ c.give_up-outcome.ensures c.notes_in-notes.ensures.count c.heard-reply.ensures.reply refl c.keep.ensures
-
-pub returns-clause-memory : goal.returns-clause-memory
-returns-clause-memory g c = λ e. refused-give-up _ _ _ c.args.ticket c.give_up-outcome.result c.notes_in-notes.ensures.book c.give_up-outcome.ensures e
 
 pub invariant_of-self : goal.invariant_of-self
 invariant_of-self g c = tied _ _ _ _ _ _ _ _ (caller.Worker c.args.worker) (GiveUp c.args.ticket) _ _ c.self.invariant c.give_up-outcome.ensures c.notes_in-notes.ensures.count c.heard-reply.ensures.whole

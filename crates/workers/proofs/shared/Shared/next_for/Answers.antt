@@ -7,11 +7,7 @@ use Rattle.tasks.specs.Tasks.{TaskView}
 use Rattle.version_book.specs.Answers.{claim_answer}
 use Rattle.version_book.specs.Steps.{Answers}
 use Rattle.version_book.specs.Tasks.{due_shown, free_due, task_for}
-use Rattle.workers.proofs.Causes.{refused-claim}
 use Rattle.workers.proofs.shared.Shared.next_for.Goals as goal
-
-pub returns-in-Err-Memory-clause-memory : goal.returns-in-Err-Memory-clause-memory
-returns-in-Err-Memory-clause-memory g c = λ e. refused-claim _ _ _ c.in-Err-Memory.field-0 c.in-Err-Memory.field-0-is c.claim_for.ensures.is_book c.in-Err-Memory.ensures.book
 
 pub returns-in-Ok-Some-clause-book : goal.returns-in-Ok-Some-clause-book
 returns-in-Ok-Some-clause-book g c =
