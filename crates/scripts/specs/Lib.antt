@@ -10,6 +10,7 @@ pub mod Transcript
 pub mod FirstSchedule
 pub mod Hearing
 pub mod Live
+pub mod Names
 pub mod Analysts
 pub mod Scripts
 pub mod Lifting

@@ -1,9 +1,10 @@
-ghost use Rattle.std.specs.Prelude.{◌≡◌, ℕ, Option, List, IfOk, map};
+ghost use Rattle.std.specs.Prelude.{◌≡◌, ℕ, Option, Some, List, IfOk, map};
 ghost use Rattle.commands.specs.Commands.{command_of_line};
 ghost use Rattle.swf_text.specs.Writing.{Writes};
 ghost use Rattle.version_book.specs.Book.{machine_of};
 ghost use Rattle.scripts.specs.Hearing.{MayFollow};
 ghost use Rattle.scripts.specs.Live.{IsSaid, Talks, Turns};
+ghost use Rattle.scripts.specs.Names.{live_fault_name};
 ghost use Rattle.scripts.specs.Replies.{reply_text};
 ghost use Rattle.version_book.specs.Session.{Session};
 ghost use Rattle.scripts.specs.Transcript.{IsLine, is_quit};
@@ -16,7 +17,7 @@ use commands::{Command, CommandFault, parse_command};
 use std::alloc::{AllocError, Allocator};
 use std::fmt;
 use std::io::{BufRead, Write};
-use swf_text::{Memory, WriteFault};
+use swf_text::WriteFault;
 use thiserror::Error;
 use version_book::{Book, BookSession};
 
@@ -32,12 +33,14 @@ pub enum LiveFault {
 }
 
 impl fmt::Display for LiveFault {
+    ghost output = { λ fault. Some (live_fault_name fault) };
+
     fn fmt<W: fmt::Write>(&self, f: &mut fmt::Formatter<W>) -> fmt::Result {
-        match self {
-            LiveFault::Read => f.write_str("Read"),
-            LiveFault::Write => f.write_str("Write"),
-            LiveFault::Memory => Memory.fmt(f),
-        }
+        f.write_str(match self {
+            LiveFault::Read => "Read",
+            LiveFault::Write => "Write",
+            LiveFault::Memory => "Memory",
+        })
     }
 }
 
