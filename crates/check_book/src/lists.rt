@@ -256,4 +256,5 @@ fn made_up_lists_are_answered_as_the_plain_program_says(rt: HostRuntime) {
         );
     }
     assert!(rt; tally.fewest() >= FEWEST);
+    assert!(rt; tally.all() > 80_000, "{}", tally.all());
 }

@@ -68,6 +68,15 @@ impl Tally {
         }
     }
 
+    /// How many replies came.
+    pub(crate) fn all(&self) -> u64 {
+        let mut all: u64 = 0;
+        for count in self.counts.iter() {
+            all = all.saturating_add(*count);
+        }
+        all
+    }
+
     /// How often the rarest kind came.
     pub(crate) fn fewest(&self) -> u64 {
         let mut fewest = u64::MAX;
