@@ -1,19 +1,20 @@
 -- What the program does with scripts that are named, by what is written of them side by side: scripts and a log that are within their limits
 -- are read whole.
 use Rattle.std.proofs.Common.{◌≡◌, ℕ, ◌+◌, ◌++◌, ◌≤◌, ◌<◌, Bor, Global, get_or, arith, true, ◌&&◌, nat_le, List, [], ◌∷◌, length, map, take, Option, Some, None, IfSome, Result, Ok, Err, inl, inr, refl, sym, ap, subst, ◌∙◌}
-use Rattle.std.proofs.lemmas.Bool.{leb-true}
+use Rattle.std.proofs.lemmas.Bool.{and_from, cases_lt, le-leb, leb-true}
 use Rattle.std.proofs.lemmas.List.{get_or-map, length-map, take_more}
 use Rattle.clap.specs.Walk.{Text}
 use Rattle.parallel_reader.specs.Fronts.{Progress}
 use Rattle.easybook.specs.Alone.{script_limit}
 use Rattle.easybook.specs.Plain.{log_limit}
-use Rattle.easybook.specs.Input.{IsBegun, IsBegunUpTo}
-use Rattle.easybook.specs.Program.{AreFronts, AreOf, EndsOnScripts, IsBegunLog, IsFront, Sources}
+use Rattle.easybook.specs.Input.{IsBegun, IsBegunUpTo, IsInputFault}
+use Rattle.easybook.specs.Program.{AreFronts, AreOf, EndsOnScripts, HasTooLong, IsBegunLog, IsFront, Sources}
 use Rattle.easybook.specs.Shared.{AreWithin, RunsShared, are_within}
 use Rattle.easybook.specs.declared.fault.ProgramFault.{ProgramFault}
 use Rattle.easybook.specs.declared.fault.ProgramFault.TheVariants as faults
 use Rattle.swf_text.proofs.Lemmas.{and_first, and_second}
-use Rattle.easybook.proofs.Inputs.{all_of_front, known_all}
+use Rattle.easybook.proofs.Inputs.{all_of_front, known_all, known_more, more_of_front}
+use Rattle.easybook.proofs.Sessions.{keeps}
 
 pub whole_scripts : (sources : Sources) (names : List Text) (fronts : List (List ℕ)) → AreWithin fronts → AreFronts sources names fronts → AreOf sources names fronts
 whole_scripts sources [] fronts within none = none
@@ -30,13 +31,37 @@ whole_log (Some all) front few is = elim is [
   | inr read ↦ all_of_front all front log_limit read few
 ]
 
+past_log : (known : Option (List ℕ)) (front : List ℕ) → log_limit < length front → IfSome known (IsFront front) → IfSome known (λ all. log_limit < length all)
+past_log None front many is = tt
+past_log (Some all) front many is = elim is [
+  | inl whole ↦ omega (arith, many, ap length whole)
+  | inr read ↦ more_of_front all front log_limit read many
+]
+
+past_scripts : (sources : Sources) (names : List Text) (fronts : List (List ℕ)) → (AreWithin fronts → ⊥) → AreFronts sources names fronts → HasTooLong sources names
+past_scripts sources [] fronts past none = absurd (past (ap are_within none))
+past_scripts sources (name ∷ names) fronts past h = elim (cases_lt script_limit (length h.0)) [
+  | inl many ↦ inl (known_more (sources name) h.0 script_limit h.3 many)
+  | inr few ↦ inr (past_scripts sources names h.1 (λ within. past (ap are_within h.2 ∙ and_from (nat_le (length h.0) script_limit) (are_within h.1) (le-leb (length h.0) script_limit few) within)) h.4)
+]
+
+-- of a log that is not had nothing is written
+pub unhad_ends : (X : Type 0) (sources : Sources) (names : List Text) (procs : Option ℕ) (known old : Option (List ℕ)) (fault : ProgramFault) → IsInputFault known log_limit fault → EndsOnScripts {X = X} sources names procs known old old (Err fault)
+unhad_ends X sources names procs known old faults.TooLong h = (inl h, keeps old)
+unhad_ends X sources names procs known old faults.Read h = keeps old
+unhad_ends X sources names procs known old faults.Memory h = keeps old
+unhad_ends X sources names procs known old fault h = absurd h
+
 -- a result, with what was written, for what is read of a log and of scripts is one for the log and the scripts, as far as they are known
 pub beside_ends : {X : Type 0} (sources : Sources) (names : List Text) (procs : Option ℕ) (known old new : Option (List ℕ)) (log : List ℕ) (fronts : List (List ℕ)) (result : Result X ProgramFault) → IfSome known (IsFront log) → AreFronts sources names fronts → RunsShared Global log procs fronts old new result → EndsOnScripts sources names procs known old new result
 beside_ends sources names procs known old new log fronts (Ok x) is are h = (log, whole_log known log h.1.1.is_opened.within is, (fronts, whole_scripts sources names fronts h.0 are, h))
 beside_ends sources names procs known old new log fronts (Err faults.Write) is are h = (log, whole_log known log h.1.1.is_opened.within is, (fronts, whole_scripts sources names fronts h.0 are, h))
 beside_ends sources names procs known old new log fronts (Err faults.Read) is are h = h.2
 beside_ends sources names procs known old new log fronts (Err faults.Memory) is are h = h
-beside_ends sources names procs known old new log fronts (Err faults.TooLong) is are h = h.1
+beside_ends sources names procs known old new log fronts (Err faults.TooLong) is are h = elim h.0 [
+  | inl many ↦ (inl (past_log known log many is), h.1)
+  | inr past ↦ (inr (past_scripts sources names fronts past are), h.1)
+]
 beside_ends sources names procs known old new log fronts (Err (faults.Log f)) is are h = (log, whole_log known log h.1.0 is, (fronts, whole_scripts sources names fronts h.0 are, h))
 beside_ends sources names procs known old new log fronts (Err faults.NoMachine) is are h = (log, whole_log known log h.1.within is, (fronts, whole_scripts sources names fronts h.0 are, h))
 beside_ends sources names procs known old new log fronts (Err faults.BadMachine) is are h = (log, whole_log known log h.1.within is, (fronts, whole_scripts sources names fronts h.0 are, h))

@@ -16,10 +16,11 @@ use Rattle.workers.specs.Lists.{part_of}
 use Rattle.scripts.specs.Analysts.{LinesBy}
 use Rattle.scripts.specs.Transcript.{looked_at}
 use Rattle.scripts.proofs.Lemmas.{lines-lift}
-use Rattle.easybook.specs.Along.{AreAnsweredAlong, IsAnsweredAlong, rules_along}
+use Rattle.easybook.specs.Along.{AreAnsweredAlong, AreWork, IsAnsweredAlong, MayCall, rules_along}
 use Rattle.easybook.specs.DeskRules.{AreAtDesk, IsAnsweredAtDesk, IsWorkedAtDesk, desk_rules}
 use Rattle.easybook.proofs.Alongs.{IsFitting, IsWhole, desk_lifts, place_of}
 use Rattle.easybook.proofs.Own.{goes_by_others, own, own_grows}
+use Rattle.easybook.proofs.Workings.{all_may}
 
 -- where a new session worked the script of its number to the end, all that was written is what it produced for the script
 pub worked_new : (A : Type 0) (opening : Machine) (comments scripts shown : List (List ℕ)) (first last session : SessionView) (script before text : List ℕ)
@@ -85,11 +86,11 @@ has_place (x ∷ xs) (z ∷ ys) zero y same is = (x, refl)
 has_place (x ∷ xs) (z ∷ ys) (suc k) y same is = has_place xs ys k y (omega (arith, same)) is
 
 -- texts that sessions at a desk produced answer their scripts along the one history in which all sessions stand, where there are as many
--- texts as scripts and the callers' lists are its notes
+-- texts as scripts, the callers' lists are its notes and the workers have only worked
 pub all_along : (A : Type 0) (comments scripts : List (List ℕ)) (opening : Machine) (sessions : List SessionView) (texts : List (List ℕ)) (workers : List WorkerView) (notes : List Noted)
-    → AreAtDesk A opening comments scripts sessions texts → StandInOne opening sessions notes → IsAnswered sessions workers notes → length texts ≡ length scripts
+    → AreAtDesk A opening comments scripts sessions texts → All (λ (w : WorkerView). AreWork w.list) workers → StandInOne opening sessions notes → IsAnswered sessions workers notes → length texts ≡ length scripts
     → AreAnsweredAlong A comments opening scripts texts
-all_along A comments scripts opening sessions texts workers notes desk one outcome count = record {
+all_along A comments scripts opening sessions texts workers notes desk work one outcome count = record {
   events = one.0;
   legal = one.1;
   as_many = count;
@@ -101,6 +102,8 @@ all_along A comments scripts opening sessions texts workers notes desk one outco
       let mine : s.list ≡ part_of (caller.Session s.number) notes = at_place (λ (x : SessionView). x.list ≡ part_of (caller.Session x.number) notes) sessions k s outcome.by_sessions has.1 in
       let there : s.list ≡ own s.number one.0 = mine ∙ ap (part_of (caller.Session s.number)) (sym one.2) in
       along_one A comments scripts opening one.0 k s text script h.0 h.1 seen is_script there;
+  only = subst (All (λ (n : Noted). MayCall (length scripts) n.caller n.call)) (sym one.2)
+      (all_may sessions workers notes (length scripts) (λ j s is. let has = has_place texts sessions j s (sym desk.as_many) is in (desk.each j s has.0 is has.1).0) (desk.as_many ∙ count) work outcome);
 }
 
 -- texts that answer scripts along one history answer equal scripts, with equal comments, from an equal state on

@@ -1,12 +1,15 @@
 -- The responses to an analyst along one history of the book machine, to which others add calls too. Each of its calls and
 -- readings has a place in it, in the order in which they are made.
-use Rattle.std.specs.Prelude.{◌≡◌, ℕ, List, [], ◌++◌, length, slice_get, Some, Result}
+use Rattle.std.specs.Prelude.{◌≡◌, ℕ, ◌<◌, List, [], ◌++◌, length, slice_get, Some, Result}
+use Rattle.std.specs.List.{All}
 use Rattle.swf_text.specs.Text.{lines}
 use Rattle.scenarios.specs.ScenarioList.{id_of}
+use Rattle.book_machine.specs.declared.caller.Caller.{Caller}
 use Rattle.book_machine.specs.declared.caller.Caller.TheVariants as caller
 use Rattle.book_machine.specs.declared.settle_state.SettleState.{SettleState}
 use Rattle.book_machine.specs.declared.settle_state.SettleState.TheVariants as state
-use Rattle.book_machine.specs.Call.{BookCall, View}
+use Rattle.book_machine.specs.Call.{BookCall, Claim, Finish, GiveUp, View}
+use Rattle.book_machine.specs.History.{Noted}
 use Rattle.book_machine.specs.Machine.{Machine, version}
 use Rattle.chronicle.specs.Events.{Happened, IsLegalFrom, notes_of, state_after}
 use Rattle.tasks.specs.Published.{PublishedView}
@@ -17,7 +20,7 @@ use Rattle.version_book.specs.Steps.{Answer}
 use Rattle.workers.specs.declared.settled.Settled.{Settled}
 use Rattle.workers.specs.declared.settled.Settled.TheVariants as settled_as
 use Rattle.workers.specs.History.{CalledAt, IsSettledAt}
-use Rattle.workers.specs.Lists.{part_of}
+use Rattle.workers.specs.Lists.{ListedView, part_of}
 use Rattle.scripts.specs.Analysts.{LinesBy}
 use Rattle.version_book.specs.BookRules.{IsPresent, IsTrueOf}
 use Rattle.version_book.specs.Rules.{Rules}
@@ -87,10 +90,26 @@ pub record IsAnsweredAlong (A : Type 0) (comments : List (List ℕ)) (opening : 
   pub answered : LinesBy (rules_along opening who) A comments first (looked_at A (lines script)) 1 text last
   pub ends : Goes who last.events events
 
+-- what a worker calls: it claims, and hands in or gives up what it claimed
+abbrev pub IsWork : BookCall → Type 0
+IsWork Claim = Unit {0}
+IsWork (Finish ticket fits) = Unit {0}
+IsWork (GiveUp ticket) = Unit {0}
+IsWork call = ⊥
+
+abbrev pub AreWork : List ListedView → Type 0
+AreWork list = All (λ (e : ListedView). IsWork e.call) list
+
+-- who makes which calls, beside this many scripts: their sessions, and workers
+abbrev pub MayCall : ℕ → Caller → BookCall → Type 0
+MayCall count (caller.Session k) call = k < count
+MayCall count (caller.Worker k) call = IsWork call
+
 -- There is one legal history of the book machine from this state on along which each text answers its script: the first script
--- is session 0's, and so on.
+-- is session 0's, and so on. No other session makes a call in it, and workers only claim, hand in and give up.
 pub record AreAnsweredAlong (A : Type 0) (comments : List (List ℕ)) (opening : Machine) (scripts texts : List (List ℕ)) : Type 0 where
   pub events : List Happened
   pub legal : IsLegalFrom opening events
   pub as_many : length texts ≡ length scripts
   pub each : (k : ℕ) (script text : List ℕ) → slice_get scripts k ≡ Some script → slice_get texts k ≡ Some text → IsAnsweredAlong A comments opening events k script text
+  pub only : All (λ (n : Noted). MayCall (length scripts) n.caller n.call) (notes_of events)

@@ -1,5 +1,7 @@
 -- Why the input is not had whole.
 use Rattle.std.specs.Prelude.{◌≡◌, ℕ, ◌<◌, ◌++◌, List, length, take, Option, IfSome}
+use Rattle.std.specs.declared.io.ErrorKind.{ErrorKind}
+use Rattle.std.specs.declared.io.ErrorKind.TheVariants as kinds
 use Rattle.parallel_reader.specs.Fronts.{IsFront, Progress}
 use Rattle.easybook.specs.declared.fault.ProgramFault.{ProgramFault}
 use Rattle.easybook.specs.declared.fault.ProgramFault.TheVariants.{TooLong, Read, Memory}
@@ -11,16 +13,16 @@ IsInputFault known limit Read = Unit {0}
 IsInputFault known limit Memory = Unit {0}
 IsInputFault known limit fault = ⊥
 
+-- a reader returned an error, or a file could not be opened: memory ran out, or it is another error
+abbrev pub fault_of_reader : ErrorKind → ProgramFault
+fault_of_reader kinds.OutOfMemory = Memory
+fault_of_reader kind = Read
+
 -- the reader returned an error, or memory ran out
 abbrev pub IsReadFault : ProgramFault → Type 0
 IsReadFault Read = Unit {0}
 IsReadFault Memory = Unit {0}
 IsReadFault fault = ⊥
-
--- it has too many bytes, or the reader returned an error, or memory ran out
-abbrev pub IsNotHad : ProgramFault → Type 0
-IsNotHad TooLong = Unit {0}
-IsNotHad fault = IsReadFault fault
 
 -- what a reader had up to a limit is the front of a log, which was read, and the rest
 pub record IsBegunUpTo (limit : ℕ) (known : Option (List ℕ)) (progress : Progress) (rest : List ℕ) : Type 0 where

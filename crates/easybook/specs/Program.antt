@@ -92,12 +92,17 @@ pub record IsBegunLog (known : Option (List ℕ)) (progress : Progress) (rest : 
   pub is_front : fronts.IsFront front progress
   pub whole : IfSome known (IsFront (front ++ rest))
 
+-- one of the sources with these names has more bytes than a script may have, as far as they are known
+abbrev pub HasTooLong : Sources → List Text → Type 0
+HasTooLong sources [] = ⊥
+HasTooLong sources (name ∷ names) = IfSome (sources name) (λ all. script_limit < length all) ⊎ HasTooLong sources names
+
 -- The scripts are worked on the log. Where the log or one of them cannot be read, or memory runs out for them, nothing is said
--- of them and nothing is written; so too where one has too many bytes.
+-- of them and nothing is written. Where the log or one of them has too many bytes, nothing is written.
 abbrev pub EndsOnScripts : {X : Type 0} → Sources → List Text → Option ℕ → Option (List ℕ) → Option (List ℕ) → Option (List ℕ) → Result X ProgramFault → Type 0
 EndsOnScripts sources names procs known old new (Err faults.Read) = Keeps old new
 EndsOnScripts sources names procs known old new (Err faults.Memory) = Keeps old new
-EndsOnScripts sources names procs known old new (Err faults.TooLong) = Keeps old new
+EndsOnScripts sources names procs known old new (Err faults.TooLong) = (IfSome known (λ all. log_limit < length all) ⊎ HasTooLong sources names) × Keeps old new
 EndsOnScripts sources names procs known old new (Err (faults.Close fault)) = Keeps old new
 EndsOnScripts sources names procs known old new result =
     OfAll known (λ log. (scripts : List (List ℕ)) × AreOf sources names scripts × RunsShared Global log procs scripts old new result)

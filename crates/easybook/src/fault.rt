@@ -1,8 +1,9 @@
 ghost use Rattle.std.specs.Prelude.{◌≡◌, Some};
 ghost use Rattle.easybook.specs.declared.fault.ProgramFault.TheVariants.{Memory as OutOfMemory, Write as WriteFailed};
+ghost use Rattle.std.specs.IoError.{error_kind};
 ghost use Rattle.easybook.specs.Texts.{fault_line};
 ghost use Rattle.easybook.specs.Fault.{fault_of, fault_of_opening, fault_of_talk};
-ghost use Rattle.easybook.specs.Input.{IsReadFault};
+ghost use Rattle.easybook.specs.Input.{fault_of_reader};
 
 use commands::OpenTextFault;
 use scripts::LiveFault;
@@ -86,8 +87,9 @@ impl From<LiveFault> for ProgramFault {
     }
 }
 
+/// A reader returned an error, or a file cannot be opened: Memory where it is out of memory, else Read.
 impl From<io::Error> for ProgramFault {
-    ghost from_gives = { λ _ fault. IsReadFault fault };
+    ghost from_gives = { λ error fault. fault ≡ fault_of_reader (error_kind error) };
 
     fn from(error: io::Error) -> ProgramFault {
         match error.kind() {

@@ -9,6 +9,7 @@ use std::io::Read;
 use std::marker::Sync;
 use std::thread::Threads;
 
+#[tactic(auto, using(crate::proofs::Inputs::reader_fails))]
 pub(crate) fn read_front<R: Read + Drop, A: Allocator + Copy>(
     alloc: A,
     reader: R,
@@ -44,6 +45,7 @@ pub fn read_input<R: Read + Drop, A: Allocator + Copy>(
     Ok(bytes)
 }
 
+#[tactic(auto, using(crate::proofs::Inputs::reader_fails))]
 fn read_rest<R: Read, A: Allocator + Copy>(
     reader: &mut R,
     rest: &mut Vec<u8, A>,
@@ -59,6 +61,7 @@ fn read_rest<R: Read, A: Allocator + Copy>(
     Ok(())
 }
 
+#[tactic(auto, using(crate::proofs::Inputs::reader_fails))]
 pub(crate) fn begin_front<T: Threads + Sync, R: Read + Drop, A: Allocator + Copy>(
     rt: &T,
     alloc: A,

@@ -23,6 +23,7 @@ mod split;
 mod stop;
 mod threads;
 mod words;
+mod worker_thread;
 mod works;
 
 pub use alone::run_alone;

@@ -3,7 +3,7 @@
 ghost use Rattle.std.specs.Prelude.{◌≡◌, ◌<◌, ◌+◌, IfErr, IfOk, IfSome, List, None, Option, Some, map, slice_get, take, ℕ};
 ghost use Rattle.std.specs.Option.{option_map};
 ghost use Rattle.easybook.specs.Alone.{script_limit};
-ghost use Rattle.easybook.specs.Input.{IsBegunUpTo, IsNotHad, IsReadFault};
+ghost use Rattle.easybook.specs.Input.{IsBegunUpTo, IsInputFault, IsReadFault};
 ghost use Rattle.easybook.specs.Opened.{IsOpened};
 ghost use Rattle.easybook.specs.Plain.{Answers, log_limit};
 ghost use Rattle.easybook.specs.Program.{AreFronts, Ends, EndsFrom, EndsOnFile, EndsOnInput, EndsOnScripts, IsBegunLog, log_known};
@@ -94,6 +94,7 @@ fn run_input<R: Read + Drop, W: Write, T: Threads + Sync, A: Allocator + Copy>(
     }
 }
 
+#[tactic(auto, using(crate::proofs::Inputs::reader_fails))]
 fn read_script<S: Sources>(alloc: Global, sources: &S, name: &str) -> Result<Vec<u8>, ProgramFault>
     ensures front { IfOk result (λ bytes. IfSome (S.known sources.now name.now) (λ all. bytes.items ≡ take (script_limit + 1) all)) }
     ensures fault { IfErr result IsReadFault }
@@ -117,6 +118,7 @@ fn read_scripts<S: Sources>(
     Ok(scripts)
 }
 
+#[tactic(auto, using(crate::proofs::Inputs::reader_fails))]
 fn begin_named<S: Sources, T: Threads + Sync>(
     alloc: Global,
     rt: &T,
@@ -137,7 +139,7 @@ fn begin_log<S: Sources, T: Threads + Sync, R: Read + Drop>(
     reader: R,
 ) -> Result<BegunLog<Global>, ProgramFault>
     ensures front { IfOk result (λ b. IsBegunLog (log_known (S.known sources.now) (option_map (λ n. n.now) name.entry) (R.remaining reader)) b.front b.rest.items) }
-    ensures fault { IfErr result IsNotHad }
+    ensures fault { IfErr result (IsInputFault (log_known (S.known sources.now) (option_map (λ n. n.now) name.entry) (R.remaining reader)) log_limit) }
 {
     match name {
         Some(name) => begin_named(alloc, rt, sources, name),
@@ -145,6 +147,7 @@ fn begin_log<S: Sources, T: Threads + Sync, R: Read + Drop>(
     }
 }
 
+#[tactic(auto, using(crate::proofs::Besides::unhad_ends))]
 fn run_beside<S: Sources, T: Threads + Wait + Sync, R: Read + Drop, W: Write>(
     alloc: Global,
     rt: &T,

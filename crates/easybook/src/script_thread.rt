@@ -13,7 +13,7 @@ use std::alloc::Allocator;
 use std::marker::Model;
 use std::sync::Wait;
 use swf_text::Memory;
-use workers::{Desk, Gate, Session, Worker};
+use workers::{Desk, Session};
 
 /// What the threads share: the desk, the handle by which a thread waits for it, and the scripts.
 #[derive(Drop)]
@@ -31,12 +31,6 @@ impl<'d, A: Allocator + Copy, J: Naming + Works, R: Wait> Model for Place<'d, A,
 }
 
 impl<'d, A: Allocator + Copy, J: Naming + Works, R: Wait> Place<'d, A, J, R> {
-    pub(crate) fn run<G: Gate>(&self, worker: &mut Worker<A>, gate: &G) {
-        let rt = self.rt;
-        let desk = self.desk;
-        let _ = worker.run(rt, desk, gate);
-    }
-
     pub(crate) fn stop(&self) {
         let rt = self.rt;
         let desk = self.desk;

@@ -97,20 +97,22 @@ fn share<W: Write, A: Allocator + Copy + Send + Sync, R: Threads + Wait + Sync, 
 
 /// Works scripts on one log side by side: each as a session of its own, on a thread of its own, while
 /// `options.workers` threads simulate. The responses to each script are written once all have ended,
-/// in the scripts' order, each after a line `== k`, k from 1. The scripts are 1 to 64.
+/// in the scripts' order, each after a line `== k`, k from 1. A desk has at most 64 sessions and 64
+/// workers.
 ///
 /// There is one legal history of the log's book along which each script is answered: the reply to each
 /// of its calls is that of the book's machine at the call's place, each report is that of the log of the
 /// version that the view shows there, and each reading is that of a place between those of the lines
 /// before and behind. The history's calls of session k, k from 0, are those of script k + 1, in their
-/// order.
+/// order; no other session makes one, and workers only claim, hand in and give up.
 ///
 /// The log is opened as by `run_alone`. The faults in their order: TooLong where the log has over
 /// 1,073,741,824 bytes, or a script over 16,777,216; Log with its first faulty line; NoMachine where
 /// nothing names a scenario or the machine's processors; BadMachine where it has not 1 to 16,777,216;
 /// Memory where a growth, or the start of a thread, is refused, except one that is the response to a
-/// command; Close where the callers' lists are not the book's history; Write where the writer returns
-/// an error or takes no byte. Each except Write comes before the first byte is written.
+/// command, or where there are more scripts or workers than a desk has; Close where the callers' lists
+/// are not the book's history; Write where the writer returns an error or takes no byte. Each except
+/// Write comes before the first byte is written.
 pub fn run_shared<W: Write, A: Allocator + Copy + Send + Sync, R: Threads + Wait + Sync>(
     rt: &R,
     alloc: A,

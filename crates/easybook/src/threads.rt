@@ -2,14 +2,17 @@
 // stopped, and the workers end; where a thread cannot be started it is stopped at once. It does not happen
 // that the callers' lists are not the book's history, or a session does not have the number of its script.
 ghost use Rattle.std.specs.Prelude.{◌≡◌, IfErr, IfOk, OnOk, map, vec_len};
+ghost use Rattle.std.specs.List.{All};
 ghost use Rattle.version_book.specs.Book.{machine_of};
-ghost use Rattle.easybook.specs.Along.{AreAnsweredAlong};
+ghost use Rattle.workers.specs.Callers.{WorkerView};
+ghost use Rattle.easybook.specs.Along.{AreAnsweredAlong, AreWork};
 ghost use Rattle.easybook.specs.DeskRules.{AreAtDesk};
 ghost use Rattle.easybook.specs.Shared.{IsSharedFault};
 
 use crate::fault::ProgramFault;
 use crate::script_list::ScriptList;
 use crate::script_thread::{Place, ScriptThread};
+use crate::worker_thread::WorkerThread;
 use crate::works::Works;
 use chronicle::{Naming, Unnamed};
 use std::alloc::Allocator;
@@ -41,13 +44,13 @@ fn workers_of<A: Allocator + Copy, J: Naming, R: Wait>(
     alloc: A,
     desk: &Desk<A, J>,
     count: u32,
-) -> Result<Vec<Worker<A>, A>, Memory>
+) -> Result<Vec<WorkerThread<A>, A>, Memory>
     ensures { IfOk result (λ workers. vec_len workers ≡ count) }
 {
     let mut workers = Vec::with_capacity(alloc, count as usize)?;
     for _ in 0..count {
         let worker = desk.open_worker(rt).ok_or(Memory)?;
-        workers.push(worker)?;
+        workers.push(WorkerThread::new(worker))?;
     }
     Ok(workers)
 }
@@ -62,13 +65,13 @@ fn run_threads<
     alloc: A,
     place: &Place<'_, A, J, R>,
     threads: &mut Vec<ScriptThread<A, J>, A>,
-    workers: &mut Vec<Worker<A>, A>,
+    workers: &mut Vec<WorkerThread<A>, A>,
     gate: &G,
 ) -> bool {
     thread::scope(thread::scope_env(), rt, |scope| {
         let mut all = true;
         for worker in workers.iter_mut() {
-            if scope.spawn(move || place.run(worker, gate)).is_err() {
+            if scope.spawn(move || worker.run(place, gate)).is_err() {
                 all = false;
             }
         }
@@ -135,6 +138,19 @@ fn outputs_of<A: Allocator + Copy, J: Naming + Works>(
     Ok(Outputs { sessions, texts })
 }
 
+fn workers_in<A: Allocator + Copy>(
+    alloc: A,
+    threads: Vec<WorkerThread<A>, A>,
+) -> Result<Vec<Worker<A>, A>, Memory>
+    ensures { IfOk result (λ workers. All (λ (w : WorkerView). AreWork w.list) workers.items) }
+{
+    let mut workers = Vec::with_capacity(alloc, threads.len())?;
+    for thread in threads {
+        workers.push(thread.into_worker())?;
+    }
+    Ok(workers)
+}
+
 pub(crate) fn run_scripts<
     A: Allocator + Copy + Send + Sync,
     J: Naming + Works + Send + Sync,
@@ -172,7 +188,8 @@ pub(crate) fn run_scripts<
     if !are_started || texts.len() != list.count() {
         return Err(ProgramFault::Memory);
     }
-    match close(desk, sessions, pool) {
+    let callers = workers_in(alloc, pool)?;
+    match close(desk, sessions, callers) {
         Ok(_) => Ok(texts),
         Err((fault, _, _, _)) => Err(ProgramFault::Close(fault)),
     }

@@ -1,0 +1,51 @@
+ghost use Rattle.workers.specs.Callers.{IsNewWorker};
+ghost use Rattle.easybook.specs.Along.{AreWork};
+
+use crate::script_thread::Place;
+use crate::works::Works;
+use chronicle::Naming;
+use std::alloc::Allocator;
+use std::marker::Model;
+use std::sync::Wait;
+use workers::{Gate, Worker};
+
+/// A worker's thread: a worker that has only claimed, handed in and given up.
+#[derive(Drop)]
+pub(crate) struct WorkerThread<A: Allocator + Copy> {
+    worker: Worker<A>,
+}
+
+impl<A: Allocator + Copy> Model for WorkerThread<A> {
+    ghost use Rattle.workers.specs.Callers.{WorkerView};
+    ghost use Rattle.easybook.specs.Along.{AreWork};
+
+    ghost Value = { WorkerView };
+
+    ghost view = { λ t. t.worker };
+
+    ghost invariant = { λ t. AreWork t.worker.list };
+}
+
+impl<A: Allocator + Copy> WorkerThread<A> {
+    pub(crate) fn new(worker: Worker<A>) -> WorkerThread<A>
+        requires { IsNewWorker worker }
+    {
+        WorkerThread { worker }
+    }
+
+    pub(crate) fn run<J: Naming + Works, R: Wait, G: Gate>(
+        &mut self,
+        place: &Place<'_, A, J, R>,
+        gate: &G,
+    ) {
+        let rt = place.rt;
+        let desk = place.desk;
+        let _ = self.worker.run(rt, desk, gate);
+    }
+
+    pub(crate) fn into_worker(self) -> Worker<A>
+        ensures { AreWork result.list }
+    {
+        self.worker
+    }
+}
