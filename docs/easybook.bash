@@ -1,7 +1,7 @@
 # Completions for bash: source this file, or copy it as `easybook` into the folder of completions
 # (~/.local/share/bash-completion/completions).
 
-# The words that may stand next: each option but --script once, and files.
+# The words that may stand next: each option but --script once, --live without --script and --workers, and files.
 _easybook() {
     local word=${COMP_WORDS[COMP_CWORD]} before=${COMP_WORDS[COMP_CWORD - 1]} each options
     COMPREPLY=()
@@ -17,11 +17,16 @@ _easybook() {
     esac
     case $word in
     -*)
-        options='--procs --spacing --workers --live'
+        options='--procs --spacing --workers --live --script'
         for each in "${COMP_WORDS[@]:1:COMP_CWORD-1}" "${COMP_WORDS[@]:COMP_CWORD+1}"; do
-            options=${options/"${each%%=*}"/}
+            each=${each%%=*}
+            case $each in
+            --live) options=${options/--script/} options=${options/--workers/} ;;
+            --script | --workers) options=${options/--live/} ;;
+            esac
+            [ "$each" = --script ] || options=${options/"$each"/}
         done
-        mapfile -t COMPREPLY < <(compgen -W "$options --script" -- "$word")
+        mapfile -t COMPREPLY < <(compgen -W "$options" -- "$word")
         ;;
     *) mapfile -t COMPREPLY < <(compgen -f -- "$word") ;;
     esac
