@@ -77,6 +77,13 @@ class Decisions(unittest.TestCase):
         self.assertEqual([it.run for it in that.jobs], [-1, 1, 0])
         self.says(that, "1 cancelled job of no run time taken as never started: a column AllocNodes or NodeList would tell")
 
+    def test_what_is_guessed_of_jobs_that_are_left_out_is_not_told(self):
+        head = "JobID|Submit|Start|End|State|AllocCPUS|Partition"
+        rows = ("7|10|20|20|CANCELLED|8|main", "8|10|20|20|CANCELLED|8|other", "9|10|20|30|COMPLETED|8|main", "7|10|20|20|CANCELLED|8|main")
+        that = made(*rows, head=head, partitions=frozenset(["main"]))
+        self.assertEqual({it.number: it.run for it in that.jobs}, {7: -1, 9: 10})
+        self.says(that, "1 cancelled job of no run time taken as never started: a column AllocNodes or NodeList would tell")
+
     def test_pending_at_the_dump(self):
         that = made(row(), row(8, State="PENDING", Start="Unknown", End="Unknown", ElapsedRaw="0", AllocNodes="0", NodeList="None assigned"))
         self.assertEqual(tuple(that.jobs[1]), line(8, wait=-1, run=-1, allocated=-1, size=4, status=-1))

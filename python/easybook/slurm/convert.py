@@ -114,6 +114,7 @@ def _count(it: Execution, size: int, estimate: int, options: Options, counts: "C
     counts["long"] += estimate > GREATEST_ESTIMATE
     if it.start is None:
         counts["never"] += 1
+        counts["guessed"] += it.is_guessed
         counts["pending"] += it.fate in (Fate.PENDING, Fate.RUNNING)
         return
     counts["running"] += it.fate is Fate.RUNNING

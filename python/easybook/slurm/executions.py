@@ -16,7 +16,8 @@ _NODE_LISTS_OF_NONE = ("None assigned", "None", "(null)")
 
 class Execution(NamedTuple):
     """An execution, or a job that never started. Times are seconds since 1970; what is missing is None, sizes are -1.
-    Where the run time may have suspension in it, since the dump tells neither, `was_suspended` is None."""
+    Where the run time may have suspension in it, since the dump tells neither, `was_suspended` is None. Where the dump
+    doesn't tell that it never started, and it is taken so, `is_guessed`."""
 
     line: int
     number: Optional[int]
@@ -35,6 +36,7 @@ class Execution(NamedTuple):
     partition: int
     qos: int
     was_suspended: Optional[bool]
+    is_guessed: bool
 
     @property
     def is_over(self) -> bool:
@@ -127,13 +129,14 @@ class Reader:
         end = None if self._end is None else self._clock.read(values[self._end])
         suspended = None if self._suspended is None else length(values[self._suspended])
         run, is_told = self._run(values, start, end, suspended)
-        if not self._has_started(values, is_what, start, run, alloc):
+        has_started, is_guessed = self._has_started(values, is_what, start, run, alloc)
+        if not has_started:
             start = run = end = None
         return Execution(row.line, self._number(label, raw), label, submit, eligible, start, run, end, alloc, req,
                          self._limit_of(values), is_what, self._name(self.users, values, self._user),
                          self._name(self.accounts, values, self._account),
                          self._name(self.partitions, values, self._partition), self._name(self.qos, values, self._qos),
-                         bool(suspended) if is_told else None)
+                         bool(suspended) if is_told else None, is_guessed)
 
     @staticmethod
     def _name(names: Names, values: List[str], place: Optional[int]) -> int:
@@ -186,21 +189,21 @@ class Reader:
             return None, True
         return max(0, end - start - (suspended or 0)), suspended is not None
 
-    def _has_started(self, values: List[str], is_what: Fate, start: Optional[int], run: Optional[int], alloc: int) -> bool:
-        """Whether it ran. A job that was cancelled while it waited has a start, and processors as requested."""
+    def _has_started(self, values: List[str], is_what: Fate, start: Optional[int], run: Optional[int],
+                     alloc: int) -> Tuple[bool, bool]:
+        """Whether it ran, and whether that is guessed. A job that was cancelled while it waited has a start, and processors
+        as requested."""
         if start is None or is_what is Fate.PENDING or alloc == 0:
-            return False
+            return False, False
         nodes, places, tres = self._alloc_nodes, self._node_list, self._tres
         if nodes is not None and values[nodes] == "0":
-            return False
+            return False, False
         if places is not None and values[places] in _NODE_LISTS_OF_NONE:
-            return False
+            return False, False
         if tres is not None and values[tres] == "":
-            return False
-        if (nodes, places, tres) == (None, None, None) and is_what is Fate.CANCELLED and not run:
-            self.counts["guessed"] += 1
-            return False
-        return True
+            return False, False
+        is_guessed = (nodes, places, tres) == (None, None, None) and is_what is Fate.CANCELLED and not run
+        return not is_guessed, is_guessed
 
     def _limit_of(self, values: List[str]) -> Union[int, str, None]:
         if self._minutes is not None and values[self._minutes]:
