@@ -1,8 +1,16 @@
--- The words of the orders of backfills, as commands and comments have them.
-use Rattle.std.specs.Prelude.{ℕ, List, if◌then◌else◌, Option, Some, None, codes}
+-- The orders of backfills, and their words, as commands and comments have them.
+use Rattle.std.specs.Prelude.{◌≡◌, ℕ, List, [], ◌∷◌, if◌then◌else◌, Option, Some, None, codes, slice_get}
 use Rattle.std.specs.Str.{bytes_eq}
 use Rattle.scenarios.specs.declared.order.Order.{Order}
 use Rattle.scenarios.specs.declared.order.Order.TheVariants.{Arrival, Shortest}
+
+-- all orders
+abbrev pub all_orders : List Order
+all_orders = Arrival ∷ Shortest ∷ []
+
+-- each order stands in the list
+abbrev pub HasEachOrder : List Order → Type 0
+HasEachOrder orders = (order : Order) → (place : ℕ) × (slice_get orders place ≡ Some order)
 
 -- the word that names an order
 abbrev pub order_word : Order → List ℕ

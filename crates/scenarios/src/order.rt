@@ -1,5 +1,5 @@
 ghost use Rattle.std.specs.Prelude.{◌≡◌};
-ghost use Rattle.scenarios.specs.Order.{order_of, order_word};
+ghost use Rattle.scenarios.specs.Order.{HasEachOrder, all_orders, order_of, order_word};
 
 /// Who goes first among the later waiting jobs that may start in the place of the head.
 ///
@@ -13,6 +13,14 @@ pub enum Order {
 }
 
 impl Order {
+    /// All orders, each once.
+    pub fn all() -> &'static [Order]
+        ensures value { result.now ≡ all_orders }
+        ensures each { HasEachOrder result.now }
+    {
+        &[Order::Arrival, Order::Shortest]
+    }
+
     /// The order that this word names, `arrival` or `shortest`; None for every other word.
     pub fn of_word(word: &[u8]) -> Option<Order>
         ensures { result ≡ order_of word.now }

@@ -94,13 +94,13 @@ fn add_log(log: &mut String, kind: Kind, seed: u64, scenario: &Scenario) -> Opti
 
 fn compare_orders(alloc: Global, log: &[u8], scenario: Scenario, seed: u64, found: &mut Found) {
     let spacing = [1, 2, 7, 256][seed as usize % 4];
-    for order in [Order::Arrival, Order::Shortest] {
-        let starts = agreed(alloc, log, &scenario.ordered(order), spacing);
+    for order in Order::all() {
+        let starts = agreed(alloc, log, &scenario.ordered(*order), spacing);
         found.add(starts.map(|starts| [starts.len() as u64, 0, 0]));
     }
 }
 
-// Adds what a generated log gives in both orders; none where it cannot be made.
+// Adds what a generated log gives in each order; none where it cannot be made.
 fn compare_seed(alloc: Global, kind: Kind, seed: u64, found: &mut Found) -> Option<()> {
     let scenario = scenario_of(kind, seed)?;
     let mut log = String::new(alloc);

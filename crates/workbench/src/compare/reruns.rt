@@ -122,9 +122,9 @@ fn compare_table(
     scenario: Scenario,
     found: &mut Found,
 ) {
-    for order in [Order::Arrival, Order::Shortest] {
+    for order in Order::all() {
         for spacing in SPACINGS {
-            let counted = counted_of(alloc, table, edits, scenario.ordered(order), spacing);
+            let counted = counted_of(alloc, table, edits, scenario.ordered(*order), spacing);
             found.add(counted);
         }
     }
