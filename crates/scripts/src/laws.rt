@@ -1,5 +1,5 @@
 ghost use Rattle.scripts.specs.FirstSchedule.{SchedulesTheFirst};
-ghost use Rattle.scripts.specs.Laws.{LinesAreOne, TranscriptsAreOne, TranscriptsAreSome};
+ghost use Rattle.scripts.specs.Laws.{EachScenarioIsAdded, LinesAreOne, TranscriptsAreOne, TranscriptsAreSome};
 ghost use Rattle.scripts.specs.Lifting.{LinesLift};
 
 use crate::lifting::Lifting;
@@ -13,6 +13,12 @@ pub fn unrefused_transcripts_are_one<A: Allocator>()
     ensures line { LinesAreOne A }
     ensures one { TranscriptsAreOne A }
     ensures some { TranscriptsAreSome A }
+{}
+
+/// The book with which a script on a log begins has each scenario that the log is opened with, under
+/// its id: none is refused.
+pub fn each_scenario_is_added()
+    ensures { EachScenarioIsAdded }
 {}
 
 /// Where no memory is refused, a script of the two lines `settle` and `schedule NAME`, with the name of

@@ -17,7 +17,9 @@ mod side;
 mod view_report;
 mod views;
 
-pub use laws::{the_first_schedule, transcripts_lift, unrefused_transcripts_are_one};
+pub use laws::{
+    each_scenario_is_added, the_first_schedule, transcripts_lift, unrefused_transcripts_are_one,
+};
 pub use lifting::Lifting;
 pub use live::{LiveFault, run_live};
 pub use run::{run_lines, work_lines};
