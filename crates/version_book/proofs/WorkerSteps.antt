@@ -319,11 +319,6 @@ fitting-some {s} {v} new n run (Err e) is fits h = tt
 pub fitting-as : {s v : StateView} (new : StateView) (n : ℕ) (r : Result ℕ (Refusal FinishFault)) → s ≡ v → IfOk r (λ w. PublishesFitting s new n w) → IfOk r (λ w. PublishesFitting v new n w)
 fitting-as {s} {v} new n r is h = subst (λ (x : StateView). IfOk r (λ w. PublishesFitting x new n w)) is h
 
--- an Ok result that publishes a run, and tells of its fit what it should, publishes some run that fits
-pub fitting-outcome : {s v : StateView} (new : StateView) (n : ℕ) (run : RunView) (r : Result ℕ (Refusal FinishFault)) → s ≡ v → TellsFit (Fits s n run) r → IfOk r (λ w. Publishes s new n w run) → IfOk r (λ w. PublishesFitting v new n w)
-fitting-outcome {s} {v} new n run (Ok w) is fits h = fitting-some new n run (Ok w) is fits h
-fitting-outcome {s} {v} new n run (Err e) is fits h = tt
-
 -- where nothing is found, the copy of what is found is None
 pub none-found : {T : Type 0} (o : Option (Bor T)) (p : Option T) → is_none o ≡ true → option_copied o ≡ p → p ≡ None
 none-found None p test is = sym is

@@ -1,15 +1,17 @@
 -- The tasks of a book, and the runs that are handed in for its tickets.
-use Rattle.std.specs.Prelude.{◌≡◌, ℕ, ◌==◌, ◌≤◌, ◌<◌, if◌then◌else◌, length, Option, None, Some, Result, Ok, Err, IsTrue, is_some, find}
+use Rattle.std.specs.Prelude.{◌≡◌, ◌⊎◌, ℕ, ◌==◌, ◌≤◌, ◌<◌, if◌then◌else◌, length, Option, None, Some, Result, Ok, Err, IfOk, IsTrue, is_some, find}
 use Rattle.std.specs.Option.{option_map}
 use Rattle.checkpoints.specs.RunView.{RunView}
 use Rattle.book_machine.specs.Machine.{is_due, are_all_out, ticket_limit}
 use Rattle.tasks.specs.Published.{PublishedView}
 use Rattle.tasks.specs.Tasks.{TaskView, bases_since, ticket_for}
 use Rattle.tasks.specs.Tickets.{HasThoseOf, TicketView}
+use Rattle.version_book.specs.Answers.{TellsFit, TellsStanding}
 use Rattle.version_book.specs.Book.{ShownView, StateView, machine_at, progress_of_shown}
 use Rattle.version_book.specs.Lookups.{has_id}
 use Rattle.version_book.specs.Sound.{IsOfItsVersion}
 use Rattle.version_book.specs.Steps.{Publishes}
+use Rattle.version_book.specs.declared.faults.FinishFault.{FinishFault}
 use Rattle.version_book.specs.declared.faults.TooManyTickets.{TooManyTickets}
 use Rattle.version_book.specs.declared.refusal.Refusal.{Refusal}
 use Rattle.version_book.specs.declared.refusal.Refusal.TheVariants as why
@@ -43,6 +45,13 @@ Stands s number = IsTrue (is_some (find (λ (t : TicketView). t.number == number
 -- some run that has the log and the scenario of the ticket of this number is published for the ticket
 abbrev pub PublishesFitting : StateView → StateView → ℕ → ℕ → Type 0
 PublishesFitting old new number version = (run : RunView) × Fits old number run × Publishes old new number version run
+
+-- The result is that of the run which the ticket's task has left, whatever this run is; or the task has left none, and it is
+-- that of this run.
+abbrev pub IsHandedIn : StateView → StateView → ℕ → RunView → Result ℕ (Refusal FinishFault) → Type 0
+IsHandedIn old new number run result =
+    (TellsStanding (Stands old number) (Some result) × IfOk result (PublishesFitting old new number))
+    ⊎ (TellsFit (Fits old number run) result × IfOk result (λ version. Publishes old new number version run))
 
 -- the ticket of this task stands, so a run of its log and scenario fits
 abbrev pub IsOut : StateView → TaskView → Type 0

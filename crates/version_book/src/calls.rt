@@ -8,7 +8,7 @@ ghost use Rattle.book_machine.specs.Call.{AddScenario, Claim, DropScenario, Edit
 ghost use Rattle.version_book.specs.Answers.{AnswersOfRun, TakesWhatFits, TellsFit, TellsStanding, add_answer, claim_answer, drop_answer, edit_answer, finish_answer, fitted, give_up_answer, retry_answer, outcome_of_run, view_answer};
 ghost use Rattle.version_book.specs.Sound.{IsBook};
 ghost use Rattle.version_book.specs.Steps.{Answers, Publishes};
-ghost use Rattle.version_book.specs.Tasks.{Fits, IsOut, IsShownFor, PublishesFitting, Stands, due_shown, task_for};
+ghost use Rattle.version_book.specs.Tasks.{Fits, IsHandedIn, IsOut, IsShownFor, PublishesFitting, Stands, due_shown, task_for};
 
 use crate::book::Book;
 use crate::faults::{FinishFault, TooManyTickets, UnknownTicket, ViewFault};
@@ -204,7 +204,8 @@ impl<A: Allocator + Copy> Book<A> {
     }
 
     /// Hands in the run that the ticket's task has left, as `finish_delivered` does, or this one, as
-    /// `finish` does, where it has left none; and returns the version at which it is published.
+    /// `finish` does, where it has left none; and returns the version at which it is published. Where the
+    /// task has left its run this one is not looked at, and dropped.
     ///
     /// It is refused as these are, so a run that fits its ticket is never a Stranger.
     pub fn hand_in(
@@ -215,7 +216,7 @@ impl<A: Allocator + Copy> Book<A> {
     ) -> Result<u64, FinishRefusal>
         ensures answer { Answers self.old self.new (caller.Worker worker) (Finish ticket (fitted result)) (finish_answer result) }
         ensures fits { TakesWhatFits (Fits self.old.state ticket (arc_value run)) result }
-        ensures published { IfOk result (PublishesFitting self.old.state self.new.state ticket) }
+        ensures run { IsHandedIn self.old.state self.new.state ticket (arc_value run) result }
     {
         match self.finish_delivered(worker, ticket) {
             Ok(Some(version)) => Ok(version),
