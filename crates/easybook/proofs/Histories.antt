@@ -88,21 +88,21 @@ has_place (x ∷ xs) (z ∷ ys) (suc k) y same is = has_place xs ys k y (omega (
 -- texts that sessions at a desk produced answer their scripts along the one history in which all sessions stand, where there are as many
 -- texts as scripts, the callers' lists are its notes and the workers have only worked
 pub all_along : (A : Type 0) (comments scripts : List (List ℕ)) (opening : Machine) (sessions : List SessionView) (texts : List (List ℕ)) (workers : List WorkerView) (notes : List Noted)
-    → AreAtDesk A opening comments scripts sessions texts → All (λ (w : WorkerView). AreWork w.list) workers → StandInOne opening sessions notes → IsAnswered sessions workers notes → length texts ≡ length scripts
+    → AreAtDesk A opening comments scripts sessions texts → All (λ (w : WorkerView). AreWork w.list) workers → StandInOne opening sessions workers notes → IsAnswered sessions workers notes → length texts ≡ length scripts
     → AreAnsweredAlong A comments opening scripts texts
 all_along A comments scripts opening sessions texts workers notes desk work one outcome count = record {
-  events = one.0;
-  legal = one.1;
+  events = one.events;
+  legal = one.legal;
   as_many = count;
   each = λ k script text is_script is_text.
       let has = has_place sessions texts k text desk.as_many is_text in
       let s : SessionView = has.0 in
       let h = desk.each k s text has.1 is_text in
-      let seen = at_place (λ (x : SessionView). (x.front.kept ≡ true) × IsPrefix x.front.events one.0) sessions k s one.3 has.1 in
+      let seen = at_place (λ (x : SessionView). (x.front.kept ≡ true) × IsPrefix x.front.events one.events) sessions k s one.by_sessions has.1 in
       let mine : s.list ≡ part_of (caller.Session s.number) notes = at_place (λ (x : SessionView). x.list ≡ part_of (caller.Session x.number) notes) sessions k s outcome.by_sessions has.1 in
-      let there : s.list ≡ own s.number one.0 = mine ∙ ap (part_of (caller.Session s.number)) (sym one.2) in
-      along_one A comments scripts opening one.0 k s text script h.0 h.1 seen is_script there;
-  only = subst (All (λ (n : Noted). MayCall (length scripts) n.caller n.call)) (sym one.2)
+      let there : s.list ≡ own s.number one.events = mine ∙ ap (part_of (caller.Session s.number)) (sym one.calls) in
+      along_one A comments scripts opening one.events k s text script h.0 h.1 seen is_script there;
+  only = subst (All (λ (n : Noted). MayCall (length scripts) n.caller n.call)) (sym one.calls)
       (all_may sessions workers notes (length scripts) (λ j s is. let has = has_place texts sessions j s (sym desk.as_many) is in (desk.each j s has.0 is has.1).0) (desk.as_many ∙ count) work outcome);
 }
 

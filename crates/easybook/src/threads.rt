@@ -39,12 +39,12 @@ fn threads_of<A: Allocator + Copy, J: Naming + Works, R: Wait>(
     Ok(threads)
 }
 
-fn workers_of<A: Allocator + Copy, J: Naming, R: Wait>(
+fn workers_of<A: Allocator + Copy, J: Naming + Works, R: Wait>(
     rt: &R,
     alloc: A,
     desk: &Desk<A, J>,
     count: u32,
-) -> Result<Vec<WorkerThread<A>, A>, Memory>
+) -> Result<Vec<WorkerThread<A, J>, A>, Memory>
     ensures { IfOk result (λ workers. vec_len workers ≡ count) }
 {
     let mut workers = Vec::with_capacity(alloc, count as usize)?;
@@ -65,7 +65,7 @@ fn run_threads<
     alloc: A,
     place: &Place<'_, A, J, R>,
     threads: &mut Vec<ScriptThread<A, J>, A>,
-    workers: &mut Vec<WorkerThread<A>, A>,
+    workers: &mut Vec<WorkerThread<A, J>, A>,
     gate: &G,
 ) -> bool {
     thread::scope(thread::scope_env(), rt, |scope| {
@@ -138,10 +138,10 @@ fn outputs_of<A: Allocator + Copy, J: Naming + Works>(
     Ok(Outputs { sessions, texts })
 }
 
-fn workers_in<A: Allocator + Copy>(
+fn workers_in<A: Allocator + Copy, J: Naming + Works>(
     alloc: A,
-    threads: Vec<WorkerThread<A>, A>,
-) -> Result<Vec<Worker<A>, A>, Memory>
+    threads: Vec<WorkerThread<A, J>, A>,
+) -> Result<Vec<Worker<A, J>, A>, Memory>
     ensures { IfOk result (λ workers. All (λ (w : WorkerView). AreWork w.list) workers.items) }
 {
     let mut workers = Vec::with_capacity(alloc, threads.len())?;

@@ -97,7 +97,7 @@ pub(crate) struct Wants {
     pub(crate) was_first: bool,
 }
 
-fn last_reply<A: Allocator + Copy>(worker: &Worker<A>) -> Option<Reply> {
+fn last_reply<A: Allocator + Copy, J: Naming>(worker: &Worker<A, J>) -> Option<Reply> {
     match worker.list().last() {
         Some(listed) => Some(listed.reply),
         None => None,
@@ -109,7 +109,7 @@ fn last_reply<A: Allocator + Copy>(worker: &Worker<A>) -> Option<Reply> {
 fn works_once<R: Wait, A: Allocator + Copy, J: Naming>(
     handle: &DeskHandle<'_, R, A, J>,
     session: &mut Session<A, J>,
-    worker: &mut Worker<A>,
+    worker: &mut Worker<A, J>,
     script: &Growing<'_, A>,
 ) -> Result<bool, Wrong> {
     let (rt, desk) = (handle.rt, handle.desk);
@@ -127,7 +127,7 @@ fn plays_with<R: Threads + Wait + Sync, A: Allocator + Copy + Send + Sync, J: Na
     rt: &R,
     desk: &Desk<A, J>,
     sessions: &mut Vec<Session<A, J>, A>,
-    workers: &mut Vec<Worker<A>, A>,
+    workers: &mut Vec<Worker<A, J>, A>,
     script: &Growing<'_, A>,
     has_ended: &AtomicBool,
 ) -> Result<(), Wrong> {
@@ -161,7 +161,7 @@ fn plays_beside<
 >(
     handle: &DeskHandle<'_, R, A, J>,
     sessions: &mut Vec<Session<A, J>, A>,
-    workers: &mut Vec<Worker<A>, A>,
+    workers: &mut Vec<Worker<A, J>, A>,
     script: &Growing<'_, A>,
 ) -> Result<bool, Wrong> {
     let has_ended = AtomicBool::new(false);
@@ -194,7 +194,7 @@ pub(crate) fn played<
 >(
     handle: &DeskHandle<'_, R, A, J>,
     sessions: &mut Vec<Session<A, J>, A>,
-    workers: &mut Vec<Worker<A>, A>,
+    workers: &mut Vec<Worker<A, J>, A>,
     script: &Growing<'_, A>,
     first: First,
 ) -> Result<Wants, Wrong> {

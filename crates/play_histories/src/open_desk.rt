@@ -13,7 +13,7 @@ use workers::{CloseFault, Desk, Session, Worker, close};
 pub(crate) struct OpenDesk<A: Allocator + Copy, J: Naming> {
     pub(crate) desk: Desk<A, J>,
     pub(crate) sessions: Vec<Session<A, J>, A>,
-    pub(crate) workers: Vec<Worker<A>, A>,
+    pub(crate) workers: Vec<Worker<A, J>, A>,
 }
 
 // Opens so many sessions.
@@ -39,7 +39,7 @@ fn workers_of<R: Wait, A: Allocator + Copy, J: Naming>(
     alloc: A,
     desk: &Desk<A, J>,
     count: usize,
-) -> Result<Vec<Worker<A>, A>, Wrong> {
+) -> Result<Vec<Worker<A, J>, A>, Wrong> {
     let mut workers = Vec::with_capacity(alloc, count)?;
     for _ in 0..count {
         match desk.open_worker(rt) {

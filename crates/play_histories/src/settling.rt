@@ -41,7 +41,11 @@ impl<R: Wait, J: Naming> DeskHandle<'_, R, Global, J> {
 
     // Whether a session waits for nothing at a desk that is stopped while a scenario is due, and a worker
     // ends there and has called nothing.
-    fn are_stopped(&self, session: &mut Session<Global, J>, worker: &mut Worker<Global>) -> bool {
+    fn are_stopped(
+        &self,
+        session: &mut Session<Global, J>,
+        worker: &mut Worker<Global, J>,
+    ) -> bool {
         let is_due = self.retries(session);
         self.desk.stop(self.rt);
         is_due

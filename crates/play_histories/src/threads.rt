@@ -42,7 +42,7 @@ pub(crate) fn plays<R: Wait, A: Allocator + Copy, S: Script<A>, J: Naming>(
 pub(crate) fn works<R: Wait, A: Allocator + Copy, G: Gate, J: Naming>(
     rt: &R,
     desk: &Desk<A, J>,
-    worker: &mut Worker<A>,
+    worker: &mut Worker<A, J>,
     gate: &G,
     end: WorkerEnd,
     ends_otherwise: &AtomicBool,
@@ -64,7 +64,7 @@ fn run_all<
     alloc: Global,
     desk: &Desk<Global, J>,
     sessions: &mut Vec<Session<Global, J>>,
-    workers: &mut Vec<Worker<Global>>,
+    workers: &mut Vec<Worker<Global, J>>,
     gate: &G,
     script: &S,
     end: WorkerEnd,

@@ -16,7 +16,7 @@ use std::marker::Brand;
 use std::sync::Wait;
 use std::thread::Threads;
 use version_book::{Book, FinishFault, FinishRefusal};
-use workers::{NoGate, Session, WorkerEnd};
+use workers::{NoGate, Session, Worker, WorkerEnd};
 
 impl<R: Wait, J: Naming> DeskHandle<'_, R, Global, J> {
     fn sees_second(&self, session: &mut Session<Global, J>) -> bool {
@@ -108,17 +108,35 @@ fn rejoined<J: Naming>(
     }
 }
 
+fn manned<J: Naming>(
+    mut open: OpenDesk<Global, J>,
+    last: Worker<Global, J>,
+) -> Result<OpenDesk<Global, J>, Wrong> {
+    match open.workers.push(last) {
+        Ok(()) => Ok(open),
+        Err(_) => Err(Wrong::Memory),
+    }
+}
+
 // The desk, after it did not close without the last session.
-fn refused<J: Naming>(mut open: OpenDesk<Global, J>) -> Result<OpenDesk<Global, J>, Wrong> {
+fn without_session<J: Naming>(mut open: OpenDesk<Global, J>) -> Result<OpenDesk<Global, J>, Wrong> {
     match open.sessions.pop() {
         Some(last) => rejoined(open.still_out()?, last),
         None => Err(Wrong::Input),
     }
 }
 
+// The desk, after it did not close without the last worker.
+fn without_worker<J: Naming>(mut open: OpenDesk<Global, J>) -> Result<OpenDesk<Global, J>, Wrong> {
+    match open.workers.pop() {
+        Some(last) => manned(open.still_out()?, last),
+        None => Err(Wrong::Input),
+    }
+}
+
 // Whether the desk doesn't close without a session, and closes with all callers.
 fn closes_whole<J: Naming>(open: OpenDesk<Global, J>) -> Result<(), Wrong> {
-    closes(refused(open)?, &Looking)
+    closes(without_session(open)?, &Looking)
 }
 
 fn plays_on<J: Naming + Send + Sync, R: Threads + Wait + Sync>(
@@ -130,12 +148,14 @@ fn plays_on<J: Naming + Send + Sync, R: Threads + Wait + Sync>(
     requires name { unnamed ≡ J.book }
     requires opening { J.opening ≡ machine_of book }
 {
-    let mut open = OpenDesk::<Global, J>::new(rt, alloc, book, unnamed, 2, 1)?;
+    let idle = OpenDesk::<Global, J>::new(rt, alloc, book, unnamed, 2, 1)?;
+    let mut open = without_worker(without_session(idle)?)?;
     let found = plays(rt, alloc, &mut open);
     found.and(closes_whole(open))
 }
 
-/// Two sessions see one version, and the desk closes with both alone.
+/// Two sessions see one version, and the desk closes with all its callers alone, whether or not they
+/// called.
 pub(crate) fn is_right<R: Threads + Wait + Sync>(rt: &R, alloc: Global) -> Result<(), Wrong> {
     let book = with_base(alloc)?;
     plays_on::<Brand, R>(rt, alloc, book, Unnamed::new())

@@ -1,5 +1,5 @@
 -- What a closed desk says, by what speaks against closing.
-use Rattle.std.proofs.Common.{◌≡◌, ◌∙◌, ℕ, Bool, List, drop, length, sym, ap, subst}
+use Rattle.std.proofs.Common.{◌≡◌, ◌∙◌, ℕ, Bool, List, drop, sym, ap, subst}
 use Rattle.std.specs.Prelude.{Option}
 use Rattle.book_machine.specs.History.{Noted}
 use Rattle.book_machine.specs.Machine.{Machine}
@@ -9,7 +9,7 @@ use Rattle.version_book.specs.Book.{BookView}
 use Rattle.workers.specs.Callers.{SessionView, WorkerView}
 use Rattle.workers.specs.Closing.{AreAll, AreOpened, IsTheirs, IsAnswered, SpeaksAgainst, StandInOne}
 use Rattle.workers.specs.declared.close_fault.CloseFault.{CloseFault}
-use Rattle.workers.specs.Tied.{IsTied, opened_sessions, opened_workers}
+use Rattle.workers.specs.Tied.{IsTied}
 use Rattle.workers.proofs.Tying.{lain}
 
 -- callers are all of those opened by one count exactly where they are by an equal count
@@ -19,23 +19,24 @@ opened_all sessions workers m n m' n' s w = (
   (λ a. subst (λ (k : ℕ). AreAll m k sessions workers) (sym w) (subst (λ (k : ℕ). AreAll k n' sessions workers) (sym s) a)),
 )
 
--- where the callers are all that were opened in a history that is theirs, the sessions have all numbers from 0 on, and so have the workers
-pub all_in : (all : Seen) (sessions : List SessionView) (workers : List WorkerView) → AreOpened all sessions workers → IsTheirs all sessions workers → AreAll (length sessions) (length workers) sessions workers
-all_in all sessions workers opened theirs =
-    let a = opened theirs.kept in
-    (opened_all sessions workers (length sessions) (length workers) (opened_sessions all.events) (opened_workers all.events) a.as_many_sessions a.as_many_workers).1 a
-
 -- where the history is tied to the book and is the callers', their lists are the notes after the opening ones
 pub outcome_in : (opening : Machine) (n : ℕ) (book : BookView) (all : Seen) (s w : ℕ) (stopped : Bool) (sessions : List SessionView) (workers : List WorkerView)
     → n ≡ opening.notes → IsTied opening (lain book all s w stopped) → IsTheirs all sessions workers → IsAnswered sessions workers (drop n book.journal)
 outcome_in opening n book all s w stopped sessions workers at tied theirs =
     subst (λ (ns : List Noted). IsAnswered sessions workers ns) ((tied theirs.kept).notes ∙ ap (λ (k : ℕ). drop k book.journal) (sym at)) theirs.lists
 
--- where the history is tied to the book, legal and the callers', all sessions stand in it, and its calls are the notes after the opening ones
+-- where the history is tied to the book, legal and the callers', who are all that were opened in it, all callers stand in it, and its calls are the
+-- notes after the opening ones
 pub stand_in : (opening : Machine) (n : ℕ) (book : BookView) (all : Seen) (s w : ℕ) (stopped : Bool) (sessions : List SessionView) (workers : List WorkerView)
-    → n ≡ opening.notes → IsTied opening (lain book all s w stopped) → IsLegalFrom opening all.events → IsTheirs all sessions workers → StandInOne opening sessions (drop n book.journal)
-stand_in opening n book all s w stopped sessions workers at tied legal theirs =
-    (all.events, legal, (tied theirs.kept).notes ∙ ap (λ (k : ℕ). drop k book.journal) (sym at), (λ k d lt. let b = theirs.fronts k d lt in (b.0, b.2)))
+    → n ≡ opening.notes → IsTied opening (lain book all s w stopped) → IsLegalFrom opening all.events → AreOpened all sessions workers → IsTheirs all sessions workers → StandInOne opening sessions workers (drop n book.journal)
+stand_in opening n book all s w stopped sessions workers at tied legal opened theirs = record {
+  events = all.events;
+  legal = legal;
+  calls = (tied theirs.kept).notes ∙ ap (λ (k : ℕ). drop k book.journal) (sym at);
+  callers = opened theirs.kept;
+  by_sessions = λ k d lt. let b = theirs.sessions_begin k d lt in (b.0, b.2);
+  by_workers = λ k d lt. let b = theirs.workers_begin k d lt in (b.0, b.2);
+}
 
 -- what speaks against closing speaks against it with the same callers and the same fault
 pub against : (all : Seen) (sessions sessions' : List SessionView) (workers workers' : List WorkerView) (found found' : Option CloseFault) → sessions ≡ sessions' → workers ≡ workers' → found ≡ found'

@@ -2,4 +2,5 @@ mod Gaining
 mod Tying
 mod Closed
 mod Works
+mod Ending
 mod Portions

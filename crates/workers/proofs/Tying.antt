@@ -1,4 +1,4 @@
--- The history stays tied to the book, as calls are noted and other events are added, and a session's front stays tied to the history.
+-- The history stays tied to the book, as calls are noted and other events are added, and a caller's front stays tied to the history.
 use Rattle.std.proofs.Common.{◌≡◌, ◌<◌, ◌+◌, ◌||◌, ℕ, Bool, true, false, cond, List, [], ◌∷◌, ◌++◌, drop, length, refl, sym, ◌∙◌, ap, subst, arith, length-append, append-nil, inl, inr}
 use Rattle.std.specs.Prelude.{if◌then◌else◌, nat_lt, Option, None, Some, IfSome, IfOk, Result, Err, count_by}
 use Rattle.std.specs.List.{cons_option, slice_get}
@@ -166,7 +166,8 @@ tied_first opening book whole at is = subst (λ (s : Seen). IsTied opening (lain
   stopped = refl;
 }))
 
-prefix_self : {A : Type 0} (xs : List A) → IsPrefix xs xs
+-- a list begins itself
+pub prefix_self : {A : Type 0} (xs : List A) → IsPrefix xs xs
 prefix_self xs = ([], append-nil xs)
 
 called_at : (opening : Machine) (old new : BookView) (history later front : Seen) (who : Caller) (call : BookCall) (answer : Answer)

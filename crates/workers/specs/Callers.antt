@@ -11,10 +11,11 @@ pub record SessionView : Type 0 where
   pub seen : ℕ
   pub front : Seen
 
--- a worker: its number, and the calls that it made with their replies
+-- a worker: its number, the calls that it made with their replies, and the history of the desk up to its last response
 pub record WorkerView : Type 0 where
   pub number : ℕ
   pub list : List ListedView
+  pub front : Seen
 
 -- the most sessions that a desk opens, and the most workers
 abbrev pub callers_limit : ℕ
@@ -32,15 +33,15 @@ opened_after opened = if nat_lt opened callers_limit then opened + 1 else opened
 abbrev pub new_session : ℕ → Seen → SessionView
 new_session number front = record { number = number; list = []; seen = 0; front = front }
 
-abbrev pub new_worker : ℕ → WorkerView
-new_worker number = record { number = number; list = [] }
+abbrev pub new_worker : ℕ → Seen → WorkerView
+new_worker number front = record { number = number; list = []; front = front }
 
 -- one that was just opened, under a number below the limit
 abbrev pub IsNewSession : SessionView → Type 0
 IsNewSession s = (s ≡ new_session s.number s.front) × (s.number < callers_limit)
 
 abbrev pub IsNewWorker : WorkerView → Type 0
-IsNewWorker w = (w ≡ new_worker w.number) × (w.number < callers_limit)
+IsNewWorker w = (w ≡ new_worker w.number w.front) × (w.number < callers_limit)
 
 -- what a session has seen after an edit
 abbrev pub seen_after : {E : Type 0} → ℕ → Result ℕ E → ℕ

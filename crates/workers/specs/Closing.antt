@@ -46,15 +46,21 @@ pub record AreAll (opened_sessions opened_workers : ℕ) (sessions : List Sessio
   pub sessions_in : (k : ℕ) → k < opened_sessions → has_session sessions k ≡ true
   pub workers_in : (k : ℕ) → k < opened_workers → has_worker workers k ≡ true
 
--- All sessions stand in one history: it is legal, its calls are the notes, and what each session has seen is a beginning of it.
-abbrev pub StandInOne : Machine → List SessionView → List Noted → Type 0
-StandInOne opening sessions notes =
-    (events : List Happened) × IsLegalFrom opening events × (notes_of events ≡ notes) × All (λ (s : SessionView). (s.front.kept ≡ true) × IsPrefix s.front.events events) sessions
+-- All callers stand in one history: it is legal, its calls are the notes, they are all that were opened in it, and what each of
+-- them has seen is a beginning of it.
+pub record StandInOne (opening : Machine) (sessions : List SessionView) (workers : List WorkerView) (notes : List Noted) : Type 0 where
+  pub events : List Happened
+  pub legal : IsLegalFrom opening events
+  pub calls : notes_of events ≡ notes
+  pub callers : AreAll (opened_sessions events) (opened_workers events) sessions workers
+  pub by_sessions : All (λ (s : SessionView). (s.front.kept ≡ true) × IsPrefix s.front.events events) sessions
+  pub by_workers : All (λ (w : WorkerView). (w.front.kept ≡ true) × IsPrefix w.front.events events) workers
 
--- The history is kept, what each session has seen begins it, and the lists are its notes.
+-- The history is kept, what each caller has seen begins it, and the lists are its notes.
 pub record IsTheirs (all : Seen) (sessions : List SessionView) (workers : List WorkerView) : Type 0 where
   pub kept : all.kept ≡ true
-  pub fronts : All (λ (s : SessionView). Begins s.front all) sessions
+  pub sessions_begin : All (λ (s : SessionView). Begins s.front all) sessions
+  pub workers_begin : All (λ (w : WorkerView). Begins w.front all) workers
   pub lists : IsAnswered sessions workers (notes_of all.events)
 
 -- the callers are all that were opened in the history

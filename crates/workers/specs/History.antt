@@ -1,19 +1,20 @@
 -- Where in the history of a desk the response to a caller stands. The history begins in the machine's state `opening`; what is said of a
 -- front holds where it is kept.
-use Rattle.std.specs.Prelude.{◌≡◌, ◌<◌, ◌⊎◌, ℕ, true, List, [], ◌∷◌, ◌++◌, Result, Err, IfOk}
+use Rattle.std.specs.Prelude.{◌≡◌, ◌<◌, ◌⊎◌, ℕ, true, List, [], ◌∷◌, ◌++◌, Option, Some, IfSome, Result, Ok, Err, IfOk}
 use mathlib.Core.List.{IsPrefix}
 use Rattle.book_machine.specs.declared.caller.Caller.{Caller}
 use Rattle.book_machine.specs.declared.settle_state.SettleState.TheVariants as state
-use Rattle.book_machine.specs.Call.{BookCall, View}
+use Rattle.book_machine.specs.Call.{BookCall, Claim, View}
 use Rattle.book_machine.specs.Machine.{Machine, note_limit, reply_to, settled}
 use Rattle.chronicle.specs.Events.{Happened, Called, Opened, state_after}
 use Rattle.chronicle.specs.Fronts.{Seen}
 use Rattle.tasks.specs.Published.{PublishedView}
+use Rattle.tasks.specs.Tasks.{TaskView}
 use Rattle.version_book.specs.declared.faults.ViewFault.{ViewFault}
 use Rattle.version_book.specs.declared.reading.Reading.{Reading}
 use Rattle.version_book.specs.declared.refusal.Refusal.{Refusal}
 use Rattle.version_book.specs.declared.refusal.Refusal.TheVariants as why
-use Rattle.version_book.specs.Answers.{view_answer}
+use Rattle.version_book.specs.Answers.{claim_answer, view_answer}
 use Rattle.version_book.specs.Book.{BookView, machine_of}
 use Rattle.version_book.specs.Reading.{moment_of, present}
 use Rattle.version_book.specs.Sound.{IsBook}
@@ -22,6 +23,8 @@ use Rattle.version_book.specs.Tasks.{IsShownFor}
 use Rattle.workers.specs.Settling.{has_stopped}
 use Rattle.workers.specs.declared.settled.Settled.{Settled}
 use Rattle.workers.specs.declared.settled.Settled.TheVariants as settled_as
+use Rattle.workers.specs.declared.worker.WorkerEnd.{WorkerEnd}
+use Rattle.workers.specs.declared.worker.WorkerEnd.TheVariants as ends
 
 -- the caller was opened last
 abbrev pub EndsOpened : Caller → Seen → Type 0
@@ -71,3 +74,20 @@ IsSettledAt opening events seen settled_as.Stopped = (settled seen (state_after 
 -- the history went on, and at its end the wait returned this
 abbrev pub Settles : Machine → Seen → ℕ → Settled → Seen → Type 0
 Settles opening old seen answer new = new.kept ≡ true → (old.kept ≡ true) × IsPrefix old.events new.events × IsSettledAt opening new.events seen answer
+
+-- ---- workers
+
+-- why a worker may end at this place: behind a stop, or at a full journal; where memory was refused nothing is said
+abbrev pub MayEndAt : Machine → List Happened → WorkerEnd → Type 0
+MayEndAt opening events ends.Stopped = has_stopped events ≡ true
+MayEndAt opening events ends.Full = (state_after opening events).notes ≡ note_limit
+MayEndAt opening events ends.Memory = Unit {0}
+
+-- the history went on, and at its end the worker went on or ended so
+abbrev pub Works : Machine → Seen → Option WorkerEnd → Seen → Type 0
+Works opening old end new = new.kept ≡ true → (old.kept ≡ true) × IsPrefix old.events new.events × IfSome end (MayEndAt opening new.events)
+
+-- the history went on, and then a task was claimed, or the worker ended
+abbrev pub Claims : Machine → Seen → Caller → Result TaskView WorkerEnd → Seen → Type 0
+Claims opening old who (Ok task) new = Calls opening old who Claim (claim_answer (Ok (Some task))) new
+Claims opening old who (Err end) new = Works opening old (Some end) new

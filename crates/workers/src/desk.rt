@@ -59,11 +59,13 @@ impl<A: Allocator + Copy, J: Naming> Desk<A, J> {
     }
 
     /// A worker, numbered from 0 on; None after 64. It may wait for the lock, and takes no memory.
-    pub fn open_worker<R: Wait>(&self, rt: &R) -> Option<Worker<A>>
-        ensures { IfSome result IsNewWorker }
+    /// The history that it knows ends where it was opened.
+    pub fn open_worker<R: Wait>(&self, rt: &R) -> Option<Worker<A, J>>
+        ensures new { IfSome result IsNewWorker }
+        ensures opened { IfSome result (λ w. EndsOpened (caller.Worker w.number) w.front) }
     {
-        let number = self.shared.lock(rt).next_worker()?;
-        Some(Worker::new(self.alloc, number))
+        let (number, front) = self.shared.lock(rt).next_worker()?;
+        Some(Worker::new(self.alloc, number, front))
     }
 
     /// Stops the desk and wakes all that wait: workers end, and sessions no longer wait for runs.

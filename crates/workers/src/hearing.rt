@@ -28,7 +28,7 @@ fn note_behind<A: Allocator + Copy>(book: &Book<A>, notes: usize) -> Option<&Not
     book.journal().get(notes)
 }
 
-pub(crate) fn heard<A: Allocator + Copy, J: Naming>(
+fn heard<A: Allocator + Copy, J: Naming>(
     whole: &mut Whole<J>,
     book: &Book<A>,
     notes: usize,

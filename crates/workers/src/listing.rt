@@ -29,7 +29,7 @@ fn sessions_tell<A: Allocator + Copy, J: Naming>(
     true
 }
 
-fn workers_tell<A: Allocator + Copy>(workers: &[Worker<A>], notes: &[Note<A>]) -> bool
+fn workers_tell<A: Allocator + Copy, J: Naming>(workers: &[Worker<A, J>], notes: &[Note<A>]) -> bool
     ensures { IsTrue result ↔ WorkersTell workers.now (map noted_of notes.now) }
 {
     for worker in workers {
@@ -46,7 +46,7 @@ fn is_of_session<A: Allocator + Copy, J: Naming>(sessions: &[Session<A, J>], who
     sessions.iter().any(|session| is_same_caller(who, Caller::Session(session.number())))
 }
 
-fn is_of_worker<A: Allocator + Copy>(workers: &[Worker<A>], who: Caller) -> bool
+fn is_of_worker<A: Allocator + Copy, J: Naming>(workers: &[Worker<A, J>], who: Caller) -> bool
     ensures { result ≡ list_any (λ (w : WorkerView). same_caller who (caller.Worker w.number)) workers.now }
 {
     workers.iter().any(|worker| is_same_caller(who, Caller::Worker(worker.number())))
@@ -54,7 +54,7 @@ fn is_of_worker<A: Allocator + Copy>(workers: &[Worker<A>], who: Caller) -> bool
 
 fn is_of_caller<A: Allocator + Copy, J: Naming>(
     sessions: &[Session<A, J>],
-    workers: &[Worker<A>],
+    workers: &[Worker<A, J>],
     note: &Note<A>,
 ) -> bool
     ensures { result ≡ is_known sessions.now workers.now (noted_of note.now) }
@@ -64,7 +64,7 @@ fn is_of_caller<A: Allocator + Copy, J: Naming>(
 
 fn are_known<A: Allocator + Copy, J: Naming>(
     sessions: &[Session<A, J>],
-    workers: &[Worker<A>],
+    workers: &[Worker<A, J>],
     notes: &[Note<A>],
 ) -> bool
     ensures { IsTrue result ↔ All (λ (n : Noted). is_known sessions.now workers.now n ≡ true) (map noted_of notes.now) }
@@ -79,7 +79,7 @@ fn are_known<A: Allocator + Copy, J: Naming>(
 
 pub(crate) fn is_answered<A: Allocator + Copy, J: Naming>(
     sessions: &[Session<A, J>],
-    workers: &[Worker<A>],
+    workers: &[Worker<A, J>],
     notes: &[Note<A>],
 ) -> bool
     ensures { IsTrue result ↔ IsAnswered sessions.now workers.now (map noted_of notes.now) }

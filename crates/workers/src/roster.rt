@@ -13,7 +13,7 @@ fn has_session<A: Allocator + Copy, J: Naming>(sessions: &[Session<A, J>], numbe
     sessions.iter().any(|session| session.number() == number)
 }
 
-fn has_worker<A: Allocator + Copy>(workers: &[Worker<A>], number: u64) -> bool
+fn has_worker<A: Allocator + Copy, J: Naming>(workers: &[Worker<A, J>], number: u64) -> bool
     ensures { result ≡ has_worker workers.now number }
 {
     workers.iter().any(|worker| worker.number() == number)
@@ -30,7 +30,7 @@ fn are_sessions_in<A: Allocator + Copy, J: Naming>(sessions: &[Session<A, J>], o
     true
 }
 
-fn are_workers_in<A: Allocator + Copy>(workers: &[Worker<A>], opened: u64) -> bool
+fn are_workers_in<A: Allocator + Copy, J: Naming>(workers: &[Worker<A, J>], opened: u64) -> bool
     ensures { IsTrue result ↔ ((k : ℕ) → k < opened → has_worker workers.now k ≡ true) }
 {
     for number in 0..opened {
@@ -44,7 +44,7 @@ fn are_workers_in<A: Allocator + Copy>(workers: &[Worker<A>], opened: u64) -> bo
 fn are_all<A: Allocator + Copy, J: Naming>(
     shared: &Shared<A, J>,
     sessions: &[Session<A, J>],
-    workers: &[Worker<A>],
+    workers: &[Worker<A, J>],
 ) -> bool
     ensures { IsTrue result ↔ AreAll shared.now.sessions shared.now.workers sessions.now workers.now }
 {
@@ -57,7 +57,7 @@ fn are_all<A: Allocator + Copy, J: Naming>(
 pub(crate) fn are_opened<A: Allocator + Copy, J: Naming>(
     shared: &Shared<A, J>,
     sessions: &[Session<A, J>],
-    workers: &[Worker<A>],
+    workers: &[Worker<A, J>],
 ) -> bool
     ensures { IsTrue result ↔ AreOpened shared.now.history sessions.now workers.now }
 {

@@ -114,14 +114,15 @@ impl<A: Allocator + Copy, J: Naming> Shared<A, J> {
         Some((number, self.whole.front()))
     }
 
-    pub(crate) fn next_worker(&mut self) -> Option<u64>
-        ensures number { result ≡ next_caller self.old.workers }
+    pub(crate) fn next_worker(&mut self) -> Option<(u64, Front<J>)>
+        ensures number { option_map (λ it. it.0) result ≡ next_caller self.old.workers }
+        ensures front { IfSome result (λ it. EndsOpened (caller.Worker it.0) it.1) }
         ensures rest { self.new ≡ record self.old { workers = opened_after self.old.workers; history = self.new.history } }
     {
         let number = next_caller(self.workers)?;
         self.whole.open(Caller::Worker(number));
         self.workers = number + 1;
-        Some(number)
+        Some((number, self.whole.front()))
     }
 
     pub(crate) fn stop(&mut self)

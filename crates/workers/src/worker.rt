@@ -1,7 +1,10 @@
 // A worker makes the run for a ticket without the lock.
-ghost use Rattle.std.specs.Prelude.{◌≡◌, IfNone, Some, map};
+ghost use Rattle.std.specs.Prelude.{◌≡◌, ◌↔◌, IfNone, IsTrue, Some, map};
+ghost use Rattle.book_machine.specs.declared.caller.Caller.TheVariants as caller;
+ghost use Rattle.chronicle.specs.Fronts.{Begins};
 ghost use Rattle.workers.specs.Callers.{new_worker};
 ghost use Rattle.workers.specs.declared.worker.WorkerEnd.TheVariants as ends;
+ghost use Rattle.workers.specs.History.{Claims, Works};
 ghost use Rattle.workers.specs.Work.{Finishes, GainsClaim, GivesUp, HandsInOnce, HandsInWhat, WorksOn, WorksThrough, end_of};
 ghost use Rattle.workers.specs.Lists.{listed_of};
 
@@ -10,7 +13,7 @@ use crate::gate::Gate;
 use crate::listed_call::{ListedCall, reserve_call};
 use crate::making::Making;
 use checkpoints::Run;
-use chronicle::Naming;
+use chronicle::{Front, Naming, Whole};
 use std::alloc::Allocator;
 use std::marker::Model;
 use std::sync::{Arc, Wait};
@@ -36,21 +39,23 @@ impl From<Memory> for WorkerEnd {
     }
 }
 
-/// A worker, which makes runs for a desk: its number, and the list of its own calls with their replies.
+/// A worker, which makes runs for a desk: its number, the list of its own calls with their replies, and
+/// the desk's history up to its last response.
 #[derive(Drop)]
-pub struct Worker<A: Allocator + Copy> {
+pub struct Worker<A: Allocator + Copy, J: Naming> {
     number: u64,
     list: Vec<ListedCall<A>, A>,
+    front: Front<J>,
 }
 
-impl<A: Allocator + Copy> Model for Worker<A> {
+impl<A: Allocator + Copy, J: Naming> Model for Worker<A, J> {
     ghost use Rattle.std.specs.Prelude.{map};
     ghost use Rattle.workers.specs.Callers.{WorkerView};
     ghost use Rattle.workers.specs.Lists.{listed_of};
 
     ghost Value = { WorkerView };
 
-    ghost view = { λ w. record { number = w.number; list = map listed_of w.list.items } };
+    ghost view = { λ w. record { number = w.number; list = map listed_of w.list.items; front = w.front } };
 }
 
 fn end_of<T: Copy, F: Copy>(outcome: Result<T, Refusal<F>>) -> Option<WorkerEnd>
@@ -63,13 +68,14 @@ fn end_of<T: Copy, F: Copy>(outcome: Result<T, Refusal<F>>) -> Option<WorkerEnd>
     }
 }
 
-impl<A: Allocator + Copy> Worker<A> {
-    pub(crate) fn new(alloc: A, number: u64) -> Worker<A>
-        ensures { result ≡ new_worker number }
+impl<A: Allocator + Copy, J: Naming> Worker<A, J> {
+    pub(crate) fn new(alloc: A, number: u64, front: Front<J>) -> Worker<A, J>
+        ensures { result ≡ new_worker number front }
     {
         Worker {
             number,
             list: Vec::new(alloc),
+            front,
         }
     }
 
@@ -87,15 +93,23 @@ impl<A: Allocator + Copy> Worker<A> {
         self.list.as_slice()
     }
 
-    fn claim<J: Naming, R: Wait>(&mut self, rt: &R, desk: &Desk<A, J>) -> Result<Task<A>, WorkerEnd>
+    pub(crate) fn begins(&self, whole: &Whole<J>) -> bool
+        ensures { IsTrue result ↔ Begins self.now.front whole.now }
+    {
+        self.front.begins(whole)
+    }
+
+    fn claim<R: Wait>(&mut self, rt: &R, desk: &Desk<A, J>) -> Result<Task<A>, WorkerEnd>
         ensures list { GainsClaim result self.old.list self.new.list }
+        ensures history { Claims J.opening self.old.front (caller.Worker self.old.number) result self.new.front }
         ensures number { self.new.number ≡ self.old.number }
     {
         reserve_call(&mut self.list)?;
-        desk.when_busy(rt).next_for(self.number, &mut self.list)
+        desk.when_busy(rt)
+            .next_for(self.number, &mut self.list, &mut self.front)
     }
 
-    fn finish<J: Naming, R: Wait>(
+    fn finish<R: Wait>(
         &mut self,
         rt: &R,
         desk: &Desk<A, J>,
@@ -103,6 +117,7 @@ impl<A: Allocator + Copy> Worker<A> {
         run: Arc<Run<A>, A>,
     ) -> Option<WorkerEnd>
         ensures list { Finishes ticket self.old.list self.new.list result }
+        ensures history { Works J.opening self.old.front result self.new.front }
         ensures number { self.new.number ≡ self.old.number }
     {
         if reserve_call(&mut self.list).is_err() {
@@ -111,18 +126,14 @@ impl<A: Allocator + Copy> Worker<A> {
         let outcome = desk
             .shared
             .lock(rt)
-            .finish_for(self.number, &mut self.list, ticket, run);
+            .finish_for(self.number, &mut self.list, &mut self.front, ticket, run);
         desk.changed.notify_all();
         end_of(outcome)
     }
 
-    fn give_up<J: Naming, R: Wait>(
-        &mut self,
-        rt: &R,
-        desk: &Desk<A, J>,
-        ticket: u64,
-    ) -> Option<WorkerEnd>
+    fn give_up<R: Wait>(&mut self, rt: &R, desk: &Desk<A, J>, ticket: u64) -> Option<WorkerEnd>
         ensures list { GivesUp ticket self.old.list self.new.list result }
+        ensures history { Works J.opening self.old.front result self.new.front }
         ensures number { self.new.number ≡ self.old.number }
     {
         if reserve_call(&mut self.list).is_err() {
@@ -131,12 +142,12 @@ impl<A: Allocator + Copy> Worker<A> {
         let outcome = desk
             .shared
             .lock(rt)
-            .give_up_for(self.number, &mut self.list, ticket);
+            .give_up_for(self.number, &mut self.list, &mut self.front, ticket);
         desk.changed.notify_all();
         end_of(outcome)
     }
 
-    fn make<J: Naming, R: Wait, G: Gate, M: Making<A>>(
+    fn make<R: Wait, G: Gate, M: Making<A>>(
         &mut self,
         rt: &R,
         desk: &Desk<A, J>,
@@ -145,6 +156,7 @@ impl<A: Allocator + Copy> Worker<A> {
         making: &mut M,
     ) -> Option<WorkerEnd>
         ensures list { HandsInWhat (M.gives making.old) ticket self.old.list self.new.list result }
+        ensures history { Works J.opening self.old.front result self.new.front }
         ensures number { self.new.number ≡ self.old.number }
     {
         gate.before_work(ticket);
@@ -157,7 +169,7 @@ impl<A: Allocator + Copy> Worker<A> {
         }
     }
 
-    fn work<J: Naming, R: Wait, G: Gate>(
+    fn work<R: Wait, G: Gate>(
         &mut self,
         rt: &R,
         desk: &Desk<A, J>,
@@ -165,21 +177,18 @@ impl<A: Allocator + Copy> Worker<A> {
         mut task: Task<A>,
     ) -> Option<WorkerEnd>
         ensures list { HandsInOnce task.ticket self.old.list self.new.list result }
+        ensures history { Works J.opening self.old.front result self.new.front }
         ensures number { self.new.number ≡ self.old.number }
     {
         let ticket = task.ticket();
         self.make(rt, desk, gate, ticket, &mut task)
     }
 
-    fn round<J: Naming, R: Wait, G: Gate>(
-        &mut self,
-        rt: &R,
-        desk: &Desk<A, J>,
-        gate: &G,
-    ) -> Option<WorkerEnd>
+    fn round<R: Wait, G: Gate>(&mut self, rt: &R, desk: &Desk<A, J>, gate: &G) -> Option<WorkerEnd>
         ensures on { WorksOn self.old.list self.new.list }
         ensures through { IfNone result (WorksThrough self.old.list self.new.list) }
         ensures stopped { result ≡ Some ends.Stopped → WorksThrough self.old.list self.new.list }
+        ensures history { Works J.opening self.old.front result self.new.front }
         ensures number { self.new.number ≡ self.old.number }
     {
         match self.claim(rt, desk) {
@@ -192,15 +201,12 @@ impl<A: Allocator + Copy> Worker<A> {
     /// finish or a give-up; in the last two cases it stops the desk. It sleeps while nothing is due.
     ///
     /// Its list goes on with claims, each of a ticket followed by a finish or a give-up of this
-    /// ticket, the last one perhaps not.
-    pub fn run<J: Naming, R: Wait, G: Gate>(
-        &mut self,
-        rt: &R,
-        desk: &Desk<A, J>,
-        gate: &G,
-    ) -> WorkerEnd
+    /// ticket, the last one perhaps not. The history goes on too: at its end the desk was stopped where
+    /// that ended the worker, and the journal was full where that did.
+    pub fn run<R: Wait, G: Gate>(&mut self, rt: &R, desk: &Desk<A, J>, gate: &G) -> WorkerEnd
         ensures list { WorksOn self.old.list self.new.list }
         ensures stopped { result ≡ ends.Stopped → WorksThrough self.old.list self.new.list }
+        ensures history { Works J.opening self.old.front (Some result) self.new.front }
         ensures number { self.new.number ≡ self.old.number }
     {
         for _ in rt.forever() {
