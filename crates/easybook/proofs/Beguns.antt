@@ -21,7 +21,7 @@ use Rattle.commands.specs.declared.opening_fault.OpenTextFault.TheVariants as op
 use Rattle.easybook.specs.Fault.{fault_of, fault_of_kind, fault_of_opening}
 use Rattle.easybook.specs.Input.{IsBegun, IsBegunUpTo}
 use Rattle.easybook.specs.Plain.{IsFaultOf, log_limit}
-use Rattle.easybook.specs.Program.{EndsOnInput, OfAll, RunsInput, RunsParts}
+use Rattle.easybook.specs.Program.{EndsOnInput, OfAll, RunsInput, RunsParts, input_limit}
 use Rattle.easybook.specs.Split.{IsCut, is_mark}
 use Rattle.easybook.specs.declared.fault.ProgramFault.{ProgramFault}
 use Rattle.easybook.specs.declared.fault.ProgramFault.TheVariants as faults
@@ -71,10 +71,11 @@ under known mid limit p rest new is more = record { front = is.front; is_front =
         ap (λ (l : List ℕ). is.front ++ l) added ∙ sym (append_assoc is.front rest ys) ∙ ap (λ (l : List ℕ). l ++ ys) (sym is.whole) ∙ sym given
 
 -- what was had up to one byte past a limit is all that a reader had, where the front and the rest are within the limit
-pub begun-within : (known : Option (List ℕ)) (limit : ℕ) (p : Progress) (rest : List ℕ) → IsBegunUpTo (limit + 1) known p rest → p.bytes + length rest ≤ limit → IsBegun known p rest
+pub begun-within : (known : Option (List ℕ)) (limit : ℕ) (p : Progress) (rest : List ℕ) → IsBegunUpTo (limit + 1) known p rest → p.bytes + length rest ≤ limit → IsBegun limit known p rest
 begun-within known limit p rest u few = record {
   front = u.front;
   is_front = u.is_front;
+  within = omega (arith, few, u.is_front.size);
   whole = all-is-back known (u.front ++ rest) (known_all known (u.front ++ rest) limit u.whole (omega (arith, few, u.is_front.size, length-append u.front rest)));
 }
   where
@@ -113,11 +114,11 @@ kept-memory X A None log procs old new h = h.1
 kept-memory X A (Some s) log procs old new h = h.1
 
 -- where the rest behind a front is cut, a result for its parts, with the front before the log, is one for the whole input
-pub input-ends : (X A : Type 0) (known : Option (List ℕ)) (p : Progress) (rest log : List ℕ) (script : Option (List ℕ)) (procs : Option ℕ) (old new : Option (List ℕ)) → IsBegun known p rest → IsCut rest log script → (r : Result X ProgramFault) → ((front : List ℕ) → IsFront front p → RunsParts A (front ++ log) script procs old new r) → EndsOnInput A procs known old new r
+pub input-ends : (X A : Type 0) (known : Option (List ℕ)) (p : Progress) (rest log : List ℕ) (script : Option (List ℕ)) (procs : Option ℕ) (old new : Option (List ℕ)) → IsBegun input_limit known p rest → IsCut rest log script → (r : Result X ProgramFault) → ((front : List ℕ) → IsFront front p → RunsParts A (front ++ log) script procs old new r) → EndsOnInput A procs known old new r
 input-ends X A known p rest log script procs old new begun cut r runs = go r (runs begun.front begun.is_front)
   where
     all-runs : (s : Result X ProgramFault) → RunsParts A (begun.front ++ log) script procs old new s → OfAll known (λ input. RunsInput {X = X} A input procs old new s)
-    all-runs s h = (begun.front ++ rest, all-is known (begun.front ++ rest) begun.whole, record { log = begun.front ++ log; script = script; is_cut = front-cut begun.front rest log script p begun.is_front cut; runs = h })
+    all-runs s h = (begun.front ++ rest, all-is known (begun.front ++ rest) begun.whole, record { within = omega (arith, begun.within, length-append begun.front rest); log = begun.front ++ log; script = script; is_cut = front-cut begun.front rest log script p begun.is_front cut; runs = h })
 
     go : (s : Result X ProgramFault) → RunsParts A (begun.front ++ log) script procs old new s → EndsOnInput A procs known old new s
     go (Ok x) h = all-runs (Ok x) h

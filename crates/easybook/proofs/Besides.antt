@@ -86,6 +86,6 @@ begun-file None p rest b = record { front = b.front; is_front = b.is_front; whol
 begun-file (Some all) p rest b = record { front = b.front; is_front = b.is_front; whole = inr b.whole }
 
 -- all that was had, a front and the rest, is what is read of a log
-pub begun-whole : (known : Option (List ℕ)) (p : Progress) (rest : List ℕ) → IsBegun known p rest → IsBegunLog known p rest
-begun-whole None p rest b = record { front = b.front; is_front = b.is_front; whole = tt }
-begun-whole (Some all) p rest b = record { front = b.front; is_front = b.is_front; whole = inl (sym b.whole) }
+pub begun-whole : (limit : ℕ) (known : Option (List ℕ)) (p : Progress) (rest : List ℕ) → IsBegun limit known p rest → IsBegunLog known p rest
+begun-whole limit None p rest b = record { front = b.front; is_front = b.is_front; whole = tt }
+begun-whole limit (Some all) p rest b = record { front = b.front; is_front = b.is_front; whole = inl (sym b.whole) }

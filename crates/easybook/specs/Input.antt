@@ -1,5 +1,5 @@
 -- Why the input is not had whole.
-use Rattle.std.specs.Prelude.{◌≡◌, ℕ, ◌<◌, ◌++◌, List, length, take, Option, IfSome}
+use Rattle.std.specs.Prelude.{◌≡◌, ℕ, ◌+◌, ◌<◌, ◌≤◌, ◌++◌, List, length, take, Option, IfSome}
 use Rattle.std.specs.declared.io.ErrorKind.{ErrorKind}
 use Rattle.std.specs.declared.io.ErrorKind.TheVariants as kinds
 use Rattle.parallel_reader.specs.Fronts.{IsFront, Progress}
@@ -30,8 +30,9 @@ pub record IsBegunUpTo (limit : ℕ) (known : Option (List ℕ)) (progress : Pro
   pub is_front : IsFront front progress
   pub whole : IfSome known (λ all. front ++ rest ≡ take limit all)
 
--- all that a reader had is the front of a log, which was read, and the rest
-pub record IsBegun (known : Option (List ℕ)) (progress : Progress) (rest : List ℕ) : Type 0 where
+-- all that a reader had, which is within a limit, is the front of a log, which was read, and the rest
+pub record IsBegun (limit : ℕ) (known : Option (List ℕ)) (progress : Progress) (rest : List ℕ) : Type 0 where
   pub front : List ℕ
   pub is_front : IsFront front progress
+  pub within : length front + length rest ≤ limit
   pub whole : IfSome known (λ all. all ≡ front ++ rest)

@@ -1,5 +1,5 @@
 -- What the program does: what its words choose, its whole input, and what it writes of them.
-use Rattle.std.specs.Prelude.{◌≡◌, ℕ, ◌+◌, ◌<◌, List, [], ◌∷◌, ◌++◌, length, take, Option, Some, None, IfSome, Result, Ok, Err, ◌⊎◌, Bool, true, false}
+use Rattle.std.specs.Prelude.{◌≡◌, ℕ, ◌+◌, ◌<◌, ◌≤◌, List, [], ◌∷◌, ◌++◌, length, take, Option, Some, None, IfSome, Result, Ok, Err, ◌⊎◌, Bool, true, false}
 use Rattle.std.specs.declared.alloc.Global.{Global}
 use Rattle.std.specs.Io.KnownBytes.{Keeps}
 use Rattle.clap.specs.Walk.{Text}
@@ -52,8 +52,9 @@ abbrev pub RunsParts : {X : Type 0} → Type 0 → List ℕ → Option (List ℕ
 RunsParts A log (Some script) procs old new result = RunsAlone A log procs (Some script) old new result
 RunsParts A log None procs old new result = Answers log procs old new result
 
--- the input is cut into a log and a script, if it holds one, and these are run
+-- the input, which is within its limit, is cut into a log and a script, if it holds one, and these are run
 pub record RunsInput {X : Type 0} (A : Type 0) (input : List ℕ) (procs : Option ℕ) (old new : Option (List ℕ)) (result : Result X ProgramFault) : Type 0 where
+  pub within : length input ≤ input_limit
   pub log : List ℕ
   pub script : Option (List ℕ)
   pub is_cut : IsCut input log script

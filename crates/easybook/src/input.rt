@@ -85,7 +85,7 @@ pub(crate) fn begin_input<T: Threads + Sync, R: Read + Drop, A: Allocator + Copy
     limit: u64,
 ) -> Result<BegunLog<A>, ProgramFault>
     requires { limit < 2 ^ 63 }
-    ensures whole { IfOk result (λ b. IsBegun (R.remaining reader) b.front b.rest.items) }
+    ensures whole { IfOk result (λ b. IsBegun limit (R.remaining reader) b.front b.rest.items) }
     ensures fault { IfErr result (IsInputFault (R.remaining reader) limit) }
 {
     let begun = begin_front(rt, alloc, reader, limit)?;

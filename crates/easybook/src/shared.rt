@@ -126,7 +126,8 @@ pub fn run_shared<W: Write, A: Allocator + Copy + Send + Sync, R: Threads + Wait
     run_shared_gated(rt, alloc, scripts, writer, log, options, &NoGate)
 }
 
-/// As `run_shared`; the gate is called before and after each simulation of a worker.
+/// As `run_shared`; the gate is called before each simulation of a worker, and behind one that made a
+/// run.
 pub fn run_shared_gated<
     W: Write,
     A: Allocator + Copy + Send + Sync,

@@ -17,7 +17,7 @@ returns-in-Some-clause-front g c =
 pub returns-in-None-clause-front : goal.returns-in-None-clause-front
 returns-in-None-clause-front g c =
     subst (λ (o : Option (Bor (List ℕ))). IfOk c.begin_input.result (λ b. IsBegunLog (log_known (g.S.Sources.known c.args.sources.now) (option_map (λ n. n.now) o) (g.R.Read.remaining c.args.reader)) b.front b.rest.items)) (sym c.in-None.is)
-    (ok-map _ _ c.begin_input.result (λ b begun. begun-whole (g.R.Read.remaining c.args.reader) b.front b.rest.items begun) c.begin_input.ensures.whole)
+    (ok-map _ _ c.begin_input.result (λ b begun. begun-whole _ (g.R.Read.remaining c.args.reader) b.front b.rest.items begun) c.begin_input.ensures.whole)
 
 pub returns-in-Some-clause-fault : goal.returns-in-Some-clause-fault
 returns-in-Some-clause-fault g c =
