@@ -1,7 +1,7 @@
 // Histories of a book, each call of which is answered what was worked by hand; where a growth is refused
 // it is refused for memory, has changed nothing, and is answered the same when it is made once more.
 use crate::player::Player;
-use crate::rows::{Answered, EACH, HISTORIES, LONG, RUNS, Said};
+use crate::rows::{Answered, CROWDED, EACH, FIVE, HISTORIES, LONG, RUNS, Said};
 use book_machine::Note;
 use checking::table_of;
 use oracle_book::first_wrong;
@@ -88,6 +88,32 @@ fn each_call_is_refused_capacity_for_its_note(rt: HostRuntime) {
             "{notes} notes"
         );
     }
+}
+
+// Whether one ticket after another is claimed, for the next version each, up to the most that stand.
+fn are_claimed(player: &mut Player<Global>) -> bool {
+    for version in 1..=256u64 {
+        let claimed = [
+            (FIVE, Answered::Number(version)),
+            (Said::Claim, Answered::Claimed(version, version, None)),
+        ];
+        if player.plays(&claimed) != Outcome::Right {
+            return false;
+        }
+    }
+    true
+}
+
+fn goes_on_crowded(player: &mut Player<Global>) -> bool {
+    player.plays(&[(Said::Add("base"), Answered::Number(1))]) == Outcome::Right
+        && are_claimed(player)
+        && player.plays(CROWDED) == Outcome::Right
+}
+
+#[test]
+fn no_ticket_is_given_where_256_stand(rt: HostRuntime) {
+    let player = Player::new(rt.alloc(), LONG, 1);
+    assert!(rt; player.is_some_and(|mut player| goes_on_crowded(&mut player)));
 }
 
 /// A log in which job 5 stands already.

@@ -104,11 +104,8 @@ fn name(chance: &mut Chance, is_crowded: bool) -> &'static str {
 fn scenario(chance: &mut Chance) -> Option<Scenario> {
     let procs = 4 + chance.below(13);
     let factor = FACTORS[chance.place(3)];
-    let order = if chance.below(2) == 0 {
-        Order::Arrival
-    } else {
-        Order::Shortest
-    };
+    let orders = Order::all();
+    let order = orders[chance.place(orders.len())];
     Some(Scenario::new(procs, factor)?.ordered(order))
 }
 

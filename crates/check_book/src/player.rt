@@ -4,11 +4,13 @@ use checkpoints::{Run, simulate};
 use job_table::JobTable;
 use refusing::Outcome;
 use rejoin::Work;
-use scenarios::{Plan, Scenario, ScenarioId};
+use scenarios::{Order, Plan, Scenario, ScenarioId};
 use std::alloc::Allocator;
 use std::sync::Arc;
 use swf_text::Memory;
-use version_book::{Analyst, Book, BookSession, FinishRefusal, Named, Published, Refusal, Task};
+use version_book::{
+    Analyst, Book, BookSession, FinishFault, FinishRefusal, Named, Published, Refusal, Task,
+};
 
 /// What is answered where a growth is refused.
 const MEMORY: Answered = Answered::Refused("Memory");
@@ -41,10 +43,17 @@ fn of_work<A: Allocator + Copy>(made: Result<(Arc<Run<A>, A>, Option<Work>), Mem
     }
 }
 
+fn unfinished(refusal: &FinishRefusal) -> Answered {
+    match refusal {
+        Refusal::Fault(FinishFault::Stale { published }) => Answered::Stale(*published),
+        other => refused(other),
+    }
+}
+
 fn of_finish(finished: Result<u64, FinishRefusal>) -> Answered {
     match finished {
         Ok(version) => Answered::Number(version),
-        Err(refusal) => refused(&refusal),
+        Err(refusal) => unfinished(&refusal),
     }
 }
 
@@ -71,10 +80,23 @@ fn other_log<A: Allocator + Copy>(alloc: A, log: &JobTable<A>, field: u8) -> Opt
     Some(other)
 }
 
-fn other_run<A: Allocator + Copy>(alloc: A, task: &Task<A>, field: u8) -> Option<Arc<Run<A>, A>> {
-    let log = Arc::new(alloc, other_log(alloc, task.table(), field)?).ok()?;
-    let run = simulate(alloc, Plan::new(log, task.scenario()), 1).ok()?;
+// The run of a log under a scenario.
+fn run_of<A: Allocator + Copy>(
+    alloc: A,
+    log: JobTable<A>,
+    scenario: Scenario,
+) -> Option<Arc<Run<A>, A>> {
+    let log = Arc::new(alloc, log).ok()?;
+    let run = simulate(alloc, Plan::new(log, scenario), 1).ok()?;
     Arc::new(alloc, run).ok()
+}
+
+fn other_run<A: Allocator + Copy>(alloc: A, task: &Task<A>, field: u8) -> Option<Arc<Run<A>, A>> {
+    run_of(
+        alloc,
+        other_log(alloc, task.table(), field)?,
+        task.scenario(),
+    )
 }
 
 impl<A: Allocator + Copy> Player<A> {
@@ -194,13 +216,24 @@ impl<A: Allocator + Copy> Player<A> {
         }
     }
 
-    fn finish_own(&mut self, ticket: u64) -> Answered {
-        let run = self.run(ticket);
+    fn finish_other(&mut self, ticket: u64, field: u8) -> Answered {
+        let run = self.other(ticket, field);
         self.finish(ticket, run)
     }
 
-    fn finish_other(&mut self, ticket: u64, field: u8) -> Answered {
-        let run = self.other(ticket, field);
+    fn under(&mut self, ticket: u64, procs: u64, order: Order) -> Option<Arc<Run<A>, A>> {
+        let scenario = Scenario::new(procs, 1000)?.ordered(order);
+        let alloc = self.alloc;
+        run_of(alloc, self.task(ticket)?.table().copy().ok()?, scenario)
+    }
+
+    fn finish_under(&mut self, ticket: u64, procs: u64, order: Order) -> Answered {
+        let run = self.under(ticket, procs, order);
+        self.finish(ticket, run)
+    }
+
+    fn finish_of(&mut self, ticket: u64, other: u64) -> Answered {
+        let run = self.run(other);
         self.finish(ticket, run)
     }
 
@@ -215,7 +248,7 @@ impl<A: Allocator + Copy> Player<A> {
         match self.analyst.book.finish_delivered(self.worker, ticket) {
             Ok(Some(version)) => Answered::Number(version),
             Ok(None) => Answered::Nothing,
-            Err(refusal) => refused(&refusal),
+            Err(refusal) => unfinished(&refusal),
         }
     }
 
@@ -249,14 +282,17 @@ impl<A: Allocator + Copy> Player<A> {
             Said::View(place, seen) => self.view(place, seen),
             Said::Claim => self.claim(),
             Said::Deliver(ticket) => self.deliver(ticket),
-            Said::Finish(ticket) => self.finish_own(ticket),
+            Said::Finish(ticket) => self.finish_of(ticket, ticket),
             Said::HandIn(ticket) => self.hand_in(ticket),
             Said::FinishOther(ticket, field) => self.finish_other(ticket, field),
+            Said::FinishUnder(ticket, procs, order) => self.finish_under(ticket, procs, order),
+            Said::FinishOf(ticket, other) => self.finish_of(ticket, other),
             Said::FinishLeft(ticket) => self.finish_left(ticket),
             Said::GiveUp(ticket) => self.give_up(ticket),
             Said::Find(name) => self.find(name),
             Said::Read => self.read(),
             Said::Settled(seen) => Answered::Settled(self.analyst.book.settled(seen)),
+            Said::Notes => Answered::Number(self.analyst.book.journal().len() as u64),
         }
     }
 

@@ -1,6 +1,7 @@
 // Histories of a book of two jobs, worked by hand.
 use book_machine::SettleState;
 use checking::Written;
+use scenarios::Order;
 
 /// A job of the whole machine that runs for half its estimate, and one with a long estimate that waits
 /// for it.
@@ -26,6 +27,10 @@ pub(crate) enum Said {
     HandIn(u64),
     /// The run of a log is in which this field of job 2 is another.
     FinishOther(u64, u8),
+    /// The run of the ticket's log is, on so many processors and in this order of backfills.
+    FinishUnder(u64, u64, Order),
+    /// The run that another ticket's task makes is.
+    FinishOf(u64, u64),
     /// What the ticket's task has left is.
     FinishLeft(u64),
     GiveUp(u64),
@@ -35,12 +40,14 @@ pub(crate) enum Said {
     Read,
     /// How far all scenarios are, beside a version that was seen.
     Settled(u64),
+    /// How many notes the journal has.
+    Notes,
 }
 
 /// What is answered.
 #[derive(Clone, Copy, PartialEq, Eq)]
 pub(crate) enum Answered {
-    /// A version, or the number of a scenario.
+    /// A version, the number of a scenario, or of notes.
     Number(u64),
     /// Ticket and version; the version of the base, and how many edits it has.
     Claimed(u64, u64, Option<(u64, usize)>),
@@ -49,13 +56,15 @@ pub(crate) enum Answered {
     Made(Option<(u64, u64)>),
     Settled(SettleState),
     Done,
+    /// A run of this version is published already.
+    Stale(u64),
     /// No scenario is due or has the name, or the task has left no run.
     Nothing,
     Refused(&'static str),
 }
 
 /// Job 1 waits for five seconds, on which no run depends.
-const FIVE: Said = Said::Edit(Written::Change(1, 3, b"5"));
+pub(crate) const FIVE: Said = Said::Edit(Written::Change(1, 3, b"5"));
 
 /// Job 2 runs for so many seconds.
 const TWENTY: Said = Said::Edit(Written::Change(2, 4, b"20"));
@@ -116,7 +125,7 @@ pub(crate) const RUNS: Rows = &[
     (THIRTY, Answered::Number(2)),
     (Said::Claim, Answered::Claimed(2, 2, None)),
     (Said::Finish(2), Answered::Number(2)),
-    (Said::Finish(1), Answered::Refused("Stale")),
+    (Said::Finish(1), Answered::Stale(2)),
     (Said::Finish(1), UNKNOWN),
     (INSERT, Answered::Number(3)),
     (Said::Claim, Answered::Claimed(3, 3, Some((2, 1)))),
@@ -150,7 +159,7 @@ const LEFT: Rows = &[
     (Said::FinishLeft(4), Answered::Number(3)),
     (Said::FinishLeft(3), Answered::Nothing),
     (Said::Deliver(3), MADE),
-    (Said::FinishLeft(3), Answered::Refused("Stale")),
+    (Said::FinishLeft(3), Answered::Stale(3)),
     (Said::FinishLeft(3), UNKNOWN),
 ];
 
@@ -219,5 +228,38 @@ const OTHERS: Rows = &[
     (Said::Finish(1), Answered::Number(0)),
 ];
 
-/// All of them, but for `EACH`.
-pub(crate) const HISTORIES: &[Rows] = &[RUNS, LEFT, DROPPED, GIVEN_UP, OTHERS];
+/// So are a run of an older version, and one of the ticket's log on another machine or in another order
+/// of backfills.
+const STRANGERS: Rows = &[
+    (Said::Add("base"), Answered::Number(1)),
+    (FIVE, Answered::Number(1)),
+    (Said::Claim, Answered::Claimed(1, 1, None)),
+    (THIRTY, Answered::Number(2)),
+    (Said::Claim, Answered::Claimed(2, 2, None)),
+    (Said::Finish(2), Answered::Number(2)),
+    (Said::Finish(1), Answered::Stale(2)),
+    (Said::Notes, Answered::Number(7)),
+    (Said::Finish(2), UNKNOWN),
+    (INSERT, Answered::Number(3)),
+    (Said::Claim, Answered::Claimed(3, 3, Some((2, 1)))),
+    (Said::FinishOf(3, 2), STRANGER),
+    (Said::FinishUnder(3, 16, Order::Arrival), STRANGER),
+    (Said::FinishUnder(3, 10, Order::Shortest), STRANGER),
+    (Said::View(0, 0), Answered::Number(2)),
+    (
+        Said::FinishUnder(3, 10, Order::Arrival),
+        Answered::Number(3),
+    ),
+    (Said::Notes, Answered::Number(15)),
+];
+
+/// What follows where a ticket stands for each of the versions 1 to 256.
+pub(crate) const CROWDED: Rows = &[
+    (FIVE, Answered::Number(257)),
+    (Said::Claim, Answered::Refused("TooManyTickets")),
+    (Said::Finish(256), Answered::Number(256)),
+    (Said::Claim, Answered::Claimed(257, 257, Some((256, 1)))),
+];
+
+/// All of them, but for `EACH` and `CROWDED`.
+pub(crate) const HISTORIES: &[Rows] = &[RUNS, LEFT, DROPPED, GIVEN_UP, OTHERS, STRANGERS];

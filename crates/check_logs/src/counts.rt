@@ -21,7 +21,8 @@ const OF_FOUR: [(Written, u32); 4] = [
     (Written::Change(3, 2, b"300"), 8),
 ];
 
-fn count(table: &mut JobTable<Global>, edit: Option<Edit<Global>>) -> Option<u32> {
+/// How many entries and pairs an edit copies or moves; none where it is refused.
+pub(crate) fn count(table: &mut JobTable<Global>, edit: Option<Edit<Global>>) -> Option<u32> {
     table.apply_counted(&edit?).ok()
 }
 

@@ -1,11 +1,13 @@
 // The event loop.
 use crate::logs::{NOTED, outcome};
 use checking::shared_table;
+use cluster_state::{RunningNumber, Snapshot};
 use easy_rule::Start;
 use event_loop::{Engine, EngineFault, Stepped};
 use refusing::Outcome;
 use scenarios::{Job, Plan, Scenario};
-use std::alloc::Allocator;
+use std::alloc::{Allocator, Global};
+use std::process::Abort;
 
 /// How the engine of the log goes on.
 #[derive(Clone, Copy)]
@@ -76,21 +78,52 @@ fn finishes<A: Allocator + Copy>(engine: &mut Engine<A>) -> Result<bool, EngineF
     Ok(are(&engine.finish()?, &[(4, 92), (2, 100)]) && ends(engine, 593, 5))
 }
 
-// An engine that is resumed at second 3, to which another one of the table was advanced.
+/// Who runs before second 3, and since when.
+const RUNNING: [RunningNumber; 2] = [
+    RunningNumber {
+        number: 1,
+        start: 0,
+    },
+    RunningNumber {
+        number: 3,
+        start: 2,
+    },
+];
+
+// Whether these have started before second 3, in three event seconds, and job 2 waits there.
+fn is_at_three<A: Allocator + Copy>(
+    engine: &Engine<A>,
+    starts: &[Start],
+    snapshot: &Snapshot<A>,
+) -> bool {
+    (engine.position(), engine.handled()) == (3, 3)
+        && are(starts, &[(1, 0), (3, 2)])
+        && snapshot.waiting().eq(&[2])
+        && snapshot.running().eq(&RUNNING)
+}
+
+// An engine that is resumed at second 3, to which another one of the table was advanced; none where
+// that one stands otherwise there.
 fn resumed_at_three<A: Allocator + Copy>(
     alloc: A,
     plan: Plan<A>,
-) -> Result<Engine<A>, EngineFault> {
+) -> Result<Option<Engine<A>>, EngineFault> {
     let mut engine = Engine::new(alloc, plan.copy()?);
-    engine.advance_to(3)?;
+    let starts = engine.advance_to(3)?;
     let snapshot = engine.snapshot()?;
-    Ok(Engine::resume(alloc, &snapshot, 3, plan)?)
+    if !is_at_three(&engine, &starts, &snapshot) {
+        return Ok(None);
+    }
+    Ok(Some(Engine::resume(alloc, &snapshot, 3, plan)?))
 }
 
 fn goes_on<A: Allocator + Copy>(alloc: A, way: Way, plan: Plan<A>) -> Result<bool, EngineFault> {
-    let mut engine = match way {
+    let begun = match way {
         Way::FromThree => resumed_at_three(alloc, plan)?,
-        _ => Engine::new(alloc, plan),
+        _ => Some(Engine::new(alloc, plan)),
+    };
+    let Some(mut engine) = begun else {
+        return Ok(false);
     };
     match way {
         Way::Steps => steps(&mut engine),
@@ -106,4 +139,20 @@ pub(crate) fn goes<A: Allocator + Copy>(alloc: A, way: Way, scenario: Scenario) 
             == EngineFault::Memory)),
         None => Outcome::Before,
     }
+}
+
+/// A job of ten seconds at the last second at which one may be submitted.
+const LAST: &[u8] = b"1 1000000000000 -1 10 1 -1 -1 1 10 -1 1 7 -1 -1 -1 -1 -1 -1\n";
+
+// Whether it starts there, and two event seconds are worked: the engine visits no second before.
+fn works_two(alloc: Global) -> Option<bool> {
+    let plan = Plan::new(shared_table(alloc, LAST)?, Scenario::new(10, 1000)?);
+    let mut engine = Engine::new(alloc, plan);
+    let starts = engine.finish().ok()?;
+    Some(are(&starts, &[(1, 1_000_000_000_000)]) && ends(&engine, 1_000_000_000_011, 2))
+}
+
+#[test]
+fn a_job_at_the_last_second_takes_two_event_seconds(rt: HostRuntime) {
+    assert!(rt; works_two(rt.alloc()) == Some(true));
 }

@@ -68,10 +68,7 @@ pub(crate) fn reruns<A: Allocator + Copy>(alloc: A, row: &Row, scenario: Scenari
 
 fn holds(alloc: Global, row: &Row) -> Option<bool> {
     let ten = Scenario::new(10, 1000)?;
-    Some(
-        reruns(alloc, row, ten.ordered(Order::Arrival)) == Outcome::Right
-            && reruns(alloc, row, ten.ordered(Order::Shortest)) == Outcome::Right,
-    )
+    Some(Order::all().iter().all(|order| reruns(alloc, row, ten.ordered(*order)) == Outcome::Right))
 }
 
 #[test]

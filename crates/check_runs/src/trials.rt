@@ -79,8 +79,9 @@ impl Trial for Ordered {
 }
 
 fn tells_memory(alloc: Global, call: Call) -> bool {
-    survives_refusals(alloc, &Ordered(call, Order::Arrival))
-        && survives_refusals(alloc, &Ordered(call, Order::Shortest))
+    Order::all()
+        .iter()
+        .all(|order| survives_refusals(alloc, &Ordered(call, *order)))
 }
 
 #[test]
