@@ -8,6 +8,8 @@ mod histories;
 #[cfg(test)]
 mod lists;
 #[cfg(test)]
+mod other_runs;
+#[cfg(test)]
 mod player;
 #[cfg(test)]
 mod rows;

@@ -1,10 +1,10 @@
+use crate::other_runs::{other_run, run_of};
 use crate::rows::{Answered, Said};
 use checking::{Written, edit_of, table_of};
-use checkpoints::{Run, simulate};
-use job_table::JobTable;
+use checkpoints::Run;
 use refusing::Outcome;
 use rejoin::Work;
-use scenarios::{Order, Plan, Scenario, ScenarioId};
+use scenarios::{Order, Scenario, ScenarioId};
 use std::alloc::Allocator;
 use std::sync::Arc;
 use swf_text::Memory;
@@ -67,36 +67,6 @@ fn of_view<A: Allocator + Copy>(published: &Published<A>) -> Answered {
 // The session has seen this version.
 fn see<A: Allocator + Copy>(analyst: &mut BookSession<A>, version: u64) {
     analyst.seen = version;
-}
-
-/// A value that no field of the second job has.
-const OTHER: &[u8] = b"33";
-
-// The log in which one field of the second job is another.
-fn other_log<A: Allocator + Copy>(alloc: A, log: &JobTable<A>, field: u8) -> Option<JobTable<A>> {
-    let edit = edit_of(alloc, Written::Change(2, field, OTHER))?;
-    let mut other = log.copy().ok()?;
-    other.apply(&edit).ok()?;
-    Some(other)
-}
-
-// The run of a log under a scenario.
-fn run_of<A: Allocator + Copy>(
-    alloc: A,
-    log: JobTable<A>,
-    scenario: Scenario,
-) -> Option<Arc<Run<A>, A>> {
-    let log = Arc::new(alloc, log).ok()?;
-    let run = simulate(alloc, Plan::new(log, scenario), 1).ok()?;
-    Arc::new(alloc, run).ok()
-}
-
-fn other_run<A: Allocator + Copy>(alloc: A, task: &Task<A>, field: u8) -> Option<Arc<Run<A>, A>> {
-    run_of(
-        alloc,
-        other_log(alloc, task.table(), field)?,
-        task.scenario(),
-    )
 }
 
 impl<A: Allocator + Copy> Player<A> {
