@@ -1,6 +1,4 @@
-use Rattle.std.proofs.Common.{◌≡◌, ℕ, refl, subst, sym}
-use Rattle.std.specs.Prelude.{List, Some, slice_get}
-use Rattle.scenarios.specs.declared.order.Order.{Order}
+use Rattle.std.proofs.Common.{refl}
 use Rattle.scenarios.specs.declared.order.Order.TheVariants.{Arrival, Shortest}
 use Rattle.scenarios.specs.Order.{HasEachOrder, all_orders}
 use Rattle.scenarios.proofs.order.Order.all.Goals as goal
