@@ -9,6 +9,7 @@ pub mod Schedule
 pub mod Starts
 pub mod Spacing
 pub mod RunView
+pub mod Simulated
 pub mod Names
 pub mod Alike
 pub mod Merged

@@ -3,6 +3,7 @@ use Rattle.std.specs.Prelude.{List}
 use Rattle.swf_text.specs.Entry.{LogEntry}
 use Rattle.scenarios.specs.Scenario.{ScenarioView}
 use Rattle.scenarios.specs.Plan.{plan_of}
+use Rattle.scenarios.specs.SoundPlan.{IsPlan}
 use Rattle.metrics.specs.Tables.{TableRows}
 use Rattle.checkpoints.specs.Segment.{SegmentView}
 use Rattle.checkpoints.specs.Cut.{IsCut}
@@ -15,7 +16,9 @@ pub record RunView : Type 0 where
   pub segments : List SegmentView
   pub tables : TableRows
 
--- a run is that of its own table and scenario: its segments are cut from their simulation, and its tables are theirs
+-- a run is that of its own table and scenario: they make a plan, its segments are cut from the plan's simulation, and its
+-- tables are theirs
 pub record IsRun (run : RunView) : Type 0 where
+  pub plan : IsPlan (plan_of run.log run.scenario)
   pub cut : IsCut (plan_of run.log run.scenario) run.segments
   pub tables : IsTablesOf run.log run.scenario run.tables

@@ -18,7 +18,8 @@ use Rattle.version_book.specs.Sound.{IsBook, IsSound}
 use Rattle.version_book.specs.Answers.{TellsFit, TellsStanding}
 use Rattle.version_book.specs.Steps.{Answer, full, memory, outcome, Answers, Does, IsNoNote, IsStep, note_of, notes_of, opening_state, reply_in}
 
-abbrev Counts : Machine → Machine → Type 0
+-- the opening log and the number of notes are as they were, and at most one ticket is given
+abbrev pub Counts : Machine → Machine → Type 0
 Counts m k = (k.opening ≡ m.opening) × (k.next_ticket ≤ m.next_ticket + 1) × (k.notes ≡ m.notes)
 
 same-counts : (m : Machine) → Counts m m
@@ -48,7 +49,8 @@ give_up-counts : (n : ℕ) (m : Machine) (o : Option Ticket) → Counts m (elim 
 give_up-counts n m None = same-counts m
 give_up-counts n m (Some t) = (refl, omega arith, refl)
 
-counts : (call : BookCall) (m : Machine) → Counts m (changed_by call m)
+-- a call changes neither the opening log nor, before it is noted, the number of notes, and gives at most one ticket
+pub counts : (call : BookCall) (m : Machine) → Counts m (changed_by call m)
 counts (Edit e) m = cond-counts m (record m { edits = m.edits ++ e ∷ [] }) (is_some (fault_of e (current m))) (refl, omega arith, refl)
 counts (AddScenario name scenario) m = cond-counts m (record m { listing = with_scenario name scenario m.listing; progress = m.progress ++ fresh m.listing.next ∷ [] }) (is_some (add_fault name m.listing)) (refl, omega arith, refl)
 counts (DropScenario name) m = drop-counts name m (id_of name m.listing)

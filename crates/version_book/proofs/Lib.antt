@@ -10,5 +10,6 @@ mod Histories
 mod Readings
 mod Claimed
 mod Looking
+mod Mains
 mod Settlings
 pub mod Lemmas

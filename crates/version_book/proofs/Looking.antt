@@ -25,7 +25,8 @@ use Rattle.version_book.specs.Steps.{Answers as Answered}
 use Rattle.version_book.specs.Tasks.{IsShownFor}
 use Rattle.version_book.proofs.Stepping.{progress-shown}
 
-abbrev IsShown : List ShownView → Listed → Type 0
+-- the listed scenario is shown, found by its id, under the same scenario
+abbrev pub IsShown : List ShownView → Listed → Type 0
 IsShown xs s = (x : ShownView) × (find (has_id s.id) xs ≡ Some x) × (x.scenario ≡ s.scenario)
 
 show-first : (x : ShownView) (xs : List ShownView) (s : Listed) → under_of_shown x ≡ under_of_listed s → IsShown (x ∷ xs) s
@@ -58,7 +59,8 @@ show-at first (x ∷ xs) (t ∷ ss) next (suc k) s same h is =
     let above = id-above (t.id + 1) ss next k s h.1 is in
     show-later x xs s (omega arith) (show-at (t.id + 1) xs ss next k s us h.1 is)
 
-shown-at : (b : BookView) (k : ℕ) (s : Listed) → IsBook b → slice_get b.state.listing.scenarios k ≡ Some s → IsShown b.state.shown s
+-- the listed scenario at a place is shown under its id
+pub shown-at : (b : BookView) (k : ℕ) (s : Listed) → IsBook b → slice_get b.state.listing.scenarios k ≡ Some s → IsShown b.state.shown s
 shown-at b k s h is = show-at 1 b.state.shown b.state.listing.scenarios b.state.listing.next k s h.sound.listed h.sound.ids is
 
 looked : (b : BookView) (id seen : ℕ) (p : PublishedView) → IsBook b → IsShownFor b.state id seen p → IsLooked (machine_of b) id p

@@ -12,3 +12,4 @@ pub mod Rules
 pub mod Looks
 pub mod BookRules
 pub mod Laws
+pub mod MainTheorem

@@ -14,7 +14,7 @@ tables_anew-requires g c =
     (map arc_value c.args.segments.items, c.requires, merge_tree)
 
 pub invariant_of-result : goal.invariant_of-result
-invariant_of-result g c = (record { cut = c.requires; tables = c.in_ok-tables.ensures }, rw c.as_slice.ensures.value at c.in_ok-merge_tree.ensures)
+invariant_of-result g c = (record { plan = c.scenario.ensures.sound; cut = c.requires; tables = c.in_ok-tables.ensures }, rw c.as_slice.ensures.value at c.in_ok-merge_tree.ensures)
 
 pub returns-clause-sound : goal.returns-clause-sound
-returns-clause-sound g c = record { cut = c.requires; tables = c.in_ok-tables.ensures }
+returns-clause-sound g c = record { plan = c.scenario.ensures.sound; cut = c.requires; tables = c.in_ok-tables.ensures }
