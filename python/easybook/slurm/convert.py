@@ -9,7 +9,7 @@ from typing import BinaryIO, Dict, FrozenSet, List, NamedTuple, Optional, Tuple
 from ..errors import BadWord, DumpFault
 from ..runs import MOST_PROCESSORS
 from ..swf import MISSING, MOST_JOBS, Job, job_text
-from .executions import Execution, Names, Reader, is_unlimited
+from .executions import Execution, Reader, is_unlimited
 from .notes import Facts, decided, warned
 from .numbers import Numbered, number_all
 from .rows import Dump
