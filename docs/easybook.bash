@@ -3,7 +3,7 @@
 
 # The words that may stand next: each option but --script once, --live without --script and --workers, and files.
 _easybook() {
-    local word=${COMP_WORDS[COMP_CWORD]} before=${COMP_WORDS[COMP_CWORD - 1]} each options
+    local word=${COMP_WORDS[COMP_CWORD]} before=${COMP_WORDS[COMP_CWORD - 1]} each taken options
     COMPREPLY=()
     # bash cuts --procs=8 into three words.
     [ "$before" = '=' ] && before=${COMP_WORDS[COMP_CWORD - 2]}
@@ -17,14 +17,17 @@ _easybook() {
     esac
     case $word in
     -*)
-        options='--procs --spacing --workers --live --script'
+        taken=' ' options=''
         for each in "${COMP_WORDS[@]:1:COMP_CWORD-1}" "${COMP_WORDS[@]:COMP_CWORD+1}"; do
-            each=${each%%=*}
-            case $each in
-            --live) options=${options/--script/} options=${options/--workers/} ;;
-            --script | --workers) options=${options/--live/} ;;
+            case ${each%%=*} in
+            --live) taken+='--live --script --workers ' ;;
+            --script) taken+='--live ' ;;
+            --workers) taken+='--workers --live ' ;;
+            --procs | --spacing) taken+="${each%%=*} " ;;
             esac
-            [ "$each" = --script ] || options=${options/"$each"/}
+        done
+        for each in --procs --spacing --workers --live --script; do
+            [[ $taken == *" $each "* ]] || options+="$each "
         done
         mapfile -t COMPREPLY < <(compgen -W "$options" -- "$word")
         ;;
