@@ -51,12 +51,12 @@ from .reports import Day, Entry, Missing, Side, Start, Table, UnknownAnswer, Use
 from .runs import Failure, Row, Run, Scenario, simulate
 from .swf import Job, Log, parse, read
 from .sweeps import Rows, run, sweep
-from .waits import Group, Pair, Recorded, compare, recorded, summary
+from .waits import Group, Pair, Recorded, compare, names, recorded, summary
 
 __all__ = [
     "BadField", "BadValue", "BadWord", "Behind", "Conversation", "Day", "DumpFault", "DuplicateJob", "EasybookError",
     "Ended", "Entry", "Failure", "Group", "Job", "JournalFull", "Log", "LogFault", "Memory", "Missing", "NameTaken",
     "NoProgram", "NoSuchJob", "NoSuchScenario", "NotYet", "Pair", "Recorded", "Refused", "Row", "Rows", "Run",
     "Scenario", "ScriptFault", "Side", "Start", "Table", "TableFull", "TooMany", "UnknownAnswer", "User", "compare",
-    "parse", "read", "recorded", "run", "simulate", "summary", "sweep",
+    "names", "parse", "read", "recorded", "run", "simulate", "summary", "sweep",
 ]

@@ -16,12 +16,13 @@ from typing import Any, BinaryIO, Callable, Iterator, List, Optional, Sequence, 
 from . import waits as _waits
 from .errors import EasybookError
 from .program import as_file
-from .runs import ORDERS, Row, Scenario
+from .reports import Table
+from .runs import ORDERS, Row, Scenario, simulate
 from .slurm import Options, convert
 from .slurm.convert import A_YEAR
 from .slurm.values import Unreadable, duration, zone
-from .sweeps import sweep
-from .swf import EXACT, MISSING
+from .sweeps import Rows, sweep
+from .swf import EXACT, MISSING, comments_of, opened
 
 T = TypeVar("T")
 
@@ -46,6 +47,12 @@ def _order(text: str) -> str:
     return text
 
 
+def _kind(text: str) -> str:
+    if text not in _waits.KINDS:
+        raise argparse.ArgumentTypeError(f"a kind of group is one of {', '.join(_waits.KINDS)}, not {text!r}")
+    return text
+
+
 def _duration(text: str) -> int:
     try:
         return duration(text)
@@ -65,14 +72,26 @@ def _say(text: str) -> None:
         print(f"easybook: {text}", file=sys.stderr)
 
 
+def _need_input(what: str) -> None:
+    if sys.stdin is None:
+        raise EasybookError(f"standard input is closed: give the {what}'s file")
+
+
+def _log(path: str) -> str:
+    """The path of a log; - is standard input."""
+    if path != "-":
+        return path
+    _need_input("log")
+    return "/dev/stdin"
+
+
 @contextlib.contextmanager
 def _dump(path: str) -> Iterator[BinaryIO]:
     if path == "-":
-        if sys.stdin is None:
-            raise EasybookError("standard input is closed: give the dump's file")
+        _need_input("dump")
         yield sys.stdin.buffer
         return
-    with open(path, "rb") as file:
+    with opened(path) as file:
         yield file
 
 
@@ -84,7 +103,7 @@ def _sacct(words: argparse.Namespace) -> int:
         made = convert(file, options)
     made.write(sys.stdout.buffer)
     sys.stdout.flush()
-    _say(f"{len(made.jobs)} job{'' if len(made.jobs) == 1 else 's'}")
+    _say(_counted(len(made.jobs), "job"))
     for line in made.decided:
         _say(line)
     for line in made.warned:
@@ -106,15 +125,40 @@ def _table(heads: Sequence[str], rows: Sequence[Sequence[Any]], as_csv: bool) ->
         print("  ".join(side(it, width) for side, it, width in zip(sides, row, widths)).rstrip())
 
 
+def _counted(count: int, what: str) -> str:
+    return f"{count} {what}{'' if count == 1 else 's'}"
+
+
+def _left_out(procs: int, table: Table) -> str:
+    """What is said of jobs that are larger than the machine."""
+    are = "is" if table.skipped_large == 1 else "are"
+    return (f"{_counted(table.skipped_large, 'job')} {are} larger than {_counted(procs, 'processor')} and left out: its rows "
+            "are not comparable with others")
+
+
+def _notes(rows: Rows, are_of_one: bool) -> List[str]:
+    """What is said of a sweep, of one log or of several: that a log has no jobs, and for each log and machine that there
+    are larger jobs."""
+    lines: List[str] = []
+    for row, table in zip(rows, rows.tables):
+        if table.jobs + table.skipped == 0:
+            lines.append(f"{row.log} has no jobs")
+        if table.skipped_large:
+            lines.append(("" if are_of_one else f"{row.log}: ") + _left_out(row.procs, table))
+    return list(dict.fromkeys(lines))
+
+
 def _sweep(words: argparse.Namespace) -> int:
+    logs = list(map(_log, words.log))
     scenarios = [Scenario(procs, factor, order) for procs in words.procs for factor in words.factor for order in words.order]
     with warnings.catch_warnings():
         warnings.simplefilter("ignore", RuntimeWarning)
-        rows = sweep(words.log, scenarios, at_once=words.at_once, program=words.program)
+        rows = sweep(logs, scenarios, at_once=words.at_once, threads=words.threads, program=words.program)
     if rows:
         _table(Row._fields, rows, words.csv)
-    for failure in rows.failures:
-        _say(str(failure))
+    sys.stdout.flush()
+    for line in (*_notes(rows, len(set(logs)) == 1), *map(str, rows.failures)):
+        _say(line)
     return 1 if rows.failures else 0
 
 
@@ -123,17 +167,25 @@ def _ratio(group: _waits.Group) -> Optional[Decimal]:
 
 
 def _waits_of(words: argparse.Namespace) -> int:
-    with as_file(words.log) as path:
-        pairs = _waits.compare(path, words.procs, words.factor, words.order, program=words.program)
-        names = {str(user): name for user, name in _waits.user_names(path).items()}
+    log = _log(words.log)
+    with as_file(log) as path:
+        run = simulate(path, words.procs, words.factor, words.order, program=words.program)
+        pairs = _waits.pairs_of(path, run)
+        comments = comments_of(path)
+    if run.table.jobs + run.table.skipped == 0:
+        _say(f"{log} has no jobs")
     if not pairs:
-        _say(f"no job of {words.log} that is simulated has a wait in field 3")
-        return 1
-    groups = [(it, "all") for it in _waits.summary(pairs)]
-    groups += [(it, f"size {it.group}") for it in _waits.summary(pairs, _waits.by_size)]
-    groups += [(it, f"user {names.get(str(it.group), it.group)}") for it in _waits.summary(pairs, _waits.by_user)]
-    _table(("group", *_waits.Group._fields[1:]), [(name, *it[1:-1], _ratio(it)) for it, name in groups], words.csv)
-    return 0
+        _say(f"no job of {log} that is simulated has a wait in field 3")
+    else:
+        groups = [(it, "all") for it in _waits.summary(pairs)]
+        for kind in words.by:
+            names = {str(number): name for number, name in _waits.names_in(comments, kind).items()}
+            groups += [(it, f"{kind} {names.get(str(it.group), it.group)}") for it in _waits.summary(pairs, _waits.KINDS[kind])]
+        _table(("group", *_waits.Group._fields[1:]), [(name, *it[1:-1], _ratio(it)) for it, name in groups], words.csv)
+        sys.stdout.flush()
+    if run.table.skipped_large:
+        _say(_left_out(run.scenario.procs or 0, run.table))
+    return 0 if pairs else 1
 
 
 def _parser() -> argparse.ArgumentParser:
@@ -141,7 +193,7 @@ def _parser() -> argparse.ArgumentParser:
     commands = parser.add_subparsers(dest="command", required=True)
     it = commands.add_parser("sacct", help="make a log of Slurm's accounting")
     it.set_defaults(work=_sacct)
-    it.add_argument("dump", help="what `sacct -P` or `sacct -p` printed; - is standard input")
+    it.add_argument("dump", help="what `sacct -P` or `sacct -p` printed (.gz: it is unpacked); - is standard input")
     it.add_argument("--procs", type=_whole, required=True, help="the machine's processors (with --size nodes: its nodes)")
     it.add_argument("--tz", help="the zone of times without one, and of midnight, such as Europe/Paris, UTC or -05:00")
     it.add_argument("--arrival", choices=("eligible", "submit"), default="eligible", help="when a job arrives")
@@ -154,18 +206,21 @@ def _parser() -> argparse.ArgumentParser:
     it.add_argument("--delimiter", type=_delimiter, default="|", help="what stands between the columns; | without this")
     it = commands.add_parser("sweep", help="simulate logs under many scenarios")
     it.set_defaults(work=_sweep)
-    it.add_argument("log", nargs="+", help="a log's file (.gz: it is unpacked), or a pipe")
+    it.add_argument("log", nargs="+", help="a log's file (.gz: it is unpacked), or a pipe; - is standard input")
     it.add_argument("--procs", type=_listed(_whole), default=[None], help="processors: A,B,C; the log's own machine without this")
     it.add_argument("--factor", type=_listed(_whole), default=[1000], help="thousandths of the estimates: A,B,C")
     it.add_argument("--order", type=_listed(_order), default=["arrival"], help="orders of backfills: arrival,shortest")
     it.add_argument("--at-once", type=_whole, help="how many scenarios one program takes, at most 64")
+    it.add_argument("--threads", type=_whole, help="how many programs run at a time; one for each processor without this")
     _common(it)
     it = commands.add_parser("waits", help="set the waits that a log records beside the simulated ones")
     it.set_defaults(work=_waits_of)
-    it.add_argument("log", help="a log's file (.gz: it is unpacked), or a pipe")
+    it.add_argument("log", help="a log's file (.gz: it is unpacked), or a pipe; - is standard input")
     it.add_argument("--procs", type=_whole, help="processors; the log's own machine without this")
     it.add_argument("--factor", type=_whole, default=1000, help="thousandths of the estimates")
     it.add_argument("--order", type=_order, default="arrival", help="arrival or shortest")
+    it.add_argument("--by", type=_listed(_kind), default=["size", "user"],
+                    help="kinds of groups: A,B,C of size, user, account, partition, queue; size,user without this")
     _common(it)
     return parser
 

@@ -226,7 +226,7 @@ def as_file(log: Path) -> Iterator[str]:
     if not path.endswith(".gz") and not is_read_once(path):
         yield path
         return
-    with tempfile.NamedTemporaryFile(prefix="easybook-", suffix=".swf") as copy, opened(path) as file:
+    with opened(path) as file, tempfile.NamedTemporaryFile(prefix="easybook-", suffix=".swf") as copy:
         shutil.copyfileobj(file, copy, 1 << 20)
         copy.flush()
         yield copy.name

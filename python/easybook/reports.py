@@ -70,6 +70,11 @@ class Table(NamedTuple):
     span: int
     utilization: Decimal
 
+    @property
+    def skipped(self) -> int:
+        """The entries of the log that were not simulated."""
+        return self.skipped_size + self.skipped_run + self.skipped_large + self.skipped_long
+
 
 class Side(NamedTuple):
     """A scenario's line among those side by side; utilization is in percent."""

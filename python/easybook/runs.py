@@ -9,8 +9,8 @@ from typing import Dict, Iterable, List, NamedTuple, Optional, Sequence, Tuple
 
 from . import program as _program
 from . import swf
-from .errors import BadWord, Ended, Memory, shown
-from .reports import Answers, Day, Missing, Start, Table, UnknownAnswer, User
+from .errors import BadWord, Behind, Ended, Memory, NotYet, shown
+from .reports import Answers, Day, Start, Table, User
 from .swf import Path
 
 MOST_PROCESSORS = 16_777_216
@@ -110,7 +110,8 @@ class Run(NamedTuple):
 
 
 class Row(NamedTuple):
-    """A log's numbers under a scenario; the slowdown in thousandths' digits, utilization in percent."""
+    """A log's numbers under a scenario; the slowdown in thousandths' digits, utilization in percent. `killed` are the jobs
+    that were ended at their estimates, `skipped` the entries of the log that were not simulated."""
 
     log: str
     scenario: str
@@ -121,6 +122,8 @@ class Row(NamedTuple):
     mean_wait: int
     mean_slowdown: Decimal
     utilization: Decimal
+    killed: int
+    skipped: int
 
 
 class Failure(NamedTuple):
@@ -196,25 +199,32 @@ def simulate(log: Path, procs: Optional[int] = None, factor: int = 1000, order: 
             return Run(scenario, told.schedule(name), table, users, days)
 
 
+def _table(told: Answers, name: str) -> Optional[Table]:
+    """The table of a scenario; None where it has no run, or none that is shown, for want of memory."""
+    try:
+        return told.table(name)
+    except (NotYet, Behind, Memory):
+        return None
+
+
+def _row(log: str, asked: Scenario, table: Table) -> Row:
+    return Row(log, asked.label, asked.procs or 0, asked.factor, asked.order, table.jobs, table.mean_wait,
+               table.mean_slowdown, table.utilization, table.killed, table.skipped)
+
+
 def side(log: Path, scenarios: Sequence[Scenario], program: Optional[Path] = None,
-         stopper: Optional[_program.Stopper] = None, copy: Optional[str] = None) -> Tuple[List[Row], List[Failure]]:
-    """The rows of at most 64 scenarios of one log, by one program; and those whose runs found no memory. The log is read
-    from the copy, if there is one."""
+         stopper: Optional[_program.Stopper] = None,
+         copy: Optional[str] = None) -> Tuple[List[Row], List[Failure], List[Table]]:
+    """The rows of at most 64 scenarios of one log, by one program; those whose runs found no memory; and the tables that
+    the rows are of. The log is read from the copy, if there is one."""
     name = os.fspath(log)
     with _program.as_file(copy or log) as path:
         it = _open(path, scenarios, program)
-        with _program.answers(path, it.script(["settle", "side"]), it.procs, None, program, stopper) as told:
+        script = it.script(["settle", *(f"table {asked}" for asked, _ in it.pairs())])
+        with _program.answers(path, script, it.procs, None, program, stopper) as told:
             it.begin(told)
             told.settled()
-            answered = told.side()
-    rows: List[Row] = []
-    failures: List[Failure] = []
-    if [row.name for row in answered] != [asked for asked, _ in it.pairs()]:
-        raise UnknownAnswer(" ".join(row.name for row in answered))
-    for asked, row in zip(it.scenarios, answered):
-        if isinstance(row, Missing):
-            failures.append(Failure(name, asked, Memory()))
-        else:
-            rows.append(Row(name, asked.label, asked.procs or 0, asked.factor, asked.order, row.jobs, row.mean_wait,
-                            row.mean_slowdown, row.utilization))
-    return rows, failures
+            answered = [(asked, _table(told, own)) for own, asked in it.pairs()]
+    tables = [(asked, table) for asked, table in answered if table is not None]
+    return ([_row(name, asked, table) for asked, table in tables],
+            [Failure(name, asked, Memory()) for asked, table in answered if table is None], [table for _, table in tables])

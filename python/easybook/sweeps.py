@@ -13,18 +13,21 @@ from typing import Dict, Iterable, Iterator, List, NamedTuple, Optional, Sequenc
 
 from .errors import BadWord, LogFault, NoProgram, shown
 from .program import Stopper, as_file, find, is_read_once
+from .reports import Table
 from .runs import MOST_SCENARIOS, Failure, Row, Scenario, side
 from .swf import Path
 
 
 class Rows(List[Row]):
-    """The rows of a sweep, in the order of its logs and scenarios, and what failed."""
+    """The rows of a sweep, in the order of its logs and scenarios, and what failed; and the table that each row is of."""
 
     failures: List[Failure]
+    tables: List[Table]
 
-    def __init__(self, rows: Iterable[Row] = (), failures: Iterable[Failure] = ()) -> None:
+    def __init__(self, rows: Iterable[Row] = (), failures: Iterable[Failure] = (), tables: Iterable[Table] = ()) -> None:
         super().__init__(rows)
         self.failures = list(failures)
+        self.tables = list(tables)
 
 
 class Task(NamedTuple):
@@ -42,6 +45,7 @@ class Done(NamedTuple):
 
     rows: List[Row]
     failures: List[Failure]
+    tables: List[Table]
 
 
 _TASKS_OF_A_PROCESSOR = 4
@@ -65,28 +69,38 @@ def work(task: Task, stopper: Optional[Stopper] = None) -> Done:
 
 def _one_by_one(task: Task, stopper: Optional[Stopper], error: Exception) -> Done:
     """Works each scenario of a task that failed; none once all is stopped."""
-    done = Done([], [])
+    done = Done([], [], [])
     for it in task.scenarios:
         alone = task._replace(scenarios=(it,))
         one = _failed(alone, error) if stopper and stopper.is_stopped else work(alone, stopper)
         done.rows.extend(one.rows)
         done.failures.extend(one.failures)
+        done.tables.extend(one.tables)
     return done
 
 
 def _failed(task: Task, error: BaseException) -> Done:
     whole = error if isinstance(error, Exception) else RuntimeError(repr(error))
-    return Done([], [Failure(task.log, it, whole) for it in task.scenarios])
+    return Done([], [Failure(task.log, it, whole) for it in task.scenarios], [])
 
 
-def tasks(logs: Sequence[str], scenarios: Sequence[Scenario], program: Optional[str], at_once: Optional[int]) -> List[Task]:
-    """The tasks of a sweep: of each log its scenarios, so many a program. Without a number as many as give each
-    processor of this machine four programs, one after the other, so that it is seen how far they are; never more than 64.
+def _processors() -> int:
+    """How many processors this process may use."""
+    if hasattr(os, "sched_getaffinity"):
+        return len(os.sched_getaffinity(0))
+    return os.cpu_count() or 1
+
+
+def tasks(logs: Sequence[str], scenarios: Sequence[Scenario], program: Optional[str], at_once: Optional[int],
+          threads: Optional[int] = None) -> List[Task]:
+    """The tasks of a sweep: of each log its scenarios, so many a program. Without a number as many as give each thread
+    (for an executor each processor of this machine, since its own number isn't known) four programs, one after the other,
+    so that it is seen how far they are; never more than 64.
 
     >>> [len(it.scenarios) for it in tasks(["a"], [Scenario(n + 1) for n in range(130)], None, 64)]
     [64, 64, 2]
     """
-    spread = -(-len(logs) * len(scenarios) // (_TASKS_OF_A_PROCESSOR * (os.cpu_count() or 1)))
+    spread = -(-len(logs) * len(scenarios) // (_TASKS_OF_A_PROCESSOR * (threads or os.cpu_count() or 1)))
     most = min(MOST_SCENARIOS, max(1, spread) if at_once is None else at_once)
     return [Task(log, tuple(scenarios[it : it + most]), program) for log in logs for it in range(0, len(scenarios), most)]
 
@@ -179,18 +193,19 @@ def _checked(logs: Union[Path, Iterable[Path]], scenarios: Iterable[Scenario]) -
 
 
 def sweep(logs: Union[Path, Iterable[Path]], scenarios: Iterable[Scenario], executor: Optional[Executor] = None, *,
-          at_once: Optional[int] = None, program: Optional[Path] = None) -> Rows:
+          at_once: Optional[int] = None, threads: Optional[int] = None, program: Optional[Path] = None) -> Rows:
     """The numbers of each log under each scenario, in this order.
 
     The work goes to the executor, in tasks of at most 64 scenarios of a log, each worked by a program of its own
-    (`at_once`: at most so many). Without an executor there are as many threads as this machine has processors. On other
-    machines the logs and the program must have the same paths. A log that is no regular file, such as a pipe, is read
-    once, into a temporary file of this machine.
+    (`at_once`: at most so many). Without an executor there are as many threads as this process may use processors, or
+    `threads`. On other machines the logs and the program must have the same paths. A log that is no regular file, such as
+    a pipe, is read once, into a temporary file of this machine.
 
     What fails is told by a warning, with its log and scenario, and in `failures` of what is answered; the others' rows are
-    all there. Where this is interrupted, the programs that run under its own threads are ended.
+    all there, and in `tables` the table that each is of. Where this is interrupted, the programs that run under its own
+    threads are ended.
     """
-    rows = _sweep(logs, scenarios, executor, at_once, program)
+    rows = _sweep(logs, scenarios, executor, at_once, threads, program)
     for failure in rows.failures:
         warnings.warn(str(failure), RuntimeWarning, stacklevel=2)
     return rows
@@ -209,33 +224,36 @@ def _copies(names: Iterable[str]) -> Iterator[Dict[str, Union[str, OSError]]]:
         yield copies
 
 
-def _worked(todo: List[Task], executor: Optional[Executor]) -> List[Done]:
+def _worked(todo: List[Task], executor: Optional[Executor], threads: Optional[int]) -> List[Done]:
     """Works tasks over an executor, or over threads, whose programs end with this."""
     if executor is not None:
         return _over(executor, todo, None)
     stopper = Stopper()
-    with ThreadPoolExecutor(os.cpu_count() or 1) as threads:
+    with ThreadPoolExecutor(threads) as own:
         try:
-            return _over(threads, todo, stopper)
+            return _over(own, todo, stopper)
         finally:
             stopper.stop()
 
 
 def _sweep(logs: Union[Path, Iterable[Path]], scenarios: Iterable[Scenario], executor: Optional[Executor],
-           at_once: Optional[int], program: Optional[Path]) -> Rows:
+           at_once: Optional[int], threads: Optional[int], program: Optional[Path]) -> Rows:
     names, asked = _checked(logs, scenarios)
-    if at_once is not None and (not isinstance(at_once, int) or isinstance(at_once, bool) or at_once < 1):
-        raise BadWord(f"scenarios at once: a whole number from 1 on, not {shown(at_once)}")
+    for what, it in (("scenarios at once", at_once), ("threads", threads)):
+        if it is not None and (not isinstance(it, int) or isinstance(it, bool) or it < 1):
+            raise BadWord(f"{what}: a whole number from 1 on, not {shown(it)}")
     own = None if executor is not None else find(program)
-    todo = tasks(names, asked, own or (None if program is None else os.fspath(program)), at_once)
+    count = None if executor is not None else threads or _processors()
+    todo = tasks(names, asked, own or (None if program is None else os.fspath(program)), at_once, count)
     with _copies(names) as copies:
-        done = _worked([it._replace(copy=copies.get(it.log)) for it in todo], executor)
-    return Rows((row for it in done for row in it.rows), (failure for it in done for failure in it.failures))
+        done = _worked([it._replace(copy=copies.get(it.log)) for it in todo], executor, count)
+    return Rows((row for it in done for row in it.rows), (failure for it in done for failure in it.failures),
+                (table for it in done for table in it.tables))
 
 
 def run(log: Path, *scenarios: Scenario, program: Optional[Path] = None) -> List[Row]:
     """The numbers of one log under some scenarios; without any, on its own machine. The first failure is raised."""
-    rows = _sweep(log, scenarios or (Scenario(),), None, None, program)
+    rows = _sweep(log, scenarios or (Scenario(),), None, None, None, program)
     if rows.failures:
         raise rows.failures[0].error
     return list(rows)

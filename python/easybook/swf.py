@@ -224,7 +224,12 @@ def lines(file: BinaryIO) -> Iterator[Union[str, Job]]:
 
 @contextlib.contextmanager
 def opened(path: Path) -> Iterator[BinaryIO]:
-    """A log's file, unpacked on the way in where its name ends in `.gz`."""
+    """A file, unpacked on the way in where its name ends in `.gz`. Standard input is read from where it stands, also where
+    `/dev/stdin` couldn't be opened again, as a socket can't."""
+    if os.fspath(path) == "/dev/stdin":
+        with open(0, "rb", closefd=False) as file:
+            yield file
+        return
     if not os.fspath(path).endswith(".gz"):
         with open(path, "rb") as file:
             yield file

@@ -4,16 +4,18 @@ from __future__ import annotations
 
 import re
 from decimal import localcontext
-from typing import Callable, Dict, Hashable, Iterator, List, NamedTuple, Optional
+from typing import Callable, Dict, Hashable, Iterable, Iterator, List, NamedTuple, Optional
 
 from . import swf
+from .errors import BadWord, shown
 from .program import as_file
-from .runs import simulate
+from .runs import Run, simulate
 from .swf import Job, Number, Path
 
 
 class Recorded(NamedTuple):
-    """A job whose wait the log tells (field 3): times in seconds, and its size as the simulation takes it."""
+    """A job whose wait the log tells (field 3): times in seconds, and its size as the simulation takes it. The account is
+    field 13, the group, as it is in logs of Slurm's accounting."""
 
     number: int
     submit: Number
@@ -23,16 +25,21 @@ class Recorded(NamedTuple):
     size: Number
     user: int
     partition: int
+    account: int
+    queue: int
 
 
 class Pair(NamedTuple):
-    """A job's wait as the log tells it, and as it was simulated."""
+    """A job's wait as the log tells it, and as it was simulated, and whose the job is."""
 
     number: int
     user: int
     size: int
     recorded: Number
     simulated: int
+    partition: int = swf.MISSING
+    account: int = swf.MISSING
+    queue: int = swf.MISSING
 
 
 class Group(NamedTuple):
@@ -54,7 +61,8 @@ class Group(NamedTuple):
 def _row(job: Job) -> Recorded:
     with localcontext(swf.EXACT):
         start = job.submit + job.wait
-    return Recorded(job.number, job.submit, job.wait, start, job.run, job.size, swf.nearest(job.user), swf.nearest(job.partition))
+    user, partition, account, queue = map(swf.nearest, (job.user, job.partition, job.group, job.queue))
+    return Recorded(job.number, job.submit, job.wait, start, job.run, job.size, user, partition, account, queue)
 
 
 def rows_of(path: Path) -> Iterator[Recorded]:
@@ -75,18 +83,37 @@ def compare(log: Path, procs: Optional[int] = None, factor: int = 1000, order: s
             program: Optional[Path] = None) -> List[Pair]:
     """Each job that was simulated and whose wait the log tells, with both waits, in the order of the file's lines."""
     with as_file(log) as path:
-        starts = {it.number: it for it in simulate(path, procs, factor, order, program=program).schedule}
-        return [Pair(it.number, it.user, starts[it.number].processors, it.wait, starts[it.number].wait)
-                for it in rows_of(path) if it.number in starts]
+        return pairs_of(path, simulate(path, procs, factor, order, program=program))
 
 
-_USER = re.compile(r";[ \t]*Note: user ([0-9]{1,12}) is (.+)", re.ASCII)
+def pairs_of(path: Path, run: Run) -> List[Pair]:
+    """The pairs of a log and a run of it."""
+    starts = {it.number: it for it in run.schedule}
+    return [Pair(it.number, it.user, starts[it.number].processors, it.wait, starts[it.number].wait, it.partition, it.account,
+                 it.queue)
+            for it in rows_of(path) if it.number in starts]
 
 
-def user_names(log: Path) -> Dict[int, str]:
-    """The names of users that a log of Slurm's accounting tells in its comments."""
-    found = (_USER.fullmatch(it) for it in swf.comments_of(log))
+_WORDS = {"user": "user", "account": "group", "partition": "partition", "queue": "queue"}
+
+
+def names_in(comments: Iterable[str], kind: str) -> Dict[int, str]:
+    """The names of a kind that comments tell; of another kind than users, accounts, partitions and queues there are none.
+
+    >>> names_in(["; Note: user 1 is ana", "; Note: group 1 is phys"], "account")
+    {1: 'phys'}
+    """
+    form = re.compile(rf";[ \t]*Note: {_WORDS.get(kind, '(?!)')} ([0-9]{{1,12}}) is (.+)", re.ASCII)
+    found = (form.fullmatch(it) for it in comments)
     return {int(it.group(1)): it.group(2) for it in found if it is not None}
+
+
+def names(log: Path, kind: str = "user") -> Dict[int, str]:
+    """The names of a kind (`user`, `account`, `partition`, `queue`) that a log of Slurm's accounting tells in its comments,
+    by their numbers."""
+    if kind not in _WORDS:
+        raise BadWord(f"a kind of names is one of {', '.join(_WORDS)}, not {shown(kind)}")
+    return names_in(swf.comments_of(log), kind)
 
 
 def percentile(values: List[Number], percent: int) -> Number:
@@ -118,6 +145,15 @@ def by_user(pair: Pair) -> Hashable:
 def by_size(pair: Pair) -> Hashable:
     """The power of two that the pair's size reaches: 1, 2, 4, 8 and so on."""
     return 1 << (pair.size.bit_length() - 1)
+
+
+KINDS: Dict[str, Callable[[Pair], Hashable]] = {
+    "size": by_size,
+    "user": by_user,
+    "account": lambda it: it.account,
+    "partition": lambda it: it.partition,
+    "queue": lambda it: it.queue,
+}
 
 
 def summary(pairs: List[Pair], by: Optional[Callable[[Pair], Hashable]] = None) -> List[Group]:

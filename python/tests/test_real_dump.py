@@ -55,7 +55,7 @@ class RealDump(unittest.TestCase):
                 self.made.write(file)
             self.assertEqual(len(easybook.recorded(path)), 136)
             pairs = easybook.compare(path)
-            names = waits.user_names(path)
+            names = easybook.names(path)
         self.assertEqual([it[1:5] for it in easybook.summary(pairs)], [(136, 15, 12, 35)])
         self.assertEqual({names[it.group]: it[1:5] for it in easybook.summary(pairs, waits.by_user)}, WAITS)
 

@@ -75,8 +75,8 @@ class Simulating(unittest.TestCase):
         with a_log() as log:
             rows = easybook.run(log, Scenario(10), Scenario(16, name="big"))
         self.assertEqual([tuple(it) for it in rows], [
-            (log, "10-1000", 10, 1000, "arrival", 4, 47, Decimal("1.539"), Decimal("39.864")),
-            (log, "big", 16, 1000, "arrival", 4, 12, Decimal("1.136"), Decimal("29.324"))])
+            (log, "10-1000", 10, 1000, "arrival", 4, 47, Decimal("1.539"), Decimal("39.864"), 0, 0),
+            (log, "big", 16, 1000, "arrival", 4, 12, Decimal("1.136"), Decimal("29.324"), 0, 0)])
 
 
 class Faults(unittest.TestCase):
@@ -147,7 +147,7 @@ class Faults(unittest.TestCase):
                 self.assertFalse(is_running(fake))
 
     def test_want_of_memory_in_a_run(self):
-        told = "scenario base dropped\\nscenario s0 added\\nfailed 1\\nside scenarios 1\\ns0               not yet\\n"
+        told = "scenario base dropped\\nscenario s0 added\\nfailed 1\\nrefused NotYet\\n"
         with a_log() as log, a_program(f"cat >/dev/null; printf '{told}'") as fake:
             with self.assertRaises(easybook.Memory):
                 easybook.simulate(log, 10, program=fake)

@@ -19,6 +19,12 @@ from easybook import Scenario, program, sweeps
 from tests.cluster import FOUR, a_log, a_pipe, a_program, is_running, pids
 
 
+def a_table(name):
+    """What a program prints, as the shell's printf takes it, as the table of a scenario."""
+    return (f"table {name} version 0\\njobs 4 killed 1\\nskipped size 1 run 2 large 3 long 4\\nwait mean 12 greatest 49\\nlength mean 185\\n"
+            "slowdown mean 1.136\\nbusy 2360 span 503\\nutilization 29.324%%\\n")
+
+
 class Sweeping(unittest.TestCase):
     def test_rows_are_in_the_order_of_logs_and_scenarios(self):
         scenarios = [Scenario(it, order=order) for it in (16, 10) for order in ("shortest", "arrival")]
@@ -27,6 +33,15 @@ class Sweeping(unittest.TestCase):
         self.assertEqual([(it.log, it.procs, it.order) for it in rows], [(log, it.procs, it.order) for log in (one, two) for it in scenarios])
         self.assertEqual([it.mean_wait for it in rows[:4]], [12, 12, 47, 47])
         self.assertEqual(rows.failures, [])
+
+    def test_rows_tell_of_jobs_that_were_killed_or_skipped(self):
+        # Half of each limit kills all four. Of the others one has no processors, one no run time; and the second is larger than 7.
+        more = "5 4 -1 9 -1 -1 -1 -1 9 -1 1 7 -1 -1 -1 -1 -1 -1\n6 4 -1 -1 -1 -1 -1 2 9 -1 5 7 -1 -1 -1 -1 -1 -1\n"
+        with a_log(FOUR + more) as log:
+            rows = easybook.sweep(log, [Scenario(10), Scenario(10, 500), Scenario(7), Scenario(1)], at_once=3)
+        self.assertEqual([(it.jobs, it.killed, it.skipped) for it in rows], [(4, 0, 2), (4, 4, 2), (3, 0, 3), (0, 0, 6)])
+        self.assertEqual([(it.skipped_size, it.skipped_run, it.skipped_large) for it in rows.tables], [(1, 1, 0), (1, 1, 0), (1, 1, 1), (1, 1, 4)])
+        self.assertEqual([it.mean_wait for it in rows.tables], [it.mean_wait for it in rows])
 
     def test_more_than_64_scenarios_are_split(self):
         with a_log() as log:
@@ -51,29 +66,31 @@ class Sweeping(unittest.TestCase):
         self.assertIn(f"{bad}, scenario big: line 1 of the log: FieldCount", [str(it.message) for it in told])
 
     def test_a_scenario_without_memory_loses_no_other(self):
-        told = ("scenario base dropped\\nscenario s0 added\\nscenario s1 added\\nfailed 1\\nside scenarios 2\\n"
-                "s0               not yet\\ns1                      0        4         12        1.136  29.324%%\\n")
-        with a_log() as log, a_program(f"cat >/dev/null; printf '{told}'") as fake, warnings.catch_warnings():
-            warnings.simplefilter("ignore")
-            rows = easybook.sweep(log, [Scenario(10), Scenario(16)], at_once=2, program=fake)
-        self.assertEqual([tuple(it) for it in rows], [(log, "16-1000", 16, 1000, "arrival", 4, 12, Decimal("1.136"), Decimal("29.324"))])
-        self.assertEqual([(it.scenario.procs, type(it.error)) for it in rows.failures], [(10, easybook.Memory)])
+        for why in ("NotYet", "Behind seen 1 found 0", "Memory"):
+            told = f"scenario base dropped\\nscenario s0 added\\nscenario s1 added\\nfailed 1\\nrefused {why}\\n{a_table('s1')}"
+            with self.subTest(why), a_log() as log, a_program(f"cat >/dev/null; printf '{told}'") as fake, warnings.catch_warnings():
+                warnings.simplefilter("ignore")
+                rows = easybook.sweep(log, [Scenario(10), Scenario(16)], at_once=2, program=fake)
+                self.assertEqual(len(pids(fake)), 1)
+            self.assertEqual([tuple(it) for it in rows], [(log, "16-1000", 16, 1000, "arrival", 4, 12, Decimal("1.136"), Decimal("29.324"), 1, 10)])
+            self.assertEqual([(it.scenario.procs, type(it.error)) for it in rows.failures], [(10, easybook.Memory)])
+            self.assertEqual([it.skipped_large for it in rows.tables], [3])
 
     def test_a_scenario_that_cannot_be_opened_loses_no_other(self):
         with a_log("; MaxProcs: 99999999\n" + FOUR) as log:
             done = sweeps.work(sweeps.Task(log, (Scenario(), Scenario(16)), None))
-        self.assertEqual([tuple(it) for it in done.rows], [(log, "16-1000", 16, 1000, "arrival", 4, 12, Decimal("1.136"), Decimal("29.324"))])
+        self.assertEqual([tuple(it) for it in done.rows], [(log, "16-1000", 16, 1000, "arrival", 4, 12, Decimal("1.136"), Decimal("29.324"), 0, 0)])
         self.assertEqual([(it.scenario, type(it.error)) for it in done.failures], [(Scenario(), easybook.BadWord)])
 
     def test_a_program_that_dies_of_one_scenario_loses_no_other(self):
-        told = ("scenario base dropped\\nscenario s0 added\\nsettled 0\\nside scenarios 1\\n"
-                "s0                      0        4         12        1.136  29.324%%\\n")
+        told = f"scenario base dropped\\nscenario s0 added\\nsettled 0\\n{a_table('s0')}"
         body = f"case $(cat) in *' 10 '*) kill -9 $$;; esac; printf '{told}'"
         with a_log() as log, a_program(body) as fake, warnings.catch_warnings():
             warnings.simplefilter("ignore")
             rows = easybook.sweep(log, [Scenario(10), Scenario(16), Scenario(10, 500), Scenario(17)], at_once=4, program=fake)
             self.assertEqual(len(pids(fake)), 5)
         self.assertEqual([it.procs for it in rows], [16, 17])
+        self.assertEqual(len(rows.tables), 2)
         self.assertEqual([(it.scenario.label, it.error.args) for it in rows.failures], [("10-1000", (-9, "")), ("10-500", (-9, ""))])
 
     def test_what_fails_for_all_scenarios_is_not_tried_again(self):
@@ -118,6 +135,8 @@ class Sweeping(unittest.TestCase):
         for it in (0, -1, True, 1.5, "4"):
             with self.subTest(it), self.assertRaisesRegex(easybook.BadWord, "^scenarios at once: a whole number from 1 on, not "):
                 easybook.sweep(["/no/such/log"], [Scenario(10)], at_once=it)
+            with self.subTest(it), self.assertRaisesRegex(easybook.BadWord, "^threads: a whole number from 1 on, not "):
+                easybook.sweep(["/no/such/log"], [Scenario(10)], threads=it)
 
     def test_nothing_asked_is_nothing_answered(self):
         with a_log() as log:
@@ -222,7 +241,7 @@ class Progress(unittest.TestCase):
 
     def test_it_begins_with_none_and_moves(self):
         screen = Terminal()
-        with a_log() as log, mock.patch.object(sweeps.sys, "stderr", screen), mock.patch.object(sweeps.os, "cpu_count", lambda: 1):
+        with a_log() as log, mock.patch.object(sweeps.sys, "stderr", screen), mock.patch.object(sweeps.os, "sched_getaffinity", lambda _: {3}):
             easybook.sweep(log, [Scenario(it) for it in range(8, 16)])
         shown = screen.getvalue().split("\r")
         self.assertEqual(shown[1], "easybook: 0 of 8 scenarios done \033[K")
@@ -235,6 +254,23 @@ class Progress(unittest.TestCase):
             self.assertEqual([len(it.scenarios) for it in sweeps.tasks(["a"], scenarios, None, None)], [13] * 7 + [9])
             self.assertEqual([len(it.scenarios) for it in sweeps.tasks(["a"], scenarios[:3], None, None)], [1, 1, 1])
             self.assertEqual({len(it.scenarios) for it in sweeps.tasks(["a"] * 8, scenarios, None, None)}, {64, 36})
+            self.assertEqual([len(it.scenarios) for it in sweeps.tasks(["a"], scenarios, None, None, 1)], [25] * 4)
+
+    def test_there_are_as_many_threads_as_the_process_may_use_processors(self):
+        def threads(*executor, **words):
+            with a_log() as log, mock.patch.object(sweeps, "ThreadPoolExecutor", wraps=sweeps.ThreadPoolExecutor) as made:
+                rows = easybook.sweep(log, [Scenario(10), Scenario(16)], *executor, **words)
+            self.assertEqual([it.mean_wait for it in rows], [47, 12])
+            return [it.args for it in made.call_args_list]
+
+        with mock.patch.object(sweeps.os, "sched_getaffinity", lambda _: {3}), mock.patch.object(sweeps.os, "cpu_count", lambda: 40):
+            self.assertEqual((threads(), threads(threads=3)), ([(1,)], [(3,)]))
+            with concurrent.futures.ThreadPoolExecutor(1) as executor:
+                self.assertEqual(threads(executor, threads=3), [])
+        with mock.patch.object(sweeps.os, "cpu_count", lambda: 2):
+            with mock.patch.object(sweeps.os, "sched_getaffinity"):
+                del sweeps.os.sched_getaffinity
+                self.assertEqual(threads(), [(2,)])
 
 
 if __name__ == "__main__":

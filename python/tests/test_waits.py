@@ -14,7 +14,7 @@ class Recorded(unittest.TestCase):
     def test_rows_are_of_jobs_whose_wait_is_told(self):
         with a_log() as log:
             rows = easybook.recorded(log)
-        self.assertEqual([tuple(it) for it in rows], [(2, 1, 9, 10, 50, 8, 8, -1), (3, 2, 0, 2, 90, 4, 7, -1)])
+        self.assertEqual([tuple(it) for it in rows], [(2, 1, 9, 10, 50, 8, 8, -1, -1, -1), (3, 2, 0, 2, 90, 4, 7, -1, -1, -1)])
 
     def test_rows_are_in_the_order_of_the_files_lines(self):
         lines = FOUR.splitlines(True)
@@ -45,6 +45,24 @@ class Recorded(unittest.TestCase):
             with a_log(FOUR.replace("2 1 9 50", "2 1234567.5 0.25 50")) as log:
                 self.assertEqual([str(it.start) for it in easybook.recorded(log)], ["1234567.75", "2"])
             self.assertEqual(str(_ratio(easybook.summary(pairs)[0])), "499252356.033")
+
+    def test_pairs_tell_partition_account_and_queue(self):
+        text = FOUR.replace("50 -1 1 8 -1 -1 -1 -1", "50 -1 1 8 5 -1 6 4").replace("90 -1 1 7 -1 -1 -1 -1", "90 -1 1 7 2 -1 6 3.5")
+        with a_log(text) as log:
+            self.assertEqual([it[-3:] for it in easybook.recorded(log)], [(4, 5, 6), (4, 2, 6)])
+            pairs = easybook.compare(log, 10)
+        self.assertEqual(pairs, [easybook.Pair(2, 8, 8, 9, 99, 4, 5, 6), easybook.Pair(3, 7, 4, 0, 0, 4, 2, 6)])
+        groups = {kind: [(it.group, it.jobs) for it in easybook.summary(pairs, by)] for kind, by in waits.KINDS.items()}
+        self.assertEqual(groups, {"size": [(4, 1), (8, 1)], "user": [(7, 1), (8, 1)], "account": [(2, 1), (5, 1)], "partition": [(4, 2)], "queue": [(6, 2)]})
+
+    def test_names_of_each_kind(self):
+        told = "; Note: user 1 is ana\n;Note: group 1 is phys\n; Note: queue 12 is long one\n; Note: partition 2 is main\n; Note: user x is bob\n; Note: size 1 is x\n"
+        with a_log(told + FOUR) as log:
+            self.assertEqual([easybook.names(log, it) for it in ("user", "account", "queue", "partition")], [{1: "ana"}, {1: "phys"}, {12: "long one"}, {2: "main"}])
+            self.assertEqual(easybook.names(log), {1: "ana"})
+            for it in ("size", "group", ".*", 7):
+                with self.subTest(it), self.assertRaises(easybook.BadWord):
+                    easybook.names(log, it)
 
     def test_sizes_are_grouped_by_powers_of_two(self):
         self.assertEqual([waits.by_size(easybook.Pair(1, 1, it, 0, 0)) for it in (1, 2, 3, 4, 7, 8)], [1, 2, 2, 4, 4, 8])

@@ -10,10 +10,10 @@ from ..errors import BadWord, DumpFault
 from ..runs import MOST_PROCESSORS
 from ..swf import MISSING, MOST_JOBS, Job, job_text
 from .executions import Execution, Reader, is_unlimited
-from .notes import Facts, decided, warned
+from .notes import Early, Facts, decided, warned
 from .numbers import Numbered, number_all
 from .rows import Dump
-from .values import Clock, Fate
+from .values import A_DAY, Clock, Fate
 
 A_YEAR = 365 * 86_400
 GREATEST_ESTIMATE = 100_000_000
@@ -108,6 +108,7 @@ def _size(it: Execution, options: Options) -> int:
 def _count(it: Execution, size: int, estimate: int, options: Options, counts: "Counter[str]") -> None:
     """Counts what is to be said of a job."""
     counts["tasks"] += it.is_array_task
+    counts["waiting tasks"] += it.is_waiting_tasks
     counts["parts"] += it.is_part
     counts["suspended"] += bool(it.was_suspended)
     counts["no size"] += size == MISSING
@@ -166,6 +167,17 @@ def _peak(jobs: List[Numbered], options: Options, zero: int) -> Tuple[int, int]:
     return peak, when - zero
 
 
+def _early(arrivals: List[int]) -> Optional[Early]:
+    """The jobs that arrived far before the others: those before the last gap between arrivals that lies within the first
+    tenth of the jobs, is over a day, and is longer than a tenth of the time from the first arrival to the last."""
+    ordered = sorted(arrivals)
+    least = max(A_DAY, (ordered[-1] - ordered[0]) // 10)
+    for place in range(len(ordered) // 10, 0, -1):
+        if ordered[place] - ordered[place - 1] > least:
+            return Early(place, ordered[0], ordered[place])
+    return None
+
+
 class _Places(NamedTuple):
     """The numbers that users, accounts, partitions and QOS have in the log, by those that they were read with."""
 
@@ -221,7 +233,8 @@ def convert(file: BinaryIO, options: Options) -> Made:
     lasts = (_last(it.execution, arrival) for it, arrival in zip(numbered, arrivals))
     changes = clock.changes(zero, max(lasts)) if options.zero == "midnight" else []
     facts = Facts(counts, options, clock, len(jobs), zero, peak, when, len({it.partition for it in jobs}),
-                  next((it.number for it in numbered if it.legend), None), reader.has_minutes, changes)
+                  next((it.number for it in numbered if it.legend), None), reader.has_minutes, changes,
+                  any(it.group != MISSING for it in jobs), any(it.queue != MISSING for it in jobs), _early(arrivals))
     said, warnings = decided(facts), warned(facts)
     legend += [f"job {it.number} is {_shown(it.legend)}" for it in numbered if it.legend]
     return Made(_comments(facts, said + warnings + legend), jobs, said, warnings)

@@ -45,8 +45,13 @@ class Execution(NamedTuple):
 
     @property
     def is_array_task(self) -> bool:
-        """Whether it is of an array of jobs."""
-        return "_" in self.label
+        """Whether it is a task of an array of jobs."""
+        return "_" in self.label and not self.is_waiting_tasks
+
+    @property
+    def is_waiting_tasks(self) -> bool:
+        """Whether it stands for all tasks of an array that wait still, as `10_[3-100%2]` does."""
+        return "_[" in self.label
 
     @property
     def is_part(self) -> bool:

@@ -5,10 +5,18 @@ from __future__ import annotations
 from collections import Counter
 from typing import TYPE_CHECKING, List, NamedTuple, Optional, Tuple
 
-from .values import Clock
+from .values import A_DAY, Clock
 
 if TYPE_CHECKING:
     from .convert import Options
+
+
+class Early(NamedTuple):
+    """Jobs that arrived far before the others: how many, and when the first of them and the first of the others did."""
+
+    jobs: int
+    first: int
+    others: int
 
 
 class Facts(NamedTuple):
@@ -25,6 +33,9 @@ class Facts(NamedTuple):
     first_fresh: Optional[int]
     has_minutes: bool
     changes: List[Tuple[str, str]]
+    has_accounts: bool
+    has_qos: bool
+    early: Optional[Early]
 
 
 _SIZES = {
@@ -57,6 +68,13 @@ def _runs(counts: "Counter[str]") -> str:
     return "run times are without suspension" + (", where the dump tells it" if unknown else "")
 
 
+def _whose(facts: Facts) -> str:
+    """What groups and queues are, where jobs have them."""
+    if facts.has_accounts:
+        return "; group is the account" + (", queue the QOS" if facts.has_qos else "")
+    return "; queue is the QOS" if facts.has_qos else ""
+
+
 def _choices(facts: Facts) -> List[str]:
     options = facts.options
     eligible = "a job arrives when it is eligible, or submitted where that is missing"
@@ -65,7 +83,7 @@ def _choices(facts: Facts) -> List[str]:
         eligible if options.arrival == "eligible" else "a job arrives when it is submitted",
         _SIZES[options.size],
         f"{_runs(facts.counts)}; estimates are the limits{', in minutes, times 60' if facts.has_minutes else ''}",
-        "field 3 is the wait on the cluster; group is the account, queue the QOS",
+        f"field 3 is the wait on the cluster{_whose(facts)}",
     ]
 
 
@@ -75,7 +93,7 @@ def _counted(counts: "Counter[str]", lines: List[Tuple[str, str]]) -> List[str]:
 
 def decided(facts: Facts) -> List[str]:
     """The choices, and a line for each kind of row that was treated in a way of its own."""
-    options = facts.options
+    options, waiting = facts.options, facts.counts["waiting tasks"]
     fresh = f", under job numbers from {facts.first_fresh} on" if facts.first_fresh is not None else ""
     return _choices(facts) + _counted(facts.counts, [
         ("steps", "{} row{} of steps skipped"),
@@ -87,6 +105,8 @@ def decided(facts: Facts) -> List[str]:
         ("running", "{} job{} running at the dump: the run time so far is taken"),
         ("requeued", "{} earlier execution{} of requeued or resized jobs kept as jobs of their own" + fresh),
         ("tasks", "{} task{} of arrays, each a job of its own"),
+        ("waiting tasks", "{} row{} of an array's waiting tasks counts as one job" if waiting == 1 else
+                          "{} row{} of arrays' waiting tasks, each of which counts as one job"),
         ("parts", "{} part{} of heterogeneous jobs, each a job of its own"),
         ("suspended", "{} job{} with times of suspension"),
         ("unlimited", "{} job{} of unlimited time: the estimate is " + f"{options.unlimited} seconds (--unlimited)"),
@@ -124,6 +144,10 @@ def warned(facts: Facts) -> List[str]:
         lines.append(f"the clock changes on {date}{more}: days are of 86400 seconds, so those behind it begin at {begin}")
     if facts.peak > options.procs:
         lines.append(f"{facts.peak} processors in use at second {facts.when}, more than {machine}: is --procs too small?")
+    if facts.early is not None:
+        jobs, first, others = facts.early
+        lines.append(f"{jobs} job{'' if jobs == 1 else 's'} arrived before {clock.date(others)}, up to "
+                     f"{-(-(others - first) // A_DAY)} days before the others; the machine of a simulation starts empty")
     if facts.partitions > 1 and not options.partitions:
         lines.append(f"{facts.partitions} partitions taken as one machine (--partition chooses)")
     return lines

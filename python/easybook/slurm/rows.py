@@ -12,6 +12,8 @@ MOST_BYTES_OF_LINE = 1 << 20
 FORMAT = ("JobIDRaw,JobID,Submit,Eligible,Start,End,ElapsedRaw,Suspended,State,User,Account,Partition,QOS,"
           "AllocCPUS,ReqCPUS,AllocNodes,ReqNodes,NodeList,TimelimitRaw")
 _ADVICE = f"dump with sacct -a -X -D -P -o {FORMAT}"
+_KNOWN = frozenset(f"{FORMAT},Elapsed,Timelimit,UID,Cluster,AllocTRES,NNodes,NCPUS".lower().split(","))
+_PACKED = b"\x1f\x8b"
 
 
 class Row(NamedTuple):
@@ -55,6 +57,8 @@ def _text_lines(file: BinaryIO) -> Iterator[str]:
         if not raw:
             return
         count += 1
+        if count == 1 and raw.startswith(_PACKED):
+            raise DumpFault(1, "it is compressed: unpack it (gzip -dc), or give the file a name that ends in .gz")
         if len(raw) > MOST_BYTES_OF_LINE:
             raise DumpFault(count, f"over {MOST_BYTES_OF_LINE} bytes, so this is no dump of sacct: {_ADVICE}")
         if count == 1 and raw.startswith(codecs.BOM_UTF8):
@@ -77,6 +81,8 @@ class Dump:
         # `sacct -p` ends each line with the delimiter, `sacct -P` doesn't.
         self._ends = names[-1] == ""
         self._count = len(names)
+        if _KNOWN.isdisjoint(it.strip().lower() for it in names):
+            raise DumpFault(1, "it looks like a job, not the names of columns: dump without -n")
         self.columns = Columns(names[:-1] if self._ends else names, 1)
         self.columns.need("JobIDRaw", "JobID")
 

@@ -152,8 +152,12 @@ class Clock:
                 middle = (first + last) // 2
                 first, last = (middle, last) if self._there(middle).utcoffset() == before else (first, middle)
             if last <= end:
-                found.append((f"{self._there(last):%Y-%m-%d}", f"{self._there(day + A_DAY):%H:%M}"))
+                found.append((self.date(last), f"{self._there(day + A_DAY):%H:%M}"))
         return found
+
+    def date(self, seconds: int) -> str:
+        """The zone's date at a time."""
+        return f"{self._there(seconds):%Y-%m-%d}"
 
     def _there(self, seconds: int) -> datetime:
         """What the zone's calendar and clock show."""
