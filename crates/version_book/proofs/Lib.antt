@@ -10,6 +10,7 @@ mod Histories
 mod Readings
 mod Claimed
 mod Looking
+mod Adding
 mod Mains
 mod Settlings
 pub mod Lemmas
