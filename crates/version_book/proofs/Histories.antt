@@ -18,8 +18,7 @@ use Rattle.version_book.specs.Sound.{IsBook, IsSound}
 use Rattle.version_book.specs.Answers.{TellsFit, TellsStanding}
 use Rattle.version_book.specs.Steps.{Answer, full, memory, outcome, Answers, Does, IsNoNote, IsStep, note_of, notes_of, opening_state, reply_in}
 
--- the opening log and the number of notes are as they were, and at most one ticket is given
-abbrev pub Counts : Machine → Machine → Type 0
+abbrev Counts : Machine → Machine → Type 0
 Counts m k = (k.opening ≡ m.opening) × (k.next_ticket ≤ m.next_ticket + 1) × (k.notes ≡ m.notes)
 
 same-counts : (m : Machine) → Counts m m

@@ -25,8 +25,7 @@ use Rattle.version_book.specs.Steps.{Answers as Answered}
 use Rattle.version_book.specs.Tasks.{IsShownFor}
 use Rattle.version_book.proofs.Stepping.{progress-shown}
 
--- the listed scenario is shown, found by its id, under the same scenario
-abbrev pub IsShown : List ShownView → Listed → Type 0
+abbrev IsShown : List ShownView → Listed → Type 0
 IsShown xs s = (x : ShownView) × (find (has_id s.id) xs ≡ Some x) × (x.scenario ≡ s.scenario)
 
 show-first : (x : ShownView) (xs : List ShownView) (s : Listed) → under_of_shown x ≡ under_of_listed s → IsShown (x ∷ xs) s
