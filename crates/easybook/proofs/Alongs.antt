@@ -1,29 +1,24 @@
 -- The responses to a session at a desk are responses along the history of the desk, where the session's list has all its calls there: if it
 -- lacks none in the end, it lacked none before, and none came between.
-use Rattle.std.proofs.Common.{◌≡◌, ℕ, ◌+◌, ◌≤◌, true, List, length, Result, Err, refl, sym, ap, subst, ◌∙◌, arith, inl, inr}
+use Rattle.std.proofs.Common.{◌≡◌, ℕ, ◌+◌, ◌≤◌, true, List, length, Result, refl, ap, subst, ◌∙◌, arith}
 use mathlib.Core.List.{IsPrefix}
 use Rattle.scenarios.specs.ScenarioList.{id_of}
 use Rattle.book_machine.specs.declared.caller.Caller.TheVariants as caller
-use Rattle.book_machine.specs.declared.reply.Reply.TheVariants as reply
 use Rattle.book_machine.specs.declared.settle_state.SettleState.{SettleState}
 use Rattle.book_machine.specs.Call.{BookCall, View}
-use Rattle.book_machine.specs.Machine.{Machine, reply_to, version}
-use Rattle.chronicle.specs.Events.{Happened, state_after}
+use Rattle.book_machine.specs.Machine.{Machine, version}
+use Rattle.chronicle.specs.Events.{Happened}
 use Rattle.tasks.specs.Published.{PublishedView}
 use Rattle.version_book.specs.declared.faults.ViewFault.{ViewFault}
-use Rattle.version_book.specs.declared.faults.ViewFault.TheVariants as view
 use Rattle.version_book.specs.declared.refusal.Refusal.{Refusal}
-use Rattle.version_book.specs.declared.refusal.Refusal.TheVariants as why
 use Rattle.version_book.specs.Answers.{view_answer}
-use Rattle.version_book.specs.Book.{machine_of}
 use Rattle.version_book.specs.Steps.{Answer}
 use Rattle.workers.specs.Callers.{SessionView}
-use Rattle.workers.specs.History.{CalledAt, IsShownAt, Settles}
+use Rattle.workers.specs.History.{CalledAt, Settles}
 use Rattle.workers.specs.declared.settled.Settled.{Settled}
 use Rattle.scripts.specs.Analysts.{IsViewed}
-use Rattle.version_book.specs.BookRules.{IsPresent, IsTrueOf}
+use Rattle.version_book.specs.BookRules.{IsPresent}
 use Rattle.scripts.specs.Lifting.{Leads, Lifts}
-use Rattle.version_book.proofs.Lemmas.{shown-true}
 use Rattle.easybook.specs.Along.{Goes, Looks, Makes, Place, Waits, ended_by, rules_along}
 use Rattle.easybook.specs.DeskRules.{IsListed, IsRead, desk_rules}
 use Rattle.easybook.proofs.Own.{goes_by_others, list_noted, noted, own, own_grows, own_noted}
@@ -79,15 +74,6 @@ pub does_leads : (opening : Machine) (who : ℕ) (old new : SessionView) (call :
     → Leads (IsFitting who) (IsWhole who) old new (Makes opening who (place_of old) call answer (place_of new))
 does_leads opening who old new call answer l fits = (call_fits opening who old new call answer l fits, λ whole. call_whole opening who old new call answer l fits whole)
 
-true_there : (opening : Machine) (before after : List Happened) (who id seen : ℕ) (outcome : Result PublishedView (Refusal ViewFault))
-    → CalledAt opening before (caller.Session who) (View id seen) (view_answer outcome) after → IsShownAt (state_after opening before) id seen outcome → IsTrueOf (state_after opening before) id outcome
-true_there opening before after who id seen outcome at (inl short) = subst (λ (t : Result PublishedView (Refusal ViewFault)). IsTrueOf (state_after opening before) id t) (sym short) tt
-true_there opening before after who id seen outcome at (inr h) =
-    let missing : outcome ≡ Err (why.Fault view.NoSuchScenario) → reply_to (View id seen) (machine_of h.0) ≡ reply.NoSuchScenario = λ is.
-    let there : CalledAt opening before (caller.Session who) (View id seen) (view_answer (Err (why.Fault view.NoSuchScenario))) after = subst (λ (t : Result PublishedView (Refusal ViewFault)). CalledAt opening before (caller.Session who) (View id seen) (view_answer t) after) is at in
-    ap (reply_to (View id seen)) h.2 ∙ sym there.1 in
-    subst (λ (m : Machine). IsTrueOf m id outcome) h.2 (shown-true h.0 id seen outcome h.1 h.3 missing)
-
 pub views_leads : (opening : Machine) (who : ℕ) (old new : SessionView) (id : ℕ) (outcome : Result PublishedView (Refusal ViewFault)) → IsViewed (desk_rules opening) old id outcome new
     → Leads (IsFitting who) (IsWhole who) old new (IsViewed (rules_along opening who) (place_of old) id outcome (place_of new))
 views_leads opening who old new id outcome v fits =
@@ -102,7 +88,7 @@ views_leads opening who old new id outcome v fits =
             made.0,
             record {
               call = made.1;
-              shown = record { before = h.1.0; goes = so.1; answered = at; true_there = true_there opening h.1.0 new.front.events who id old.seen outcome at h.1.3 };
+              shown = record { before = h.1.0; goes = so.1; answered = at; true_there = h.1.3 };
             },
           ),
     )

@@ -87,10 +87,10 @@ has_place (x ∷ xs) (z ∷ ys) (suc k) y same is = has_place xs ys k y (omega (
 
 -- texts that sessions at a desk produced answer their scripts along the one history in which all sessions stand, where there are as many
 -- texts as scripts, the callers' lists are its notes and the workers have only worked
-pub all_along : (A : Type 0) (comments scripts : List (List ℕ)) (opening : Machine) (sessions : List SessionView) (texts : List (List ℕ)) (workers : List WorkerView) (notes : List Noted)
-    → AreAtDesk A opening comments scripts sessions texts → All (λ (w : WorkerView). AreWork w.list) workers → StandInOne opening sessions workers notes → IsAnswered sessions workers notes → length texts ≡ length scripts
+pub all_along : (A : Type 0) (comments scripts : List (List ℕ)) (opening : Machine) (sessions : List SessionView) (texts : List (List ℕ)) (workers : List WorkerView) (notes : List Noted) (left : Machine)
+    → AreAtDesk A opening comments scripts sessions texts → All (λ (w : WorkerView). AreWork w.list) workers → StandInOne opening sessions workers notes left → IsAnswered sessions workers notes → length texts ≡ length scripts
     → AreAnsweredAlong A comments opening scripts texts
-all_along A comments scripts opening sessions texts workers notes desk work one outcome count = record {
+all_along A comments scripts opening sessions texts workers notes left desk work one outcome count = record {
   events = one.events;
   legal = one.legal;
   as_many = count;

@@ -6,7 +6,6 @@ use Rattle.swf_text.specs.Entry.{LogEntry}
 use Rattle.scenarios.specs.Scenario.{ScenarioView}
 use Rattle.scenarios.specs.Plan.{plan_of}
 use Rattle.scenarios.specs.ScenarioList.{Listed, named}
-use Rattle.checkpoints.specs.Sums.{IsTablesOf}
 use Rattle.report.specs.Pieces.{left}
 use Rattle.report.specs.Schedule.{schedule_text}
 use Rattle.report.specs.Side.{shown_line}
@@ -25,29 +24,24 @@ use Rattle.version_book.specs.Looks.{IsListedAs, IsLooked, IsOf}
 use Rattle.scripts.specs.Looks.{NotLooked, unseen_line}
 use Rattle.version_book.specs.Session.{Session, IsStep}
 use Rattle.scripts.specs.Steps.{IsView, IsSeen}
-use Rattle.version_book.specs.Looks.{log_of_version}
 use Rattle.scripts.specs.Reports.{IsReport, report_text}
 use Rattle.scripts.proofs.Named.{place-of, name-found}
 
 schedule-as : (name : List ℕ) (v : ℕ) {log log' : List LogEntry} {under under' : ScenarioView} → log ≡ log' → under ≡ under' → schedule_text name v (plan_of log under) ≡ schedule_text name v (plan_of log' under')
 schedule-as name v is is' = cc
 
-tables-of : {m : Machine} {s : Listed} {p : PublishedView} → IsOf m s p → IsTablesOf (log_of_version m p.version) s.scenario p.run.tables
-tables-of {m} {s} {p} h =
-    subst (λ (log : List LogEntry). IsTablesOf log s.scenario p.run.tables) h.log (subst (λ (under : ScenarioView). IsTablesOf p.run.log under p.run.tables) h.scenario h.run.tables)
-
 is-report : (kind : Report) (m : Machine) (s : Listed) (p : PublishedView) → IsOf m s p → IsReport kind m s p.version (report_text kind s.name p.version p.run)
 is-report report.Schedule m s p h = schedule-as s.name p.version h.log h.scenario
-is-report report.Table m s p h = (p.run.tables, tables-of h, refl)
-is-report report.Users m s p h = (p.run.tables, tables-of h, refl)
-is-report report.Days m s p h = (p.run.tables, tables-of h, refl)
+is-report report.Table m s p h = (p.run.tables, h.simulated.tables, refl)
+is-report report.Users m s p h = (p.run.tables, h.simulated.tables, refl)
+is-report report.Days m s p h = (p.run.tables, h.simulated.tables, refl)
 
 pub listed-as : (m : Machine) (name : List ℕ) (id : ℕ) (s : Listed) → named name m.listing.scenarios ≡ Some s → id ≡ s.id → IsListedAs m id s
 listed-as m name id s is id_is = let p = place-of name s m.listing.scenarios is in record { place = p.0; listed = p.1; id = sym id_is }
 
 pub viewed : (old new : Session) (id : ℕ) (s : Listed) (kind : Report) (p : PublishedView) (text : List ℕ) → IsStep old (View id old.seen) (reply.Shown p.version) new → IsLooked old.machine id p → IsListedAs old.machine id s → text ≡ report_text kind s.name p.version p.run → IsView old (IsReport kind) text new s
 viewed old new id s kind p text step look listed is =
-    let of = look s listed in
+    let of = look.is s listed in
     inr (inr (reply.Shown p.version, subst (λ (n : ℕ). IsStep old (View n old.seen) (reply.Shown p.version) new) (sym listed.id) step, inl (subst (IsReport kind old.machine s p.version) (sym is) (is-report kind old.machine s p of))))
 
 pub viewed-short : (old new : Session) (id : ℕ) (s : Listed) (kind : Report) (p : PublishedView) (text : List ℕ) → IsStep old (View id old.seen) (reply.Shown p.version) new → IsListedAs old.machine id s → text ≡ refused (codes "Memory") → IsView old (IsReport kind) text new s
@@ -67,7 +61,7 @@ not-viewed old new id s kind refusal text h listed is =
     subst (λ (t : List ℕ). IsView old (IsReport kind) t new s) (sym is) (not-viewed-at old new s kind refusal (subst (λ (n : ℕ). NotLooked refusal old n new) (sym listed.id) h))
 
 pub side-shown : (old new : Session) (s : Listed) (p : PublishedView) → IsStep old (View s.id old.seen) (reply.Shown p.version) new → IsOf old.machine s p → IsSeen old s (shown_line s.name p.version p.run.tables.overall) new
-side-shown old new s p step of = (reply.Shown p.version, step, (p.run.tables, tables-of of, refl))
+side-shown old new s p step of = (reply.Shown p.version, step, (p.run.tables, of.simulated.tables, refl))
 
 -- a view that finds nothing published gives the scenario's line beside others, which says `not yet`
 pub side-not_yet : (old new : Session) (s : Listed) → IsStep old (View s.id old.seen) reply.NotYet new → IsSeen old s (left 16 s.name ++ codes " not yet\n") new
@@ -87,4 +81,4 @@ named-viewed old new name id kind p text s is id_is step look (inr short) = view
 -- a view that shows a run gives the run's line beside others
 pub beside-shown : (old new : Session) (id : ℕ) (p : PublishedView) → IsStep old (View id old.seen) (reply.Shown p.version) new → IsLooked old.machine id p → (s : Listed) → IsListedAs old.machine id s → IsSeen old s (shown_line s.name p.version p.run.tables.overall) new
 beside-shown old new id p step look s listed =
-    side-shown old new s p (subst (λ (n : ℕ). IsStep old (View n old.seen) (reply.Shown p.version) new) (sym listed.id) step) (look s listed)
+    side-shown old new s p (subst (λ (n : ℕ). IsStep old (View n old.seen) (reply.Shown p.version) new) (sym listed.id) step) (look.is s listed)

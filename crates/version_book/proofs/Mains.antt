@@ -1,14 +1,12 @@
 -- The main theorem, from the laws of histories and of runs: calls lead on in one journal over one opening log, what is shown is
 -- listed and was added, and is a run of its version.
-use Rattle.std.proofs.Common.{◌≡◌, ℕ, ◌≤◌, List, [], ◌∷◌, ◌++◌, length, Option, None, Some, refl, sym, ◌∙◌, ap, ap₂, subst, append_assoc, zero, suc, map, Bool, true, false, cond, ◌==◌}
-use Rattle.std.specs.Prelude.{find, is_some, IfSome, slice_get}
+use Rattle.std.proofs.Common.{◌≡◌, ℕ, ◌≤◌, List, [], ◌∷◌, ◌++◌, length, Option, None, Some, refl, sym, ◌∙◌, ap, ap₂, subst, append_assoc, arith}
+use Rattle.std.specs.Prelude.{find, is_some, IfSome}
 use Rattle.std.specs.Option.{option_map}
-use Rattle.std.proofs.lemmas.Bool.{eqb-true}
 use Rattle.std.proofs.lemmas.List.{append-nil}
 use Rattle.swf_text.specs.Entry.{LogEntry}
 use Rattle.job_table.specs.Edit.{LogEdit, log_at}
 use Rattle.scenarios.specs.ScenarioList.{Listed}
-use Rattle.scenarios.specs.Scenario.{ScenarioView}
 use Rattle.checkpoints.specs.Simulated.{IsSimulated, EachRunIsSimulated}
 use Rattle.book_machine.specs.declared.caller.Caller.{Caller}
 use Rattle.book_machine.specs.Call.{BookCall}
@@ -18,15 +16,16 @@ use Rattle.book_machine.specs.Laws.{IsNoOlder, Stands, VersionsNeverGoDown}
 use Rattle.book_machine.specs.Versions.{TheEditsAreThoseNoted, EachVersionKeepsItsLog}
 use Rattle.tasks.specs.Published.{PublishedView}
 use Rattle.version_book.specs.Book.{BookView, ShownView, machine_of, progress_of_shown}
-use Rattle.version_book.specs.Looks.{IsListedAs}
+use Rattle.version_book.specs.Looks.{IsListedAs, IsOf, log_of_version}
 use Rattle.version_book.specs.Lookups.{has_id, published_for, version_shown}
 use Rattle.version_book.specs.MainTheorem.{Made, Leads, edits_of, log_of, IsRight, MainTheorem}
-use Rattle.version_book.specs.Sound.{IsBook, IsOfItsVersion, Under, under_of_listed, under_of_shown}
+use Rattle.version_book.specs.Sound.{IsBook, IsOfItsVersion}
 use Rattle.version_book.specs.Steps.{Answer, full, memory, outcome, Answers, note_of}
+use Rattle.version_book.specs.Tasks.{IsShownFor}
 use Rattle.version_book.proofs.Adding.{was-added}
 use Rattle.version_book.proofs.Histories.{counts}
 use Rattle.version_book.proofs.Lists.{find-All}
-use Rattle.version_book.proofs.Looking.{shown-at}
+use Rattle.version_book.proofs.Looking.{looked, shown-at}
 use Rattle.version_book.proofs.Stepping.{progress-shown, published-shown}
 
 record GoesOn (old new : BookView) : Type 0 where
@@ -61,35 +60,6 @@ found-at b id s h listed =
     let x = shown-at b listed.place s h listed.listed in
     (x.0, subst (λ (n : ℕ). find (has_id n) b.state.shown ≡ Some x.0) listed.id x.1, x.2)
 
-record IsAt (id : ℕ) (x : ShownView) (ss : List Listed) : Type 0 where
-  pub place : ℕ
-  pub listed : Listed
-  pub there : slice_get ss place ≡ Some listed
-  pub numbered : listed.id ≡ id
-  pub scenario : x.scenario ≡ listed.scenario
-
-listed-at : (id : ℕ) (xs : List ShownView) (ss : List Listed) (x : ShownView) → map under_of_shown xs ≡ map under_of_listed ss → find (has_id id) xs ≡ Some x → IsAt id x ss
-listed-at id [] ss x same is = cc
-listed-at id (y ∷ ys) [] x same is = cc
-listed-at id (y ∷ ys) (s ∷ ss) x same is =
-    let u : under_of_shown y ≡ under_of_listed s = cc in
-    let us : map under_of_shown ys ≡ map under_of_listed ss = cc in
-    go (y.id == id) refl u is (listed-at id ys ss x us)
-  where
-    go : (b : Bool) → (y.id == id) ≡ b → under_of_shown y ≡ under_of_listed s → cond b (Some y) (find (has_id id) ys) ≡ Some x → (find (has_id id) ys ≡ Some x → IsAt id x ss) → IsAt id x (s ∷ ss)
-    go true e u is more =
-        let same : y ≡ x = cc in
-        record {
-          place = zero;
-          listed = s;
-          there = refl;
-          numbered = sym (ap (λ (p : Under). p.0) u) ∙ eqb-true y.id id e;
-          scenario = ap (λ (z : ShownView). z.scenario) (sym same) ∙ ap (λ (p : Under). p.1) u;
-        }
-    go false e u is more =
-        let at = more is in
-        record { place = suc at.place; listed = at.listed; there = at.there; numbered = at.numbered; scenario = at.scenario }
-
 shown-of : (o : Option ShownView) (p : PublishedView) → (elim o [ None ↦ None | Some y ↦ y.published ]) ≡ Some p → (x : ShownView) × (o ≡ Some x) × (x.published ≡ Some p)
 shown-of None p is = cc
 shown-of (Some x) p is = (x, refl, is)
@@ -98,22 +68,23 @@ right : TheEditsAreThoseNoted → EachRunIsSimulated → (b : BookView) (id : �
 right noted simulated b id p h published =
     let found = shown-of (find (has_id id) b.state.shown) p published in
     let x : ShownView = found.0 in
-    let at = listed-at id b.state.shown b.state.listing.scenarios x h.sound.listed found.1 in
-    let s : Listed = at.listed in
     let any = find-All (λ (y : ShownView). IfSome y.published (IsOfItsVersion b.state.opening b.state.edits y.scenario)) (has_id id) b.state.shown x h.sound.runs found.1 in
     let of : IsOfItsVersion b.state.opening b.state.edits x.scenario p = subst (λ (o : Option PublishedView). IfSome o (IsOfItsVersion b.state.opening b.state.edits x.scenario)) found.2 any in
+    let shown : IsShownFor b.state id 0 p = record { scenario = x; found = found.1; published = found.2; newer = omega arith; version = of } in
+    let look = looked simulated b id 0 p h shown in
+    let s : Listed = look.listed.0 in
+    let listed : IsListedAs (machine_of b) id s = look.listed.1 in
+    let it : IsOf (machine_of b) s p = look.is s listed in
     let edits = edits-are noted b h in
-    let log : p.run.log ≡ log_of b p.version = of.log ∙ ap (λ (es : List LogEdit). log_at b.state.opening es p.version) edits in
-    let scenario : p.run.scenario ≡ s.scenario = of.scenario ∙ at.scenario in
-    let own = simulated p.run of.run in
+    let log : log_of_version (machine_of b) p.version ≡ log_of b p.version = ap (λ (es : List LogEdit). log_at b.state.opening es p.version) edits in
     let is-right : IsRight b s p = record {
-      made = subst (λ (es : List LogEdit). p.version ≤ length es) edits of.made;
-      added = was-added b at.place s h at.there;
-      log = log;
-      scenario = scenario;
-      simulated = subst (λ (l : List LogEntry). IsSimulated l s.scenario p.run) log (subst (λ (u : ScenarioView). IsSimulated p.run.log u p.run) scenario own);
+      made = subst (λ (es : List LogEdit). p.version ≤ length es) edits it.made;
+      added = was-added b listed.place s h listed.listed;
+      log = it.log ∙ log;
+      scenario = it.scenario;
+      simulated = subst (λ (l : List LogEntry). IsSimulated l s.scenario p.run) log it.simulated;
     } in
-    (s, record { place = at.place; listed = at.there; id = at.numbered }, is-right)
+    (s, listed, is-right)
 
 legal-in : (old new : BookView) (on : GoesOn old new) → IsBook new → IsLegal (opened old.state.opening) (old.journal ++ on.more)
 legal-in old new on h = subst (IsLegal (opened old.state.opening)) on.journal (subst (λ (log : List LogEntry). IsLegal (opened log) new.journal) on.opening h.legal)

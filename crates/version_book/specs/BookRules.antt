@@ -21,7 +21,8 @@ IsAnswered old call full new = (old.machine.notes ≡ note_limit) × (new ≡ ol
 IsAnswered old call memory new = new ≡ old
 IsAnswered old call (outcome reply) new = IsStep old call reply new
 
--- a run that is shown is that of the listed scenario with this id, and one that is listed is no missing one
+-- A run that is shown is the simulation of its version's log under the listed scenario with this id, and one that is listed is no
+-- missing one.
 abbrev pub IsTrueOf : Machine → ℕ → Result PublishedView (Refusal ViewFault) → Type 0
 IsTrueOf m id (Ok p) = IsLooked m id p
 IsTrueOf m id (Err (why.Fault view.NoSuchScenario)) = (s : Listed) → IsListedAs m id s → ⊥

@@ -11,5 +11,4 @@ pub mod Settling
 pub mod Rules
 pub mod Looks
 pub mod BookRules
-pub mod Laws
 pub mod MainTheorem

@@ -6,6 +6,8 @@ ghost use Rattle.job_table.specs.Edit.{edit_of};
 ghost use Rattle.book_machine.specs.declared.caller.Caller.TheVariants as caller;
 ghost use Rattle.book_machine.specs.Call.{AddScenario, Claim, DropScenario, Edit as Edits, Finish, GiveUp, Retry, View};
 ghost use Rattle.version_book.specs.Answers.{AnswersOfRun, TakesWhatFits, TellsFit, TellsStanding, add_answer, claim_answer, drop_answer, edit_answer, finish_answer, fitted, give_up_answer, retry_answer, outcome_of_run, view_answer};
+ghost use Rattle.version_book.specs.Book.{machine_of};
+ghost use Rattle.version_book.specs.BookRules.{IsTrueOf};
 ghost use Rattle.version_book.specs.Sound.{IsBook};
 ghost use Rattle.version_book.specs.Steps.{Answers, Publishes};
 ghost use Rattle.version_book.specs.Tasks.{Fits, IsHandedIn, IsOut, IsShownFor, PublishesFitting, Stands, due_shown, task_for};
@@ -20,6 +22,7 @@ use crate::refusal::{
 use crate::replies;
 use book_machine::{Call, Caller, NotedEdit, NotedName};
 use checkpoints::Run;
+use checkpoints::laws::each_run_is_simulated;
 use job_table::{Edit, EditFault};
 use scenarios::{AddFault, NoSuchScenario, Scenario, ScenarioId};
 use std::alloc::Allocator;
@@ -108,8 +111,8 @@ impl<A: Allocator + Copy> Book<A> {
         outcome
     }
 
-    /// What is published for a scenario, with its version: the simulation, second by second, of that
-    /// version's log under the scenario. The version is not below the one seen.
+    /// What is published for a scenario, with its version: the simulation, second by second from the first
+    /// one on, of that version's log under the scenario. The version is not below the one seen.
     ///
     /// JournalFull where there are 1,000,000 notes; NoSuchScenario where none has the id; NotYet
     /// where nothing is published; Behind where what is published is older than `seen`; Memory
@@ -122,8 +125,10 @@ impl<A: Allocator + Copy> Book<A> {
     ) -> Result<Published<A>, ViewRefusal>
         ensures answer { Answers self.old self.new (caller.Session session) (View id seen) (view_answer result) }
         ensures shown { IfOk result (IsShownFor self.old.state id seen) }
+        ensures right { IsTrueOf (machine_of self.old) id result }
         ensures book { IsBook self.old }
     {
+        each_run_is_simulated();
         reserve_note::<ViewFault, A>(&mut self.journal)?;
         let outcome = self.state.view(id, seen);
         let reply = replies::view_reply(&outcome);

@@ -1,4 +1,3 @@
-ghost use Rattle.version_book.specs.Laws.{ShownIsTrue};
 ghost use Rattle.version_book.specs.MainTheorem.{MainTheorem};
 
 use book_machine::laws::{each_version_keeps_its_log, versions_never_go_down};
@@ -15,9 +14,3 @@ pub fn main_theorem()
     versions_never_go_down();
     each_run_is_simulated();
 }
-
-/// What a view of a book shows is true of the book: a run is that of the log of its version under the
-/// scenario, and a scenario is not listed where the book replies that there is none.
-pub fn what_is_shown_is_true()
-    ensures { ShownIsTrue }
-{}

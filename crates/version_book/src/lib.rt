@@ -27,7 +27,7 @@ pub use book_machine::{Call, Caller, Note, Reply, SettleState};
 pub use book_session::BookSession;
 pub use checkpoints::RunFault as BookFault;
 pub use faults::{FinishFault, TooManyTickets, UnknownTicket, ViewFault};
-pub use laws::{main_theorem, what_is_shown_is_true};
+pub use laws::main_theorem;
 pub use named::Named;
 pub use reading::Reading;
 pub use refusal::{

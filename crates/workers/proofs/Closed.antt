@@ -5,7 +5,7 @@ use Rattle.book_machine.specs.History.{Noted}
 use Rattle.book_machine.specs.Machine.{Machine}
 use Rattle.chronicle.specs.Events.{IsLegalFrom}
 use Rattle.chronicle.specs.Fronts.{Seen}
-use Rattle.version_book.specs.Book.{BookView}
+use Rattle.version_book.specs.Book.{BookView, machine_of}
 use Rattle.workers.specs.Callers.{SessionView, WorkerView}
 use Rattle.workers.specs.Closing.{AreAll, AreOpened, IsTheirs, IsAnswered, SpeaksAgainst, StandInOne}
 use Rattle.workers.specs.declared.close_fault.CloseFault.{CloseFault}
@@ -25,14 +25,15 @@ pub outcome_in : (opening : Machine) (n : ℕ) (book : BookView) (all : Seen) (s
 outcome_in opening n book all s w stopped sessions workers at tied theirs =
     subst (λ (ns : List Noted). IsAnswered sessions workers ns) ((tied theirs.kept).notes ∙ ap (λ (k : ℕ). drop k book.journal) (sym at)) theirs.lists
 
--- where the history is tied to the book, legal and the callers', who are all that were opened in it, all callers stand in it, and its calls are the
--- notes after the opening ones
+-- where the history is tied to the book, legal and the callers', who are all that were opened in it, all callers stand in it, its calls are the
+-- notes after the opening ones, and it leads to where the book stands
 pub stand_in : (opening : Machine) (n : ℕ) (book : BookView) (all : Seen) (s w : ℕ) (stopped : Bool) (sessions : List SessionView) (workers : List WorkerView)
-    → n ≡ opening.notes → IsTied opening (lain book all s w stopped) → IsLegalFrom opening all.events → AreOpened all sessions workers → IsTheirs all sessions workers → StandInOne opening sessions workers (drop n book.journal)
+    → n ≡ opening.notes → IsTied opening (lain book all s w stopped) → IsLegalFrom opening all.events → AreOpened all sessions workers → IsTheirs all sessions workers → StandInOne opening sessions workers (drop n book.journal) (machine_of book)
 stand_in opening n book all s w stopped sessions workers at tied legal opened theirs = record {
   events = all.events;
   legal = legal;
   calls = (tied theirs.kept).notes ∙ ap (λ (k : ℕ). drop k book.journal) (sym at);
+  leads = (tied theirs.kept).machine;
   callers = opened theirs.kept;
   by_sessions = λ k d lt. let b = theirs.sessions_begin k d lt in (b.0, b.2);
   by_workers = λ k d lt. let b = theirs.workers_begin k d lt in (b.0, b.2);

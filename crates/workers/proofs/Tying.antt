@@ -1,6 +1,6 @@
 -- The history stays tied to the book, as calls are noted and other events are added, and a caller's front stays tied to the history.
-use Rattle.std.proofs.Common.{◌≡◌, ◌<◌, ◌+◌, ◌||◌, ℕ, Bool, true, false, cond, List, [], ◌∷◌, ◌++◌, drop, length, refl, sym, ◌∙◌, ap, subst, arith, length-append, append-nil, inl, inr}
-use Rattle.std.specs.Prelude.{if◌then◌else◌, nat_lt, Option, None, Some, IfSome, IfOk, Result, Err, count_by}
+use Rattle.std.proofs.Common.{◌≡◌, ◌<◌, ◌+◌, ◌||◌, ℕ, Bool, true, false, cond, List, [], ◌∷◌, ◌++◌, drop, length, refl, sym, ◌∙◌, ap, subst, arith, length-append, append-nil}
+use Rattle.std.specs.Prelude.{if◌then◌else◌, nat_lt, Option, None, Some, IfSome, Result, Err, count_by}
 use Rattle.std.specs.List.{cons_option, slice_get}
 use Rattle.std.proofs.lemmas.List.{drop-append-le}
 use Rattle.std.proofs.lemmas.List.Elements.{filter_map-append}
@@ -23,9 +23,8 @@ use Rattle.version_book.specs.declared.refusal.Refusal.{Refusal}
 use Rattle.version_book.specs.declared.refusal.Refusal.TheVariants as why
 use Rattle.version_book.specs.Answers.{view_answer}
 use Rattle.version_book.specs.Book.{BookView, machine_of}
-use Rattle.version_book.specs.Sound.{IsBook}
+use Rattle.version_book.specs.BookRules.{IsTrueOf}
 use Rattle.version_book.specs.Steps.{Answer, Answers, full, memory, outcome, note_of}
-use Rattle.version_book.specs.Tasks.{IsShownFor}
 use Rattle.workers.specs.Callers.{callers_limit, next_caller}
 use Rattle.workers.specs.History.{Calls, CalledAt, Views}
 use Rattle.workers.specs.Settling.{has_stopped, is_stop}
@@ -192,13 +191,13 @@ called opening old new history later sessions workers stopped who call answer no
 -- where a front followed the history before a view was answered and after it, the history went on and then the scenario was viewed
 pub viewed : (opening : Machine) (old new : BookView) (history later : Seen) (sessions workers : ℕ) (stopped : Bool) (who : Caller) (id seen : ℕ) (shown : Result PublishedView (Refusal ViewFault)) (notes : ℕ) (front at front' : Seen)
     → IsTied opening (lain old history sessions workers stopped) → Answers old new who (View id seen) (view_answer shown) → notes ≡ length old.journal → Hears history (slice_get new.journal notes) later
-    → Follows front history at → Follows at later front' → IsBook old → IfOk shown (IsShownFor old.state id seen) → Views opening front who id seen shown front'
-viewed opening old new history later sessions workers stopped who id seen shown notes front at front' before h from hears first second book is = λ kept.
+    → Follows front history at → Follows at later front' → IsTrueOf (machine_of old) id shown → Views opening front who id seen shown front'
+viewed opening old new history later sessions workers stopped who id seen shown notes front at front' before h from hears first second true_of = λ kept.
     let two = second.0 kept in
     let one = first.0 two.0.0 in
     let at_book = (before one.0.1).machine in
     let here = called_at opening old new history later front' who (View id seen) (view_answer shown) at_book h (hears_by old new history later who (View id seen) (view_answer shown) notes h from hears) two.0.1 two.1 in
-    (one.0.0, (history.events, one.0.2, here, inr (old, book, sym at_book, is)))
+    (one.0.0, (history.events, one.0.2, here, subst (λ (m : Machine). IsTrueOf m id shown) (sym at_book) true_of))
 
 -- a call for which memory ran out before the lock leaves the front as it was
 pub calls_nothing : (opening : Machine) (front : Seen) (who : Caller) (call : BookCall) → Calls opening front who call memory front
@@ -206,4 +205,4 @@ calls_nothing opening front who call = λ kept. (kept, (front.events, prefix_sel
 
 -- a view for which memory ran out before the lock leaves the front as it was
 pub views_nothing : (opening : Machine) (front : Seen) (who : Caller) (id seen : ℕ) → Views opening front who id seen (Err why.Memory) front
-views_nothing opening front who id seen = λ kept. (kept, (front.events, prefix_self front.events, refl, inl refl))
+views_nothing opening front who id seen = λ kept. (kept, (front.events, prefix_self front.events, refl, tt))

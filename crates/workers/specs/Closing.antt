@@ -5,7 +5,7 @@ use mathlib.Core.List.{IsPrefix}
 use Rattle.book_machine.specs.declared.caller.Caller.TheVariants as caller
 use Rattle.book_machine.specs.History.{Noted}
 use Rattle.book_machine.specs.Machine.{Machine}
-use Rattle.chronicle.specs.Events.{Happened, IsLegalFrom, notes_of}
+use Rattle.chronicle.specs.Events.{Happened, IsLegalFrom, notes_of, state_after}
 use Rattle.chronicle.specs.Fronts.{Seen, Begins}
 use Rattle.workers.specs.Lists.{part_of, same_caller}
 use Rattle.workers.specs.Callers.{SessionView, WorkerView}
@@ -46,12 +46,13 @@ pub record AreAll (opened_sessions opened_workers : ℕ) (sessions : List Sessio
   pub sessions_in : (k : ℕ) → k < opened_sessions → has_session sessions k ≡ true
   pub workers_in : (k : ℕ) → k < opened_workers → has_worker workers k ≡ true
 
--- All callers stand in one history: it is legal, its calls are the notes, they are all that were opened in it, and what each of
--- them has seen is a beginning of it.
-pub record StandInOne (opening : Machine) (sessions : List SessionView) (workers : List WorkerView) (notes : List Noted) : Type 0 where
+-- All callers stand in one history: it is legal, its calls are the notes, it leads to where the book is left, they are all that were
+-- opened in it, and what each of them has seen is a beginning of it.
+pub record StandInOne (opening : Machine) (sessions : List SessionView) (workers : List WorkerView) (notes : List Noted) (left : Machine) : Type 0 where
   pub events : List Happened
   pub legal : IsLegalFrom opening events
   pub calls : notes_of events ≡ notes
+  pub leads : state_after opening events ≡ left
   pub callers : AreAll (opened_sessions events) (opened_workers events) sessions workers
   pub by_sessions : All (λ (s : SessionView). (s.front.kept ≡ true) × IsPrefix s.front.events events) sessions
   pub by_workers : All (λ (w : WorkerView). (w.front.kept ≡ true) × IsPrefix w.front.events events) workers

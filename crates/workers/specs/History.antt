@@ -1,6 +1,6 @@
 -- Where in the history of a desk the response to a caller stands. The history begins in the machine's state `opening`; what is said of a
 -- front holds where it is kept.
-use Rattle.std.specs.Prelude.{◌≡◌, ◌<◌, ◌⊎◌, ℕ, true, List, [], ◌∷◌, ◌++◌, Option, Some, IfSome, Result, Ok, Err, IfOk}
+use Rattle.std.specs.Prelude.{◌≡◌, ◌<◌, ℕ, true, List, [], ◌∷◌, ◌++◌, Option, Some, IfSome, Result, Ok, Err}
 use mathlib.Core.List.{IsPrefix}
 use Rattle.book_machine.specs.declared.caller.Caller.{Caller}
 use Rattle.book_machine.specs.declared.settle_state.SettleState.TheVariants as state
@@ -13,13 +13,10 @@ use Rattle.tasks.specs.Tasks.{TaskView}
 use Rattle.version_book.specs.declared.faults.ViewFault.{ViewFault}
 use Rattle.version_book.specs.declared.reading.Reading.{Reading}
 use Rattle.version_book.specs.declared.refusal.Refusal.{Refusal}
-use Rattle.version_book.specs.declared.refusal.Refusal.TheVariants as why
 use Rattle.version_book.specs.Answers.{claim_answer, view_answer}
-use Rattle.version_book.specs.Book.{BookView, machine_of}
+use Rattle.version_book.specs.BookRules.{IsTrueOf}
 use Rattle.version_book.specs.Reading.{moment_of, present}
-use Rattle.version_book.specs.Sound.{IsBook}
 use Rattle.version_book.specs.Steps.{Answer, full, memory, outcome, note_of}
-use Rattle.version_book.specs.Tasks.{IsShownFor}
 use Rattle.workers.specs.Settling.{has_stopped}
 use Rattle.workers.specs.declared.settled.Settled.{Settled}
 use Rattle.workers.specs.declared.settled.Settled.TheVariants as settled_as
@@ -44,15 +41,12 @@ abbrev pub Calls : Machine → Seen → Caller → BookCall → Answer → Seen 
 Calls opening old who call answer new =
     new.kept ≡ true → (old.kept ≡ true) × ((before : List Happened) × IsPrefix old.events before × CalledAt opening before who call answer new.events)
 
--- a book that stood where the machine stands showed this; where memory was refused nothing is said
-abbrev pub IsShownAt : Machine → ℕ → ℕ → Result PublishedView (Refusal ViewFault) → Type 0
-IsShownAt m id seen shown = (shown ≡ Err why.Memory) ⊎ ((b : BookView) × IsBook b × (machine_of b ≡ m) × IfOk shown (IsShownFor b.state id seen))
-
--- the history went on, and then the scenario was viewed
+-- The history went on, and then the scenario was viewed: what was returned is true of the machine there, and a run that was shown is
+-- the second-by-second simulation of the log of its version under the scenario that was listed.
 abbrev pub Views : Machine → Seen → Caller → ℕ → ℕ → Result PublishedView (Refusal ViewFault) → Seen → Type 0
 Views opening old who id seen shown new =
     new.kept ≡ true → (old.kept ≡ true) × ((before : List Happened) × IsPrefix old.events before
-    × CalledAt opening before who (View id seen) (view_answer shown) new.events × IsShownAt (state_after opening before) id seen shown)
+    × CalledAt opening before who (View id seen) (view_answer shown) new.events × IsTrueOf (state_after opening before) id shown)
 
 -- ---- readings
 

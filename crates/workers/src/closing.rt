@@ -1,6 +1,7 @@
 ghost use Rattle.std.specs.Prelude.{◌≡◌, ◌↔◌, IfOk, IfErr, IsTrue, Some, drop};
 ghost use Rattle.std.specs.List.{All};
 ghost use Rattle.chronicle.specs.Fronts.{Begins};
+ghost use Rattle.version_book.specs.Book.{machine_of};
 ghost use Rattle.version_book.specs.Sound.{IsBook};
 ghost use Rattle.workers.specs.Callers.{SessionView, WorkerView};
 ghost use Rattle.workers.specs.Closing.{AreOpened, IsTheirs, IsAnswered, SpeaksAgainst, StandInOne, StaysFor};
@@ -100,7 +101,7 @@ fn closed<A: Allocator + Copy, J: Naming>(
     ensures book { IfOk result IsBook }
     ensures all { IfOk result (λ b. AreOpened shared.history sessions.items workers.items) }
     ensures outcome { IfOk result (λ b. IsAnswered sessions.items workers.items (drop opening b.journal)) }
-    ensures history { IfOk result (λ b. StandInOne J.opening sessions.items workers.items (drop opening b.journal)) }
+    ensures history { IfOk result (λ b. StandInOne J.opening sessions.items workers.items (drop opening b.journal) (machine_of b)) }
     ensures fault { IfErr result (λ e. StaysFor e.0 (Some e.1.history) sessions.items workers.items) }
     ensures back { IfErr result (λ e. (e.2 ≡ sessions) × (e.3 ≡ workers)) }
 {
@@ -138,7 +139,8 @@ fn reopened<A: Allocator + Copy, J: Naming>(
 ///
 /// At Ok all callers that were opened are handed in, each caller's list is its part of the notes after
 /// the opening ones, in order, and none of these notes is anyone else's: each reply to a caller stands in
-/// the book's one legal history, of which each caller has seen a beginning.
+/// one legal history, of which each caller has seen a beginning, and which leads from where the desk was
+/// opened to where the book stands.
 /// StillOut where the sessions and workers are not all that the desk opened; Mismatch where a list is
 /// not its caller's part of the notes, or a note is of none of them. All is then returned, and the desk
 /// has all of its history.
@@ -149,7 +151,7 @@ pub fn close<A: Allocator + Copy, J: Naming>(
 ) -> Result<Book<A>, NotClosed<Desk<A, J>, A, J>>
     ensures book { IfOk result IsBook }
     ensures outcome { IfOk result (λ b. IsAnswered sessions.items workers.items (drop desk.opening b.journal)) }
-    ensures history { IfOk result (λ b. StandInOne J.opening sessions.items workers.items (drop desk.opening b.journal)) }
+    ensures history { IfOk result (λ b. StandInOne J.opening sessions.items workers.items (drop desk.opening b.journal) (machine_of b)) }
     ensures fault { IfErr result (λ e. StaysFor e.0 e.1.closed sessions.items workers.items) }
     ensures back { IfErr result (λ e. (e.1.opening ≡ desk.opening) × (e.2 ≡ sessions) × (e.3 ≡ workers)) }
 {

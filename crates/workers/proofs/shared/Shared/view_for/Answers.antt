@@ -12,7 +12,7 @@ pub returns-clause-list : goal.returns-clause-list
 returns-clause-list g c = gains _ _ _ _ _ _ _ _ _ _ c.view-outcome.ensures.answer c.notes_in-notes.ensures.count c.followed-reply.ensures.reply refl c.keep.ensures
 
 pub returns-clause-history : goal.returns-clause-history
-returns-clause-history g c = viewed _ _ _ _ _ _ _ _ _ _ _ _ _ _ _ _ c.self.invariant c.view-outcome.ensures.answer c.notes_in-notes.ensures.count c.followed-reply.ensures.whole c.follow.ensures c.followed-reply.ensures.front c.notes_in-notes.ensures.book c.view-outcome.ensures.shown
+returns-clause-history g c = viewed _ _ _ _ _ _ _ _ _ _ _ _ _ _ _ _ c.self.invariant c.view-outcome.ensures.answer c.notes_in-notes.ensures.count c.followed-reply.ensures.whole c.follow.ensures c.followed-reply.ensures.front c.view-outcome.ensures.right
 
 pub invariant_of-self : goal.invariant_of-self
 invariant_of-self g c = tied _ _ _ _ _ _ _ _ (caller.Session c.args.session) (View c.args.id c.args.seen) _ _ c.self.invariant c.view-outcome.ensures.answer c.notes_in-notes.ensures.count c.followed-reply.ensures.whole
