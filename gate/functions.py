@@ -3,8 +3,9 @@ told from others by a tuple: the modules, the type or the trait's impl if it is 
 import collections
 import re
 
-FUNCTION = re.compile(r"(?m)^ *(?:pub(?:\([^)]*\))? )?(?:const )?fn (\w+)")
-IMPL = re.compile(r"(?m)^impl\b([^{;]*)\{$")
+FUNCTION = re.compile(r"(?m)^ *(?:pub(?:\([^)]*\))? )?(?:const )?(?:unsafe )?fn (\w+)")
+IMPL = re.compile(r"(?m)^(?:unsafe )?impl\b([^{;]*)\{$")
+CONSTANT = re.compile(r"(?ms)^(?:pub\([^)]*\) )?const (\w+):.*?;$")
 TYPE = re.compile(r"(?m)^(?:pub(?:\([^)]*\))? )?(?:struct|enum|union) (\w+)")
 # The files that are the proof of the function in whose folder they lie.
 PROOFS = ("Answers.antt", "Invariants.antt", "Proof.antt")
@@ -89,6 +90,21 @@ def function_at(path, text, place, homes):
     if len(homes.get(owner, ())) == 1:
         names = homes[owner][0]
     return (*names, owner, name), "::".join([*names, owner, name])
+
+
+def user_of(path, text, place, texts, homes):
+    """The one function that names the constant whose text holds a place of a file, as `function_at` gives it, so that it alone
+    can be wrong where the constant is; None where the place is in no constant of the crate's own, or it is named anywhere
+    else. `texts` has the crate's files by their paths."""
+    constant = next((it for it in CONSTANT.finditer(text) if it.start() <= place < it.end()), None) if path.startswith("src/") else None
+    if not constant:
+        return None
+    found, word = set(), re.compile(rf"\b{constant[1]}\b")
+    for file, whole in texts.items():
+        own = [it.span() for it in CONSTANT.finditer(whole) if it[1] == constant[1]]
+        places = (it.start() for it in word.finditer(whole) if not any(start <= it.start() < end for start, end in own))
+        found |= {function_at(file, whole, it, homes) for it in places}
+    return found.pop() if len(found) == 1 else None
 
 
 def function_of(names, homes):
