@@ -30,20 +30,16 @@ fn are_rows<A: Allocator + Copy>(run: &Run<A>, rows: &[Row]) -> bool {
 }
 
 // Whether these are the tables of the four jobs, by their processor seconds, mean wait, users and days.
-fn are_tables<A: Allocator + Copy>(tables: &Tables<A>) -> bool {
+fn are_tables<A: Allocator + Copy>(tables: &Tables<A>) -> Result<bool, Memory> {
     let overall = tables.overall();
-    (
-        overall.busy,
-        overall.wait,
-        tables.users().len(),
-        tables.days().len(),
-    ) == (2360, 47, 2, 1)
+    let days = tables.days()?.len();
+    Ok((overall.busy, overall.wait, tables.users().len(), days) == (2360, 47, 2, 1))
 }
 
 /// Whether it is the run of the four jobs on ten processors.
 pub(crate) fn is_of_four<A: Allocator + Copy>(run: &Run<A>) -> Result<bool, Memory> {
     let has_scenario = run.scenario().procs() == 10 && run.table().len() == 4;
-    let is_right = has_scenario && run.start_of(5).is_none() && are_tables(run.tables());
+    let is_right = has_scenario && run.start_of(5).is_none() && are_tables(run.tables())?;
     Ok(is_right && are_rows(run, &run.schedule()?))
 }
 
@@ -97,7 +93,7 @@ fn absorbs<A: Allocator + Copy>(both: Part<A>, third: &Part<A>) -> Result<bool, 
     if jobs > MAX_JOBS {
         return Ok(false);
     }
-    Ok(are_tables(&both.absorb(third)?.tables(10, NO_SKIPS)?))
+    are_tables(&both.absorb(third)?.tables(10, NO_SKIPS)?)
 }
 
 fn make_up<A: Allocator + Copy>(

@@ -1,14 +1,13 @@
 -- The sums over few jobs fit their types.
-use Rattle.std.proofs.Common.{ℕ, ℤ, ◌+◌, ◌*◌, ◌^◌, ◌<◌, ◌≤◌, List, All, filter, length, sum_by, max, arith}
+use Rattle.std.proofs.Common.{ℕ, ℤ, ◌+◌, ◌*◌, ◌^◌, ◌≤◌, List, All, filter, length, sum_by, max, arith}
 use Rattle.std.proofs.Math.Nat.{mul-le-mul, div-le_self}
 use Rattle.std.proofs.lemmas.List.Sums.{sum_by-le, length-filter, count_by-le-length}
 use Rattle.std.proofs.lemmas.List.Elements.{All-filter}
 use Rattle.scenarios.specs.declared.placed.Placed.{Placed}
-use Rattle.metrics.specs.Measures.{wait, slowdown, busy, overlap, busy_in}
+use Rattle.metrics.specs.Measures.{wait, slowdown, busy}
 use Rattle.metrics.specs.Placed.{IsPlaced}
 use Rattle.metrics.specs.Totals.{totals, FitsJoined}
 use Rattle.metrics.specs.Users.{sums_of, is_of, CanAdd}
-use Rattle.metrics.specs.Days.{busy_on}
 
 wait_small : (p : Placed) → IsPlaced p → wait p ≤ 2 ^ 60
 wait_small p h = omega arith
@@ -22,12 +21,6 @@ slowdown_small p h = let d = div-le_self ((wait p + p.job.length) * 1000) (max p
 -- a job within the limits takes at most 2^60 processor-seconds
 pub busy_small : (p : Placed) → IsPlaced p → busy p ≤ 2 ^ 60
 busy_small p h = let d : busy p ≤ 16777216 * 100000000 = mul-le-mul h.fits_some h.within_limit in omega (arith, d)
-
--- a job within the limits takes at most 2^60 processor-seconds in a day
-pub busy_in_small : (q : ℕ) (p : Placed) → IsPlaced p → busy_in q p ≤ 2 ^ 60
-busy_in_small q p h =
-    let o : overlap q p ≤ 100000000 = omega arith in
-    let d : busy_in q p ≤ 16777216 * 100000000 = mul-le-mul h.fits_some o in omega (arith, d)
 
 -- a measure that is at most 2^60 for each job within the limits adds up to at most 2^60 times their number
 pub small_sum : (f : Placed → ℕ) (ps : List Placed) → ((p : Placed) → IsPlaced p → f p ≤ 2 ^ 60) → All IsPlaced ps → sum_by f ps ≤ length ps * 2 ^ 60
@@ -58,7 +51,3 @@ sums_fit u xs ys h k l =
       slowdown = let a = small_sum slowdown _ slowdown_small i in let b = small_sum slowdown _ slowdown_small j in omega (arith, a, b, m, n);
       busy = let a = small_sum busy _ busy_small i in let b = small_sum busy _ busy_small j in omega (arith, a, b, m, n);
     }
-
--- the processor-seconds of a day in two lists of jobs, no more together than a log may have, are less than 2^128 together
-pub days_fit : (q : ℕ) (xs ys : List Placed) → All IsPlaced xs → All IsPlaced ys → length xs + length ys ≤ 4194304 → busy_on q xs + busy_on q ys < 2 ^ 128
-days_fit q xs ys h k l = let a = small_sum (busy_in q) xs (busy_in_small q) h in let b = small_sum (busy_in q) ys (busy_in_small q) k in omega (arith, a, b)

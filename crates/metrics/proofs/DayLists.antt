@@ -1,82 +1,157 @@
--- What entries by day add up to, also as one is changed or added, and as a merge takes the next entry of one list.
-use Rattle.std.proofs.Common.{◌≡◌, ℕ, ◌+◌, ◌<◌, ◌≤◌, ◌^◌, true, cond, List, [], length, take, set, get_or, ap, sym, subst, arith, unwrap_or, Option, Some, None, Err, All, refl, ◌∙◌}
-use Rattle.std.specs.Ordering.{nat_cmp, is_eq}
+-- The days in which something is taken, as a list: by rising day, with what the jobs take.
+use Rattle.std.proofs.Common.{◌≡◌, ℕ, zero, suc, ◌+◌, ◌-◌, ◌==◌, ◌<◌, ◌≤◌, Bool, true, false, cond, eqb, ltb, List, [], ◌∷◌, ◌++◌, length, map, get_or, ap, sym, subst, arith, add-one, All, refl, ◌∙◌, inl, inr, Option, Some, None, Less, Greater}
+use Rattle.std.specs.Ordering.{nat_cmp}
+use Rattle.std.specs.Cmp.{nat_cmp_is}
 use Rattle.std.specs.BTreeMap.{is_at}
-use Rattle.std.specs.Map.{lookup, keys_of}
-use Rattle.std.specs.Option.{option_map, IfSome}
-use Rattle.std.specs.List.{sum_by, insert}
+use Rattle.std.specs.Map.{keys_of, lookup}
+use Rattle.std.specs.List.{insert, AllWithin}
 use Rattle.std.specs.List.Sorted.{IsStrictlySortedBy}
-use Rattle.std.proofs.lemmas.Cmp.{nat_cmp_total, tied_itself}
-use Rattle.std.proofs.lemmas.List.Sums.{sum_by_more, sum_by_more_le, sum_by-take-le, get_or-le-sum_by}
-use Rattle.std.proofs.lemmas.Map.Entries.{All-lookup}
-use Rattle.std.proofs.lemmas.List.Elements.{All-set, All-nil}
-use Rattle.metrics.specs.Days.{day_total, IsDayList}
-use Rattle.metrics.specs.Entries.{IsFound}
-use Rattle.metrics.proofs.RisingLists.{total_is, rises-set, rises-insert, All-insert}
+use Rattle.std.proofs.lemmas.Cmp.{nat_cmp_total}
+use Rattle.std.proofs.lemmas.Bool.{cases_Bool}
+use Rattle.std.proofs.lemmas.Bool.Decides.{nat_tests, Decides-eqb}
+use Rattle.std.proofs.lemmas.List.{append-nil, map-append}
+use Rattle.std.proofs.lemmas.List.Elements.{All-append, All-cons, All-nil}
+use Rattle.std.proofs.lemmas.List.Edits.{insert-append_right}
+use Rattle.scenarios.specs.declared.placed.Placed.{Placed}
+use Rattle.metrics.specs.Days.{AreFallsOf, busy_entry, busy_on, day_list, days_below, end_of, from_day}
+use Rattle.metrics.proofs.Falls.{busy_between, less_before, none_behind, same_day}
+use Rattle.metrics.proofs.RisingLists.{rises-insert}
 
-own : (q k : ℕ) → k ≡ q → is_at (nat_cmp q) k ≡ true
-own q k e = ap (λ n. is_at (nat_cmp q) n) e ∙ ap is_eq (tied_itself nat_cmp_total q)
+abbrev first_of : Option ℕ → Option ℕ → Option ℕ
+first_of None o = o
+first_of (Some x) o = Some x
 
--- an entry of a day has no more than the list adds up to for the day
-pub day_entry_le : (q : ℕ) (es : List (ℕ × ℕ)) (i : ℕ) (d : ℕ × ℕ) → i < length es → (get_or es i d).0 ≡ q → (get_or es i d).1 ≤ day_total q es
-day_entry_le q es i d l e =
-    let f : ℕ × ℕ → ℕ = λ x. cond (is_at (nat_cmp q) x.0) x.1 0 in
-    let a : cond (is_at (nat_cmp q) (get_or es i d).0) (get_or es i d).1 0 ≤ sum_by f es = get_or-le-sum_by f es i d l in
-    let b = ap (λ t. cond t (get_or es i d).1 0) (own q (get_or es i d).0 e) in omega (arith, a, b)
+lookup-push : (t : ℕ → Bool) (es : List (ℕ × ℕ)) (y : ℕ × ℕ) → lookup t (es ++ y ∷ []) ≡ first_of (lookup t es) (cond (t y.0) (Some y.1) None)
+lookup-push t [] y = elim (cases_Bool (t y.0)) [
+  | inl h ↦ rw h refl
+  | inr h ↦ rw h refl
+]
+lookup-push t (e ∷ es) y = elim (cases_Bool (t e.0)) [
+  | inl h ↦ rw h refl
+  | inr h ↦ rw h (lookup-push t es y)
+]
 
--- where what two lists add up to for a day fits, the next entry of the left one fits behind the first ones of both
-pub next_day_fits : (q : ℕ) (es fs : List (ℕ × ℕ)) (i j : ℕ) (d : ℕ × ℕ) (t : ℕ) → i < length es → (get_or es i d).0 ≡ q → t ≡ day_total q (take i es) + day_total q (take j fs) → day_total q es + day_total q fs < 2 ^ 128 → t + (get_or es i d).1 < 2 ^ 128
-next_day_fits q es fs i j d t l e is h =
-    let f : ℕ × ℕ → ℕ = λ x. cond (is_at (nat_cmp q) x.0) x.1 0 in
-    let a : sum_by f (take i es) + cond (is_at (nat_cmp q) (get_or es i d).0) (get_or es i d).1 0 ≤ sum_by f es = sum_by_more_le f es i d l in
-    let b = ap (λ t. cond t (get_or es i d).1 0) (own q (get_or es i d).0 e) in
-    let c : sum_by f (take j fs) ≤ sum_by f fs = sum_by-take-le f fs j in omega (arith, a, b, c, is, h)
+kept : (o : Option ℕ) → first_of o None ≡ o
+kept None = refl
+kept (Some x) = refl
 
--- a list whose days rise adds up to what it has of each
-pub day_total_is : (q : ℕ) (es : List (ℕ × ℕ)) → IsStrictlySortedBy nat_cmp (keys_of es) → day_total q es ≡ unwrap_or (lookup (is_at (nat_cmp q)) es) 0
-day_total_is q es s = total_is nat_cmp_total (λ n. n) q es s ∙ whole (lookup (is_at (nat_cmp q)) es)
-  where
-    whole : (o : Option ℕ) → unwrap_or (option_map (λ (n : ℕ). n) o) 0 ≡ unwrap_or o 0
-    whole None = refl
-    whole (Some x) = refl
+not_there : (q n : ℕ) → n < q → is_at (nat_cmp q) n ≡ false
+not_there q n h = same_day q n ∙ grind (arith, nat_tests, h)
 
--- a day of which nothing is taken has no entry
-pub day_filled : (q : ℕ) (es : List (ℕ × ℕ)) → All (λ e. 0 < e.1) es → unwrap_or (lookup (is_at (nat_cmp q)) es) 0 ≡ 0 → lookup (is_at (nat_cmp q)) es ≡ None
-day_filled q es h = go (lookup (is_at (nat_cmp q)) es) (All-lookup (λ (x : ℕ). 0 < x) (is_at (nat_cmp q)) es h)
-  where
-    go : (o : Option ℕ) → IfSome o (λ (x : ℕ). 0 < x) → unwrap_or o 0 ≡ 0 → o ≡ None
-    go None k z = refl
-    go (Some x) k z = absurd (omega (arith, k, z))
+not_yet : (q n : ℕ) → q < n → is_at (nat_cmp q) n ≡ false
+not_yet q n h = same_day q n ∙ grind (arith, nat_tests, h)
 
--- no entries are a list by day
-pub no_days : (es : List (ℕ × ℕ)) → es ≡ [] → IsDayList es
-unfolding IsStrictlySortedBy
-no_days es e = let P : List (ℕ × ℕ) → Type 0 = IsDayList in subst P (sym e) (record { rise = tt; some = All-nil (λ (x : ℕ × ℕ). 0 < x.1) })
+just_there : (n : ℕ) → is_at (nat_cmp n) n ≡ true
+just_there n = same_day n n ∙ grind (arith, nat_tests)
 
--- a list by day stays one with more processor-seconds at an entry
-pub list-set : (es : List (ℕ × ℕ)) (i : ℕ) (e : ℕ × ℕ) (b : ℕ) → e ≡ get_or es i e → 0 < b → IsDayList es → IsDayList (set es i (e.0, e.1 + b))
-list-set es i e b at h l = record {
-  rise = rises-set nat_cmp_total es i e (e.0, e.1 + b) (ap (λ (x : ℕ × ℕ). x.0) at) l.rise;
-  some = All-set (λ (x : ℕ × ℕ). 0 < x.1) es i (e.0, e.1 + b) (omega (arith, h)) l.some;
+absent : (f : ℕ → ℕ) (n q : ℕ) → n ≤ q → lookup (is_at (nat_cmp q)) (days_below f n) ≡ None
+absent f zero q h = refl
+absent f (suc n) q h =
+    let ih = absent f n q (omega (arith, h)) in
+    let s = not_there q n (omega (arith, h)) in
+    elim (cases_Bool (f n == 0)) [
+      | inl t ↦ rw t ih
+      | inr t ↦ rw t (lookup-push (is_at (nat_cmp q)) (days_below f n) (n, f n) ∙ rw (ih, s) refl)
+    ]
+
+its_own : (f : ℕ → ℕ) (n : ℕ) → lookup (is_at (nat_cmp n)) (days_below f (suc n)) ≡ busy_entry (f n)
+its_own f n = elim (cases_Bool (f n == 0)) [
+  | inl t ↦ rw t (absent f n n (omega arith))
+  | inr t ↦ rw t (lookup-push (is_at (nat_cmp n)) (days_below f n) (n, f n) ∙ rw (absent f n n (omega arith), just_there n) refl)
+]
+
+present : (f : ℕ → ℕ) (n q : ℕ) → q < n → lookup (is_at (nat_cmp q)) (days_below f n) ≡ busy_entry (f q)
+present f zero q h = absurd (omega (arith, h))
+present f (suc n) q h = elim (cases_Bool (eqb n q)) [
+  | inl same ↦ subst (λ m. lookup (is_at (nat_cmp m)) (days_below f (suc n)) ≡ busy_entry (f m)) ((Decides-eqb n q).0 same) (its_own f n)
+  | inr other ↦ let less : q < n = grind (arith, nat_tests, other, h) in
+      let ih = present f n q less in
+      let s = not_yet q n less in
+      elim (cases_Bool (f n == 0)) [
+        | inl t ↦ rw t ih
+        | inr t ↦ rw t (lookup-push (is_at (nat_cmp q)) (days_below f n) (n, f n) ∙ rw s (kept (lookup (is_at (nat_cmp q)) (days_below f n)) ∙ ih))
+      ]
+]
+
+pub record Rises (n : ℕ) (es : List (ℕ × ℕ)) : Type 0 where
+  pub rise : IsStrictlySortedBy nat_cmp (keys_of es)
+  pub below : All (λ (e : ℕ × ℕ). e.0 < n) es
+
+pushed : (n b : ℕ) (es : List (ℕ × ℕ)) → Rises n es → Rises (suc n) (es ++ (n, b) ∷ [])
+pushed n b es h = record {
+  rise =
+      let P : List (ℕ × ℕ) → Type 0 = λ xs. IsStrictlySortedBy nat_cmp (keys_of xs) in
+      let at : insert (es ++ []) (length es) (n, b) ≡ es ++ (n, b) ∷ [] = insert-append_right es [] (length es) (length es) (n, b) refl (omega arith) ∙ end in
+      subst P at (rises-insert nat_cmp_total (es ++ []) (length es) (n, b) (omega (arith, same_length)) low high (subst P (sym (append-nil es)) h.rise));
+  below = All-append (λ (e : ℕ × ℕ). e.0 < suc n) es ((n, b) ∷ []) (λ k d l. let a = h.below k d l in omega (arith, a)) (All-cons (λ (e : ℕ × ℕ). e.0 < suc n) (n, b) [] (omega arith) (All-nil (λ (e : ℕ × ℕ). e.0 < suc n)));
 }
+  where
+    same_length : length (es ++ []) ≡ length es
+    same_length = ap length (append-nil es)
 
--- a list by day stays one with an entry more, of some processor-seconds, at the place that was found for it
-pub list-insert : (u : ℕ) (es fs : List (ℕ × ℕ)) (i : ℕ) (b : ℕ) → IsFound nat_cmp u es (Err i) → fs ≡ insert es i (u, b) → 0 < b → IsDayList es → IsDayList fs
-list-insert u es fs i b (l, (low, high)) e h k =
-    let P : List (ℕ × ℕ) → Type 0 = IsDayList in
-    subst P (sym e) (record { rise = rises-insert nat_cmp_total es i (u, b) l low high k.rise; some = All-insert (λ (x : ℕ × ℕ). 0 < x.1) es i (u, b) k.some h })
+    end : es ++ insert [] (length es - length es) (n, b) ≡ es ++ (n, b) ∷ []
+    end = let z : length es - length es ≡ 0 = omega arith in rw z refl
 
-day_more : (q : ℕ) (es : List (ℕ × ℕ)) (i : ℕ) (d : ℕ × ℕ) → i < length es → day_total q (take (i + 1) es) ≡ day_total q (take i es) + cond (is_at (nat_cmp q) (get_or es i d).0) (get_or es i d).1 0
-day_more q es i d l = sum_by_more (λ (x : ℕ × ℕ). cond (is_at (nat_cmp q) x.0) x.1 0) es i d l
+    low : AllWithin (λ (e : ℕ × ℕ). nat_cmp e.0 n ≡ Less) (es ++ []) 0 (length es)
+    low = subst (λ (xs : List (ℕ × ℕ)). AllWithin (λ (e : ℕ × ℕ). nat_cmp e.0 n ≡ Less) xs 0 (length es)) (sym (append-nil es)) (λ k d m l. sym (nat_cmp_is (get_or es k d).0 n Less (h.below k d l)))
 
--- with the next entry of the left list, a merge has what the first ones of both lists add up to for a day
-pub takes_left : (q : ℕ) (es fs : List (ℕ × ℕ)) (i j : ℕ) (d : ℕ × ℕ) (t n : ℕ) → i < length es → t ≡ day_total q (take i es) + day_total q (take j fs) → n ≡ t + cond (is_at (nat_cmp q) (get_or es i d).0) (get_or es i d).1 0 → n ≡ day_total q (take (i + 1) es) + day_total q (take j fs)
-takes_left q es fs i j d t n l is more = let m = day_more q es i d l in omega (arith, m, is, more)
+    high : AllWithin (λ (e : ℕ × ℕ). nat_cmp e.0 n ≡ Greater) (es ++ []) (length es) (length (es ++ []))
+    high k d m l = absurd (omega (arith, m, l, same_length))
 
--- with the next entry of the right list, a merge has what the first ones of both lists add up to for a day
-pub takes_right : (q : ℕ) (es fs : List (ℕ × ℕ)) (i j : ℕ) (d : ℕ × ℕ) (t n : ℕ) → j < length fs → t ≡ day_total q (take i es) + day_total q (take j fs) → n ≡ t + cond (is_at (nat_cmp q) (get_or fs j d).0) (get_or fs j d).1 0 → n ≡ day_total q (take i es) + day_total q (take (j + 1) fs)
-takes_right q es fs i j d t n l is more = let m = day_more q fs j d l in omega (arith, m, is, more)
+wider : (n : ℕ) (es : List (ℕ × ℕ)) → Rises n es → Rises (suc n) es
+wider n es h = record { rise = h.rise; below = λ k d l. let a = h.below k d l in omega (arith, a) }
 
--- where what two lists add up to for a day fits, the next entry of the right one fits behind the first ones of both
-pub right_fits : (q : ℕ) (es fs : List (ℕ × ℕ)) (i j : ℕ) (d : ℕ × ℕ) (t : ℕ) → j < length fs → (get_or fs j d).0 ≡ q → t ≡ day_total q (take i es) + day_total q (take j fs) → day_total q es + day_total q fs < 2 ^ 128 → t + (get_or fs j d).1 < 2 ^ 128
-right_fits q es fs i j d t l e is h = next_day_fits q fs es j i d t l e (omega (arith, is)) (omega (arith, h))
+rises : (f : ℕ → ℕ) (n : ℕ) → Rises n (days_below f n)
+unfolding IsStrictlySortedBy
+rises f zero = record { rise = tt; below = All-nil (λ (e : ℕ × ℕ). e.0 < 0) }
+rises f (suc n) = elim (cases_Bool (f n == 0)) [
+  | inl t ↦ rw t (wider n (days_below f n) (rises f n))
+  | inr t ↦ rw t (pushed n (f n) (days_below f n) (rises f n))
+]
+
+-- the days of a list of days rise
+pub day_list-rises : (starts ends : List (ℕ × ℕ)) → IsStrictlySortedBy nat_cmp (keys_of (day_list starts ends))
+day_list-rises starts ends = (rises (λ d. from_day d ends - from_day d starts) (end_of ends)).rise
+
+-- what stands in the list for a day is what the jobs take
+pub day_list-has : (ps : List Placed) (starts ends : List (ℕ × ℕ)) → AreFallsOf ps starts ends → (q : ℕ) → lookup (is_at (nat_cmp q)) (day_list starts ends) ≡ busy_entry (busy_on q ps)
+day_list-has ps starts ends h q =
+    let f : ℕ → ℕ = λ d. from_day d ends - from_day d starts in
+    let b = busy_between q ps in
+    let v : f q ≡ busy_on q ps = omega (arith, b, h.at_starts q, h.at_ends q) in
+    elim (cases_Bool (ltb q (end_of ends))) [
+      | inl t ↦ let l : q < end_of ends = grind (arith, nat_tests, t) in present f (end_of ends) q l ∙ ap busy_entry v
+      | inr t ↦ let l : end_of ends ≤ q = grind (arith, nat_tests, t) in
+          let z = none_behind q ends l in
+          let n : busy_on q ps ≡ 0 = omega (arith, z, b, h.at_ends q) in absent f (end_of ends) q l ∙ sym (ap busy_entry n)
+    ]
+
+-- one day more of the list, with its row where something is taken
+pub row_more : {R : Type 0} (row : ℕ × ℕ → R) (f : ℕ → ℕ) (n : ℕ) (rows : List R) → rows ≡ map row (days_below f n) → 0 < f n → rows ++ row (n, f n) ∷ [] ≡ map row (days_below f (n + 1))
+row_more {R} row f n rows e h =
+    let t : (f n == 0) ≡ false = grind (arith, nat_tests, h) in
+    let more : rows ++ row (n, f n) ∷ [] ≡ map row (days_below f (suc n)) = rw t (ap (λ (rs : List R). rs ++ row (n, f n) ∷ []) e ∙ sym (map-append row (days_below f n) ((n, f n) ∷ []))) in
+    more ∙ ap (λ m. map row (days_below f m)) (sym (add-one n))
+
+-- one day more in which nothing is
+pub row_none : {R : Type 0} (row : ℕ × ℕ → R) (f : ℕ → ℕ) (n : ℕ) → f n ≡ 0 → map row (days_below f n) ≡ map row (days_below f (n + 1))
+row_none row f n h =
+    let t : (f n == 0) ≡ true = grind (arith, nat_tests, h) in
+    let same : map row (days_below f n) ≡ map row (days_below f (suc n)) = rw t refl in
+    same ∙ ap (λ m. map row (days_below f m)) (sym (add-one n))
+
+-- of a day of which as much lies before ends as before starts nothing stands in the list
+pub nothing_on : (ps : List Placed) (starts ends : List (ℕ × ℕ)) → AreFallsOf ps starts ends → (q : ℕ) → from_day q starts ≡ from_day q ends → None ≡ lookup (is_at (nat_cmp q)) (day_list starts ends)
+nothing_on ps starts ends h q e =
+    let b = less_before ps starts ends h q in
+    let z : busy_on q ps ≡ 0 = omega (arith, b, e) in sym (day_list-has ps starts ends h q ∙ ap busy_entry z)
+
+-- of another day the difference does
+pub busy_there : (ps : List Placed) (starts ends : List (ℕ × ℕ)) → AreFallsOf ps starts ends → (q n : ℕ) → (from_day q starts ≡ from_day q ends → ⊥) → n ≡ from_day q ends - from_day q starts → Some n ≡ lookup (is_at (nat_cmp q)) (day_list starts ends)
+busy_there ps starts ends h q n apart e =
+    let b = less_before ps starts ends h q in
+    let v : n ≡ busy_on q ps = omega (arith, b, e) in
+    ap (λ (m : ℕ). Some m) v ∙ entry (busy_on q ps) (λ z. apart (omega (arith, b, z))) ∙ sym (day_list-has ps starts ends h q)
+  where
+    entry : (m : ℕ) → (m ≡ 0 → ⊥) → Some m ≡ busy_entry m
+    entry m h = let t : (m == 0) ≡ false = grind (arith, nat_tests, h) in rw t refl

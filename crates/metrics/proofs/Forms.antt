@@ -1,23 +1,22 @@
--- Sums as the code keeps them, and a part's entries: what adds up to nothing has no entry.
-use Rattle.std.proofs.Common.{◌≡◌, ℕ, ℤ, ◌<◌, ◌==◌, get_or, Bool, true, false, cond, List, [], ◌∷◌, filter, length, refl, ap, sym, ◌∙◌, arith, subst, Option, Some, None, unwrap_or}
-use Rattle.std.specs.Ordering.{int_cmp, nat_cmp}
+-- Sums as a part keeps them, and a part's entries: what adds up to nothing has no entry.
+use Rattle.std.proofs.Common.{◌≡◌, ℕ, ℤ, ◌<◌, ◌+◌, ◌==◌, Bool, true, false, cond, List, [], ◌∷◌, ◌++◌, filter, length, refl, ap, sym, ◌∙◌, arith, subst, Option, Some, None, unwrap_or}
+use Rattle.std.specs.Ordering.{int_cmp}
 use Rattle.std.specs.BTreeMap.{is_at}
 use Rattle.std.specs.Map.{lookup}
-use Rattle.std.proofs.lemmas.Cmp.{int_cmp_total, nat_cmp_total}
 use Rattle.std.specs.List.Sorted.{IsStrictlySortedBy}
 use Rattle.std.proofs.lemmas.List.Elements.{All-nil}
 use Rattle.std.proofs.lemmas.Grind.{common_steps}
 use Rattle.scenarios.specs.declared.placed.Placed.{Placed}
 use Rattle.metrics.specs.declared.users.UserSums.{UserSums}
 use Rattle.metrics.specs.Placed.{IsPlaced}
-use Rattle.metrics.specs.Totals.{no_totals}
-use Rattle.metrics.specs.Users.{no_sums, sums, sums_of, sums_entry, is_of}
-use Rattle.metrics.specs.Days.{busy_on, busy_entry}
+use Rattle.metrics.specs.Totals.{joined, no_totals}
+use Rattle.metrics.specs.Users.{no_sums, plus, sums, sums_of, sums_entry, is_of, user_total, IsUserList}
+use Rattle.metrics.specs.Days.{AreFallsOf, busy_on, busy_entry}
 use Rattle.metrics.specs.Part.{PartSums, IsPartOf, IsPart}
-use Rattle.metrics.specs.Sums.{IsTallyOf, IsTally}
-use Rattle.metrics.proofs.RisingLists.{some_is_none, found}
+use Rattle.metrics.specs.Sums.{Tally, IsTallyOf, IsTally, sums_in}
 use Rattle.metrics.proofs.UserLists.{user_total_is, user_filled}
-use Rattle.metrics.proofs.DayLists.{day_total_is, day_filled}
+use Rattle.metrics.proofs.DayLists.{day_list-has, day_list-rises}
+use Rattle.metrics.proofs.Joins.{busy_on-append, sums_of-append, totals-append}
 
 sums_kept : (o : Option UserSums) (s : UserSums) → unwrap_or o no_sums ≡ s → ((unwrap_or o no_sums).count ≡ 0 → o ≡ None) → o ≡ sums_entry s
 sums_kept o s e f = let P : UserSums → Type 0 = λ t. o ≡ sums_entry t in subst P e (own o f)
@@ -29,17 +28,6 @@ sums_kept o s e f = let P : UserSums → Type 0 = λ t. o ≡ sums_entry t in su
     own : (o : Option UserSums) → ((unwrap_or o no_sums).count ≡ 0 → o ≡ None) → o ≡ sums_entry (unwrap_or o no_sums)
     own None f = refl
     own (Some x) f = some_kept x (x.count == 0) refl f
-
-busy_kept : (o : Option ℕ) (n : ℕ) → unwrap_or o 0 ≡ n → (unwrap_or o 0 ≡ 0 → o ≡ None) → o ≡ busy_entry n
-busy_kept o n e f = let P : ℕ → Type 0 = λ t. o ≡ busy_entry t in subst P e (own o f)
-  where
-    some_kept : (x : ℕ) (b : Bool) → (x == 0) ≡ b → (x ≡ 0 → Some x ≡ None) → Some x ≡ cond b None (Some x)
-    some_kept x true t f = f (grind (arith, common_steps, t))
-    some_kept x false t f = refl
-
-    own : (o : Option ℕ) → (unwrap_or o 0 ≡ 0 → o ≡ None) → o ≡ busy_entry (unwrap_or o 0)
-    own None f = refl
-    own (Some x) f = some_kept x (x == 0) refl f
 
 none_of_nobody : (ps : List Placed) → length ps ≡ 0 → sums ps ≡ no_sums
 none_of_nobody [] h = refl
@@ -59,56 +47,46 @@ entry_busy n = go (n == 0) refl
     go true t = grind (arith, common_steps, t)
     go false t = refl
 
--- sums of jobs as the code makes them are the part of these jobs
-pub part_from : (ps : List Placed) (v : PartSums) → IsTallyOf ps v → IsPartOf ps v
-part_from ps v h = record {
+-- the sums that a part keeps of jobs are the part of these jobs
+pub part_from : (ps : List Placed) (t : Tally) → IsTallyOf ps t → IsPartOf ps (sums_in t)
+part_from ps t h = record {
   totals = h.totals;
   users_rise = h.user_list.rise;
-  users = λ q. sums_kept (lookup (is_at (int_cmp q)) v.users) (sums_of q ps) (sym (user_total_is q v.users h.user_list.rise) ∙ h.users q) (user_filled q v.users h.user_list.some);
-  days_rise = h.day_list.rise;
-  days = λ q. busy_kept (lookup (is_at (nat_cmp q)) v.days) (busy_on q ps) (sym (day_total_is q v.days h.day_list.rise) ∙ h.days q) (day_filled q v.days h.day_list.some);
+  users = λ q. sums_kept (lookup (is_at (int_cmp q)) t.users) (sums_of q ps) (sym (user_total_is q t.users h.user_list.rise) ∙ h.users q) (user_filled q t.users h.user_list.some);
+  days_rise = day_list-rises t.starts t.ends;
+  days = day_list-has ps t.starts t.ends h.days;
 }
-
-entry_some : (o : Option UserSums) (s x : UserSums) → o ≡ sums_entry s → o ≡ Some x → 0 < x.count
-entry_some o s x e f = go (s.count == 0) refl (sym e ∙ f)
-  where
-    go : (b : Bool) → (s.count == 0) ≡ b → cond b None (Some s) ≡ Some x → 0 < x.count
-    go true t h = absurd (some_is_none x (sym h))
-    go false t h = let c = ap (λ w. (unwrap_or w s).count) h in grind (arith, common_steps, t, c)
-
-entry_above : (o : Option ℕ) (n x : ℕ) → o ≡ busy_entry n → o ≡ Some x → 0 < x
-entry_above o n x e f = go (n == 0) refl (sym e ∙ f)
-  where
-    go : (b : Bool) → (n == 0) ≡ b → cond b None (Some n) ≡ Some x → 0 < x
-    go true t h = absurd (some_is_none x (sym h))
-    go false t h = let c = ap (λ w. unwrap_or w n) h in grind (arith, common_steps, t, c)
-
--- the part of some jobs is sums of them as the code makes them
-pub tally_from : (ps : List Placed) (v : PartSums) → IsPartOf ps v → IsTallyOf ps v
-tally_from ps v h = record {
-  totals = h.totals;
-  user_list = record { rise = h.users_rise; some = λ k d l. let e : ℤ × UserSums = get_or v.users k d in entry_some (lookup (is_at (int_cmp e.0)) v.users) (sums_of e.0 ps) e.1 (h.users e.0) (found int_cmp_total v.users h.users_rise k d l) };
-  users = λ q. user_total_is q v.users h.users_rise ∙ ap (λ o. unwrap_or o no_sums) (h.users q) ∙ entry_sums (sums_of q ps) (none_of_nobody (filter (is_of q) ps));
-  day_list = record { rise = h.days_rise; some = λ k d l. let e : ℕ × ℕ = get_or v.days k d in entry_above (lookup (is_at (nat_cmp e.0)) v.days) (busy_on e.0 ps) e.1 (h.days e.0) (found nat_cmp_total v.days h.days_rise k d l) };
-  days = λ q. day_total_is q v.days h.days_rise ∙ ap (λ o. unwrap_or o 0) (h.days q) ∙ entry_busy (busy_on q ps);
-}
-
--- a part is sums of some jobs within the limits
-pub is_tally_from : (v : PartSums) → IsPart v → IsTally v
-is_tally_from v h = record { jobs = h.jobs; limited = h.limited; same = tally_from h.jobs v h.same }
 
 -- sums of some jobs within the limits are a part
-pub is_part_from : (v : PartSums) → IsTally v → IsPart v
-is_part_from v h = record { jobs = h.jobs; limited = h.limited; same = part_from h.jobs v h.same }
-
-no_tally : IsTallyOf [] (record { totals = no_totals; users = []; days = [] })
-unfolding IsStrictlySortedBy
-no_tally = record { totals = refl; user_list = record { rise = tt; some = All-nil (λ (e : ℤ × UserSums). 0 < e.1.count) }; users = λ u. refl; day_list = record { rise = tt; some = All-nil (λ (e : ℕ × ℕ). 0 < e.1) }; days = λ d. refl }
+pub is_part_from : (t : Tally) → IsTally t → IsPart (sums_in t)
+is_part_from t h = record { jobs = h.jobs; limited = h.limited; same = part_from h.jobs t h.same }
 
 -- sums that count nothing and have no entries are those over no job
-pub empty_tally : (v : PartSums) → v.totals ≡ no_totals → v.users ≡ [] → v.days ≡ [] → IsTallyOf [] v
-empty_tally v t u d = subst (IsTallyOf []) (λ i. record { totals = sym t i; users = sym u i; days = sym d i }) no_tally
+pub empty_tally : (t : Tally) → t.totals ≡ no_totals → t.users ≡ [] → AreFallsOf [] t.starts t.ends → IsTallyOf [] t
+unfolding IsStrictlySortedBy
+empty_tally t s u d = record {
+  totals = s;
+  user_list = (let P : List (ℤ × UserSums) → Type 0 = IsUserList in subst P (sym u) (record { rise = tt; some = All-nil (λ (e : ℤ × UserSums). 0 < e.1.count) }));
+  users = λ q. ap (user_total q) u;
+  days = d;
+}
 
--- the sums over no job are a part
-pub empty_part : (v : PartSums) → IsTallyOf [] v → IsPart v
-empty_part v h = record { jobs = []; limited = record { each = All-nil IsPlaced; few = omega arith }; same = part_from [] v h }
+-- sums over no job are of jobs within the limits
+pub is_empty_tally : (t : Tally) → IsTallyOf [] t → IsTally t
+is_empty_tally t h = record { jobs = []; limited = record { each = All-nil IsPlaced; few = omega arith }; same = h }
+
+same_sums : (ps qs : List Placed) (v : PartSums) → IsPartOf ps v → IsPartOf qs v → (q : ℤ) → sums_of q ps ≡ sums_of q qs
+same_sums ps qs v h k q = sym (entry_sums (sums_of q ps) (none_of_nobody (filter (is_of q) ps))) ∙ ap (λ o. unwrap_or o no_sums) (sym (h.users q) ∙ k.users q) ∙ entry_sums (sums_of q qs) (none_of_nobody (filter (is_of q) qs))
+
+same_busy : (ps qs : List Placed) (v : PartSums) → IsPartOf ps v → IsPartOf qs v → (d : ℕ) → busy_on d ps ≡ busy_on d qs
+same_busy ps qs v h k d = sym (entry_busy (busy_on d ps)) ∙ ap (λ o. unwrap_or o 0) (sym (h.days d) ∙ k.days d) ∙ entry_busy (busy_on d qs)
+
+-- where the jobs of two parts together have a part, so have any others of the two parts
+pub any_jobs : (ps qs xs ys : List Placed) (a b v : PartSums) → IsPartOf ps a → IsPartOf qs b → IsPartOf xs a → IsPartOf ys b → IsPartOf (ps ++ qs) v → IsPartOf (xs ++ ys) v
+any_jobs ps qs xs ys a b v h k m n z = record {
+  totals = z.totals ∙ totals-append ps qs ∙ (λ i. joined ((sym h.totals ∙ m.totals) i) ((sym k.totals ∙ n.totals) i)) ∙ sym (totals-append xs ys);
+  users_rise = z.users_rise;
+  users = λ q. z.users q ∙ ap sums_entry (sums_of-append q ps qs ∙ (λ i. plus (same_sums ps xs a h m q i) (same_sums qs ys b k n q i)) ∙ sym (sums_of-append q xs ys));
+  days_rise = z.days_rise;
+  days = λ d. z.days d ∙ ap busy_entry (busy_on-append d ps qs ∙ (λ i. same_busy ps xs a h m d i + same_busy qs ys b k n d i) ∙ sym (busy_on-append d xs ys));
+}

@@ -1,10 +1,10 @@
-mod Overlaps
+mod Falls
+mod DayLists
 mod Bounds
 mod Joins
 mod RisingLists
 mod UserLists
 mod Storing
-mod DayLists
 mod Tallies
 mod Forms
 mod Unique

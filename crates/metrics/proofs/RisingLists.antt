@@ -19,7 +19,7 @@ use Rattle.std.proofs.lemmas.List.Sums.{sum_by-cons, sum_by-set}
 use Rattle.std.proofs.lemmas.Map.{NonePasses}
 use Rattle.std.proofs.lemmas.Map.Entries.{none_past_head, lookup_at_gap, lookup_from_place}
 use Rattle.std.proofs.lemmas.Map.Lookups.{CmpEqualImpliesEq}
-use Rattle.std.proofs.lemmas.Option.{slice_get-get_or, slice_get_within, get_or_from_slice_get}
+use Rattle.std.proofs.lemmas.Option.{slice_get_within, get_or_from_slice_get}
 use Rattle.std.proofs.lemmas.Map.Keys.{IsDistinct-from_sorted, Less-from_sorted, sorted_tail}
 use Rattle.metrics.specs.Entries.{total_at, IsFound}
 
@@ -80,10 +80,6 @@ module _ {K X : Type 0} {R : K → K → Ordering} (o : IsTotalOrder R) where
       both : (b : Bool) → cond b (n (get_or es i d).1) 0 + cond b m 0 ≡ cond b (n w.1) 0
       both true = sym more
       both false = refl
-
-  -- where keys rise, each entry is found at its key
-  pub found : (es : List (K × X)) → IsStrictlySortedBy R (keys_of es) → All (λ e. lookup (is_at (R e.0)) es ≡ Some e.1) es
-  found es s k d l = let e : K × X = get_or es k d in lookup_from_place (eq_by_cmp_equiv o) es k e.0 e.1 (IsDistinct-from_sorted R (keys_of es) s) (slice_get-get_or es k d l)
 
   -- where keys rise and the last is below another, all are
   pub below_last : (es : List (K × X)) (k : K) (last : K × X) → IsStrictlySortedBy R (keys_of es) → Some last ≡ slice_get es (length es - 1) → R last.0 k ≡ Less → AllWithin (λ (e : K × X). R e.0 k ≡ Less) es 0 (length es)

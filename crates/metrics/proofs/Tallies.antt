@@ -7,16 +7,15 @@ use Rattle.std.proofs.lemmas.List.{length-take-le, take_more}
 use Rattle.scenarios.specs.declared.placed.Placed.{Placed}
 use Rattle.metrics.specs.declared.users.UserSums.{UserSums}
 use Rattle.metrics.specs.declared.totals.Totals.{Totals}
-use Rattle.metrics.specs.Measures.{busy_in, busy}
+use Rattle.metrics.specs.Measures.{busy}
 use Rattle.metrics.specs.Placed.{IsPlaced}
 use Rattle.metrics.specs.Totals.{totals, totals_alone, joined, FitsJoined}
 use Rattle.metrics.specs.Users.{plus, no_sums, alone, sums_of, CanAdd, user_total, IsUserList}
-use Rattle.metrics.specs.Days.{busy_on, day_total, IsDayList}
+use Rattle.metrics.specs.Days.{AreFallsOf}
 use Rattle.metrics.specs.Part.{PartSums, AreJobs}
-use Rattle.metrics.specs.Sums.{IsTallyOf, IsTally}
-use Rattle.metrics.proofs.Bounds.{totals_fit, sums_fit, days_fit, small_sum, busy_small, busy_in_small}
-use Rattle.metrics.proofs.Joins.{totals-append, sums_of-append, busy_on-append, totals-one, sums_of-one}
-use Rattle.metrics.proofs.DayLists.{day_entry_le}
+use Rattle.metrics.specs.Sums.{Tally, IsTallyOf, IsTally}
+use Rattle.metrics.proofs.Bounds.{totals_fit, sums_fit, small_sum, busy_small}
+use Rattle.metrics.proofs.Joins.{totals-append, sums_of-append, totals-one, sums_of-one}
 
 only : (p : Placed) → IsPlaced p → All IsPlaced (p ∷ [])
 only p h = All-cons IsPlaced p [] h (λ k d l. absurd (omega arith))
@@ -54,67 +53,40 @@ sums_more_fit ps i p a l h = subst (CanAdd (sums_of p.job.user (take i ps))) (it
 pub placed_at : (ps : List Placed) (i : ℕ) (p : Placed) → AreJobs ps → i < length ps → p ≡ get_or ps i p → IsPlaced p
 placed_at ps i p a l e = subst IsPlaced (sym e) (a.each i p l)
 
-busy_on-one : (q : ℕ) (p : Placed) → busy_on q (p ∷ []) ≡ busy_in q p
-busy_on-one q p = zero_plus (busy_in q p)
-  where
-    zero_plus : (m : ℕ) → 0 + m ≡ m
-    zero_plus m = omega arith
-
--- what the first jobs and the next take in a day is less than 2^128 processor-seconds
-pub busy_more_fits : (q : ℕ) (ps : List Placed) (i : ℕ) (p : Placed) → AreJobs ps → i < length ps → IsPlaced p → busy_on q (take i ps) + busy_in q p < 2 ^ 128
-busy_more_fits q ps i p a l h = let d = days_fit q (take i ps) (p ∷ []) (All-take IsPlaced i ps a.each) (only p h) (first_few ps i a.few l) in let b = busy_on-one q p in omega (arith, d, b)
-
-few : (v : PartSums) (h : IsTally v) → length h.jobs ≡ v.totals.count
+few : (v : Tally) (h : IsTally v) → length h.jobs ≡ v.totals.count
 few v h = sym (ap (λ (t : Totals). t.count) h.same.totals)
 
 -- where two sums count no more jobs together than a log may have, those over all jobs fit their types when they are joined
-pub join_totals_fit : (v w : PartSums) → IsTally v → IsTally w → v.totals.count + w.totals.count ≤ 4194304 → FitsJoined v.totals w.totals
+pub join_totals_fit : (v w : Tally) → IsTally v → IsTally w → v.totals.count + w.totals.count ≤ 4194304 → FitsJoined v.totals w.totals
 join_totals_fit v w h k l =
     let P : Totals → Type 0 = λ t. FitsJoined t w.totals in
     let Q : Totals → Type 0 = λ t. FitsJoined (totals h.jobs) t in
     subst P (sym h.same.totals) (subst Q (sym k.same.totals) (totals_fit h.jobs k.jobs h.limited.each k.limited.each (omega (arith, few v h, few w k))))
 
 -- where two sums count no more jobs together than a log may have, a user's fit their types when they are added
-pub join_users_fit : (v w : PartSums) → IsTally v → IsTally w → v.totals.count + w.totals.count ≤ 4194304 → (q : ℤ) → CanAdd (user_total q v.users) (user_total q w.users)
+pub join_users_fit : (v w : Tally) → IsTally v → IsTally w → v.totals.count + w.totals.count ≤ 4194304 → (q : ℤ) → CanAdd (user_total q v.users) (user_total q w.users)
 join_users_fit v w h k l q =
     let P : UserSums → Type 0 = λ t. CanAdd t (user_total q w.users) in
     let Q : UserSums → Type 0 = λ t. CanAdd (sums_of q h.jobs) t in
     subst P (sym (h.same.users q)) (subst Q (sym (k.same.users q)) (sums_fit q h.jobs k.jobs h.limited.each k.limited.each (omega (arith, few v h, few w k))))
 
--- where two sums count no more jobs together than a log may have, a day's processor-seconds are less than 2^128 together
-pub join_days_fit : (v w : PartSums) → IsTally v → IsTally w → v.totals.count + w.totals.count ≤ 4194304 → (q : ℕ) → day_total q v.days + day_total q w.days < 2 ^ 128
-join_days_fit v w h k l q = let d = days_fit q h.jobs k.jobs h.limited.each k.limited.each (omega (arith, few v h, few w k)) in let a = h.same.days q in let b = k.same.days q in omega (arith, d, a, b)
-
--- sums that add up, at each user and each day, to the sums of two lists of jobs are those of the jobs of both
-pub joins : (xs ys : List Placed) (a b v : PartSums) → IsTallyOf xs a → IsTallyOf ys b → v.totals ≡ joined a.totals b.totals → IsUserList v.users → ((u : ℤ) → user_total u v.users ≡ plus (user_total u a.users) (user_total u b.users)) → IsDayList v.days → ((d : ℕ) → day_total d v.days ≡ day_total d a.days + day_total d b.days) → IsTallyOf (xs ++ ys) v
-joins xs ys a b v h k t m u n d = record {
+-- sums that add up, at each user, to the sums of two lists of jobs, with the falls of both, are those of the jobs of both
+pub joins : (xs ys : List Placed) (a b v : Tally) → IsTallyOf xs a → IsTallyOf ys b → v.totals ≡ joined a.totals b.totals → IsUserList v.users → ((u : ℤ) → user_total u v.users ≡ plus (user_total u a.users) (user_total u b.users)) → AreFallsOf (xs ++ ys) v.starts v.ends → IsTallyOf (xs ++ ys) v
+joins xs ys a b v h k t m u d = record {
   totals = t ∙ (λ i. joined (h.totals i) (k.totals i)) ∙ sym (totals-append xs ys);
   user_list = m;
   users = λ q. u q ∙ (λ i. plus (h.users q i) (k.users q i)) ∙ sym (sums_of-append q xs ys);
-  day_list = n;
-  days = λ q. d q ∙ (λ i. h.days q i + k.days q i) ∙ sym (busy_on-append q xs ys);
+  days = d;
 }
 
--- sums of the jobs of two sums, which count no more together than a log may have, are of jobs within the limits
-pub is_joined_part : (v w z : PartSums) (h : IsTally v) (k : IsTally w) → v.totals.count + w.totals.count ≤ 4194304 → IsTallyOf (h.jobs ++ k.jobs) z → IsTally z
-is_joined_part v w z h k l s = record {
-  jobs = h.jobs ++ k.jobs;
-  limited = record { each = All-append IsPlaced h.jobs k.jobs h.limited.each k.limited.each; few = let e = length-append h.jobs k.jobs in omega (arith, e, few v h, few w k) };
-  same = s;
-}
+-- the jobs of two sums, which count no more together than a log may have, are within the limits
+pub is_joined_part : (v w : Tally) (h : IsTally v) (k : IsTally w) → v.totals.count + w.totals.count ≤ 4194304 → AreJobs (h.jobs ++ k.jobs)
+is_joined_part v w h k l = record { each = All-append IsPlaced h.jobs k.jobs h.limited.each k.limited.each; few = let e = length-append h.jobs k.jobs in omega (arith, e, few v h, few w k) }
 
--- where two sums count no more jobs together than a log may have, so do the same ones
-pub sum_of_counts : (a b v w : PartSums) → a ≡ v → b ≡ w → a.totals.count + b.totals.count ≤ 4194304 → v.totals.count + w.totals.count ≤ 4194304
-sum_of_counts a b v w e f l = let m = ap (λ (x : PartSums). x.totals.count) e in let n = ap (λ (x : PartSums). x.totals.count) f in omega (arith, m, n)
+-- where two parts count no more jobs together than a log may have, so do the sums that they keep
+pub both_few : (a b : Totals) (v w : PartSums) → a ≡ v.totals → b ≡ w.totals → v.totals.count + w.totals.count ≤ 4194304 → a.count + b.count ≤ 4194304
+both_few a b v w e f l = let m = ap (λ (x : Totals). x.count) e in let n = ap (λ (x : Totals). x.count) f in omega (arith, m, n, l)
 
 -- sums of jobs within the limits have less than 2^100 processor-seconds
-pub busy_below : (v : PartSums) → IsTally v → v.totals.busy < 2 ^ 100
+pub busy_below : (v : Tally) → IsTally v → v.totals.busy < 2 ^ 100
 busy_below v h = let a = small_sum busy h.jobs busy_small h.limited.each in let b = ap (λ (t : Totals). t.busy) h.same.totals in omega (arith, a, b, h.limited.few)
-
--- each day of sums of jobs within the limits has less than 2^100 processor-seconds
-pub days_below : (v : PartSums) → IsTally v → All (λ e. e.1 < 2 ^ 100) v.days
-days_below v h k d l =
-    let e : ℕ × ℕ = get_or v.days k d in
-    let s = small_sum (busy_in e.0) h.jobs (busy_in_small e.0) h.limited.each in
-    let b = h.same.days e.0 in
-    let a = day_entry_le e.0 v.days k d l refl in omega (arith, s, a, b, h.limited.few)

@@ -10,7 +10,7 @@ ghost use Rattle.metrics.specs.Placed.{CanSum};
 ghost use Rattle.metrics.specs.Users.{sums_of, sums_entry};
 ghost use Rattle.metrics.specs.Days.{busy_on, busy_entry};
 
-use crate::days::{self, Days};
+use crate::days::Days;
 use crate::stored::{self, Stored};
 use crate::totals::Totals;
 use crate::users::{self, UserSums};
@@ -31,13 +31,14 @@ pub struct Part<A: Allocator + Copy> {
 }
 
 impl<A: Allocator + Copy> Model for Part<A> {
-    ghost use Rattle.metrics.specs.Part.{PartSums, IsPart};
+    ghost use Rattle.metrics.specs.Part.{PartSums};
+    ghost use Rattle.metrics.specs.Sums.{IsTally, sums_in};
 
     ghost Value = { PartSums };
 
-    ghost view = { λ p. record { totals = p.totals; users = p.users; days = p.days.items } };
+    ghost view = { λ p. sums_in (record { totals = p.totals; users = p.users; starts = p.days.starts.items; ends = p.days.ends.items }) };
 
-    ghost invariant = { λ p. IsPart (record { totals = p.totals; users = p.users; days = p.days.items }) };
+    ghost invariant = { λ p. IsTally (record { totals = p.totals; users = p.users; starts = p.days.starts.items; ends = p.days.ends.items }) };
 }
 
 impl<A: Allocator + Copy> Part<A> {
@@ -48,7 +49,7 @@ impl<A: Allocator + Copy> Part<A> {
         Part {
             totals: Totals::none(),
             users: Stored::empty(alloc),
-            days: Vec::new(alloc),
+            days: Days::none(alloc),
             alloc,
         }
     }
@@ -61,7 +62,7 @@ impl<A: Allocator + Copy> Part<A> {
         let totals = Totals::of_jobs(placed);
         let sums = users::of_jobs(alloc, placed)?;
         let users = Stored::of(alloc, sums.as_slice())?;
-        let days = days::of_jobs(alloc, placed)?;
+        let days = Days::of_jobs(alloc, placed)?;
         Ok(Part {
             totals,
             users,
@@ -77,7 +78,7 @@ impl<A: Allocator + Copy> Part<A> {
     {
         let totals = self.totals.plus(&other.totals);
         let users = stored::merge(self.alloc, &self.users, &other.users)?;
-        let days = days::merge(self.alloc, self.days.as_slice(), other.days.as_slice())?;
+        let days = self.days.merge(self.alloc, &other.days)?;
         Ok(Part {
             totals,
             users,
@@ -116,6 +117,6 @@ impl<A: Allocator + Copy> Part<A> {
         ensures value { result ≡ lookup (is_at (nat_cmp day)) self.now.days }
         ensures sums { (ps : List Placed) → IsPartOf ps self.now → result ≡ busy_entry (busy_on day ps) }
     {
-        days::busy_at(self.days.as_slice(), day)
+        self.days.busy_at(day)
     }
 }

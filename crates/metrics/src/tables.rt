@@ -1,11 +1,11 @@
 //! The tables of a part.
 
-ghost use Rattle.std.specs.Prelude.{◌≡◌, ◌<◌, ◌^◌, map, IfOk, All};
-ghost use Rattle.metrics.specs.Tables.{user_row_of, day_row_of, tables_of};
+ghost use Rattle.std.specs.Prelude.{◌≡◌, map, IfOk};
+ghost use Rattle.metrics.specs.Tables.{user_row_of, tables_of};
 
-use crate::days::DayEntry;
+use crate::days::Days;
 use crate::part::Part;
-use crate::rows::{DayRow, Overall, UserRow, day_row, over_all, user_row};
+use crate::rows::{DayRow, Overall, UserRow, over_all, user_row};
 use crate::users::UserEntry;
 use scenarios::Skips;
 use std::alloc::{AllocError, Allocator};
@@ -15,17 +15,24 @@ use swf_text::Memory;
 /// The tables of some jobs on a machine: numbers over all, a row a user and a row a day.
 #[derive(Drop)]
 pub struct Tables<A: Allocator + Copy> {
+    alloc: A,
     overall: Overall,
     users: Vec<UserRow, A>,
-    days: Vec<DayRow, A>,
+    procs: u64,
+    days: Days<A>,
 }
 
 impl<A: Allocator + Copy> Model for Tables<A> {
-    ghost use Rattle.metrics.specs.Tables.{TableRows};
+    ghost use Rattle.std.specs.Prelude.{map};
+    ghost use Rattle.metrics.specs.Days.{day_list};
+    ghost use Rattle.metrics.specs.Sums.{AreFalls};
+    ghost use Rattle.metrics.specs.Tables.{TableRows, day_row_of};
 
     ghost Value = { TableRows };
 
-    ghost view = { λ t. record { overall = t.overall; users = t.users.items; days = t.days.items } };
+    ghost view = { λ t. record { overall = t.overall; users = t.users.items; days = map (day_row_of t.procs) (day_list t.days.starts.items t.days.ends.items) } };
+
+    ghost invariant = { λ t. AreFalls t.days.starts.items t.days.ends.items };
 }
 
 impl<A: Allocator + Copy> Tables<A> {
@@ -43,11 +50,12 @@ impl<A: Allocator + Copy> Tables<A> {
         &self.users
     }
 
-    /// A row for each day in which processor-seconds are taken, by rising day.
-    pub fn days(&self) -> &[DayRow]
-        ensures { result.now ≡ self.now.days }
+    /// A row for each day in which processor-seconds are taken, by rising day, made anew: there may be
+    /// many more of them than jobs. Memory where a growth was refused.
+    pub fn days(&self) -> Result<Vec<DayRow, A>, Memory>
+        ensures { IfOk result (λ rows. rows.items ≡ self.now.days) }
     {
-        &self.days
+        Ok(self.days.rows(self.alloc, self.procs)?)
     }
 }
 
@@ -64,21 +72,6 @@ fn user_rows<A: Allocator + Copy>(
     Ok(rows)
 }
 
-fn day_rows<A: Allocator + Copy>(
-    alloc: A,
-    procs: u64,
-    days: &[DayEntry],
-) -> Result<Vec<DayRow, A>, AllocError>
-    requires { All (λ e. e.1 < 2 ^ 100) days.now }
-    ensures { IfOk result (λ rows. rows.items ≡ map (day_row_of procs) days.now) }
-{
-    let mut rows = Vec::with_capacity(alloc, days.len())?;
-    'days: for (day, busy) in days {
-        rows.push(day_row(procs, *day, *busy))?;
-    }
-    Ok(rows)
-}
-
 impl<A: Allocator + Copy> Part<A> {
     /// The tables of the part's jobs, on a machine of `procs` processors and with these counts of
     /// skipped entries. Means are cut down, and 0 where there is no job. Memory where a growth was
@@ -88,10 +81,12 @@ impl<A: Allocator + Copy> Part<A> {
     {
         let users = self.users.list(self.alloc)?;
         let users = user_rows(self.alloc, users.as_slice())?;
-        let days = day_rows(self.alloc, procs, self.days.as_slice())?;
+        let days = self.days.copy(self.alloc)?;
         Ok(Tables {
+            alloc: self.alloc,
             overall: over_all(procs, skips, &self.totals),
             users,
+            procs,
             days,
         })
     }

@@ -5,6 +5,7 @@ use checking::Chance;
 use checkpoints::{Row, Run, simulate};
 use easy_rule::Start;
 use job_table::{Edit, JobTable};
+use metrics::DayRow;
 use rejoin::{Work, edited, rerun};
 use scenarios::{Order, Plan, Scenario};
 use std::alloc::Global;
@@ -43,10 +44,24 @@ fn same_schedules(a: &Run<Global>, b: &Run<Global>) -> bool {
     }
 }
 
+fn has_days(run: &Run<Global>, days: &[DayRow]) -> bool {
+    match run.tables().days() {
+        Ok(others) => others.as_slice() == days,
+        Err(_) => false,
+    }
+}
+
+fn same_days(a: &Run<Global>, b: &Run<Global>) -> bool {
+    match a.tables().days() {
+        Ok(days) => has_days(b, days.as_slice()),
+        Err(_) => false,
+    }
+}
+
 fn same_tables(a: &Run<Global>, b: &Run<Global>) -> bool {
     a.tables().overall() == b.tables().overall()
         && a.tables().users() == b.tables().users()
-        && a.tables().days() == b.tables().days()
+        && same_days(a, b)
 }
 
 fn add_starts(starts: &mut Vec<Start>, run: &Run<Global>) -> Option<()> {

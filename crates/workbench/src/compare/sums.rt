@@ -156,6 +156,13 @@ fn are_days(rows: &[DayRow], capacity: u64, jobs: &[Placed]) -> bool {
     place == rows.len()
 }
 
+fn has_days(run: &Run<Global>, capacity: u64, jobs: &[Placed]) -> bool {
+    match run.tables().days() {
+        Ok(rows) => are_days(rows.as_slice(), capacity, jobs),
+        Err(_) => false,
+    }
+}
+
 fn is_placed(row: &Row, placed: &Placed) -> bool {
     row.number == placed.0.number() && row.start == placed.1 && row.end == end(placed)
 }
@@ -196,5 +203,5 @@ pub(crate) fn are_plain_sums(text: &SwfText<Global>, run: &Run<Global>, jobs: &[
         && finds_starts(run, jobs)
         && run.tables().overall() == overall(skips(text, &scenario), procs, jobs)
         && are_users(run.tables().users(), jobs)
-        && are_days(run.tables().days(), procs.wrapping_mul(DAY), jobs)
+        && has_days(run, procs.wrapping_mul(DAY), jobs)
 }
