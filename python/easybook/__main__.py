@@ -3,6 +3,7 @@
 from __future__ import annotations
 
 import argparse
+import codecs
 import contextlib
 import csv
 import io
@@ -11,7 +12,7 @@ import signal
 import sys
 import warnings
 from decimal import Decimal
-from typing import Any, BinaryIO, Callable, Iterator, List, Optional, Sequence, TypeVar
+from typing import Any, BinaryIO, Callable, Dict, Iterator, List, Optional, Sequence, Tuple, TypeVar, Union
 
 from . import waits as _waits
 from .errors import EasybookError
@@ -129,22 +130,36 @@ def _counted(count: int, what: str) -> str:
     return f"{count} {what}{'' if count == 1 else 's'}"
 
 
-def _left_out(procs: int, table: Table) -> str:
-    """What is said of jobs that are larger than the machine."""
-    are = "is" if table.skipped_large == 1 else "are"
-    return (f"{_counted(table.skipped_large, 'job')} {are} larger than {_counted(procs, 'processor')} and left out: its rows "
-            "are not comparable with others")
+def _left_out(what: str, count: int) -> str:
+    """What is said of jobs that a row is without, and others aren't."""
+    are = "is" if count == 1 else "are"
+    return f"{_counted(count, 'job')} {are} {what} and left out: its rows are not comparable with others"
+
+
+def _lacks(procs: int, factor: int, table: Table, long: int) -> List[str]:
+    """What is said of a machine's larger jobs, and of those whose estimates are too long under a factor; `long` of these
+    are so under one of at most 1000 too, and so under each greater one, and are not told."""
+    lines: List[str] = []
+    if table.skipped_large:
+        lines.append(_left_out(f"larger than {_counted(procs, 'processor')}", table.skipped_large))
+    if table.skipped_long > long:
+        lines.append(_left_out(f"estimated at over 100000000 seconds under factor {factor}", table.skipped_long - long))
+    return lines
 
 
 def _notes(rows: Rows, are_of_one: bool) -> List[str]:
-    """What is said of a sweep, of one log or of several: that a log has no jobs, and for each log and machine that there
-    are larger jobs."""
+    """What is said of a sweep, of one log or of several: that a log has no jobs, for each log and machine that there are
+    larger jobs, and for each log and factor that there are longer ones."""
     lines: List[str] = []
+    long: Dict[Tuple[str, int], int] = {}
+    for row, table in zip(rows, rows.tables):
+        if row.factor <= 1000:
+            long[row.log, row.procs] = min(table.skipped_long, long.get((row.log, row.procs), table.skipped_long))
     for row, table in zip(rows, rows.tables):
         if table.jobs + table.skipped == 0:
             lines.append(f"{row.log} has no jobs")
-        if table.skipped_large:
-            lines.append(("" if are_of_one else f"{row.log}: ") + _left_out(row.procs, table))
+        told = _lacks(row.procs, row.factor, table, long.get((row.log, row.procs), 0))
+        lines += [("" if are_of_one else f"{row.log}: ") + it for it in told]
     return list(dict.fromkeys(lines))
 
 
@@ -183,8 +198,9 @@ def _waits_of(words: argparse.Namespace) -> int:
             groups += [(it, f"{kind} {names.get(str(it.group), it.group)}") for it in _waits.summary(pairs, _waits.KINDS[kind])]
         _table(("group", *_waits.Group._fields[1:]), [(name, *it[1:-1], _ratio(it)) for it, name in groups], words.csv)
         sys.stdout.flush()
-    if run.table.skipped_large:
-        _say(_left_out(run.scenario.procs or 0, run.table))
+    long = run.table.skipped_long if run.scenario.factor <= 1000 else 0
+    for line in _lacks(run.scenario.procs or 0, run.scenario.factor, run.table, long):
+        _say(line)
     return 0 if pairs else 1
 
 
@@ -248,6 +264,17 @@ def _common(it: argparse.ArgumentParser) -> None:
     it.add_argument("--program", help="the program easybook; without this $EASYBOOK, or the one on the PATH")
 
 
+def _escaped(error: UnicodeError) -> Tuple[Union[str, bytes], int]:
+    """What is written in the place of what can't be: the bytes of a file's name, which may be any, and escapes of the rest."""
+    try:
+        return codecs.lookup_error("surrogateescape")(error)
+    except UnicodeError:
+        return codecs.backslashreplace_errors(error)
+
+
+codecs.register_error("easybook", _escaped)
+
+
 def _drop_output() -> None:
     """Has nothing more go to standard output, where what couldn't be written would be tried again at the end."""
     try:
@@ -263,7 +290,7 @@ def main(words: Optional[Sequence[str]] = None) -> int:
         return 1
     for it in (sys.stdout, sys.stderr):
         if isinstance(it, io.TextIOWrapper):
-            it.reconfigure(errors="surrogateescape")  # names of files may be any bytes
+            it.reconfigure(errors="easybook")
     try:
         asked = _parser().parse_args(_joined(sys.argv[1:] if words is None else words))
         status: int = asked.work(asked)

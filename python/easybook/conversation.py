@@ -35,22 +35,17 @@ from . import swf
 from .errors import BadWord, Ended, Memory, Refused, ScriptFault, shown
 from .program import Live, as_file
 from .reports import Answers, Day, Entry, Missing, Side, Start, Table, User
-from .runs import MOST_PROCESSORS, Scenario, check_name, check_whole
+from .runs import MOST_PROCESSORS, MOST_SPACING, Scenario, check_name, whole_number
 from .swf import Job, Number, Path
 
 T = TypeVar("T")
 
-_MOST_SPACING = 65_536
 _MOST_FIELD = 255
 
 
 def _whole(value: SupportsIndex, what: str, most: int) -> str:
     """The digits of a whole number from 0 to the most."""
-    with contextlib.suppress(TypeError):
-        whole = int(operator.index(value))
-        if not isinstance(value, bool) and 0 <= whole <= most:
-            return str(whole)
-    raise BadWord(f"{what}: a whole number from 0 to {most}, not {shown(value)}")
+    return str(whole_number(value, what, most, 0))
 
 
 def _number(value: Union[SupportsIndex, Decimal]) -> str:
@@ -96,16 +91,14 @@ class Conversation:
 
     A command that the program refuses raises its kind of `Refused` and leaves all as it was; one that it would not take
     raises `BadWord` before anything is sent. Where the program has ended, `Ended` or `LogFault` is raised. Whatever else
-    raises while an answer is read, such as an interrupt, ends the program. Several threads may ask; each command waits
-    for the answer of the one before.
+    raises while an answer is read, such as an interrupt, ends the program; an interrupt between two commands doesn't.
+    Several threads may ask; each command waits for the answer of the one before.
     """
 
     def __init__(self, log: Path, procs: Optional[int] = None, *, spacing: Optional[int] = None,
                  program: Optional[Path] = None) -> None:
-        if procs is not None:
-            check_whole(procs, "processors", MOST_PROCESSORS)
-        if spacing is not None:
-            check_whole(spacing, "a spacing", _MOST_SPACING)
+        procs = None if procs is None else whole_number(procs, "processors", MOST_PROCESSORS)
+        spacing = None if spacing is None else whole_number(spacing, "a spacing", MOST_SPACING)
         self._lock = threading.Lock()
         self._over: Optional[Ended] = None
         with as_file(log) as path:
@@ -172,9 +165,8 @@ class Conversation:
 
     def scenario(self, name: str, procs: int, factor: int = 1000, order: str = "arrival") -> None:
         """Adds a scenario: a machine, a factor on estimates in thousandths, and the order of backfills."""
-        check_whole(procs, "processors", MOST_PROCESSORS)
-        Scenario(procs, factor, order, _checked(name)).check()
-        self._done(f"scenario {name} {procs} {factor} {order}", name, "added")
+        it = Scenario(whole_number(procs, "processors", MOST_PROCESSORS), factor, order, _checked(name)).check()
+        self._done(f"scenario {name} {it.procs} {it.factor} {order}", name, "added")
 
     def drop(self, name: str) -> None:
         """Takes a scenario away."""

@@ -160,14 +160,15 @@ def _finish(process: "subprocess.Popen[bytes]", said: IO[bytes]) -> None:
 
 class Live:
     """A program that answers each command before it reads the next. It is ended where nothing holds this any more, and
-    where Python ends."""
+    where Python ends. It has a session of its own, so that an interrupt from the terminal comes to Python alone."""
 
     def __init__(self, log: str, procs: Optional[int] = None, spacing: Optional[int] = None,
                  program: Optional[Path] = None) -> None:
         words = [*_words(program, log, procs, spacing), "--live"]
         said = tempfile.TemporaryFile()
         try:
-            process = subprocess.Popen(words, stdin=subprocess.PIPE, stdout=subprocess.PIPE, stderr=said)
+            process = subprocess.Popen(words, stdin=subprocess.PIPE, stdout=subprocess.PIPE, stderr=said,
+                                       start_new_session=True)
         except BaseException as it:
             said.close()
             if isinstance(it, OSError):
@@ -218,12 +219,27 @@ def is_read_once(log: Path) -> bool:
     return False
 
 
+def _is_utf8(path: str) -> bool:
+    """Whether a path is one that the program takes as a word."""
+    try:
+        os.fsencode(path).decode("utf-8")
+    except UnicodeError:
+        return False
+    return True
+
+
+def is_copied(log: Path) -> bool:
+    """Whether the program reads a copy of a log: its name ends in `.gz`, or is no UTF-8, or it is read once."""
+    path = os.fspath(log)
+    return path.endswith(".gz") or not _is_utf8(path) or is_read_once(path)
+
+
 @contextlib.contextmanager
 def as_file(log: Path) -> Iterator[str]:
-    """The path of a log as the program can read it, as often as it likes: that of a copy, for as long as this stands,
-    where the log's name ends in `.gz`, of which it is unpacked, and where it is read once."""
+    """The path of a log as the program can read it, as often as it likes: where it is copied that of the copy, unpacked
+    if the log's name ends in `.gz`, for as long as this stands."""
     path = os.fspath(log)
-    if not path.endswith(".gz") and not is_read_once(path):
+    if not is_copied(path):
         yield path
         return
     with opened(path) as file, tempfile.NamedTemporaryFile(prefix="easybook-", suffix=".swf") as copy:

@@ -2,10 +2,12 @@
 
 from __future__ import annotations
 
+import contextlib
+import operator
 import os
 import re
 from decimal import Decimal
-from typing import Dict, Iterable, List, NamedTuple, Optional, Sequence, Tuple
+from typing import Dict, Iterable, List, NamedTuple, Optional, Sequence, SupportsIndex, Tuple
 
 from . import program as _program
 from . import swf
@@ -15,6 +17,7 @@ from .swf import Path
 
 MOST_PROCESSORS = 16_777_216
 MOST_FACTOR = 100_000
+MOST_SPACING = 65_536
 MOST_SCENARIOS = 64
 ORDERS = ("arrival", "shortest")
 _NAME = re.compile(r"[a-z0-9_-]{1,16}", re.ASCII)
@@ -33,15 +36,15 @@ class Scenario(NamedTuple):
     order: str = "arrival"
     name: Optional[str] = None
 
-    def check(self) -> None:
-        """Raises `BadWord` where the program would not take this."""
-        if self.procs is not None:
-            check_whole(self.procs, "processors", MOST_PROCESSORS)
-        check_whole(self.factor, "a factor in thousandths", MOST_FACTOR)
+    def check(self) -> "Scenario":
+        """The scenario with its numbers as `int`. Raises `BadWord` where the program would not take it."""
+        procs = None if self.procs is None else whole_number(self.procs, "processors", MOST_PROCESSORS)
+        factor = whole_number(self.factor, "a factor in thousandths", MOST_FACTOR)
         if self.order not in ORDERS:
             raise BadWord(f"an order is arrival or shortest, not {shown(self.order)}")
         if self.name is not None:
             check_name(self.name)
+        return self._replace(procs=procs, factor=factor)
 
     def named(self, procs: int) -> "Scenario":
         """The scenario on a log whose own machine has these processors, with a name."""
@@ -61,10 +64,17 @@ def check_name(name: object) -> None:
         raise BadWord(f"a name is 1 to 16 of a to z, 0 to 9, - and _, not {shown(name)}")
 
 
-def check_whole(value: object, what: str, most: int) -> None:
-    """Raises `BadWord` where this is no whole number from 1 to the most."""
-    if not isinstance(value, int) or isinstance(value, bool) or not 1 <= value <= most:
-        raise BadWord(f"{what}: a whole number from 1 to {most}, not {shown(value)}")
+def whole_number(value: SupportsIndex, what: str, most: Optional[int] = None, least: int = 1) -> int:
+    """A whole number from the least to the most, if there is one, as an `int`. Raises `BadWord` where it is none.
+
+    >>> whole_number(7, "threads")
+    7
+    """
+    with contextlib.suppress(TypeError):
+        number = int(operator.index(value))
+        if not isinstance(value, bool) and least <= number and (most is None or number <= most):
+            return number
+    raise BadWord(f"{what}: a whole number from {least} {'on' if most is None else f'to {most}'}, not {shown(value)}")
 
 
 class Opening(NamedTuple):
@@ -167,18 +177,14 @@ class _Opened(NamedTuple):
 
 
 def _open(path: str, scenarios: Sequence[Scenario], program: Optional[Path]) -> _Opened:
-    for it in scenarios:
-        it.check()
+    asked = [it.check() for it in scenarios]
     own = opening(swf.comments_of(path))
-    if own.procs is None and any(it.procs is None for it in scenarios):
-        # The program itself says whether the log is faulty or just names no machine.
+    if not 1 <= (own.procs or 0) <= MOST_PROCESSORS and any(it.procs is None for it in asked):
+        # The program itself says whether the log is faulty, or just names no machine or a bad one.
         with _program.answers(path, b"", program=program):
             pass
         raise Ended(1, "no machine size")
-    named = [it.named(own.procs or 0) for it in scenarios]
-    for it in named:
-        it.check()
-    return _Opened(own, named)
+    return _Opened(own, [it.named(own.procs or 0).check() for it in asked])
 
 
 def simulate(log: Path, procs: Optional[int] = None, factor: int = 1000, order: str = "arrival", *,
@@ -187,6 +193,7 @@ def simulate(log: Path, procs: Optional[int] = None, factor: int = 1000, order: 
 
     Raises `LogFault`, `BadWord`, `Memory`, `Ended`, `NoProgram`, and what opening the file raises.
     """
+    spacing = None if spacing is None else whole_number(spacing, "a spacing", MOST_SPACING)
     with _program.as_file(log) as path:
         it = _open(path, [Scenario(procs, factor, order)], program)
         name, scenario = it.pairs()[0]

@@ -12,9 +12,9 @@ from concurrent.futures import CancelledError, Executor, Future, ThreadPoolExecu
 from typing import Dict, Iterable, Iterator, List, NamedTuple, Optional, Sequence, TextIO, Tuple, Union
 
 from .errors import BadWord, LogFault, NoProgram, shown
-from .program import Stopper, as_file, find, is_read_once
+from .program import Stopper, as_file, find, is_copied, is_read_once
 from .reports import Table
-from .runs import MOST_SCENARIOS, Failure, Row, Scenario, side
+from .runs import MOST_SCENARIOS, Failure, Row, Scenario, side, whole_number
 from .swf import Path
 
 
@@ -31,8 +31,8 @@ class Rows(List[Row]):
 
 
 class Task(NamedTuple):
-    """What one program is asked: some scenarios of a log. `copy` is where a log lies that could be read once alone, or
-    why it could not be."""
+    """What one program is asked: some scenarios of a log. `copy` is where a copy of the log lies, if one was made for
+    several programs or since it could be read once alone, or why it could not be."""
 
     log: str
     scenarios: Tuple[Scenario, ...]
@@ -179,12 +179,17 @@ def _over(executor: Executor, todo: List[Task], stopper: Optional[Stopper]) -> L
     return [done[place] for place in range(len(todo))]
 
 
-def _checked(logs: Union[Path, Iterable[Path]], scenarios: Iterable[Scenario]) -> Tuple[List[str], List[Scenario]]:
+def _scenario(it: object) -> Scenario:
+    if not isinstance(it, Scenario):
+        raise BadWord(f"a scenario is an easybook.Scenario, not {shown(it)}")
+    return it.check()
+
+
+def _checked(logs: Union[Path, Iterable[Path]],
+             scenarios: Union[Scenario, Iterable[Scenario]]) -> Tuple[List[str], List[Scenario]]:
     if isinstance(logs, (str, os.PathLike)):
         logs = [logs]
-    asked = list(scenarios)
-    for it in asked:
-        it.check()
+    asked = [_scenario(it) for it in ([scenarios] if isinstance(scenarios, Scenario) else scenarios)]
     names = Counter(it.name for it in asked if it.name is not None)
     for name, count in names.items():
         if count > 1:
@@ -192,14 +197,15 @@ def _checked(logs: Union[Path, Iterable[Path]], scenarios: Iterable[Scenario]) -
     return [os.fspath(it) for it in logs], asked
 
 
-def sweep(logs: Union[Path, Iterable[Path]], scenarios: Iterable[Scenario], executor: Optional[Executor] = None, *,
-          at_once: Optional[int] = None, threads: Optional[int] = None, program: Optional[Path] = None) -> Rows:
+def sweep(logs: Union[Path, Iterable[Path]], scenarios: Union[Scenario, Iterable[Scenario]],
+          executor: Optional[Executor] = None, *, at_once: Optional[int] = None, threads: Optional[int] = None,
+          program: Optional[Path] = None) -> Rows:
     """The numbers of each log under each scenario, in this order.
 
     The work goes to the executor, in tasks of at most 64 scenarios of a log, each worked by a program of its own
     (`at_once`: at most so many). Without an executor there are as many threads as this process may use processors, or
     `threads`. On other machines the logs and the program must have the same paths. A log that is no regular file, such as
-    a pipe, is read once, into a temporary file of this machine.
+    a pipe, is read once, into a temporary file of this machine; without an executor so is one that is packed (`.gz`).
 
     What fails is told by a warning, with its log and scenario, and in `failures` of what is answered; the others' rows are
     all there, and in `tables` the table that each is of. Where this is interrupted, the programs that run under its own
@@ -212,15 +218,17 @@ def sweep(logs: Union[Path, Iterable[Path]], scenarios: Iterable[Scenario], exec
 
 
 @contextlib.contextmanager
-def _copies(names: Iterable[str]) -> Iterator[Dict[str, Union[str, OSError]]]:
-    """Copies of those logs that can be read once alone, for as long as this stands, or why there is none."""
+def _copies(todo: List[Task], is_here: bool) -> Iterator[Dict[str, Union[str, OSError]]]:
+    """Copies of those logs that can be read once alone, for as long as this stands, or why there is none. Where all tasks
+    are worked here, also of those of which each of several programs would read a copy of its own."""
     with contextlib.ExitStack() as stack:
         copies: Dict[str, Union[str, OSError]] = {}
-        for name in filter(is_read_once, dict.fromkeys(names)):
-            try:
-                copies[name] = stack.enter_context(as_file(name))
-            except OSError as it:
-                copies[name] = it
+        for name, count in Counter(it.log for it in todo).items():
+            if is_read_once(name) or (is_here and count > 1 and is_copied(name)):
+                try:
+                    copies[name] = stack.enter_context(as_file(name))
+                except OSError as it:
+                    copies[name] = it
         yield copies
 
 
@@ -236,16 +244,15 @@ def _worked(todo: List[Task], executor: Optional[Executor], threads: Optional[in
             stopper.stop()
 
 
-def _sweep(logs: Union[Path, Iterable[Path]], scenarios: Iterable[Scenario], executor: Optional[Executor],
-           at_once: Optional[int], threads: Optional[int], program: Optional[Path]) -> Rows:
+def _sweep(logs: Union[Path, Iterable[Path]], scenarios: Union[Scenario, Iterable[Scenario]],
+           executor: Optional[Executor], at_once: Optional[int], threads: Optional[int], program: Optional[Path]) -> Rows:
     names, asked = _checked(logs, scenarios)
-    for what, it in (("scenarios at once", at_once), ("threads", threads)):
-        if it is not None and (not isinstance(it, int) or isinstance(it, bool) or it < 1):
-            raise BadWord(f"{what}: a whole number from 1 on, not {shown(it)}")
+    at_once = None if at_once is None else whole_number(at_once, "scenarios at once")
+    threads = None if threads is None else whole_number(threads, "threads")
     own = None if executor is not None else find(program)
     count = None if executor is not None else threads or _processors()
     todo = tasks(names, asked, own or (None if program is None else os.fspath(program)), at_once, count)
-    with _copies(names) as copies:
+    with _copies(todo, executor is None) as copies:
         done = _worked([it._replace(copy=copies.get(it.log)) for it in todo], executor, count)
     return Rows((row for it in done for row in it.rows), (failure for it in done for failure in it.failures),
                 (table for it in done for table in it.tables))

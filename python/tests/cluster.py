@@ -22,6 +22,16 @@ def a_log(text=FOUR, name="a.swf"):
         yield path
 
 
+class Whole:
+    """A whole number that is no int, as those of numpy are none."""
+
+    def __init__(self, value):
+        self.value = value
+
+    def __index__(self):
+        return self.value
+
+
 @contextlib.contextmanager
 def a_pipe(text=FOUR):
     """The path of a pipe that gives this text once."""

@@ -46,6 +46,12 @@ def shell(words):
     return subprocess.run(["timeout", "60", "sh", "-c", f"{sys.executable} -m easybook {words}"], env=alone, capture_output=True, text=True, check=False)
 
 
+def open_and_save(path):
+    """What the program saves of a log."""
+    with easybook.open(path) as log:
+        return log.save()
+
+
 class Commands(unittest.TestCase):
     def test_a_dump_becomes_a_log_that_the_program_reads(self):
         it = ran("sacct", "-", "--procs", "8", "--tz", "UTC", given=DUMP.encode())
@@ -182,6 +188,42 @@ class Commands(unittest.TestCase):
             it = shell(f"sweep {log} --procs 7 --csv 2>&1; {sys.executable} -m easybook waits {log} --procs 7 --csv 2>&1")
         self.assertEqual([line.split(",")[0] for line in it.stdout.splitlines()],
                          ["log", log, left_out("1 job is", "7 processors"), "group", "all", "size 4", "user 7", left_out("1 job is", "7 processors")])
+
+    def test_jobs_that_are_too_long_under_a_factor_are_told(self):
+        def left_out(jobs, factor, begin=""):
+            return f"easybook: {begin}{jobs} estimated at over 100000000 seconds under factor {factor} and left out: its rows are not comparable with others"
+
+        # The third job's estimate is too long but at factor 500, and the fourth's at 2000 is.
+        text = FOUR.replace("-1 4 90 ", "-1 4 150000000 ").replace("-1 2 500 ", "-1 2 60000000 ")
+        larger = "1 job is larger than 7 processors and left out: its rows are not comparable with others"
+        with a_log(text) as log, a_log(FOUR, "b.swf") as other:
+            for words, want in (((log, "--procs", "10,16"), []), ((log, "--procs", "10,16", "--factor", "1000,2000"), [left_out("1 job is", 2000)]),
+                                ((log, "--procs", "10", "--factor", "500,1000,2000", "--order", "arrival,shortest"), [left_out("1 job is", 1000), left_out("2 jobs are", 2000)]),
+                                ((log, "--procs", "10", "--factor", "2000"), [left_out("2 jobs are", 2000)]), ((log, "--procs", "10", "--factor", "500"), []),
+                                ((log, other, "--procs", "7", "--factor", "1000,2000"),
+                                 [f"easybook: {log}: {larger}", left_out("1 job is", 2000, f"{log}: "), f"easybook: {other}: {larger}"])):
+                with self.subTest(words):
+                    it = ran("sweep", *words)
+                    self.assertEqual((it.returncode, it.stderr.decode().splitlines()), (0, want))
+            for factor, want in ((500, []), (1000, []), (2000, [left_out("2 jobs are", 2000)])):
+                with self.subTest(factor):
+                    it = ran("waits", log, "--procs", "10", "--factor", str(factor))
+                    self.assertEqual((it.returncode, it.stderr.decode().splitlines()), (0, want))
+
+    def test_names_that_are_not_ascii(self):
+        dump = DUMP.replace("|ana", "|josé").encode()
+        with tempfile.TemporaryDirectory() as room:
+            path = os.path.join(room, "a.swf")
+            with open(path, "wb") as file:
+                file.write(ran("sacct", "-", "--procs", "8", "--tz", "UTC", given=dump).stdout)
+            self.assertEqual(easybook.names(path), {1: "bob", 2: "josé"})
+            self.assertEqual(easybook.parse(open_and_save(path)).comments[-1], "; Scenario: base 8 1000 arrival")
+            self.assertIn("; Note: user 2 is josé", easybook.parse(open_and_save(path)).comments)
+            self.assertIn("\nuser josé,", ran("waits", path, "--csv").stdout.decode())
+            for encoding, want in (("utf-8", "user josé".encode()), ("latin-1", "user josé".encode("latin-1")), ("ascii", rb"user jos\xe9")):
+                with self.subTest(encoding):
+                    it = subprocess.run([sys.executable, "-m", "easybook", "waits", path, "--csv"], env={**os.environ, "PYTHONIOENCODING": encoding}, capture_output=True, check=False)
+                    self.assertEqual((it.returncode, [line.split(b",")[0] for line in it.stdout.splitlines()][-1]), (0, want), it.stderr)
 
     def test_a_log_without_a_job_is_told(self):
         with a_log("; a comment alone\n") as log, a_log(FOUR, "b.swf") as other:

@@ -6,6 +6,8 @@ import gzip
 import os
 import re
 import signal
+import subprocess
+import sys
 import tempfile
 import threading
 import time
@@ -16,7 +18,7 @@ from unittest import mock
 
 import easybook
 from easybook import Day, Entry, Job, Missing, Side, Start, Table, User
-from tests.cluster import FOUR, a_log, a_program, is_running, pids
+from tests.cluster import FOUR, Whole, a_log, a_program, is_running, pids
 
 REAL = 'exec "$REAL" "$@"'  # the program itself, of which the process is known
 BASE = Side("base", 0, 4, 47, Decimal("1.539"), Decimal("39.864"))
@@ -87,13 +89,9 @@ class Commands(unittest.TestCase):
         self.assertEqual(side["utilization"].tolist(), [Decimal("39.864")])
 
     def test_numbers_at_the_edge(self):
-        class Five:
-            def __index__(self):
-                return 5
-
         with a_log() as path, easybook.open(path, 10) as log:
             for field, value in [(2, Decimal("-0.0000001")), (11, -3), (4, Decimal("12.3456789")), (9, Decimal("007.50")), (18, -(10**12)),
-                                 (3, Decimal("1000000000000.0000009")), (17, Five()), (16, Decimal("1e3")), (15, Decimal("-1e-999999999")), (14, Decimal("0e999999999"))]:
+                                 (3, Decimal("1000000000000.0000009")), (17, Whole(5)), (16, Decimal("1e3")), (15, Decimal("-1e-999999999")), (14, Decimal("0e999999999"))]:
                 log.change(1, field, value)
             self.assertEqual(log.version(), 10)
             line = "1 0 1000000000000 12.345678 6 -1 -1 6 7.5 -1 -3 7 -1 0 0 1000 5 -1000000000000"
@@ -101,6 +99,12 @@ class Commands(unittest.TestCase):
             self.assertEqual(easybook.parse(log.save()).jobs[0].estimate, Decimal("7.5"))
             log.insert(Job(10**12, Decimal("-0.0000001"), status=Decimal("2.5")))
             self.assertEqual(log.save().splitlines()[2].decode(), "1000000000000 0" + " -1" * 8 + " 2.5" + " -1" * 7)
+
+    def test_whole_numbers_of_other_types(self):
+        with a_log() as path, easybook.open(path, Whole(10), spacing=Whole(1)) as log:
+            log.scenario("big", Whole(16), Whole(500))
+            self.assertEqual(log.save().splitlines()[:2], [TEN.strip().encode(), b"; Scenario: big 16 500 arrival"])
+            self.assertEqual(log.remove(Whole(4)), 1)
 
     def test_what_isnt_simulated_says_why(self):
         text = "1 0 -1 5 0 -1 -1 -1 5 -1 1 7 -1 -1 -1 -1 -1 -1\n2 0 -1 -1 4 -1 -1 4 5 -1 1 7 -1 -1 -1 -1 -1 -1\n3 0 -1 5 11 -1 -1 11 5 -1 1 7 -1 -1 -1 -1 -1 -1\n"
@@ -374,6 +378,35 @@ class Ends(unittest.TestCase):
             thread.join(30)
             self.assertEqual(told, [-signal.SIGKILL])
             self.assertFalse(is_running(fake))
+
+    def test_an_interrupt_between_commands_leaves_it_as_it_is(self):
+        # The interrupt comes to the whole group of processes, as that of a terminal does.
+        code = """import easybook, os, signal, sys, time
+with easybook.open(sys.argv[1], 10) as log:
+    log.remove(4)
+    try:
+        os.killpg(0, signal.SIGINT)
+        time.sleep(60)
+    except KeyboardInterrupt:
+        time.sleep(0.2)
+        print(log.version())
+"""
+        with a_log() as path, watched() as fake:
+            it = subprocess.run([sys.executable, "-c", code, path], env={**os.environ, "EASYBOOK": fake, "REAL": easybook.program.find()},
+                                start_new_session=True, capture_output=True, text=True, check=False, timeout=60)
+            self.assertEqual((it.returncode, it.stdout), (0, "1\n"), it.stderr)
+            self.assertFalse(is_running(fake))
+
+    def test_it_ends_where_python_is_killed(self):
+        code = "import easybook, os, signal, sys\nlog = easybook.open(sys.argv[1], 10)\nos.kill(os.getpid(), signal.SIGKILL)"
+        with a_log() as path, watched('"$REAL" "$@"; echo $? >"$(dirname "$0")/over"') as fake:
+            env = {**os.environ, "EASYBOOK": fake, "REAL": easybook.program.find()}
+            self.assertEqual(subprocess.run([sys.executable, "-c", code, path], env=env, check=False, timeout=60).returncode, -signal.SIGKILL)
+            over = os.path.join(os.path.dirname(fake), "over")
+            began = time.monotonic()
+            while not (os.path.exists(over) and os.path.getsize(over)):
+                self.assertLess(time.monotonic() - began, 30)
+                time.sleep(0.01)
 
     def test_one_that_nobody_holds_is_ended(self):
         with a_log() as path, watched() as fake:

@@ -4,6 +4,7 @@ import gzip
 import os
 import pickle
 import signal
+import tempfile
 import threading
 import time
 import unittest
@@ -12,7 +13,7 @@ from unittest import mock
 
 import easybook
 from easybook import Scenario, program, runs
-from tests.cluster import FOUR, a_log, a_pipe, a_program, is_running
+from tests.cluster import FOUR, Whole, a_log, a_pipe, a_program, is_running
 
 
 class Simulating(unittest.TestCase):
@@ -66,6 +67,23 @@ class Simulating(unittest.TestCase):
             self.assertEqual(len(easybook.read(log).jobs), 4)
         self.assertEqual([program.is_read_once(it) for it in ("/dev/stdin", "/proc/self/fd/0", os.devnull, "/", "/no/such/log", __file__)], [True] * 3 + [False] * 3)
 
+    def test_a_log_whose_name_is_no_utf_8(self):
+        with tempfile.TemporaryDirectory() as room:
+            log = os.path.join(room, os.fsdecode(b"a\xff.swf"))
+            with open(log, "w", encoding="utf-8") as file:
+                file.write(FOUR)
+            self.assertEqual(easybook.simulate(log, 10).table.mean_wait, 47)
+            self.assertEqual([(it.log, it.mean_wait) for it in easybook.sweep(log, [Scenario(10), Scenario(16)], at_once=1)], [(log, 47), (log, 12)])
+            with easybook.open(log, 10) as it:
+                self.assertEqual(it.settle(), 0)
+            with program.as_file(os.path.join(room, "é.swf")) as path:
+                self.assertEqual(path, os.path.join(room, "é.swf"))
+
+    def test_whole_numbers_of_other_types(self):
+        with a_log() as log:
+            run = easybook.simulate(log, Whole(10), Whole(500), spacing=Whole(1))
+        self.assertEqual([(it, type(it)) for it in run.scenario[:2]], [(10, int), (500, int)])
+
     def test_a_file_that_this_process_alone_has_open(self):
         with a_log() as path, open(path, "rb") as file:
             os.remove(path)
@@ -96,13 +114,22 @@ class Faults(unittest.TestCase):
             easybook.simulate(log)
         self.assertEqual((caught.exception.status, caught.exception.line), (1, "no machine size"))
 
+    def test_a_bad_machine_of_the_logs_own(self):
+        for procs in ("0", "16777217"):
+            with a_log(f"; MaxProcs: {procs}\n" + FOUR) as log:
+                for it in (easybook.simulate, easybook.run, easybook.open):
+                    with self.subTest(procs), self.assertRaises(easybook.Ended) as caught:
+                        it(log)
+                    self.assertEqual(caught.exception.args, (1, "bad machine size"))
+                self.assertEqual(easybook.simulate(log, 10).table.mean_wait, 47)
+
     def test_no_log(self):
         with self.assertRaises(FileNotFoundError):
             easybook.simulate("/no/such/log", 10)
 
     def test_words_are_checked_before_they_are_sent(self):
         with a_log() as log:
-            for words in [dict(procs=0), dict(procs=16_777_217), dict(procs=1.0), dict(procs=True), dict(procs="10\nquit"), dict(procs=10, factor=0),
+            for words in [dict(procs=0), dict(procs=16_777_217), dict(procs=1.0), dict(procs=True), dict(procs="10\nquit"), dict(procs=Whole(0)), dict(procs=10, spacing=0), dict(procs=10, spacing=True), dict(procs=10, factor=0),
                           dict(procs=10, factor=100_001), dict(procs=10, order="arrival\nquit"), dict(procs=10, order="fast")]:
                 with self.subTest(words), self.assertRaises(easybook.BadWord):
                     easybook.simulate(log, **words)

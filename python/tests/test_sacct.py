@@ -1,12 +1,15 @@
 """From accounting to a log: each decision on a dump of a few rows, worked by hand."""
 
 import io
+import os
 import random
 import unittest
 
 import easybook
 from easybook.slurm import Options, convert
+from easybook.slurm.rows import FORMAT
 from easybook.slurm.values import zone
+from tests.test_doctests import TOP
 
 HEAD = "JobIDRaw|JobID|Submit|Eligible|Start|End|ElapsedRaw|Suspended|State|User|Account|Partition|QOS|AllocCPUS|ReqCPUS|AllocNodes|ReqNodes|NodeList|TimelimitRaw"
 PLAIN = {
@@ -125,6 +128,13 @@ class Decisions(unittest.TestCase):
         self.assertEqual([tuple(it) for it in that.jobs], [line(8, status=0), line(7, submit=160, wait=5, run=20)])
         self.says(that, "2 rows that another row tells again skipped")
 
+    def test_a_first_line_that_names_other_columns(self):
+        columns = HEAD.split("|")
+        for head in ("|".join(columns[::-1]), f"{HEAD}|", HEAD.replace("QOS|", ""), f"{HEAD}|ExitCode", "JobID|State", HEAD.replace("JobIDRaw|JobID", "JobID|Job")):
+            with self.subTest(head), self.assertRaisesRegex(easybook.DumpFault, "^line 3 of the dump: it names columns, but not as line 1 does: convert the dumps apart, or dump them with the same -o$"):
+                made(row(), head, row(8))
+        self.assertEqual(jobs(row(User="JobID", Account="x"), HEAD), [line()])
+
     def test_a_wait_that_became_a_start_is_one_job(self):
         waiting = row(7, State="PENDING", Start="Unknown", End="Unknown", AllocNodes="0")
         self.assertEqual(jobs(waiting, row()), [line()])
@@ -148,6 +158,12 @@ class Decisions(unittest.TestCase):
         that = made(*rows, head=head)
         self.assertEqual([it.number for it in that.jobs], [38, 39, 30, 37, 40, 41])
         self.assertIn("; Note: job 40 is 37+1", that.comments)
+        # These are 21_1, 21_2, 37+1 and the waiting tasks.
+        told = "4 jobs without a number of their own (a column JobIDRaw): they are numbered from 38 on"
+        self.says(that, told)
+        self.assertIn(told, that.warned)
+        that = made("30|10|20|21|COMPLETED|8", "37+0|10|20|21|COMPLETED|8", "30|30|40|41|COMPLETED|8", head=head)
+        self.assertEqual((sorted(it.number for it in that.jobs), [it for it in that.warned if "of their own" in it]), ([30, 37, 38], []))
 
     def test_rows_of_waiting_tasks_are_jobs_and_no_tasks(self):
         waiting = {**NEVER, "State": "PENDING", "Start": "Unknown", "End": "Unknown"}
@@ -155,6 +171,11 @@ class Decisions(unittest.TestCase):
         self.assertEqual([tuple(it) for it in that.jobs], [line(12), line(10, wait=-1, run=-1, allocated=-1, size=4, status=-1)])
         for told in ("1 task of arrays, each a job of its own", "1 row of an array's waiting tasks counts as one job", "1 job that never started: without a run time, and so not simulated"):
             self.says(that, told)
+        # Slurm cuts off a long list, which makes the row no step.
+        that = made(row(10, JobID="10_[1,3,5,7,...]", **waiting), row("10.batch", JobID="10.batch"))
+        self.assertEqual([it.number for it in that.jobs], [10])
+        self.says(that, "1 row of steps skipped")
+        self.says(that, "1 row of an array's waiting tasks counts as one job")
         that = made(row(10, JobID="10_[3-100%2]", **waiting), row(11, JobID="11_[7]", **waiting))
         self.says(that, "2 rows of arrays' waiting tasks, each of which counts as one job")
         self.assertNotIn("tasks of arrays", "".join(that.decided))
@@ -171,9 +192,12 @@ class Decisions(unittest.TestCase):
             made(row(Submit="900"), head=HEAD.replace("Submit", "X"), arrival="submit")
 
     def test_a_start_before_it_was_eligible(self):
+        told = "1 job started before they arrived: the start is taken as arrival"
         that = made(row(Eligible="1020"))
         self.assertEqual(tuple(that.jobs[0]), line(wait=0))
-        self.says(that, "1 job started before they were eligible: the start is taken as arrival")
+        self.says(that, told)
+        self.says(made(row(Submit="1020"), arrival="submit"), told)
+        self.says(made(row(Submit="1020"), head=HEAD.replace("Eligible", "X")), told)
 
     def test_sizes(self):
         self.assertEqual(jobs(row(), size="req"), [line(size=4)])
@@ -214,6 +238,14 @@ class Decisions(unittest.TestCase):
         self.says(made(row(), head=HEAD.replace("AllocNodes", "X"), size="nodes"), "1 job without nodes allocated (a column AllocNodes): those requested are taken")
         for size in ("alloc", "req", "nodes"):
             self.assertEqual(made(row(), row(8, **NEVER), size=size).warned, [])
+
+    def test_a_job_that_never_started_is_counted_once(self):
+        head = "JobID|Submit|Start|End|State|AllocCPUS|Timelimit"
+        that = made("7|10|20|50|COMPLETED|8|10:00", "8|10|20|20|CANCELLED|0|", "9|10|20|20|CANCELLED|0|5000-00:00:00", head=head)
+        self.assertEqual([it.size for it in that.jobs], [8, 0, 0])
+        self.says(that, "2 jobs that never started: without a run time, and so not simulated")
+        self.assertFalse([it for it in that.warned if "not simulated" in it])
+        self.says(made(row(AllocCPUS="", ReqCPUS="")), "1 job without a number of processors: not simulated")
 
     def test_limits(self):
         for text, want in [("3", 180), ("UNLIMITED", 31_536_000), ("0", 31_536_000), ("Partition_Limit", -1), ("", -1)]:
@@ -266,6 +298,13 @@ class Decisions(unittest.TestCase):
         self.assertEqual((told(*[it / 10 for it in range(28)], -0.3), told(*[it / 100 for it in range(10)], -1)), ([], []))
         self.assertEqual(told(*[it / 100 for it in range(10)], -1.01), [f"1 job arrived before 2026-03-01, up to 2 days before the others; {end}"])
         self.assertEqual((told(-40, -40, *month[:17]), len(told(-40, -40, *month[:18]))), ([], 1))
+        # Those that never started, or have no run time, are none of them.
+        far = {"Submit": "1", "Eligible": "1"}
+        for changed in (NEVER, {"State": "PENDING", "Start": "Unknown", "End": "Unknown"}, {"ElapsedRaw": "", "Start": "2", "End": "Unknown"}):
+            times = [str(1_772_366_400 + int(day * 86_400)) for day in month]
+            that = made(row(1000, **{**changed, **far}), *(row(number, Submit=it, Eligible=it, Start=it) for number, it in enumerate(times, 1)))
+            self.assertEqual([it for it in that.warned if "arrived before" in it], [])
+        self.assertEqual([it for it in made(row(**{**NEVER, **far})).warned if "arrived before" in it], [])
         self.assertIn("before 2026-03-02, ", told(*[it + 0.49 for it in month], -40, zone=zone("+01:00"), zone_name="+01:00")[0])
 
     def test_partitions(self):
@@ -275,6 +314,19 @@ class Decisions(unittest.TestCase):
         self.says(that, "1 job of other partitions than main left out")
         self.assertNotIn("; Note: user 2 is eve", that.comments)
         self.says(made(*rows), "3 partitions taken as one machine (--partition chooses)")
+        # A row told again, a wait that became a start and two executions are of one job each.
+        others = [row(8, Partition="debug"), row(8, Partition="debug"), row(10, Partition="x", State="REQUEUED"), row(10, Partition="x", Start="1050"),
+                  row(11, Partition="x", State="PENDING", Start="Unknown"), row(11, Partition="x")]
+        self.says(made(row(), *others, partitions=frozenset(["main"])), "3 jobs of other partitions than main left out")
+
+    def test_partitions_that_no_row_is_of(self):
+        rows = [row(), row(8, Partition="debug,test")]
+        for names, want in ((["main", "test"], []), (["main", "mian"], ["no row is of the partition mian (--partition)"]),
+                            (["main", "y", "debug", "x"], ["no row is of the partitions x, y (--partition)"])):
+            with self.subTest(names):
+                that = made(*rows, partitions=frozenset(names))
+                self.assertEqual([it for it in that.warned if "no row" in it], want)
+                self.assertEqual([it for it in that.comments if "no row" in it], [f"; Note: {it}" for it in want])
 
     def test_second_0(self):
         rows = [row(Submit="100000", Eligible="100000", Start="100010")]
@@ -295,16 +347,20 @@ class Decisions(unittest.TestCase):
         self.says(that, "16 processors in use at second 39, more than the machine's 10: is --procs too small?")
         self.assertFalse([it for it in made(row(), row(8, Start="1040"), procs=10).warned if "in use" in it])
         self.says(made(row(AllocCPUS="11"), procs=10), "1 job larger than the machine's 10: not simulated (--procs)")
+        self.says(made(row(), row(8, Start="1039"), procs=3, size="nodes"),
+                  "4 nodes in use at second 39, more than the machine's 3: do jobs share nodes (leave out --size nodes), or is --procs too small?")
 
-    def test_all_comments_are_ascii_lines(self):
-        that = made(row(User="a\u2028\x07\udcffé;\rb"), row(8, User="x" * 5000))
-        self.assertIn(r"; Note: user 1 is a\u2028\x07\xff\xe9;\rb", that.comments)
-        self.assertTrue(all(it.isascii() and it.isprintable() and len(it) < 2000 for it in that.comments))
+    def test_all_comments_are_lines_of_what_is_seen(self):
+        that = made(row(User="a\u2028\x07\udcffé;\rb"), row(8, User="x" * 5000), row(9, User="zoë"))
+        self.assertIn(r"; Note: user 1 is a\u2028\x07\xffé;\rb", that.comments)
+        self.assertIn("; Note: user 3 is zoë", that.comments)
+        self.assertTrue(all(it.isprintable() and len(it) < 2000 for it in that.comments))
         left = made(row(), row(8, Partition="x"), partitions=frozenset(["main", "\u00e9\nb"]))
-        self.assertIn(r"; Note: 1 job of other partitions than main, \xe9\nb left out", left.comments)
+        self.assertIn(r"; Note: 1 job of other partitions than main, é\nb left out", left.comments)
         room = io.BytesIO()
         that.write(room)
-        self.assertEqual(easybook.parse(room.getvalue()).jobs, that.jobs)
+        log = easybook.parse(room.getvalue())
+        self.assertEqual((log.comments, log.jobs), (that.comments, that.jobs))
 
 
 class Refusals(unittest.TestCase):
@@ -368,6 +424,12 @@ class Refusals(unittest.TestCase):
     def test_two_clusters(self):
         head = HEAD + "|Cluster"
         self.refuses(r"^line 3 of the dump: it is of the cluster 'b', those before of 'a'", row() + "|a", row(8) + "|b", head=head)
+        self.assertEqual(jobs(row() + "|a", head=head), [line()])
+
+    def test_the_command_that_is_documented_dumps_what_is_read(self):
+        with open(os.path.join(TOP, "docs", "from-a-cluster.md"), encoding="utf-8") as file:
+            self.assertTrue(f" -o {FORMAT} > dump.txt\n" in file.read())
+        self.assertIn("Cluster", FORMAT.split(","))
 
 
 if __name__ == "__main__":

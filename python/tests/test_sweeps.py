@@ -1,12 +1,14 @@
 """Many scenarios of many logs: rows, failures, executors, what is left behind."""
 
 import concurrent.futures
+import gzip
 import importlib.util
 import io
 import os
 import shutil
 import subprocess
 import sys
+import tempfile
 import threading
 import time
 import unittest
@@ -16,7 +18,7 @@ from unittest import mock
 
 import easybook
 from easybook import Scenario, program, sweeps
-from tests.cluster import FOUR, a_log, a_pipe, a_program, is_running, pids
+from tests.cluster import FOUR, Whole, a_log, a_pipe, a_program, is_running, pids
 
 
 def a_table(name):
@@ -80,7 +82,7 @@ class Sweeping(unittest.TestCase):
         with a_log("; MaxProcs: 99999999\n" + FOUR) as log:
             done = sweeps.work(sweeps.Task(log, (Scenario(), Scenario(16)), None))
         self.assertEqual([tuple(it) for it in done.rows], [(log, "16-1000", 16, 1000, "arrival", 4, 12, Decimal("1.136"), Decimal("29.324"), 0, 0)])
-        self.assertEqual([(it.scenario, type(it.error)) for it in done.failures], [(Scenario(), easybook.BadWord)])
+        self.assertEqual([(it.scenario, type(it.error)) for it in done.failures], [(Scenario(), easybook.Ended)])
 
     def test_a_program_that_dies_of_one_scenario_loses_no_other(self):
         told = f"scenario base dropped\\nscenario s0 added\\nsettled 0\\n{a_table('s0')}"
@@ -112,6 +114,43 @@ class Sweeping(unittest.TestCase):
             easybook.sweep(["/no/such/log"], [Scenario(10), Scenario(10, order="fast")])
         with self.assertRaises(easybook.BadWord):
             easybook.sweep(["/no/such/log"], [Scenario(10, name="a"), Scenario(11, name="a")], at_once=1)
+
+    def test_a_scenario_alone_and_what_is_none(self):
+        with a_log() as log:
+            self.assertEqual([it.mean_wait for it in easybook.sweep(log, Scenario(16))], [12])
+            for it in ([10], [Scenario(10), (10, 1000)], "10", [[Scenario(10)]]):
+                with self.subTest(it), self.assertRaisesRegex(easybook.BadWord, "^a scenario is an easybook.Scenario, not [^\n]+$"):
+                    easybook.sweep(log, it)
+            with self.assertRaisesRegex(easybook.BadWord, "^a scenario is an easybook.Scenario, not 10$"):
+                easybook.run(log, 10)
+
+    def test_whole_numbers_of_other_types(self):
+        with a_log() as log:
+            rows = easybook.sweep(log, [Scenario(Whole(10), Whole(500)), Scenario(16)], at_once=Whole(1), threads=Whole(2))
+        self.assertEqual([(it.scenario, it.procs, type(it.procs), type(it.factor)) for it in rows], [("10-500", 10, int, int), ("16-1000", 16, int, int)])
+
+    def test_a_packed_log_is_unpacked_once(self):
+        scenarios = [Scenario(it) for it in (10, 16, 17)]
+        with tempfile.TemporaryDirectory() as room, a_log() as plain, mock.patch.object(tempfile, "tempdir", room):
+            with gzip.open(f"{plain}.gz", "wb") as file:
+                file.write(FOUR.encode())
+            log = f"{plain}.gz"
+            with concurrent.futures.ThreadPoolExecutor(2) as executor:
+                for words, want in ((dict(at_once=1), 1), (dict(at_once=3), 1), (dict(at_once=1, executor=executor), 3)):
+                    with self.subTest(words), mock.patch.object(program, "opened", wraps=program.opened) as opened:
+                        self.assertEqual([(it.log, it.mean_wait) for it in easybook.sweep(log, scenarios, **words)], [(log, 47), (log, 12), (log, 12)])
+                        self.assertEqual((opened.call_count, os.listdir(room)), (want, []))
+            with open(log, "rb") as file:
+                half = file.read()[:-12]
+            with open(log, "wb") as file:
+                file.write(half)
+            with warnings.catch_warnings():
+                warnings.simplefilter("ignore")
+                rows = easybook.sweep([log, plain], scenarios, at_once=1)
+            self.assertEqual(([it.log for it in rows], [str(it.error).split(":")[0] for it in rows.failures]), ([plain] * 3, [f"{log} is no whole gzip file"] * 3))
+            with mock.patch.object(sweeps, "_over", side_effect=KeyboardInterrupt), self.assertRaises(KeyboardInterrupt):
+                easybook.sweep(log, scenarios, at_once=1)
+            self.assertEqual(os.listdir(room), [])
 
     def test_logs_that_are_read_once(self):
         scenarios = [Scenario(it) for it in (10, 16)]

@@ -2,7 +2,9 @@
 
 import unittest
 from datetime import datetime
+from unittest import mock
 
+from easybook.slurm import values
 from easybook.slurm.values import Clock, Unreadable, zone
 from tests.test_sacct import jobs, made, row
 
@@ -71,6 +73,14 @@ class Times(unittest.TestCase):
         for name in ("Mars/Olympus", "../etc/passwd", "", "+99:00"):
             with self.assertRaises(Unreadable):
                 zone(name)
+
+    def test_python_without_zones(self):
+        with self.assertRaisesRegex(Unreadable, "^no zone is known by the name 'Mars': give one such as Europe/Paris, "):
+            zone("Mars")
+        with mock.patch.object(values, "ZoneInfo", side_effect=values.ZoneInfoNotFoundError), mock.patch.object(values, "available_timezones", set):
+            with self.assertRaisesRegex(Unreadable, r"^Python finds no zones here: install tzdata, or give an offset such as \+01:00$"):
+                zone("Europe/Paris")
+            self.assertEqual(str(zone("UTC")), "UTC")
 
     def test_one_dump_in_three_times(self):
         epoch = row(Submit="1782900000", Eligible="1782900000", Start="1782900010", End="1782900040")

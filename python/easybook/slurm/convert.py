@@ -4,14 +4,14 @@ from __future__ import annotations
 
 from collections import Counter
 from datetime import tzinfo
-from typing import BinaryIO, Dict, FrozenSet, List, NamedTuple, Optional, Tuple
+from typing import BinaryIO, Dict, FrozenSet, Hashable, List, NamedTuple, Optional, Set, Tuple
 
 from ..errors import BadWord, DumpFault
 from ..runs import MOST_PROCESSORS
 from ..swf import MISSING, MOST_JOBS, Job, job_text
 from .executions import Execution, Reader, is_unlimited
 from .notes import Early, Facts, decided, warned
-from .numbers import Numbered, number_all
+from .numbers import Numbered, identity, number_all
 from .rows import Dump
 from .values import A_DAY, Clock, Fate
 
@@ -50,15 +50,17 @@ class Made(NamedTuple):
 
     def write(self, to: BinaryIO) -> None:
         """Writes the log."""
-        to.write("".join(f"{it}\n" for it in self.comments).encode("ascii"))
+        to.write("".join(f"{it}\n" for it in self.comments).encode("utf-8"))
         for begin in range(0, len(self.jobs), 1000):
             to.write("".join(f"{job_text(it)}\n" for it in self.jobs[begin : begin + 1000]).encode("ascii"))
 
 
-def _read(dump: Dump, reader: Reader, options: Options, counts: "Counter[str]") -> List[Execution]:
-    """The executions that are taken."""
+def _read(dump: Dump, reader: Reader, options: Options, counts: "Counter[str]") -> Tuple[List[Execution], List[str]]:
+    """The executions that are taken, and the partitions that were asked for and no row is of."""
     taken: List[Execution] = []
     allowed: Dict[int, bool] = {}
+    seen: Set[str] = set()
+    left_out: Set[Hashable] = set()
     for row in dump.rows():
         it = reader.read(row)
         if it is None:
@@ -66,11 +68,13 @@ def _read(dump: Dump, reader: Reader, options: Options, counts: "Counter[str]") 
         if options.partitions and it.partition not in allowed:
             names = row.values[dump.columns.need("Partition")].split(",")
             allowed[it.partition] = bool(options.partitions.intersection(names))
+            seen.update(names)
         if options.partitions and not allowed[it.partition]:
-            counts["other partitions"] += 1
+            left_out.add(identity(it))
         else:
             taken.append(it)
-    return taken
+    counts["other partitions"] = len(left_out)
+    return taken, sorted(options.partitions - seen)
 
 
 def _arrival(it: Execution, options: Options, counts: "Counter[str]") -> int:
@@ -111,13 +115,13 @@ def _count(it: Execution, size: int, estimate: int, options: Options, counts: "C
     counts["waiting tasks"] += it.is_waiting_tasks
     counts["parts"] += it.is_part
     counts["suspended"] += bool(it.was_suspended)
-    counts["no size"] += size == MISSING
-    counts["long"] += estimate > GREATEST_ESTIMATE
     if it.start is None:
         counts["never"] += 1
         counts["guessed"] += it.is_guessed
         counts["pending"] += it.fate in (Fate.PENDING, Fate.RUNNING)
         return
+    counts["no size"] += size == MISSING
+    counts["long"] += estimate > GREATEST_ESTIMATE
     counts["running"] += it.fate is Fate.RUNNING
     counts["other size"] += _wants(it, options)[0] <= 0 < size
     counts["no run"] += it.run is None
@@ -167,11 +171,12 @@ def _peak(jobs: List[Numbered], options: Options, zero: int) -> Tuple[int, int]:
     return peak, when - zero
 
 
-def _early(arrivals: List[int]) -> Optional[Early]:
-    """The jobs that arrived far before the others: those before the last gap between arrivals that lies within the first
-    tenth of the jobs, is over a day, and is longer than a tenth of the time from the first arrival to the last."""
-    ordered = sorted(arrivals)
-    least = max(A_DAY, (ordered[-1] - ordered[0]) // 10)
+def _early(jobs: List[Numbered], arrivals: List[int]) -> Optional[Early]:
+    """Of the jobs that ran those that arrived far before the others: those before the last gap between arrivals that lies
+    within the first tenth of the jobs, is over a day, and is longer than a tenth of the time from the first arrival to the
+    last."""
+    ordered = sorted(arrival for (_, it, _), arrival in zip(jobs, arrivals) if it.run is not None)
+    least = max(A_DAY, (ordered[-1] - ordered[0]) // 10) if ordered else 0
     for place in range(len(ordered) // 10, 0, -1):
         if ordered[place] - ordered[place - 1] > least:
             return Early(place, ordered[0], ordered[place])
@@ -216,7 +221,7 @@ def convert(file: BinaryIO, options: Options) -> Made:
         dump.columns.need("Submit")
     reader = Reader(dump.columns, clock, options.size == "nodes")
     counts = reader.counts
-    executions = _read(dump, reader, options, counts)
+    executions, unknown_partitions = _read(dump, reader, options, counts)
     if not executions:
         raise DumpFault(1, "no job stands behind it: look at the dates (-S, -E) and users (-a) of the dump, and at --partition")
     numbered = number_all(executions, counts)
@@ -234,17 +239,17 @@ def convert(file: BinaryIO, options: Options) -> Made:
     changes = clock.changes(zero, max(lasts)) if options.zero == "midnight" else []
     facts = Facts(counts, options, clock, len(jobs), zero, peak, when, len({it.partition for it in jobs}),
                   next((it.number for it in numbered if it.legend), None), reader.has_minutes, changes,
-                  any(it.group != MISSING for it in jobs), any(it.queue != MISSING for it in jobs), _early(arrivals))
+                  any(it.group != MISSING for it in jobs), any(it.queue != MISSING for it in jobs), _early(numbered, arrivals),
+                  unknown_partitions)
     said, warnings = decided(facts), warned(facts)
     legend += [f"job {it.number} is {_shown(it.legend)}" for it in numbered if it.legend]
     return Made(_comments(facts, said + warnings + legend), jobs, said, warnings)
 
 
 def _shown(name: str) -> str:
-    """A name in ASCII, without anything that isn't seen."""
+    """A name without bytes that are no UTF-8, and without anything that isn't seen."""
     text = name.encode("utf-8", "surrogateescape").decode("utf-8", "backslashreplace")
-    text = "".join(it if it.isprintable() else it.encode("unicode_escape").decode("ascii") for it in text)
-    return text.encode("ascii", "backslashreplace").decode("ascii")[:1000]
+    return "".join(it if it.isprintable() else it.encode("unicode_escape").decode("ascii") for it in text)[:1000]
 
 
 def _comments(facts: Facts, notes: List[str]) -> List[str]:

@@ -118,7 +118,8 @@ class Reader:
         values = row.values
         label = values[self._id] if self._id is not None else values[self._raw or 0]
         raw = values[self._raw] if self._raw is not None else None
-        if "." in label or (raw is not None and "." in raw):
+        # Slurm cuts off a long list of waiting tasks: 10_[1,3,5,...].
+        if "." in label.partition("[")[0] or (raw is not None and "." in raw):
             self.counts["steps"] += 1
             return None
         self._check_cluster(row)

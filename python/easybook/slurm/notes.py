@@ -36,6 +36,7 @@ class Facts(NamedTuple):
     has_accounts: bool
     has_qos: bool
     early: Optional[Early]
+    unknown_partitions: List[str]
 
 
 _SIZES = {
@@ -132,7 +133,9 @@ def warned(facts: Facts) -> List[str]:
                                "(a column ElapsedRaw leaves it out)"),
         ("guessed", "{} cancelled job{} of no run time taken as never started: a column AllocNodes or NodeList would tell"),
         ("no eligible", "{} job{} without a time from which they were eligible (a column Eligible): they arrive when submitted"),
-        ("started early", "{} job{} started before they were eligible: the start is taken as arrival"),
+        ("started early", "{} job{} started before they arrived: the start is taken as arrival"),
+        ("no number", "{} job{} without a number of their own (a column JobIDRaw): they are numbered from "
+                      + f"{facts.first_fresh} on"),
     ]) + _counted(clocks, [
         ("none", "{} time{} without a zone taken as UTC: an hour that the clocks repeat or skip isn't told apart (--tz)"),
         ("folded", "{} time{} of an hour that the clocks repeat: the first is taken (SLURM_TIME_FORMAT=%s tells them apart)"),
@@ -143,11 +146,17 @@ def warned(facts: Facts) -> List[str]:
         more = f" and {again} time{'' if again == 1 else 's'} more" if again else ""
         lines.append(f"the clock changes on {date}{more}: days are of 86400 seconds, so those behind it begin at {begin}")
     if facts.peak > options.procs:
-        lines.append(f"{facts.peak} processors in use at second {facts.when}, more than {machine}: is --procs too small?")
+        is_nodes = options.size == "nodes"
+        shared = "do jobs share nodes (leave out --size nodes), or " if is_nodes else ""
+        lines.append(f"{facts.peak} {'nodes' if is_nodes else 'processors'} in use at second {facts.when}, more than {machine}: "
+                     f"{shared}is --procs too small?")
     if facts.early is not None:
         jobs, first, others = facts.early
         lines.append(f"{jobs} job{'' if jobs == 1 else 's'} arrived before {clock.date(others)}, up to "
                      f"{-(-(others - first) // A_DAY)} days before the others; the machine of a simulation starts empty")
+    if facts.unknown_partitions:
+        several = "" if len(facts.unknown_partitions) == 1 else "s"
+        lines.append(f"no row is of the partition{several} {', '.join(facts.unknown_partitions)} (--partition)")
     if facts.partitions > 1 and not options.partitions:
         lines.append(f"{facts.partitions} partitions taken as one machine (--partition chooses)")
     return lines

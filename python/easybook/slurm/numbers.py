@@ -19,7 +19,8 @@ class Numbered(NamedTuple):
     legend: Optional[str]
 
 
-def _identity(it: Execution) -> Hashable:
+def identity(it: Execution) -> Hashable:
+    """What tells an execution's job from others."""
     return it.label if it.number is None else it.number
 
 
@@ -46,14 +47,14 @@ def _last_of_several(executions: List[Execution], counts: "Counter[str]") -> Dic
     tells it again."""
     seen: Set[Hashable] = set()
     several: Dict[Hashable, List[Tuple[int, Execution]]] = {}
-    for it in map(_identity, executions):
+    for it in map(identity, executions):
         if it in seen:
             several[it] = []
         seen.add(it)
     del seen
     for place, execution in enumerate(executions if several else ()):
-        if _identity(execution) in several:
-            several[_identity(execution)].append((place, execution))
+        if identity(execution) in several:
+            several[identity(execution)].append((place, execution))
     is_last: Dict[int, Optional[bool]] = {}
     for rows in several.values():
         kept = _told_again(rows)
@@ -84,5 +85,6 @@ def number_all(executions: List[Execution], counts: "Counter[str]") -> List[Numb
             raise DumpFault(line, f"the job number {greatest} leaves no greater ones for executions that have none of their "
                                   f"own: {MEND}")
         fresh += 1
+        counts["no number"] += last
         numbered.append(Numbered(fresh, it, it.label if last else f"an earlier execution of {it.label}"))
     return numbered

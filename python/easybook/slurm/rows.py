@@ -9,10 +9,10 @@ from ..errors import DumpFault
 from .values import quoted
 
 MOST_BYTES_OF_LINE = 1 << 20
-FORMAT = ("JobIDRaw,JobID,Submit,Eligible,Start,End,ElapsedRaw,Suspended,State,User,Account,Partition,QOS,"
+FORMAT = ("JobIDRaw,JobID,Cluster,Submit,Eligible,Start,End,ElapsedRaw,Suspended,State,User,Account,Partition,QOS,"
           "AllocCPUS,ReqCPUS,AllocNodes,ReqNodes,NodeList,TimelimitRaw")
 _ADVICE = f"dump with sacct -a -X -D -P -o {FORMAT}"
-_KNOWN = frozenset(f"{FORMAT},Elapsed,Timelimit,UID,Cluster,AllocTRES,NNodes,NCPUS".lower().split(","))
+_KNOWN = frozenset(f"{FORMAT},Elapsed,Timelimit,UID,AllocTRES,NNodes,NCPUS".lower().split(","))
 _PACKED = b"\x1f\x8b"
 
 
@@ -91,8 +91,16 @@ class Dump:
         for line, text in enumerate(self._lines, 2):
             if text == self._first:
                 self.further_first_lines += 1
+            elif "JobID" in text and self._names_columns(text):
+                raise DumpFault(line, "it names columns, but not as line 1 does: convert the dumps apart, or dump them with "
+                                      "the same -o")
             elif text:
                 yield Row(line, self._cut(line, text))
+
+    def _names_columns(self, text: str) -> bool:
+        """Whether a line is the first of a dump."""
+        names = {it.strip().lower() for it in text.split(self._delimiter)}
+        return not names.isdisjoint(("jobid", "jobidraw")) and not names.isdisjoint(("start", "state"))
 
     def _cut(self, line: int, text: str) -> List[str]:
         values = text.split(self._delimiter)

@@ -6,7 +6,7 @@ import enum
 import re
 from datetime import datetime, timedelta, timezone, tzinfo
 from typing import Dict, List, Optional, Tuple, Union
-from zoneinfo import ZoneInfo, ZoneInfoNotFoundError
+from zoneinfo import ZoneInfo, ZoneInfoNotFoundError, available_timezones
 
 UNLIMITED = "UNLIMITED"
 A_DAY = 86_400
@@ -22,6 +22,7 @@ _MOST_DAYS = 36_525
 _LATEST = 200_000_000_000
 MEND = "mend or leave out the row"
 _A_ZONE = "give one such as Europe/Paris, UTC or +01:00"
+_NO_ZONES = "Python finds no zones here: install tzdata, or give an offset such as +01:00"
 
 
 class Unreadable(ValueError):
@@ -64,6 +65,8 @@ def zone(name: str) -> tzinfo:
     try:
         return ZoneInfo(name)
     except (ZoneInfoNotFoundError, ValueError, OSError):
+        if not available_timezones():
+            raise Unreadable(_NO_ZONES) from None
         raise Unreadable(f"no zone is known by the name {quoted(name)}: {_A_ZONE}") from None
 
 
