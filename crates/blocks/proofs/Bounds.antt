@@ -30,10 +30,6 @@ module _ {X : Type 0} (f : X → ℕ) where
   pub low_one : (least : ℕ) (x : X) (new : List (List X)) → least ≤ f x → new ≡ (x ∷ []) ∷ [] → Low least (flat new)
   low_one least x new le e = low_by least (x ∷ []) (flat new) (All-cons (λ y. least ≤ f y) x [] le (All-nil (λ y. least ≤ f y))) (ap flat e)
 
-  -- none of no items weighs less
-  pub low_none : (least : ℕ) (new : List (List X)) → new ≡ [] → Low least (flat new)
-  low_none least new e = low_by least [] (flat new) (All-nil (λ y. least ≤ f y)) (ap flat e)
-
   module _ (least : ℕ) (k : ℕ) (cs new : List (List X)) (low : Low least (flat cs)) where
     -- none weighs less than a smaller number, once an item that doesn't is inserted in a block
     pub low_put : (less at : ℕ) (x : X) → k < length cs → at ≤ length (get_or cs k []) → new ≡ set cs k (insert (get_or cs k []) at x) → less ≤ least → less ≤ f x → Low less (flat new)

@@ -177,18 +177,3 @@ module _ {X : Type 0} where
           usable = omega (arith, row.usable, more, count, wide);
           returnable = omega (arith, row.returnable, more, count, capacity);
         }
-
-    -- a row with all blocks among the empty ones keeps it, with no items
-    pub cleared_row : (new rest : List (List X)) (ur' er' : ℕ) → new ≡ [] → All IsClear rest → length rest ≡ length used + length empty → ur ≤ ur' → er ≤ er' → IsRow new rest 0 0 ur' er'
-    cleared_row new rest ur' er' none clear more wide capacity =
-        let count : length new ≡ 0 = ap (λ (r : List (List X)). length r) none in
-        record {
-          filled = subst AreFilled (sym none) tt;
-          cleared = clear;
-          overs = sym (ap (sum_by over_of) none);
-          owed = omega arith;
-          all = sym (ap (λ (r : List (List X)). length (flat r)) none);
-          few = omega (arith, row.few, more, count);
-          usable = omega (arith, row.usable, more, count, wide);
-          returnable = omega (arith, row.returnable, more, count, capacity);
-        }

@@ -30,12 +30,6 @@ module _ {X : Type 0} where
   filled-drop (suc n) [] s = tt
   filled-drop (suc n) (c ∷ cs) s = filled-drop n cs s.1
 
-  -- a filled block, if it is there, has at least one item
-  pub some_at : (k : ℕ) (cs : List (List X)) → AreFilled cs → k < length cs → 1 ≤ length (get_or cs k [])
-  some_at k [] s lt = absurd (omega (arith, lt))
-  some_at zero (c ∷ cs) s lt = s.0.low
-  some_at (suc k) (c ∷ cs) s lt = some_at k cs s.1 (omega (arith, lt))
-
   insert_mid : (a b c : List X) (i : ℕ) (x : X) → i ≤ length b → a ++ insert b i x ++ c ≡ insert (a ++ (b ++ c)) (length a + i) x
   insert_mid a b c i x h =
       let back : length a + i - length a ≡ i = omega arith in

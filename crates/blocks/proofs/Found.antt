@@ -1,12 +1,14 @@
 -- Items of a row in blocks, by their places: a walk over the blocks to a place, an item that is read, put in or taken out there, and what a
 -- search by two numbers meets.
 use Rattle.std.proofs.Common.{◌≡◌, ℕ, zero, suc, ◌+◌, ◌-◌, ◌<◌, ◌≤◌, Option, Some, None, List, [], ◌∷◌, ◌++◌, length, length-append, take, drop, find, get_or, insert, remove, slice_get, option_copied, Bor, Bool, true, false, refl, ap, sym, subst, ◌∙◌, arith, ⊎_elim}
+use Rattle.std.specs.List.{sum_by}
 use Rattle.std.specs.Slice.{IsItemAt}
 use Rattle.std.proofs.lemmas.Bool.{cases_lt, false≢true}
-use Rattle.std.proofs.lemmas.List.{drop_all, drop_more, get_or_past, take_all}
-use Rattle.std.proofs.lemmas.Option.{get_or_from_slice_get, slice_get-get_or, slice_get_cases, slice_get_past, slice_get_within}
-use Rattle.blocks.specs.Rows.{AreFilled, Rises, entered, flat, is_at, passes, place_in, start, without_first}
-use Rattle.blocks.proofs.Changes.{flat_at, some_at}
+use Rattle.std.proofs.lemmas.List.{drop_more, get_or_past, take_all}
+use Rattle.std.proofs.lemmas.List.Sums.{sum_by-cons}
+use Rattle.std.proofs.lemmas.Option.{slice_get-get_or, slice_get_cases, slice_get_past, slice_get_within}
+use Rattle.blocks.specs.Rows.{Rises, entered, flat, is_at, passes, place_in, start, without_first}
+use Rattle.blocks.proofs.Changes.{flat_at}
 use Rattle.blocks.proofs.Edits.{item_is}
 use Rattle.blocks.proofs.Order.{entered_is, hit, miss}
 
@@ -39,14 +41,6 @@ module _ {X : Type 0} where
       let none : length (get_or cs k []) ≡ 0 = ap length (get_or_past cs k [] le) in
       slice_get_past (flat cs) (start k cs + at) (omega (arith, behind_is k cs le)) ∙ sym (slice_get_past (get_or cs k []) at (omega (arith, none))))
       (cases_lt k (length cs))
-
-  pub last_is : (k : ℕ) (cs : List (List X)) → AreFilled cs → k + 1 ≡ length cs → slice_get (get_or cs k []) (length (get_or cs k []) - 1) ≡ slice_get (flat cs) (length (flat cs) - 1)
-  last_is k cs s e =
-      let low : 1 ≤ length (get_or cs k []) = some_at k cs s (omega (arith, e)) in
-      let none : flat (drop (suc k) cs) ≡ [] = ap flat (drop_all (suc k) cs (omega (arith, e))) in
-      let all : start k cs + (length (get_or cs k []) - 1) ≡ length (flat cs) - 1
-      = omega (arith, ap length (flat_at k cs), length-append (flat (take k cs)) (get_or cs k [] ++ flat (drop (suc k) cs)), length-append (get_or cs k []) (flat (drop (suc k) cs)), ap length none, low) in
-      sym (get_is k (length (get_or cs k []) - 1) cs (λ lt. omega (arith, low))) ∙ ap (slice_get (flat cs)) all
 
   get_left : (b xs : List X) (n : ℕ) → n < length b → slice_get (b ++ xs) n ≡ slice_get b n
   get_left [] xs n lt = absurd (omega (arith, lt))
@@ -83,20 +77,28 @@ module _ {X : Type 0} where
       (λ (le : length cs ≤ k). let none : length (get_or cs k []) ≡ 0 = ap length (get_or_past cs k [] le) in absurd (omega (arith, none, within)))
       (cases_lt k (length cs))
 
-  -- what is read at a place of a block is what was found there
-  pub read_item : (k at : ℕ) (cs again : List (List X)) (items : List X) (found got : Option X) → again ≡ cs → at < length (get_or cs k []) → found ≡ slice_get (flat cs) (start k cs + at) → items ≡ get_or again k [] → got ≡ slice_get items at → got ≡ found
-  read_item k at cs again items found got same le e value g = g ∙ ap (λ (l : List X). slice_get l at) (value ∙ ap (λ (r : List (List X)). get_or r k []) same) ∙ sym (get_is k at cs (λ _. le)) ∙ sym e
+  first_of : (f : X → ℕ) (xs ys : List X) (n : ℕ) → sum_by f (take (length xs + n) (xs ++ ys)) ≡ sum_by f xs + sum_by f (take n ys)
+  first_of f [] ys n = let same : 0 + n ≡ n = omega arith in omega (arith, ap (λ (k : ℕ). sum_by f (take k ys)) same)
+  first_of f (x ∷ xs) ys n =
+      let more : length (x ∷ xs) + n ≡ suc (length xs + n) = omega arith in
+      omega (arith, ap (λ (k : ℕ). sum_by f (take k (x ∷ xs ++ ys))) more, sum_by-cons f x (take (length xs + n) (xs ++ ys)), sum_by-cons f x xs, first_of f xs ys n)
+
+  front_of : (f : X → ℕ) (xs ys : List X) (n : ℕ) → n ≤ length xs → sum_by f (take n (xs ++ ys)) ≡ sum_by f (take n xs)
+  front_of f [] ys zero le = refl
+  front_of f [] ys (suc n) le = absurd (omega (arith, le))
+  front_of f (x ∷ xs) ys zero le = refl
+  front_of f (x ∷ xs) ys (suc n) le = omega (arith, sum_by-cons f x (take n (xs ++ ys)), sum_by-cons f x (take n xs), front_of f xs ys n (omega (arith, le)))
+
+  -- the items before a place weigh what the blocks before its own weigh and the first ones of that one
+  pub weight_at : (f : X → ℕ) (k at p : ℕ) (cs : List (List X)) → at ≤ length (get_or cs k []) → start k cs + at ≡ p → sum_by f (take p (flat cs)) ≡ sum_by f (flat (take k cs)) + sum_by f (take at (get_or cs k []))
+  weight_at f k at p cs le e =
+      ap (λ (n : ℕ). sum_by f (take n (flat cs))) (sym e) ∙ ap (λ (l : List X). sum_by f (take (start k cs + at) l)) (flat_at k cs)
+      ∙ first_of f (flat (take k cs)) (get_or cs k [] ++ flat (drop (suc k) cs)) at
+      ∙ ap (λ (n : ℕ). sum_by f (flat (take k cs)) + n) (front_of f (get_or cs k []) (flat (drop (suc k) cs)) at le)
 
   -- all items without the one at its place are those without the first that passes, where the two are the same
   pub left_by : (test : X → Bool) (k at : ℕ) (cs old : List (List X)) (new : List X) → cs ≡ old → without_first test (flat cs) ≡ remove (flat cs) (start k cs + at) → new ≡ remove (flat old) (start k old + at) → new ≡ without_first test (flat old)
   left_by test k at cs old new same left e = e ∙ ap (λ (r : List (List X)). remove (flat r) (start k r + at)) (sym same) ∙ sym left ∙ ap (λ (r : List (List X)). without_first test (flat r)) same
-
-  -- the last item of the last block is the last of all items
-  pub last_item : (cs : List (List X)) (block items : List X) (got : Option X) → AreFilled cs → Some block ≡ slice_get cs (length cs - 1) → items ≡ block → got ≡ slice_get items (length items - 1) → got ≡ slice_get (flat cs) (length (flat cs) - 1)
-  last_item cs block items got filled e value g =
-      let there : length cs - 1 < length cs = slice_get_within cs (length cs - 1) block (sym e) in
-      let same : items ≡ get_or cs (length cs - 1) [] = value ∙ sym (get_or_from_slice_get cs (length cs - 1) block [] (sym e)) in
-      g ∙ ap (λ (l : List X). slice_get l (length l - 1)) same ∙ last_is (length cs - 1) cs filled (omega (arith, there))
 
 module _ {X : Type 0} (major minor : X → ℕ) where
   -- an item inserted at the place that a search found is entered among the items

@@ -174,8 +174,7 @@ module _ {X : Type 0} where
     pub groups_same : (cs new : List (List X)) (groups kept : List Group) → new ≡ cs → kept ≡ groups → AreGroups f cs groups → AreGroups f new kept
     groups_same cs new groups kept e k all = subst (λ (r : List (List X)). AreGroups f r kept) (sym e) (subst (AreGroups f cs) (sym k) all)
 
-    -- a list without groups is one of groups of any blocks
-    pub groups_none : (cs : List (List X)) (groups : List Group) → length groups ≡ 0 → AreGroups f cs groups
+    groups_none : (cs : List (List X)) (groups : List Group) → length groups ≡ 0 → AreGroups f cs groups
     groups_none cs groups none number other lt = absurd (omega (arith, none, lt))
 
     pub groups_set : (cs new : List (List X)) (b q : ℕ) (c : List X) (groups : List Group) (group : Group) → q ≡ b / 64 → new ≡ set cs b c → AreGroups f cs groups → q < length groups → IsGroup f (set cs b c) (64 * q) group.items group.least → AreGroups f new (set groups q group)

@@ -4,7 +4,7 @@ use Rattle.std.specs.List.{All, insert, remove, sum_by}
 use Rattle.std.proofs.lemmas.List.{length-take, take_rest}
 use Rattle.std.proofs.lemmas.List.Edits.{length-insert, length-remove}
 use Rattle.std.proofs.lemmas.List.Elements.{All-append, All-cons, All-drop, All-take, All-weaker}
-use Rattle.std.proofs.lemmas.List.Sums.{sum_by-insert, sum_by-le, sum_by-remove, sum_by-take-drop}
+use Rattle.std.proofs.lemmas.List.Sums.{sum_by-insert, sum_by-le, sum_by-remove, sum_by-take-drop, sum_by-take-le}
 use Rattle.blocks.specs.Rows.{IsBlock}
 
 module _ {X : Type 0} where
@@ -40,6 +40,10 @@ module _ {X : Type 0} (f : X → ℕ) where
   back_light weight least capacity k xs back b e =
       let parts : sum_by f (take k xs) + sum_by f (drop k xs) ≡ sum_by f xs = sum_by-take-drop f xs k in
       (omega (arith, ap (sum_by f) e, parts, light xs b.fit b.most), omega (arith, ap (sum_by f) e, parts, b.sum))
+
+  -- the first items of a block weigh less than 2 ^ 80
+  pub front_light : (weight least capacity k : ℕ) (xs front : List X) → IsBlock f weight least capacity xs → front ≡ take k xs → sum_by f front < 2 ^ 80
+  front_light weight least capacity k xs front b e = omega (arith, ap (sum_by f) e, sum_by-take-le f xs k, light xs b.fit b.most)
 
   -- a block that had capacity keeps what a block keeps, with an item inserted
   pub block_insert : (weight least capacity more at : ℕ) (xs ys : List X) (x : X) (least' capacity' : ℕ) → IsBlock f weight least capacity xs → at ≤ length xs → length xs < 128 → more ≡ f x → more < 2 ^ 64 → ys ≡ insert xs at x → least' ≤ least → least' ≤ more → capacity ≤ capacity' → IsBlock f (weight + more) least' capacity' ys

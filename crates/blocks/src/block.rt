@@ -101,6 +101,14 @@ impl<T: Ranked, A: Allocator + Copy> Block<T, A> {
         self.weight
     }
 
+    pub(crate) fn weight_of_first(&self, count: usize) -> u128
+        requires { count ≤ length self.now }
+        ensures value { result ≡ sum_by T.weight (take count self.now) }
+        ensures light { result < 2 ^ 80 }
+    {
+        weight_of(&self.items.as_slice()[..count])
+    }
+
     pub(crate) fn least(&self) -> u64
         ensures { All (λ x. result ≤ T.weight x) self.now }
     {

@@ -117,17 +117,4 @@ impl<T: Ranked, A: Allocator + Copy> BlockRow<T, A> {
         }
         found
     }
-
-    pub(crate) fn clear(&mut self)
-        ensures blocks { self.new.blocks ≡ [] }
-        ensures spare { self.old.spare ≤ self.new.spare }
-    {
-        'used: while let Some(mut block) = self.used.pop() {
-            block.clear();
-            block.keep_in(&mut self.empty);
-        }
-        self.groups.clear();
-        self.over = 0;
-        self.len = 0;
-    }
 }

@@ -1,11 +1,10 @@
-ghost use Rattle.std.specs.Prelude.{◌≡◌, ◌≤◌, ◌<◌, ◌+◌, ◌-◌, ◌↔◌, [], IsOk, IsTrue, OnErr, OnOk, drop, find, length, option_copied, slice_get, slice_index_or, sum_by, take};
+ghost use Rattle.std.specs.Prelude.{◌≡◌, ◌≤◌, ◌<◌, ◌+◌, ◌↔◌, [], IsOk, IsTrue, OnErr, OnOk, drop, find, length, option_copied, slice_get, slice_index_or, sum_by, take};
 ghost use Rattle.blocks.specs.Light.{IsFirstLight};
-ghost use Rattle.blocks.specs.Rows.{AreBefore, AreFilled, Rises, block_of, entered, flat, is_at, without_first};
+ghost use Rattle.blocks.specs.Rows.{AreBefore, AreFilled, Rises, block_of, entered, flat, is_at, place_in, without_first};
 
 use crate::block_row::BlockRow;
-use crate::front::lighter;
+use crate::front::{lighter, weight_before};
 use crate::items::Items;
-use crate::place::items_of;
 use crate::ranked::Ranked;
 use crate::search::{count_before, place_of, place_with};
 use crate::walk::item_at;
@@ -95,33 +94,11 @@ impl<T: Ranked, A: Allocator + Copy> Blocks<T, A> {
         Some(self.row.remove(place))
     }
 
-    /// The first item with these two numbers; None where there is none.
-    pub fn find(&self, major: u128, minor: u64) -> Option<&T>
-        ensures { option_copied result ≡ find (is_at T.major T.minor major minor) (flat self.now.blocks) }
-    {
-        let place = place_with(self.row.blocks(), major, minor)?;
-        items_of(self.row.blocks(), place.block).get(place.at)
-    }
-
     /// The item at a place; None past the last one. It takes one step a block.
     pub fn at(&self, place: usize) -> Option<&T>
         ensures { option_copied result ≡ slice_get (flat self.now.blocks) place }
     {
         item_at(self.row.blocks(), self.row.groups(), place)
-    }
-
-    /// The first item; None where there is none.
-    pub fn first(&self) -> Option<&T>
-        ensures { option_copied result ≡ slice_get (flat self.now.blocks) 0 }
-    {
-        items_of(self.row.blocks(), 0).first()
-    }
-
-    /// The last item; None where there is none.
-    pub fn last(&self) -> Option<&T>
-        ensures { option_copied result ≡ slice_get (flat self.now.blocks) (length (flat self.now.blocks) - 1) }
-    {
-        self.row.blocks().last()?.as_slice().last()
     }
 
     /// How many blocks there are.
@@ -160,6 +137,13 @@ impl<T: Ranked, A: Allocator + Copy> Blocks<T, A> {
         lighter(self.row.blocks(), than)
     }
 
+    /// What the items before one with these two numbers weigh together. It takes one step a block.
+    pub fn weight_before(&self, major: u128, minor: u64) -> u128
+        ensures { result ≡ sum_by T.weight (take (place_in T.major T.minor major minor (flat self.now.blocks)) (flat self.now.blocks)) }
+    {
+        weight_before(self.row.blocks(), major, minor)
+    }
+
     /// How many items stand before one with these two numbers. It takes one step a block.
     pub fn before(&self, major: u128, minor: u64) -> usize
         ensures { AreBefore T.major T.minor major minor (flat self.now.blocks) result }
@@ -192,13 +176,5 @@ impl<T: Ranked, A: Allocator + Copy> Blocks<T, A> {
         ensures { result ≡ flat (drop block self.now.blocks) }
     {
         Items::of(&self.row.blocks()[block..])
-    }
-
-    /// Lets all items go; their capacity stays.
-    pub fn clear(&mut self)
-        ensures blocks { self.new.blocks ≡ [] }
-        ensures spare { self.old.spare ≤ self.new.spare }
-    {
-        self.row.clear();
     }
 }

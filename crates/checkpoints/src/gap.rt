@@ -12,7 +12,7 @@ use scenarios::Job;
 use std::alloc::Allocator;
 use std::marker::Model;
 use swf_text::Memory;
-use timeline::stretches::{running_places, waiting_places};
+use timeline::stretches::{running_stretch, waiting_stretch};
 
 /// The first seconds of pieces, and the starts before the last of these seconds. It tells where jobs
 /// stand among the seconds.
@@ -62,7 +62,7 @@ impl<A: Allocator + Copy> Gap<A> {
         ensures { OnOk result (made.new.items ≡ made.old.items ++ filter stands_somewhere (waiting_stretches self.now.seconds (job.now ∷ []) (start_of self.now.starts))) }
     {
         let start = start_among(self.by_number.as_slice(), job.number());
-        add(made, waiting_places(self.seconds.as_slice(), job, start))
+        add(made, waiting_stretch(self.seconds.as_slice(), job, start))
     }
 
     pub(crate) fn add_running(
@@ -73,7 +73,7 @@ impl<A: Allocator + Copy> Gap<A> {
     ) -> Result<(), Memory>
         ensures { OnOk result (made.new.items ≡ made.old.items ++ filter stands_somewhere (map (placed_stretch self.now.seconds) (record { job = job.now; start = start } ∷ []))) }
     {
-        add(made, running_places(self.seconds.as_slice(), job, start))
+        add(made, running_stretch(self.seconds.as_slice(), job, start))
     }
 }
 

@@ -5,3 +5,4 @@ pub use Rattle.cluster_state.proofs.ArrivingLemmas.{without-last}
 pub use Rattle.cluster_state.proofs.CandidatesLemmas.{put-before, put-behind, RisesByEstimate, rises-by_estimate, All-by_estimate, by_estimate-All, in_order-All, without-by_estimate, find-put, find-in_order, sum_by-by_estimate}
 pub use Rattle.cluster_state.proofs.SnapshotLemmas.{standing-numbers, numbers-give-the-state-back, equal-numbers-are-equal-states}
 pub use Rattle.cluster_state.proofs.EndLemmas.{NotLater, sum_by-by_end, All-by_end, length-by_end, NoneEndsSooner, rises-by_end, sum_by-ones, adds-none, one-adds, adds-one}
+pub use Rattle.cluster_state.proofs.PastLemmas.{none-back}

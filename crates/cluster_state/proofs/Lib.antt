@@ -8,7 +8,7 @@ mod LeavingLemmas
 mod NumberLemmas
 mod KeyLemmas
 mod PlaceLemmas
-mod TicketLemmas
+mod EstimateLemmas
 mod StartLemmas
 mod ArrivingLemmas
 mod PastLemmas

@@ -6,7 +6,7 @@ use Rattle.scenarios.specs.declared.order.Order.TheVariants.{Arrival, Shortest}
 use Rattle.waiting_places.specs.declared.offer.Offer.{Offer}
 use Rattle.waiting_places.specs.Offers.{fits}
 use Rattle.waiting_places.specs.Places.{at_place, waiting}
-use Rattle.cluster_state.specs.declared.ticket.Ticket.{Ticket}
+use Rattle.cluster_state.specs.declared.candidate.Candidate.{Candidate}
 use Rattle.cluster_state.specs.State.{ClusterView, free}
 
 -- a job among others, before the first whose estimate is not shorter
@@ -24,8 +24,8 @@ abbrev pub in_order : Order → List EffectiveJob → List EffectiveJob
 in_order Arrival js = js
 in_order Shortest js = by_estimate js
 
--- the jobs of the candidates by estimate, each of which has a ticket with its place
-abbrev pub jobs_of : List Ticket → List EffectiveJob
+-- the jobs of the candidates by estimate, each of which has a candidate with its place
+abbrev pub jobs_of : List Candidate → List EffectiveJob
 jobs_of candidates = map (λ t. t.job) candidates
 
 -- the candidates that a cluster keeps beside its queue: none in order of arrival, where the queue itself serves
@@ -38,8 +38,8 @@ abbrev pub put_last : EffectiveJob → List EffectiveJob → List EffectiveJob
 put_last job [] = job ∷ []
 put_last job (x ∷ xs) = if nat_lt job.estimate x.estimate then job ∷ x ∷ xs else x ∷ put_last job xs
 
--- what the candidates keep: they are those who wait at these places, and each waits at the place of its ticket
-pub record IsKept (order : Order) (places : List (Option EffectiveJob)) (candidates : List Ticket) : Type 0 where
+-- what the candidates keep: they are those who wait at these places, and each waits at the place of its candidate
+pub record IsKept (order : Order) (places : List (Option EffectiveJob)) (candidates : List Candidate) : Type 0 where
   pub jobs : jobs_of candidates ≡ candidates_of order (waiting places)
   pub placed : All (λ t. at_place places t.place ≡ Some t.job) candidates
 

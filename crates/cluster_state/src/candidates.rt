@@ -9,7 +9,7 @@ ghost use Rattle.waiting_places.specs.Places.{IsFirst, at_place, waiting};
 ghost use Rattle.cluster_state.specs.State.{without};
 ghost use Rattle.cluster_state.specs.Candidates.{IsKept, fits_offer, jobs_of};
 
-use crate::ticket::Ticket;
+use crate::candidate::Candidate;
 use crate::waiter::Waiter;
 use blocks::{Blocks, Ranked};
 use scenarios::{Job, Order};
@@ -18,7 +18,7 @@ use swf_text::Memory;
 use waiting_places::{Offer, Places};
 
 pub(crate) fn first_fit<A: Allocator + Copy>(
-    candidates: &mut Blocks<Ticket, A>,
+    candidates: &mut Blocks<Candidate, A>,
     from: usize,
     offer: &Offer,
 ) -> Option<usize>
@@ -32,7 +32,7 @@ pub(crate) fn first_fit<A: Allocator + Copy>(
     candidates.first_light(from.max(longer), candidates.len(), offer.extra)
 }
 
-fn fill<A: Allocator + Copy>(candidates: &mut Blocks<Ticket, A>, places: &[Option<Waiter>])
+fn fill<A: Allocator + Copy>(candidates: &mut Blocks<Candidate, A>, places: &[Option<Waiter>])
     requires none { candidates.old.blocks ≡ [] }
     requires capacity { length (waiting places.now) ≤ candidates.old.spare }
     ensures { IsKept Shortest places.now (flat candidates.new.blocks) }
@@ -41,7 +41,7 @@ fn fill<A: Allocator + Copy>(candidates: &mut Blocks<Ticket, A>, places: &[Optio
         let Some(waiter) = places[place] else {
             continue;
         };
-        candidates.insert(Ticket {
+        candidates.insert(Candidate {
             job: waiter.job,
             place,
         });
@@ -50,7 +50,7 @@ fn fill<A: Allocator + Copy>(candidates: &mut Blocks<Ticket, A>, places: &[Optio
 
 fn make_place<A: Allocator + Copy>(
     jobs: &mut Places<Waiter, A>,
-    candidates: &mut Blocks<Ticket, A>,
+    candidates: &mut Blocks<Candidate, A>,
 ) -> Result<(), Memory>
     requires { IsKept Shortest jobs.old.places (flat candidates.old.blocks) }
     ensures kept { IsKept Shortest jobs.new.places (flat candidates.new.blocks) }
@@ -70,7 +70,7 @@ fn make_place<A: Allocator + Copy>(
 
 pub(crate) fn arrive<A: Allocator + Copy>(
     jobs: &mut Places<Waiter, A>,
-    candidates: &mut Blocks<Ticket, A>,
+    candidates: &mut Blocks<Candidate, A>,
     job: Job,
 ) -> Result<(), Memory>
     requires { IsKept Shortest jobs.old.places (flat candidates.old.blocks) }
@@ -81,14 +81,14 @@ pub(crate) fn arrive<A: Allocator + Copy>(
     make_place(jobs, candidates)?;
     candidates.reserve(1)?;
     let place = jobs.push(Waiter { job });
-    candidates.insert(Ticket { job, place });
+    candidates.insert(Candidate { job, place });
     Ok(())
 }
 
 pub(crate) fn leave_at<A: Allocator + Copy>(
     order: Order,
     jobs: &mut Places<Waiter, A>,
-    candidates: &mut Blocks<Ticket, A>,
+    candidates: &mut Blocks<Candidate, A>,
     place: usize,
 )
     requires kept { IsKept order jobs.old.places (flat candidates.old.blocks) }
@@ -102,18 +102,18 @@ pub(crate) fn leave_at<A: Allocator + Copy>(
     match order {
         Order::Arrival => {}
         Order::Shortest => {
-            let ticket = Ticket {
+            let candidate = Candidate {
                 job: waiter.job,
                 place,
             };
-            candidates.remove(ticket.major(), ticket.minor());
+            candidates.remove(candidate.major(), candidate.minor());
         }
     }
 }
 
 pub(crate) fn take_by_estimate<A: Allocator + Copy>(
     jobs: &mut Places<Waiter, A>,
-    candidates: &mut Blocks<Ticket, A>,
+    candidates: &mut Blocks<Candidate, A>,
     place: usize,
 )
     requires kept { IsKept Shortest jobs.old.places (flat candidates.old.blocks) }
@@ -123,9 +123,9 @@ pub(crate) fn take_by_estimate<A: Allocator + Copy>(
     ensures jobs { IfSome (slice_get (jobs_of (flat candidates.old.blocks)) place) (λ job. waiting jobs.new.places ≡ without job.number (waiting jobs.old.places)) }
     ensures candidates { jobs_of (flat candidates.new.blocks) ≡ remove (jobs_of (flat candidates.old.blocks)) place }
 {
-    let Some(ticket) = candidates.at(place) else {
+    let Some(candidate) = candidates.at(place) else {
         return;
     };
-    let at = ticket.place;
+    let at = candidate.place;
     leave_at(Order::Shortest, jobs, candidates, at);
 }

@@ -5,7 +5,7 @@ ghost use Rattle.scenarios.specs.declared.order.Order.TheVariants.{Arrival, Shor
 ghost use Rattle.waiting_places.specs.Offers.{holds};
 ghost use Rattle.waiting_places.specs.Places.{IsFirst, at_place, waiting};
 ghost use Rattle.scenarios.specs.Placed.{real_end};
-ghost use Rattle.cluster_state.specs.State.{empty, free, IsSound, RisesByNumber, busy};
+ghost use Rattle.cluster_state.specs.State.{available, empty, free, IsSound, RisesByNumber, busy};
 ghost use Rattle.cluster_state.specs.Candidates.{fits_offer, AreCandidates};
 ghost use Rattle.cluster_state.specs.Ends.{by_end, IsPast, RisesByEnd, block_limit};
 ghost use Rattle.scenarios.specs.PlanView.{plan_in};
@@ -147,6 +147,14 @@ impl<A: Allocator + Copy> Cluster<A> {
         self.queue.len()
     }
 
+    /// How many jobs run.
+    pub fn running_count(&self) -> usize
+        ensures count { result ≡ length self.now.state.running }
+        ensures sound { IsSound self.now.state }
+    {
+        self.running.len()
+    }
+
     /// The waiting jobs in order of arrival.
     pub fn waiting(&self) -> Waiting<'_>
         ensures jobs { result ≡ self.now.state.waiting }
@@ -227,6 +235,14 @@ impl<A: Allocator + Copy> Cluster<A> {
     {
         let (held, rest) = self.running.past(need - self.free);
         (self.free + held, rest)
+    }
+
+    /// How many processors are available at a second: those that are free now, and those of the running
+    /// jobs that are expected to have ended by then. It takes one step for each 128 of these.
+    pub fn available(&self, second: u64) -> u64
+        ensures { result ≡ available self.now.state second }
+    {
+        self.running.back_by(second) + self.free
     }
 
     /// The running job at this place, counted from 0, with the second of its start; none past the

@@ -2,6 +2,7 @@
 #![tactic(auto)]
 
 mod by_end;
+mod candidate;
 mod candidates;
 mod changes;
 mod cluster;
@@ -12,7 +13,6 @@ mod queue;
 mod runner;
 mod running_set;
 mod snapshot;
-mod ticket;
 mod waiter;
 mod waiting;
 

@@ -9,8 +9,8 @@ ghost use Rattle.waiting_places.specs.Places.{IsFirst, at_place, waiting};
 ghost use Rattle.cluster_state.specs.State.{without};
 ghost use Rattle.cluster_state.specs.Candidates.{fits_offer, in_order, jobs_of};
 
+use crate::candidate::Candidate;
 use crate::candidates::{arrive, first_fit, leave_at, take_by_estimate};
-use crate::ticket::Ticket;
 use crate::waiter::Waiter;
 use crate::waiting::Waiting;
 use blocks::Blocks;
@@ -24,7 +24,7 @@ use waiting_places::{Offer, Places};
 pub(crate) struct Queue<A: Allocator + Copy> {
     order: Order,
     jobs: Places<Waiter, A>,
-    candidates: Blocks<Ticket, A>,
+    candidates: Blocks<Candidate, A>,
 }
 
 impl<A: Allocator + Copy> Model for Queue<A> {
@@ -199,7 +199,7 @@ fn job_in<A: Allocator + Copy>(jobs: &Places<Waiter, A>, place: usize) -> Option
     Some(&jobs.get(place)?.job)
 }
 
-fn job_at<A: Allocator + Copy>(candidates: &Blocks<Ticket, A>, place: usize) -> Option<&Job>
+fn job_at<A: Allocator + Copy>(candidates: &Blocks<Candidate, A>, place: usize) -> Option<&Job>
     ensures { option_copied result ≡ slice_get (jobs_of (flat candidates.now.blocks)) place }
 {
     Some(&candidates.at(place)?.job)

@@ -1,9 +1,9 @@
 // The jobs that run, in a row by (start + estimate, number), and when each of them ends. `past` passes
 // over whole blocks.
-ghost use Rattle.std.specs.Prelude.{◌≡◌, ◌+◌, ◌<◌, ◌≤◌, ◌^◌, ◌↔◌, ℕ, [], OnOk, IfOk, IfSome, IfNone, IsNone, IsOk, All, Any, length, filter, count_by, nat_eq, nat_lt, option_copied, slice_get, take};
+ghost use Rattle.std.specs.Prelude.{◌≡◌, ◌+◌, ◌<◌, ◌≤◌, ◌^◌, ◌↔◌, ℕ, [], OnOk, IfOk, IfSome, IfNone, IsNone, IsOk, All, Any, length, filter, count_by, nat_eq, nat_lt, option_copied, slice_get, sum_by, take};
 ghost use Rattle.scenarios.specs.Limits.{seconds_end};
 ghost use Rattle.scenarios.specs.Placed.{real_end};
-ghost use Rattle.cluster_state.specs.State.{busy, placed, RisesByNumber};
+ghost use Rattle.cluster_state.specs.State.{back_by, busy, placed, RisesByNumber};
 ghost use Rattle.cluster_state.specs.Ends.{by_end, by_number, block_limit};
 ghost use Rattle.cluster_state.specs.Capacities.{IsRest};
 
@@ -84,6 +84,14 @@ impl<A: Allocator + Copy> RunningSet<A> {
         let (blocks, held) = self.runners.lighter(u128::from(processors));
         let rest = RunningByEnd::of(self.runners.iter_from(blocks));
         (held as u64, rest)
+    }
+
+    pub(crate) fn back_by(&self, t: u64) -> u64
+        requires { busy self.now.running < 2 ^ 64 }
+        ensures value { result ≡ sum_by (back_by t) self.now.running }
+        ensures most { result ≤ busy self.now.running }
+    {
+        self.runners.weight_before(u128::from(t) + 1, 0) as u64
     }
 
     pub(crate) fn len(&self) -> usize

@@ -1,26 +1,19 @@
--- The walk over the running jobs in the order of their expected ends. Where enough has come back, and the others are expected to end later, its
--- second is the shadow time, and it has read at most a block but one of the ends, beside those at that second.
-use Rattle.std.proofs.Common.{◌≡◌, ℕ, ◌+◌, ◌-◌, ◌^◌, ◌≤◌, ◌<◌, cond, nat_eq, nat_le, zero, suc, List, [], ◌∷◌, ◌++◌, length, take, length-append, All, sum_by, count_by, append_assoc, refl, sym, ◌∙◌, ap, arith, subst, inl, inr, ⊎_elim, ◌⊎◌}
+-- The walk over the running jobs in the order of their expected ends. Where enough has come back its second is the shadow time, and it has read
+-- at most a block of the ends.
+use Rattle.std.proofs.Common.{◌≡◌, ℕ, ◌+◌, ◌-◌, ◌^◌, ◌≤◌, ◌<◌, cond, nat_le, zero, suc, List, [], ◌∷◌, ◌++◌, length, take, length-append, All, sum_by, count_by, append_assoc, refl, sym, ◌∙◌, ap, arith, subst, inl, inr, ⊎_elim}
 use Rattle.std.proofs.lemmas.List.{length_push}
 use Rattle.std.proofs.lemmas.List.Sums.{sum_by-append, sum_by-cons, sum_by_push}
 use Rattle.std.proofs.lemmas.List.Elements.{All-cons, All-head, All-tail, All-nil, All-push, All-weaker}
-use Rattle.std.proofs.lemmas.Bool.{lt-leb, le-leb, eq-eqb, cond-true, cond-false, cases_lt}
+use Rattle.std.proofs.lemmas.Bool.{le-leb, cond-true, cases_lt}
 use Rattle.scenarios.specs.Job.{IsWithinLimits}
 use Rattle.scenarios.specs.declared.placed.Placed.{Placed}
 use Rattle.scenarios.specs.Placed.{expected_end}
 use Rattle.cluster_state.specs.State.{State, IsSound, free, busy, back_by, available}
 use Rattle.cluster_state.specs.Ends.{block_limit, IsPast, by_end}
-use Rattle.cluster_state.proofs.Lemmas.{NotLater, NoneEndsSooner, rises-by_end, sum_by-by_end, length-by_end, All-by_end}
+use Rattle.cluster_state.proofs.Lemmas.{NotLater, NoneEndsSooner, rises-by_end, sum_by-by_end, length-by_end, All-by_end, none-back}
 use Rattle.easy_rule.specs.declared.shadow_time.Shadow.{Shadow}
 use Rattle.easy_rule.specs.Rule.{shadow_time, shadow_at, ends_read, IsLeast}
-use Rattle.easy_rule.specs.Walk.{ends_at}
 use Rattle.easy_rule.proofs.RuleLemmas.{shadow_time-IsLeast, back-each, back-le-busy}
-
-back-none : (t : ℕ) (rs : List Placed) → All (λ r. t < expected_end r) rs → sum_by (back_by t) rs ≡ 0
-back-none t [] a = refl
-back-none t (r ∷ rs) a =
-    let one = cond-false {A = ℕ} (nat_le (expected_end r) t) r.job.size 0 (lt-leb (expected_end r) t (All-head (λ r. t < expected_end r) r rs a)) in
-    omega (arith, one, sum_by-cons (back_by t) r rs, back-none t rs (All-tail (λ r. t < expected_end r) r rs a))
 
 end-le : (a b : Placed) → NotLater a b → expected_end a ≤ expected_end b
 end-le a b (inl l) = omega arith
@@ -54,7 +47,7 @@ pub record IsWalk (s : State) (need capacity time reads : ℕ) (rest : List Plac
   pub short : (u : ℕ) → u < time → available s u < need
   pub counted : reads ≤ length behind
   pub near : need ≤ capacity + busy (take (block_limit - reads) rest)
-  pub early : need ≤ capacity → reads + 1 ≤ block_limit + count_by (λ r. nat_eq (expected_end r) time) behind
+  pub early : reads ≤ block_limit
 
 -- a walk may begin behind some first ones with which too little is free, where it is enough with a block of the others
 pub walk-begins : {s : State} {need capacity : ℕ} {rest : List Placed} → IsPast s need capacity rest → need ≤ capacity + busy (take block_limit rest) → IsWalk s need capacity 0 0 rest
@@ -68,7 +61,7 @@ walk-begins p most =
       short = λ u lt. absurd (omega (arith, lt));
       counted = omega arith;
       near = most;
-      early = λ enough. absurd (let few = p.short in omega (arith, enough, few));
+      early = omega arith;
     }
 
 first-gives : (n : ℕ) (r : Placed) (after : List Placed) → busy (take n (r ∷ after)) ≤ r.job.size + busy (take (n - 1) after)
@@ -80,11 +73,6 @@ first-gives (suc n) r after =
 none-holds : (rs : List Placed) → busy (take 0 rs) ≡ 0
 none-holds [] = refl
 none-holds (r ∷ rs) = refl
-
-one-ends : (t : ℕ) (rs : List Placed) (r : Placed) → expected_end r ≡ t → count_by (λ x. nat_eq (expected_end x) t) (rs ++ r ∷ []) ≡ count_by (λ x. nat_eq (expected_end x) t) rs + 1
-one-ends t rs r e =
-    let f : Placed → ℕ = λ x. cond (nat_eq (expected_end x) t) 1 0 in
-    omega (arith, sum_by_push f rs r, cond-true {A = ℕ} (nat_eq (expected_end r) t) 1 0 (eq-eqb (expected_end r) t e))
 
 module _ {s : State} {need capacity time reads : ℕ} {rest : List Placed} (w : IsWalk s need capacity time reads rest) where
   available-at : (t : ℕ) → available s t ≡ free s + sum_by (back_by t) w.behind + sum_by (back_by t) rest
@@ -107,7 +95,7 @@ module _ {s : State} {need capacity time reads : ℕ} {rest : List Placed} (w : 
     too_little m u lt =
         let from : All (λ x. u < expected_end x) rest = subst (All (λ (x : Placed). u < expected_end x)) (sym next)
         (All-cons (λ x. u < expected_end x) r after lt (All-weaker (λ x. expected_end r ≤ expected_end x) (λ x. u < expected_end x) (λ x h. omega arith) after near.1)) in
-        let none = back-none u rest from in
+        let none = none-back u rest from in
         let some = back-le-busy u w.behind in
         let all = available-at u in
         let gives = w.gives in
@@ -129,33 +117,19 @@ module _ {s : State} {need capacity time reads : ℕ} {rest : List Placed} (w : 
         absurd (omega (arith, near, m, ap (λ (n : ℕ). busy (take n rest)) none, none-holds rest)))
         (cases_lt reads block_limit)
 
-    early_here : (capacity < need) ⊎ (expected_end r ≤ time) → reads + 1 + 1 ≤ block_limit + count_by (λ x. nat_eq (expected_end x) (expected_end r)) (w.behind ++ r ∷ [])
-    early_here why =
-        let joins = one-ends (expected_end r) w.behind r refl in
-        ⊎_elim
-        (λ (m : capacity < need). let few = in_block m in omega (arith, few, joins))
-        (λ (enough : need ≤ capacity).
-        let same : time ≡ expected_end r = ⊎_elim
-        (λ (m : capacity < need). absurd (omega (arith, m, enough)))
-        (λ (m : expected_end r ≤ time). let later = All-head (λ (x : Placed). time ≤ expected_end x) r after (subst (All (λ (x : Placed). time ≤ expected_end x)) next w.later) in omega (arith, m, later))
-        why in
-        let so_far = w.early enough in
-        omega (arith, so_far, joins, ap (λ (t : ℕ). count_by (λ x. nat_eq (expected_end x) t) w.behind) same))
-        (cases_lt capacity need)
-
-    -- a walk goes on past the next one where too little has come back, or where this one is expected to end by the walk's second
-    pub walk-more : (capacity < need) ⊎ (expected_end r ≤ time) → IsWalk s need (capacity + r.job.size) (expected_end r) (reads + 1) after
-    walk-more why =
+    -- a walk goes on past the next one where too little has come back
+    pub walk-more : capacity < need → IsWalk s need (capacity + r.job.size) (expected_end r) (reads + 1) after
+    walk-more m =
         record {
           behind = w.behind ++ r ∷ [];
           order = order_here ∙ sym (append_assoc w.behind (r ∷ []) after);
           gives = let gives = w.gives in omega (arith, gives, sum_by_push (λ (x : Placed). x.job.size) w.behind r);
           ended = λ _. All-push (λ x. expected_end x ≤ expected_end r) w.behind r near.0 (omega arith);
           later = near.1;
-          short = λ u lt. ⊎_elim (λ (m : capacity < need). too_little m u lt) (λ (m : expected_end r ≤ time). w.short u (omega (arith, m, lt))) why;
+          short = too_little m;
           counted = let counted = w.counted in omega (arith, counted, length_push w.behind r);
           near = near_here;
-          early = λ _. early_here why;
+          early = in_block m;
         }
 
     -- where the next one is expected to end after the walk's second, so are all that are left
@@ -187,34 +161,43 @@ module _ {s : State} {need capacity time reads : ℕ} {rest : List Placed} (w : 
       let fits = h.fits in
       omega (arith, counted, fits, few s.running h.running_limits, length-by_end s.running, ap (λ (l : List Placed). length l) w.order, length-append w.behind rest)
 
-  module _ (enough : need ≤ capacity) (late : All (λ r. time < expected_end r) rest) where
-    done : IsSound s → need ≤ s.procs → (available s time ≡ capacity) × (time ≡ shadow_time s need)
-    done h within =
+  -- where the others end later, what is available at the walk's second is what has come back
+  pub walk-all : need ≤ capacity → All (λ r. time < expected_end r) rest → capacity ≡ available s time
+  walk-all enough late =
+      let a = available-at time in
+      let b = back-each time w.behind (w.ended enough) in
+      let c = none-back time rest late in
+      let gives = w.gives in
+      omega (arith, a, b, c, gives)
+
+  module _ (enough : need ≤ capacity) where
+    -- where enough has come back, enough is available at the walk's second
+    pub walk-enough : need ≤ available s time
+    walk-enough =
         let a = available-at time in
         let b = back-each time w.behind (w.ended enough) in
-        let c = back-none time rest late in
         let gives = w.gives in
-        let there : available s time ≡ capacity = omega (arith, a, b, c, gives) in
+        omega (arith, a, b, gives, enough)
+
+    done : IsSound s → need ≤ s.procs → time ≡ shadow_time s need
+    done h within =
         let least = shadow_time-IsLeast s need h.fits within in
-        let down : shadow_time s need ≤ time = least.least time (omega (arith, there, enough)) in (
-          there,
-          ⊎_elim
-              (λ (l : shadow_time s need < time). absurd (let m = w.short (shadow_time s need) l in let n = least.holds in omega (arith, m, n)))
-              (λ (l : time ≤ shadow_time s need). omega (arith, l, down))
-              (cases_lt (shadow_time s need) time),
-        )
+        let down : shadow_time s need ≤ time = least.least time walk-enough in
+        ⊎_elim
+        (λ (l : shadow_time s need < time). absurd (let m = w.short (shadow_time s need) l in let n = least.holds in omega (arith, m, n)))
+        (λ (l : time ≤ shadow_time s need). omega (arith, l, down))
+        (cases_lt (shadow_time s need) time)
 
-    -- where enough has come back, and the others end later, the second of the walk and what is over then are the shadow
-    pub walk-shadow : (extra : ℕ) → IsSound s → need ≤ s.procs → extra ≡ capacity - need → let v : Shadow = record { time = time; extra = extra } in v ≡ shadow_at s need
-    walk-shadow extra h within e =
-        let f = done h within in
+    -- where enough has come back, the second of the walk and what is over of all that is available then are the shadow
+    pub walk-shadow : (all extra : ℕ) → IsSound s → need ≤ s.procs → all ≡ available s time → extra ≡ all - need → let v : Shadow = record { time = time; extra = extra } in v ≡ shadow_at s need
+    walk-shadow all extra h within is e =
         let P : ℕ → ℕ → Shadow = λ a b. record { time = a; extra = b } in
-        let over : extra ≡ available s time - need = omega (arith, e, f.0) in
-        ap (P time) over ∙ ap (λ x. P x (available s x - need)) f.1
+        let over : extra ≡ available s time - need = omega (arith, e, is) in
+        ap (P time) over ∙ ap (λ x. P x (available s x - need)) (done h within)
 
-    -- where enough has come back, and the others end later, the second of the walk is the least at which enough is available
+    -- where enough has come back, the second of the walk is the least at which enough is available
     pub walk-least : IsSound s → need ≤ s.procs → IsLeast (λ t. need ≤ available s t) time
-    walk-least h within = subst (IsLeast (λ t. need ≤ available s t)) (sym (done h within).1) (shadow_time-IsLeast s need h.fits within)
+    walk-least h within = subst (IsLeast (λ t. need ≤ available s t)) (sym (done h within)) (shadow_time-IsLeast s need h.fits within)
 
 count-all : (t : ℕ) (rs : List Placed) → All (λ r. expected_end r ≤ t) rs → count_by (λ r. nat_le (expected_end r) t) rs ≡ length rs
 count-all t [] a = refl
@@ -240,10 +223,3 @@ module _ {s : State} {need capacity time reads : ℕ} {rest : List Placed} (w : 
   -- where enough has come back, the ends read are no more than a walk up to this second reads at most
   pub walk-reads-all : reads ≤ ends_read s time
   walk-reads-all = let counted = w.counted in omega (arith, walk-counts, all_run, counted)
-
-  -- where enough has come back, the ends read and one more are no more than those of a block and those at this second
-  pub walk-early : reads + 1 ≤ block_limit + ends_at s time
-  walk-early =
-      let f : Placed → ℕ = λ r. cond (nat_eq (expected_end r) time) 1 0 in
-      let early = w.early enough in
-      omega (arith, early, sum_by-by_end f s.running, ap (sum_by f) w.order, sum_by-append f w.behind rest)

@@ -1,5 +1,4 @@
 pub mod Rule
-pub mod Walk
 pub mod Pass
 pub mod Decision
 pub mod AtOnce

@@ -2,22 +2,22 @@ ghost use Rattle.std.specs.Prelude.{◌≡◌, ◌<◌, ◌≤◌, ◌+◌, IfSo
 ghost use Rattle.cluster_state.specs.State.{available, free};
 ghost use Rattle.cluster_state.specs.Ends.{block_limit};
 ghost use Rattle.easy_rule.specs.Rule.{IsLeast, IsShadow, shadow_of, shadow_at, ends_read};
-ghost use Rattle.easy_rule.specs.Walk.{ends_at};
 
 use crate::shadow_time::Shadow;
 use cluster_state::Cluster;
 use std::alloc::Allocator;
 
 // It walks over the running jobs in the order of their expected ends, until they have given back
-// enough, and past all that are expected to end at that same second. First ones that don't give back
-// enough together are passed over, so that the first 128 of the others do.
+// enough. First ones that don't give back enough together are passed over, so that the first 128 of the
+// others do. Where more of them are expected to end at that same second, what all give back by then is
+// added up block by block: an array of jobs may have one expected end.
 fn walk<A: Allocator + Copy>(cluster: &Cluster<A>, need: u64) -> (Shadow, u64)
     requires wants { free cluster.now.state < need }
     requires within { need ≤ cluster.now.state.procs }
     ensures shadow { result.0 ≡ shadow_at cluster.now.state need }
     ensures least { IsLeast (λ t. need ≤ available cluster.now.state t) result.0.time }
     ensures reads { result.1 ≤ ends_read cluster.now.state result.0.time }
-    ensures few { result.1 ≤ block_limit + ends_at cluster.now.state result.0.time }
+    ensures few { result.1 ≤ block_limit + 1 }
 {
     let (mut capacity, rest) = cluster.running_past(need);
     let mut time = 0;
@@ -25,8 +25,12 @@ fn walk<A: Allocator + Copy>(cluster: &Cluster<A>, need: u64) -> (Shadow, u64)
     for r in rest {
         let end = r.expected_end();
         reads += 1;
-        if need <= capacity && time < end {
-            let extra = capacity - need;
+        if need <= capacity {
+            if time < end {
+                let extra = capacity - need;
+                return (Shadow { time, extra }, reads);
+            }
+            let extra = cluster.available(time) - need;
             return (Shadow { time, extra }, reads);
         }
         time = end;
@@ -46,15 +50,15 @@ pub(crate) fn shadow_for<A: Allocator + Copy>(cluster: &Cluster<A>, need: u64) -
     shadow
 }
 
-/// As `shadow`, and how often it read a running job's expected end: at most once of each up to the
-/// shadow time, and of the first past it, if there is one; never where there is no shadow. Those that
-/// are passed over together are not read one by one: of the earlier ones at most 127 are read, beside
-/// all that are expected to end at the shadow time and the first past it.
+/// As `shadow`, and how often its walk read a running job's expected end: at most once of each up to the
+/// shadow time, and of the first past it, if there is one, and never where there is no shadow. Those that
+/// are passed over together are not read one by one, so it is 129 times at most; the walk is all that goes
+/// over jobs one by one, beside those of one block that are expected to end at the shadow time.
 pub fn shadow_counted<A: Allocator + Copy>(cluster: &Cluster<A>) -> (Option<Shadow>, u64)
     ensures value { result.0 ≡ shadow_of cluster.now.state }
     ensures least { IfSome result.0 (λ w. IsShadow cluster.now.state w) }
     ensures reads { MatchOption result.0 (result.1 ≡ 0) (λ w. result.1 ≤ ends_read cluster.now.state w.time) }
-    ensures few { IfSome result.0 (λ w. result.1 ≤ block_limit + ends_at cluster.now.state w.time) }
+    ensures few { result.1 ≤ block_limit + 1 }
 {
     let Some(head) = cluster.waiting_at(0) else {
         return (None, 0);

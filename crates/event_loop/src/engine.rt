@@ -1,4 +1,4 @@
-ghost use Rattle.std.specs.Prelude.{◌≡◌, ◌+◌, ◌<◌, ◌^◌, None, IfOk, IfErr, length, true, false};
+ghost use Rattle.std.specs.Prelude.{◌≡◌, ◌+◌, None, IfOk, IfErr, length, true, false};
 ghost use Rattle.event_loop.specs.Events.{earlier, IsNextEvent, begun};
 ghost use Rattle.scenarios.specs.PlanView.{plan_in};
 ghost use Rattle.cluster_state.specs.Snapshot.{numbers_of};
@@ -6,7 +6,7 @@ ghost use Rattle.easy_rule.specs.Simulation.{before};
 
 use crate::fault::EngineFault;
 use crate::upcoming::Upcoming;
-use cluster_state::{Cluster, RunningByEnd, Snapshot};
+use cluster_state::{Cluster, Snapshot};
 use easy_rule::Shadow;
 use scenarios::Plan;
 use std::alloc::Allocator;
@@ -111,8 +111,7 @@ impl<A: Allocator + Copy> Engine<A> {
         earlier(self.upcoming.next(), self.cluster.next_end())
     }
 
-    /// How many jobs wait and run before the position; 0 in an engine that has failed. It goes over the
-    /// running ones.
+    /// How many jobs wait and run before the position; 0 in an engine that has failed.
     pub fn standing(&self) -> usize
         ensures going { self.now.failed ≡ false → result ≡ length (before self.now.plan self.now.position).waiting + length (before self.now.plan self.now.position).running }
         ensures failed { self.now.failed ≡ true → result ≡ 0 }
@@ -120,8 +119,7 @@ impl<A: Allocator + Copy> Engine<A> {
         if self.failed {
             return 0;
         }
-        let running = count_of(self.cluster.running_by_end());
-        self.cluster.waiting_count() + running
+        self.cluster.waiting_count() + self.cluster.running_count()
     }
 
     /// The numbers of the jobs that wait and run before the position.
@@ -138,17 +136,6 @@ impl<A: Allocator + Copy> Engine<A> {
         let snapshot = self.cluster.snapshot()?;
         Ok(snapshot)
     }
-}
-
-fn count_of<A: Allocator + Copy>(running: RunningByEnd<'_, A>) -> usize
-    requires { length running < 2 ^ 64 }
-    ensures { result ≡ length running.entry }
-{
-    let mut count = 0;
-    for _job in running {
-        count += 1;
-    }
-    count
 }
 
 fn earlier(a: Option<u64>, b: Option<u64>) -> Option<u64>

@@ -1,5 +1,5 @@
 //! The table of a log's jobs, in their order, and its edits, each of which counts what it copies: at
-//! least one for each chunk that it makes anew, and at most 1,024.
+//! least one for each chunk that it makes anew, and at most 898.
 #![tactic(auto)]
 
 mod arranging;

@@ -104,8 +104,8 @@ impl<A: Allocator + Copy> JobTable<A> {
         Ok(SwfText::of_parts(lines, entries))
     }
 
-    /// The same table once more, on the allocator that this one keeps. It shares all chunks of
-    /// entries, so that it costs one pointer for each chunk. Memory where a growth was refused.
+    /// The same table once more, on the allocator that this one keeps. It shares all groups of chunks, of
+    /// entries and of the index, and costs a pointer for each group. Memory where a growth was refused.
     pub fn copy(&self) -> Result<JobTable<A>, Memory>
         ensures { IfOk result (λ table. table ≡ self.now) }
     {
@@ -275,7 +275,7 @@ impl<A: Allocator + Copy> JobTable<A> {
         ensures kept { OnErr result (self.new ≡ self.old) }
         ensures least { IfOk result (λ count. fewest (edit_of edit.now) self.old ≤ count) }
         ensures most { IfOk result (λ count. count ≤ most (edit_of edit.now) self.old) }
-        ensures limit { IfOk result (λ count. count ≤ 1024) }
+        ensures limit { IfOk result (λ count. count ≤ 898) }
     {
         self.check(edit)?;
         match edit {

@@ -87,8 +87,8 @@ impl<A: Allocator + Copy> Part<A> {
         })
     }
 
-    /// The part of the jobs of both, made of this one, which is dropped where a growth is refused: then
-    /// it returns Memory.
+    /// As `merge`, for one who doesn't go on with this part: it is dropped. Memory where a growth was
+    /// refused.
     pub fn absorb(self, other: &Part<A>) -> Result<Part<A>, Memory>
         requires { self.totals.count + other.now.totals.count ≤ entry_limit }
         ensures { IfOk result (λ part. (xs ys : List Placed) → IsPartOf xs self → IsPartOf ys other.now → IsPartOf (xs ++ ys) part) }

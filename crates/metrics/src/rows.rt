@@ -8,9 +8,9 @@ use crate::totals::Totals;
 use crate::users::UserSums;
 use scenarios::Skips;
 
-/// The numbers over all jobs: means of wait, length (seconds) and slowdown (thousandths), cut down;
-/// processor-seconds; the seconds from the least submission to the greatest end; and the
-/// utilization over these, in 100,000ths. With no jobs all but the skips are 0.
+/// The numbers over all jobs: means of wait, length (seconds) and bounded slowdown (thousandths), cut
+/// down; processor-seconds; the makespan, in seconds from the least submission to the greatest end; and
+/// the utilization over it, in 100,000ths. With no jobs all but the skips are 0.
 #[derive(Clone, Copy, Debug, PartialEq, Eq)]
 pub struct Overall {
     pub jobs: u64,
@@ -25,7 +25,7 @@ pub struct Overall {
     pub utilization: u128,
 }
 
-/// A user's jobs, means of wait (seconds) and slowdown (thousandths), cut down, and
+/// A user's jobs, means of wait (seconds) and bounded slowdown (thousandths), cut down, and
 /// processor-seconds.
 #[derive(Clone, Copy, Debug, PartialEq, Eq)]
 pub struct UserRow {

@@ -8,7 +8,8 @@ ghost use Rattle.metrics.specs.Part.{AreJobs};
 use crate::measures;
 use scenarios::Placed;
 
-/// Sums over all jobs: seconds of waiting and running, slowdowns in thousandths, processor-seconds.
+/// Sums over all jobs: seconds of waiting and running, bounded slowdowns in thousandths, and
+/// processor-seconds.
 #[derive(Clone, Copy, Debug, PartialEq, Eq)]
 pub struct Totals {
     pub count: u64,

@@ -20,7 +20,7 @@ fn place_behind(seconds: &[u64], second: u64, lasting: u64) -> u32
 ///
 /// `start` is the second at which it starts. None says that it doesn't start before the last of these
 /// seconds: it waits to the last. It takes at most two halvings of the seconds, and no memory.
-pub fn waiting_places(seconds: &[u64], job: &Job, start: Option<u64>) -> Stretch<u64>
+pub fn waiting_stretch(seconds: &[u64], job: &Job, start: Option<u64>) -> Stretch<u64>
     requires rising { IsNonDecreasing seconds.now }
     requires few { length seconds.now ≤ 4294967295 }
     ensures { result ≡ waiting_stretch seconds.now job.now start }
@@ -39,7 +39,7 @@ pub fn waiting_places(seconds: &[u64], job: &Job, start: Option<u64>) -> Stretch
 /// The stretch of places at which a job of this start, in seconds, runs among rising seconds: from the
 /// first second behind its start on, until the first behind its end. It takes two halvings of the
 /// seconds, and no memory.
-pub fn running_places(seconds: &[u64], job: &Job, start: u64) -> Stretch<RunningNumber>
+pub fn running_stretch(seconds: &[u64], job: &Job, start: u64) -> Stretch<RunningNumber>
     requires rising { IsNonDecreasing seconds.now }
     requires few { length seconds.now ≤ 4294967295 }
     ensures { result ≡ placed_stretch seconds.now (record { job = job.now; start = start }) }

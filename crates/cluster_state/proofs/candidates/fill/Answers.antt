@@ -1,7 +1,7 @@
 use Rattle.std.proofs.Common.{None, Some, ap, refl, sym}
 use Rattle.blocks.specs.Rows.{flat}
 use Rattle.scenarios.specs.Job.{EffectiveJob}
-use Rattle.cluster_state.proofs.TicketLemmas.{filling-none, filling-one}
+use Rattle.cluster_state.proofs.EstimateLemmas.{filling-none, filling-one}
 use Rattle.cluster_state.proofs.candidates.fill.Goals as goal
 
 pub loop-place-preserved-in_default : goal.loop-place-preserved-in_default

@@ -1,5 +1,5 @@
 use Rattle.blocks.specs.Rows.{flat}
-use Rattle.cluster_state.proofs.TicketLemmas.{IsFilling}
+use Rattle.cluster_state.proofs.EstimateLemmas.{IsFilling}
 use Rattle.cluster_state.proofs.candidates.fill.Given as goal
 
 abbrev pub invariant-loop-place : goal.invariant-loop-place

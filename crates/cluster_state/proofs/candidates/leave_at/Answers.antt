@@ -4,7 +4,7 @@ use Rattle.scenarios.specs.Job.{EffectiveJob}
 use Rattle.waiting_places.specs.Places.{waiting}
 use Rattle.cluster_state.specs.Candidates.{IsKept}
 use Rattle.cluster_state.proofs.PlaceLemmas.{Having}
-use Rattle.cluster_state.proofs.TicketLemmas.{estimate, kept-left, place}
+use Rattle.cluster_state.proofs.EstimateLemmas.{estimate, kept-left, place}
 use Rattle.cluster_state.proofs.candidates.leave_at.Goals as goal
 
 pub returns-in-Shortest-clause-kept : goal.returns-in-Shortest-clause-kept

@@ -6,7 +6,7 @@ use Rattle.waiting_places.specs.Places.{at_place, waiting}
 use Rattle.cluster_state.specs.Candidates.{IsKept, jobs_of, candidates_places}
 use Rattle.cluster_state.specs.State.{without}
 use Rattle.cluster_state.proofs.PlaceLemmas.{at_map, leaves-there, rest-remove}
-use Rattle.cluster_state.proofs.TicketLemmas.{none_kept}
+use Rattle.cluster_state.proofs.EstimateLemmas.{none_kept}
 use Rattle.cluster_state.proofs.queue.Queue.take_at.Goals as goal
 
 pub take_by_estimate-requires-clause-once : goal.take_by_estimate-requires-clause-once

@@ -3,12 +3,12 @@ use blocks::Ranked;
 use scenarios::Job;
 
 #[derive(Clone, Copy)]
-pub(crate) struct Ticket {
+pub(crate) struct Candidate {
     pub(crate) job: Job,
     pub(crate) place: usize,
 }
 
-impl Ranked for Ticket {
+impl Ranked for Candidate {
     ghost major = { λ t. t.job.estimate };
 
     ghost minor = { λ t. t.place };
