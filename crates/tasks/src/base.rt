@@ -1,9 +1,11 @@
 ghost use Rattle.std.specs.Prelude.{◌≡◌, ◌≤◌, length, map, option_copied, IfOk, IfSome};
 ghost use Rattle.std.specs.Arc.{arc_value};
 ghost use Rattle.job_table.specs.Edit.{edit_of};
+ghost use Rattle.book_machine.specs.Noted.{noted_edit_of};
 ghost use Rattle.tasks.specs.Tasks.{base_since, bases_since};
 
 use crate::published::Published;
+use book_machine::NotedEdit;
 use checkpoints::Run;
 use job_table::Edit;
 use std::alloc::Allocator;
@@ -30,27 +32,30 @@ impl<A: Allocator + Copy> Model for Base<A> {
     ghost view = { λ b. record { version = b.version; run = arc_value b.run; edits = map edit_of b.edits.items } };
 }
 
-fn copies<A: Allocator + Copy>(alloc: A, edits: &[Edit<A>]) -> Result<Vec<Edit<A>, A>, Memory>
-    ensures { IfOk result (λ copies. map edit_of copies.items ≡ map edit_of edits.now) }
+fn edits_of<A: Allocator + Copy>(
+    alloc: A,
+    noted: &[NotedEdit<A>],
+) -> Result<Vec<Edit<A>, A>, Memory>
+    ensures { IfOk result (λ edits. map edit_of edits.items ≡ map noted_edit_of noted.now) }
 {
-    let mut copies = Vec::with_capacity(alloc, edits.len())?;
-    for edit in edits {
-        copies.push(edit.copy()?)?;
+    let mut edits = Vec::with_capacity(alloc, noted.len())?;
+    for edit in noted {
+        edits.push(edit.edit()?)?;
     }
-    Ok(copies)
+    Ok(edits)
 }
 
 fn base_since<A: Allocator + Copy>(
     alloc: A,
     published: &Published<A>,
-    edits: &[Edit<A>],
+    edits: &[NotedEdit<A>],
 ) -> Result<Base<A>, Memory>
     requires { published.now.version ≤ length edits.now }
-    ensures { IfOk result (λ base. base ≡ base_since (map edit_of edits.now) published.now) }
+    ensures { IfOk result (λ base. base ≡ base_since (map noted_edit_of edits.now) published.now) }
 {
     let version = published.version();
     let (_, later) = edits.split_at(version as usize);
-    let since = copies(alloc, later)?;
+    let since = edits_of(alloc, later)?;
     Ok(Base {
         version,
         run: published.run().clone()?,
@@ -59,16 +64,16 @@ fn base_since<A: Allocator + Copy>(
 }
 
 impl<A: Allocator + Copy> Base<A> {
-    /// The base that a published run makes, with the edits that were accepted since its version; None
+    /// The base that a published run makes, with the noted edits since its version; None
     /// where none is published. Its condition: the version is one of those that the edits made. Memory
     /// where a growth was refused.
     pub fn since(
         alloc: A,
         published: Option<&Published<A>>,
-        edits: &[Edit<A>],
+        edits: &[NotedEdit<A>],
     ) -> Result<Option<Base<A>>, Memory>
         requires { IfSome (option_copied published) (λ p. p.version ≤ length edits.now) }
-        ensures { IfOk result (λ base. base ≡ bases_since (map edit_of edits.now) (option_copied published.entry)) }
+        ensures { IfOk result (λ base. base ≡ bases_since (map noted_edit_of edits.now) (option_copied published.entry)) }
     {
         match published {
             Some(published) => Ok(Some(base_since(alloc, published, edits)?)),

@@ -34,4 +34,5 @@ pub use refusal::{
     AddRefusal, ClaimRefusal, DropRefusal, EditRefusal, FinishRefusal, GiveUpRefusal, Refusal,
     RetryRefusal, ViewRefusal,
 };
+pub use replies::fitted;
 pub use tasks::{Base, Published, Task};

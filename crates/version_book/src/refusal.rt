@@ -11,7 +11,8 @@ use std::fmt;
 use swf_text::Memory;
 use thiserror::Error;
 
-/// Why a call of a book is refused, in the order of checks. It displays as its name.
+/// Why a call of a book is refused: JournalFull before all others. Memory may come in place of a fault,
+/// since a call takes the memory for its note before it looks for one. It displays as its name.
 #[derive(Clone, Copy, Debug, PartialEq, Eq, Error)]
 #[error_bound(F: Named + fmt::Debug)]
 pub enum Refusal<F> {

@@ -104,7 +104,9 @@ pub(crate) fn finish_reply(outcome: &Result<u64, FinishRefusal>) -> Option<Reply
     }
 }
 
-pub(crate) fn fitted(outcome: &Result<u64, FinishRefusal>) -> bool
+/// Whether what a finish returned says that the run was of the ticket's log and scenario: it is
+/// published, or is not newer than what is published.
+pub fn fitted(outcome: &Result<u64, FinishRefusal>) -> bool
     ensures { result ≡ fitted outcome.now }
 {
     matches!(

@@ -6,6 +6,7 @@ ghost use Rattle.std.specs.Arc.{arc_value};
 ghost use Rattle.job_table.specs.Accepted.{IsEdit};
 ghost use Rattle.job_table.specs.Edit.{applied, edit_of};
 ghost use Rattle.book_machine.specs.Call.{AddScenario, DropScenario, Edit as Edits, Retry, View};
+ghost use Rattle.book_machine.specs.Noted.{noted_edit_of};
 ghost use Rattle.version_book.specs.Answers.{add_answer, drop_answer, edit_answer, retry_answer, view_answer};
 ghost use Rattle.version_book.specs.Steps.{Does};
 ghost use Rattle.version_book.specs.Tasks.{IsShownFor};
@@ -15,6 +16,7 @@ use crate::lookups::{hide, shown_of, unmark};
 use crate::refusal::{AddRefusal, DropRefusal, EditRefusal, RetryRefusal, ViewRefusal};
 use crate::shown::Shown;
 use crate::state::State;
+use book_machine::NotedEdit;
 use job_table::{Edit, JobTable};
 use scenarios::{NoSuchScenario, Scenario, ScenarioId};
 use std::alloc::Allocator;
@@ -55,15 +57,16 @@ fn put_edit<A: Allocator + Copy>(
 }
 
 fn kept_edit<A: Allocator + Copy>(
-    edits: &mut Vec<Edit<A>, A>,
+    alloc: A,
+    edits: &mut Vec<NotedEdit<A>, A>,
     edit: &Edit<A>,
-) -> Result<Edit<A>, Memory>
+) -> Result<NotedEdit<A>, Memory>
     ensures items { edits.new.items ≡ edits.old.items }
     ensures capacity { OnOk result (vec_len edits.new < vec_capacity edits.new) }
-    ensures copy { IfOk result (λ kept. edit_of kept ≡ edit_of edit.now) }
+    ensures kept { IfOk result (λ kept. noted_edit_of kept ≡ edit_of edit.now) }
 {
     edits.reserve(1)?;
-    edit.copy()
+    NotedEdit::new(alloc, edit)
 }
 
 impl<A: Allocator + Copy> State<A> {
@@ -73,7 +76,7 @@ impl<A: Allocator + Copy> State<A> {
         if let Err(fault) = self.current.check(edit) {
             return Err(EditRefusal::Fault(fault));
         }
-        let kept = kept_edit(&mut self.edits, edit)?;
+        let kept = kept_edit(self.alloc, &mut self.edits, edit)?;
         put_edit(self.alloc, &mut self.current, edit)?;
         self.edits.push_reserved(kept);
         Ok(self.version())

@@ -1,6 +1,6 @@
 ghost use Rattle.std.specs.Prelude.{◌≡◌, ◌≤◌, length, map, IfOk, ℕ};
 ghost use Rattle.std.specs.Arc.{arc_value};
-ghost use Rattle.job_table.specs.Edit.{edit_of};
+ghost use Rattle.book_machine.specs.Noted.{noted_edit_of};
 ghost use Rattle.checkpoints.specs.Spacing.{IsSpacing};
 ghost use Rattle.version_book.specs.Book.{StateView, machine_at};
 ghost use Rattle.version_book.specs.Sound.{IsSound};
@@ -10,8 +10,8 @@ ghost use Rattle.version_book.specs.Tasks.{free_due};
 
 use crate::lookups::{first_due, settled};
 use crate::shown::Shown;
-use book_machine::SettleState;
-use job_table::{Edit, JobTable};
+use book_machine::{NotedEdit, SettleState};
+use job_table::JobTable;
 use scenarios::{MAX_SCENARIOS, ScenarioId, ScenarioList};
 use std::alloc::Allocator;
 use std::marker::Model;
@@ -29,7 +29,7 @@ pub(crate) struct State<A: Allocator + Copy> {
     pub(crate) spacing: u32,
     pub(crate) opening: Arc<JobTable<A>, A>,
     pub(crate) current: Arc<JobTable<A>, A>,
-    pub(crate) edits: Vec<Edit<A>, A>,
+    pub(crate) edits: Vec<NotedEdit<A>, A>,
     pub(crate) scenarios: ScenarioList<A>,
     pub(crate) shown: Vec<Shown<A>, A>,
     pub(crate) tickets: Vec<Ticket<A>, A>,
@@ -39,7 +39,7 @@ pub(crate) struct State<A: Allocator + Copy> {
 impl<A: Allocator + Copy> Model for State<A> {
     ghost use Rattle.std.specs.Prelude.{◌≤◌, map, vec_capacity};
     ghost use Rattle.std.specs.Arc.{arc_value};
-    ghost use Rattle.job_table.specs.Edit.{edit_of};
+    ghost use Rattle.book_machine.specs.Noted.{noted_edit_of};
     ghost use Rattle.scenarios.specs.Limits.{scenarios_limit};
     ghost use Rattle.book_machine.specs.Machine.{ticket_limit};
     ghost use Rattle.version_book.specs.Book.{StateView};
@@ -47,9 +47,9 @@ impl<A: Allocator + Copy> Model for State<A> {
 
     ghost Value = { StateView };
 
-    ghost view = { λ s. record { spacing = s.spacing; opening = arc_value s.opening; current = arc_value s.current; edits = map edit_of s.edits.items; listing = s.scenarios; shown = s.shown.items; tickets = s.tickets.items; next_ticket = s.next_ticket } };
+    ghost view = { λ s. record { spacing = s.spacing; opening = arc_value s.opening; current = arc_value s.current; edits = map noted_edit_of s.edits.items; listing = s.scenarios; shown = s.shown.items; tickets = s.tickets.items; next_ticket = s.next_ticket } };
 
-    ghost invariant = { λ s. IsSound (record { spacing = s.spacing; opening = arc_value s.opening; current = arc_value s.current; edits = map edit_of s.edits.items; listing = s.scenarios; shown = s.shown.items; tickets = s.tickets.items; next_ticket = s.next_ticket }) × (scenarios_limit ≤ vec_capacity s.shown) × (ticket_limit ≤ vec_capacity s.tickets) };
+    ghost invariant = { λ s. IsSound (record { spacing = s.spacing; opening = arc_value s.opening; current = arc_value s.current; edits = map noted_edit_of s.edits.items; listing = s.scenarios; shown = s.shown.items; tickets = s.tickets.items; next_ticket = s.next_ticket }) × (scenarios_limit ≤ vec_capacity s.shown) × (ticket_limit ≤ vec_capacity s.tickets) };
 }
 
 impl<A: Allocator + Copy> State<A> {

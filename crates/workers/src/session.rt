@@ -26,7 +26,8 @@ use version_book::{AddRefusal, DropRefusal, EditRefusal, Published, RetryRefusal
 ///
 /// Each call takes the desk that opened the session, and holds its lock for one call of the book. It
 /// stands in the history behind all earlier responses to the session.
-/// JournalFull and Memory are not listed; Memory comes first where the list cannot grow.
+/// JournalFull and Memory are not listed; Memory comes first where the list cannot grow, or the call
+/// cannot be copied for it.
 #[derive(Drop)]
 pub struct Session<A: Allocator + Copy, J: Naming> {
     alloc: A,

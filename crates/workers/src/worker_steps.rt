@@ -21,16 +21,7 @@ use checkpoints::Run;
 use chronicle::{Front, Naming};
 use std::alloc::Allocator;
 use std::sync::Arc;
-use version_book::{ClaimRefusal, FinishFault, FinishRefusal, GiveUpRefusal, Task, TooManyTickets};
-
-fn is_fitting(outcome: &Result<u64, FinishRefusal>) -> bool
-    ensures { result ≡ fitted outcome.now }
-{
-    matches!(
-        outcome,
-        Ok(_) | Err(FinishRefusal::Fault(FinishFault::Stale { .. }))
-    )
-}
+use version_book::{ClaimRefusal, FinishRefusal, GiveUpRefusal, Task, TooManyTickets, fitted};
 
 impl<A: Allocator + Copy, J: Naming> Shared<A, J> {
     pub(crate) fn claim_for(
@@ -95,7 +86,7 @@ impl<A: Allocator + Copy, J: Naming> Shared<A, J> {
         let notes = notes_in(&self.book);
         front.follow(&self.whole);
         let outcome = self.book.hand_in(worker, ticket, run);
-        let fits = is_fitting(&outcome);
+        let fits = fitted(&outcome);
         let reply = followed(&mut self.whole, front, &self.book, notes);
         keep(list, Call::Finish { ticket, fits }, reply);
         outcome

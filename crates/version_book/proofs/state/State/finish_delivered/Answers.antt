@@ -1,7 +1,7 @@
 use Rattle.std.proofs.Common.{rules, ◌≡◌, List, find, map, sym, ◌∙◌, ap, subst}
 use Rattle.std.specs.Prelude.{None, true, false, is_none, option_copied}
 use Rattle.std.specs.Arc.{arc_value}
-use Rattle.job_table.specs.Edit.{edit_of}
+use Rattle.book_machine.specs.Noted.{noted_edit_of}
 use Rattle.tasks.specs.Tickets.{HasThoseOf, TicketView, has_number}
 use Rattle.version_book.specs.Answers.{TellsStanding}
 use Rattle.version_book.specs.Book.{StateView}
@@ -44,6 +44,6 @@ returns-clause-stands g c =
 
 pub returns-clause-published : goal.returns-clause-published
 returns-clause-published g c =
-    let is = ap (λ (ts : List TicketView). let s : StateView = record { spacing = c.self.inside.spacing; opening = arc_value c.self.inside.opening; current = arc_value c.self.inside.current; edits = map edit_of c.self.inside.edits.items; listing = c.self.inside.scenarios; shown = c.self.inside.shown.items; tickets = ts; next_ticket = c.self.inside.next_ticket } in s) c.in_ok-run.ensures.tickets ∙ c.self.view_is in
+    let is = ap (λ (ts : List TicketView). let s : StateView = record { spacing = c.self.inside.spacing; opening = arc_value c.self.inside.opening; current = arc_value c.self.inside.current; edits = map noted_edit_of c.self.inside.edits.items; listing = c.self.inside.scenarios; shown = c.self.inside.shown.items; tickets = ts; next_ticket = c.self.inside.next_ticket } in s) c.in_ok-run.ensures.tickets ∙ c.self.view_is in
     let fits = subst (λ (ts : List TicketView). HasThoseOf (find (has_number c.args.number) ts) (arc_value c.in_ok-run.run')) (sym c.in_ok-run.ensures.tickets) c.in_ok-run.ensures.run in
     fitting-some _ c.args.number (arc_value c.in_ok-run.run') c.accept.result is fits c.accept.ensures.published

@@ -13,7 +13,7 @@ pub followed-reply-requires : goal.followed-reply-requires
 followed-reply-requires g c = record { accepted = accepted _ _ _ _ _ _ _ (caller.Worker c.args.worker) (Finish c.args.ticket (fitted c.hand_in-outcome.result)) _ _ c.self.invariant c.hand_in-outcome.ensures.answer c.notes_in-notes.ensures.count }
 
 pub returns-clause-list : goal.returns-clause-list
-returns-clause-list g c = gains _ _ _ _ _ _ _ _ _ _ c.hand_in-outcome.ensures.answer c.notes_in-notes.ensures.count c.followed-reply.ensures.reply (ap (λ f. Finish c.args.ticket f) c.is_fitting-fits.ensures) c.keep.ensures
+returns-clause-list g c = gains _ _ _ _ _ _ _ _ _ _ c.hand_in-outcome.ensures.answer c.notes_in-notes.ensures.count c.followed-reply.ensures.reply (ap (λ f. Finish c.args.ticket f) c.fitted-fits.ensures) c.keep.ensures
 
 pub returns-clause-history : goal.returns-clause-history
 returns-clause-history g c = called _ _ _ _ _ _ _ _ (caller.Worker c.args.worker) (Finish c.args.ticket (fitted c.hand_in-outcome.result)) _ _ _ _ _ c.self.invariant c.hand_in-outcome.ensures.answer c.notes_in-notes.ensures.count c.followed-reply.ensures.whole c.follow.ensures c.followed-reply.ensures.front
