@@ -11,7 +11,7 @@ ghost use Rattle.easybook.specs.Program.{AreFronts, Ends, EndsFrom, EndsOnFile, 
 use crate::alone::{SCRIPT_LIMIT, work_script};
 use crate::book::{begun_book, book_over};
 use crate::fault::ProgramFault;
-use crate::input::{begin_front, begin_input, read_front};
+use crate::input::{begin_front, begin_input, read_front, read_input};
 use crate::live::talk_on_file;
 use crate::opened::{LOG_LIMIT, opening_behind};
 use crate::options::Options;
@@ -85,7 +85,9 @@ fn run_input<R: Read + Drop, W: Write, T: Threads + Sync, A: Allocator + Copy>(
     match script {
         Some(script) => {
             let opened = book_over(alloc, opening, options.spacing)?;
-            work_script(alloc, script, writer, opened)
+            let script = read_input(alloc, script, SCRIPT_LIMIT)?;
+            drop(rest);
+            work_script(alloc, script.as_slice(), writer, opened)
         }
         None => {
             drop(rest);
@@ -183,11 +185,11 @@ fn run_on_named<S: Sources, T: Threads + Sync, R: Read + Drop, W: Write>(
 
 /// Runs the program: its words, its name first, then its input.
 ///
-/// Where the words name scripts, these are worked side by side by `run_shared` on the log, which is the
-/// named file or all of the reader's bytes. Where they name none but a log, the reader's bytes are the
-/// script, which `run_alone` works, or with `--live` a conversation, which `run_live` holds. Where they
-/// name neither, the reader's bytes are cut by `split_input`: a script in them is worked by `run_alone`
-/// on the log before it, and a log alone is run as by `run_plain`.
+/// Where the words name scripts, these are worked side by side, as by `run_shared`, on the log, which is
+/// the named file or all of the reader's bytes. Where they name none but a log, the reader's bytes are
+/// the script, worked as by `run_alone`, or with `--live` a conversation, held as by `run_live`. Where
+/// they name neither, the reader's bytes are cut by `split_input`: a script in them is worked as by
+/// `run_alone` on the log before it, and a log alone is run as by `run_plain`.
 ///
 /// The faults in their order: those of `read_words`; Read where the file cannot be opened or read;
 /// without a file TooLong where the reader has over 1,200,000,000 bytes; Read where the reader returns

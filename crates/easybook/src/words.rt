@@ -30,7 +30,8 @@ const WORKERS: u32 = 2;
 /// Why the program's words choose nothing.
 #[derive(Clone, Copy, Debug, PartialEq, Eq, Error)]
 pub enum WordsFault {
-    /// A word is unknown, stands twice, lacks its value, or is outside the limits.
+    /// A word is unknown, stands twice (but `--script`), lacks its value, or is outside the limits; there
+    /// are over 64 scripts; or a conversation is asked for without a LOG or beside a script.
     BadWords,
     /// A growth was refused.
     Memory,
@@ -213,8 +214,8 @@ fn is_allowed(live: bool, log: Option<&str>, scripts: usize) -> bool
 /// seconds to a segment of a run, digits from 1 to 65,536; it is 256 where none is given.
 /// `--workers N` gives the workers, digits from 1 to 64; they are 2 where none is given. Each
 /// `--script FILE` names a file that holds a script; they are at most 64. `--live` asks for a
-/// conversation, on a LOG and with no script. Any other word is a bad argument, as is one given twice.
-/// Out of memory is never reported as bad words.
+/// conversation, on a LOG and with no script. Any other word is a bad argument, as is one but `--script`
+/// that is given twice. Out of memory is never reported as bad words.
 pub fn read_words<'a>(alloc: Global, words: &'a [&'a str]) -> Result<Words<'a>, WordsFault>
     ensures chosen { IfOk result (λ w. chosen (map (λ w. w.now) words.now) ≡ Some (choice_of w)) }
     ensures refused { IfErr result (IsWordsFault (map (λ w. w.now) words.now)) }
