@@ -380,8 +380,10 @@ class Ends(unittest.TestCase):
             self.assertFalse(is_running(fake))
 
     def test_an_interrupt_between_commands_leaves_it_as_it_is(self):
-        # The interrupt comes to the whole group of processes, as that of a terminal does.
+        # The interrupt comes to the whole group of processes, as that of a terminal does. Whoever starts this behind `&` has
+        # it ignored.
         code = """import easybook, os, signal, sys, time
+signal.signal(signal.SIGINT, signal.default_int_handler)
 with easybook.open(sys.argv[1], 10) as log:
     log.remove(4)
     try:
