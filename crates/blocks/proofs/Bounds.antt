@@ -1,53 +1,48 @@
--- What none of a row's items weighs less than, through each edit.
+-- What is true of all of a row's items, through each edit.
 use Rattle.std.proofs.Common.{◌≡◌, ℕ, suc, ◌+◌, ◌<◌, ◌≤◌, List, [], ◌∷◌, length, take, drop, get_or, insert, remove, set, ap, sym, subst, ◌∙◌, arith}
 use Rattle.std.specs.List.{All}
 use Rattle.std.proofs.lemmas.List.Elements.{All-append, All-cons, All-drop, All-nil, All-take, All-weaker}
 use Rattle.blocks.specs.Rows.{cut_at, flat, joined_at}
 use Rattle.blocks.proofs.Edits.{cut_flat, join_flat, put_flat, retired_flat, taken_flat}
 
-module _ {X : Type 0} (f : X → ℕ) where
-  abbrev Low : ℕ → List X → Type 0
-  Low least xs = All (λ x. least ≤ f x) xs
+-- none weighs less than a smaller number
+pub lower : {X : Type 0} (f : X → ℕ) (least less : ℕ) (xs : List X) → less ≤ least → All (λ x. least ≤ f x) xs → All (λ x. less ≤ f x) xs
+lower f least less xs le low = All-weaker (λ x. least ≤ f x) (λ x. less ≤ f x) (λ x (k : least ≤ f x). omega (arith, k, le)) xs low
 
-  -- none of an equal list weighs less
-  pub low_by : (least : ℕ) (xs ys : List X) → Low least xs → ys ≡ xs → Low least ys
-  low_by least xs ys low e = subst (Low least) (sym e) low
+module _ {X : Type 0} (P : X → Type 0) where
+  -- it is true of all of an equal list
+  pub all_by : (xs ys : List X) → All P xs → ys ≡ xs → All P ys
+  all_by xs ys all e = subst (All P) (sym e) all
 
-  -- none weighs less than a smaller number
-  pub lower : (least less : ℕ) (xs : List X) → less ≤ least → Low least xs → Low less xs
-  lower least less xs le low = All-weaker (λ x. least ≤ f x) (λ x. less ≤ f x) (λ x (k : least ≤ f x). omega (arith, k, le)) xs low
+  -- it is true of all once one is inserted of which it is true
+  pub all_insert : (at : ℕ) (xs : List X) (x : X) → All P xs → P x → All P (insert xs at x)
+  all_insert at xs x all p = All-append P (take at xs) (x ∷ drop at xs) (All-take P at xs all) (All-cons P x (drop at xs) p (All-drop P at xs all))
 
-  -- none weighs less once one that doesn't is inserted
-  pub low_insert : (least at : ℕ) (xs : List X) (x : X) → Low least xs → least ≤ f x → Low least (insert xs at x)
-  low_insert least at xs x low le =
-      All-append (λ y. least ≤ f y) (take at xs) (x ∷ drop at xs) (All-take (λ y. least ≤ f y) at xs low) (All-cons (λ y. least ≤ f y) x (drop at xs) le (All-drop (λ y. least ≤ f y) at xs low))
+  -- it is true of all once one is removed
+  pub all_remove : (at : ℕ) (xs : List X) → All P xs → All P (remove xs at)
+  all_remove at xs all = All-append P (take at xs) (drop (suc at) xs) (All-take P at xs all) (All-drop P (suc at) xs all)
 
-  -- none weighs less once one is removed
-  pub low_remove : (least at : ℕ) (xs : List X) → Low least xs → Low least (remove xs at)
-  low_remove least at xs low = All-append (λ y. least ≤ f y) (take at xs) (drop (suc at) xs) (All-take (λ y. least ≤ f y) at xs low) (All-drop (λ y. least ≤ f y) (suc at) xs low)
+  -- it is true of the one item of a row
+  pub all_one : (x : X) (new : List (List X)) → P x → new ≡ (x ∷ []) ∷ [] → All P (flat new)
+  all_one x new p e = all_by (x ∷ []) (flat new) (All-cons P x [] p (All-nil P)) (ap flat e)
 
-  -- none of the one item of a row weighs less where that item doesn't
-  pub low_one : (least : ℕ) (x : X) (new : List (List X)) → least ≤ f x → new ≡ (x ∷ []) ∷ [] → Low least (flat new)
-  low_one least x new le e = low_by least (x ∷ []) (flat new) (All-cons (λ y. least ≤ f y) x [] le (All-nil (λ y. least ≤ f y))) (ap flat e)
+  module _ (k : ℕ) (cs new : List (List X)) (all : All P (flat cs)) where
+    -- it is true of all once an item of which it is true is inserted in a block
+    pub all_put : (at : ℕ) (x : X) → k < length cs → at ≤ length (get_or cs k []) → new ≡ set cs k (insert (get_or cs k []) at x) → P x → All P (flat new)
+    all_put at x lt le e p = all_by (insert (flat cs) (length (flat (take k cs)) + at) x) (flat new) (all_insert (length (flat (take k cs)) + at) (flat cs) x all p) (put_flat k at cs new x lt le e)
 
-  module _ (least : ℕ) (k : ℕ) (cs new : List (List X)) (low : Low least (flat cs)) where
-    -- none weighs less than a smaller number, once an item that doesn't is inserted in a block
-    pub low_put : (less at : ℕ) (x : X) → k < length cs → at ≤ length (get_or cs k []) → new ≡ set cs k (insert (get_or cs k []) at x) → less ≤ least → less ≤ f x → Low less (flat new)
-    low_put less at x lt le e first second =
-        low_by less (insert (flat cs) (length (flat (take k cs)) + at) x) (flat new) (low_insert less (length (flat (take k cs)) + at) (flat cs) x (lower least less (flat cs) first low) second) (put_flat k at cs new x lt le e)
+    -- it is true of all once an item is removed from a block
+    pub all_taken : (at : ℕ) → k < length cs → at < length (get_or cs k []) → new ≡ set cs k (remove (get_or cs k []) at) → All P (flat new)
+    all_taken at lt le e = all_by (remove (flat cs) (length (flat (take k cs)) + at)) (flat new) (all_remove (length (flat (take k cs)) + at) (flat cs) all) (taken_flat k at cs new lt le e)
 
-    -- none weighs less once an item is removed from a block
-    pub low_taken : (at : ℕ) → k < length cs → at < length (get_or cs k []) → new ≡ set cs k (remove (get_or cs k []) at) → Low least (flat new)
-    low_taken at lt le e = low_by least (remove (flat cs) (length (flat (take k cs)) + at)) (flat new) (low_remove least (length (flat (take k cs)) + at) (flat cs) low) (taken_flat k at cs new lt le e)
+    -- it is true of all once a block of one item is removed
+    pub all_retired : k < length cs → length (get_or cs k []) ≡ 1 → new ≡ remove cs k → All P (flat new)
+    all_retired lt one e = all_by (remove (flat cs) (length (flat (take k cs)) + 0)) (flat new) (all_remove (length (flat (take k cs)) + 0) (flat cs) all) (retired_flat k cs new lt one e)
 
-    -- none weighs less once a block of one item is removed
-    pub low_retired : k < length cs → length (get_or cs k []) ≡ 1 → new ≡ remove cs k → Low least (flat new)
-    low_retired lt one e = low_by least (remove (flat cs) (length (flat (take k cs)) + 0)) (flat new) (low_remove least (length (flat (take k cs)) + 0) (flat cs) low) (retired_flat k cs new lt one e)
+    -- it is true of all once a block is cut
+    pub all_cut : k < length cs → new ≡ cut_at k cs → All P (flat new)
+    all_cut lt e = all_by (flat cs) (flat new) all (ap flat e ∙ cut_flat k cs lt)
 
-    -- none weighs less once a block is cut
-    pub low_cut : k < length cs → new ≡ cut_at k cs → Low least (flat new)
-    low_cut lt e = low_by least (flat cs) (flat new) low (ap flat e ∙ cut_flat k cs lt)
-
-    -- none weighs less once two blocks are joined
-    pub low_joined : k + 1 < length cs → new ≡ joined_at k cs → Low least (flat new)
-    low_joined lt e = low_by least (flat cs) (flat new) low (join_flat k cs new lt e)
+    -- it is true of all once two blocks are joined
+    pub all_joined : k + 1 < length cs → new ≡ joined_at k cs → All P (flat new)
+    all_joined lt e = all_by (flat cs) (flat new) all (join_flat k cs new lt e)

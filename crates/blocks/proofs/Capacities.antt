@@ -4,7 +4,8 @@ use Rattle.std.specs.List.{All, sum_by}
 use Rattle.std.proofs.lemmas.Bool.{cases_lt}
 use Rattle.std.proofs.lemmas.List.{length-set}
 use Rattle.std.proofs.lemmas.List.Edits.{length-insert, length-remove}
-use Rattle.std.proofs.lemmas.List.Sums.{get_or-le-sum_by, sum_by-cons, sum_by-le-sum_by, sum_by-remove, sum_by-set}
+use Rattle.std.proofs.lemmas.List.Elements.{All-weaker}
+use Rattle.std.proofs.lemmas.List.Sums.{get_or-le-sum_by, sum_by-cons, sum_by-le, sum_by-le-sum_by, sum_by-remove, sum_by-set}
 use Rattle.blocks.specs.Rows.{AreFilled, IsFilled, IsRow, cut_at, flat, joined_at, over_of, capacity_of}
 use Rattle.blocks.proofs.Edits.{all_is, cut_filled, cut_flat, cut_length, cut_over, filled-remove, filled-set, filled_here, join_filled, join_flat, join_length, join_over}
 
@@ -31,6 +32,12 @@ module _ {X : Type 0} where
     -- a row has at most 2 ^ 47 items
     pub many : len ≤ 2 ^ 47
     many = omega (arith, row.all, all_is used, most used row.filled, row.few)
+
+    -- its items weigh less than 2 ^ 127 together, if each weighs less than 2 ^ 64
+    pub weighs : (f : X → ℕ) → All (λ x. f x < 2 ^ 64) (flat used) → sum_by f (flat used) < 2 ^ 127
+    weighs f fit =
+        let each : All (λ x. f x ≤ 18446744073709551616) (flat used) = All-weaker (λ x. f x < 2 ^ 64) (λ x. f x ≤ 18446744073709551616) (λ x (k : f x < 2 ^ 64). omega (arith, k)) (flat used) fit in
+        omega (arith, sum_by-le f 18446744073709551616 (flat used) each, many, row.all)
 
     -- a row is over by at most 2 ^ 47 items
     pub over_many : over ≤ 2 ^ 47

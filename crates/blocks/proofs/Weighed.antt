@@ -9,8 +9,9 @@ use Rattle.std.proofs.lemmas.List.{append-nil, set-get_or, take_more}
 use Rattle.std.proofs.lemmas.List.Concat.{flat_map-append}
 use Rattle.std.proofs.lemmas.List.Sums.{sum_by-append}
 use Rattle.std.proofs.lemmas.Option.{slice_get_cases, slice_get_past}
-use Rattle.blocks.specs.Rows.{flat, passes, start}
+use Rattle.blocks.specs.Rows.{flat, passes, start, weight_to}
 use Rattle.blocks.specs.Groups.{IsGroup}
+use Rattle.blocks.specs.declared.groups.Group.{Group}
 use Rattle.blocks.specs.Light.{IsFirstLight, IsFirstUntil, NoneLight, NoneWithin, is_light}
 use Rattle.blocks.proofs.Changes.{flat_at}
 use Rattle.blocks.proofs.Edits.{read_is}
@@ -22,7 +23,7 @@ next {X} i cs b lt read =
     ∙ ap (λ (n : ℕ). start i cs + n) (ap length (append-nil (get_or cs i [])) ∙ ap length (sym (read_is i cs b lt read)))
 
 -- what the blocks weigh together, one block further
-pub weight_next : {X : Type 0} (f : X → ℕ) (i : ℕ) (cs : List (List X)) (b : List X) → i < length cs → b ≡ get_or cs i b → (weight more : ℕ) → weight ≡ sum_by f (flat (take i cs)) → more ≡ sum_by f b → weight + more ≡ sum_by f (flat (take (i + 1) cs))
+pub weight_next : {X : Type 0} (f : X → ℕ) (i : ℕ) (cs : List (List X)) (b : List X) → i < length cs → b ≡ get_or cs i b → (weight more : ℕ) → weight ≡ weight_to f i cs → more ≡ sum_by f b → weight + more ≡ weight_to f (i + 1) cs
 weight_next {X} f i cs b lt read weight more sum own =
     let all : flat (take (i + 1) cs) ≡ flat (take i cs) ++ b = ap flat (take_more cs i [] lt) ∙ flat_map-append (λ (c : List X). c) (take i cs) (get_or cs i [] ∷ []) ∙ ap (λ (l : List X). flat (take i cs) ++ l) (append-nil (get_or cs i []) ∙ sym (read_is i cs b lt read)) in
     omega (arith, sum, own, ap (sum_by f) all, sum_by-append f (flat (take i cs)) b)
@@ -153,12 +154,12 @@ module _ {X : Type 0} (f : X → ℕ) (limit : ℕ) (xs : List X) (from end : �
   until_all to None le h = all_none to le h
   until_all to (Some k) le h = h
 
-module _ {X : Type 0} (f : X → ℕ) (limit from end : ℕ) (cs : List (List X)) (first items least : ℕ) (g : IsGroup f cs first items least) where
+module _ {X : Type 0} (f : X → ℕ) (limit from end : ℕ) (cs : List (List X)) (first : ℕ) (group : Group) (g : IsGroup f cs first group) where
   -- none is light in a group that lies before the place from which on one is sought
-  pub behind_from : (begin : ℕ) → begin ≡ start first cs → begin + items ≤ from → NoneWithin f limit (flat cs) from end (start (first + 64) cs)
+  pub behind_from : (begin : ℕ) → begin ≡ start first cs → begin + group.items ≤ from → NoneWithin f limit (flat cs) from end (start (first + 64) cs)
   behind_from begin at le place low _ high = absurd (omega (arith, at, le, low, high, g.count))
 
-  heavy_next : (n : ℕ) → n ≤ 64 → limit < least → NoneLight f limit (flat cs) from (start first cs) → NoneLight f limit (flat cs) from (start (first + n) cs)
+  heavy_next : (n : ℕ) → n ≤ 64 → limit < group.least → NoneLight f limit (flat cs) from (start first cs) → NoneLight f limit (flat cs) from (start (first + n) cs)
   heavy_next zero le lt none = let same : first ≡ first + 0 = omega arith in subst (λ (k : ℕ). NoneLight f limit (flat cs) from (start k cs)) same none
   heavy_next (suc n) le lt none =
       let there : first + n < length cs = omega (arith, le, g.there) in
@@ -168,7 +169,7 @@ module _ {X : Type 0} (f : X → ℕ) (limit from end : ℕ) (cs : List (List X)
       let read : b ≡ get_or cs (first + n) b = item_read (first + n) cs there in
       subst (λ (k : ℕ). NoneLight f limit (flat cs) from (start k cs)) far
       (subst (λ (k : ℕ). NoneLight f limit (flat cs) from k) (sym (next (first + n) cs b there read))
-      (on f limit (first + n) from cs b there read (length b) (omega arith) (heavy_next n (omega (arith, le)) lt none) (none_light f limit b least (from - start (first + n) cs) (length b) lt low)))
+      (on f limit (first + n) from cs b there read (length b) (omega arith) (heavy_next n (omega (arith, le)) lt none) (none_light f limit b group.least (from - start (first + n) cs) (length b) lt low)))
     where
       item_read : (k : ℕ) (ds : List (List X)) → k < length ds → get_or ds k [] ≡ get_or ds k (get_or ds k [])
       item_read k [] l = absurd (omega (arith, l))
@@ -176,7 +177,7 @@ module _ {X : Type 0} (f : X → ℕ) (limit from end : ℕ) (cs : List (List X)
       item_read (suc k) (d ∷ ds) l = item_read k ds (omega (arith, l))
 
   -- none is light up to the end of a group whose items all weigh more, where none is before it
-  pub heavy_group : (begin : ℕ) → begin ≡ start first cs → limit < least → NoneWithin f limit (flat cs) from end begin → NoneWithin f limit (flat cs) from end (start (first + 64) cs)
+  pub heavy_group : (begin : ℕ) → begin ≡ start first cs → limit < group.least → NoneWithin f limit (flat cs) from end begin → NoneWithin f limit (flat cs) from end (start (first + 64) cs)
   heavy_group begin at lt none =
       ⊎_elim
       (λ (l : begin < end).

@@ -36,6 +36,10 @@ module _ {X : Type 0} where
   abbrev pub start : ℕ → List (List X) → ℕ
   start block blocks = length (flat (take block blocks))
 
+  -- what the items of the blocks before this one weigh together
+  abbrev pub weight_to : (X → ℕ) → ℕ → List (List X) → ℕ
+  weight_to weigh block blocks = sum_by weigh (flat (take block blocks))
+
   -- an item is there and passes
   abbrev pub passes : (X → Bool) → Option X → Bool
   passes test None = false

@@ -1,14 +1,15 @@
-// `groups` tells of the first 64 blocks in use, of the next 64, and so on; blocks behind them need not be in
-// a group until a search asks for it. `over` counts the items of blocks in use above 65 each: a cut takes an
-// empty block and lowers `over` by 63, so that each insertion costs at most one of 64 for an empty block.
+// `groups` tells of the first 64 blocks in use, of the next 64, and so on. Where a block comes or goes, which
+// happens once for some 64 items that come or go, its group and those behind it are learnt anew, a step a block.
+// `over` counts the items of blocks in use above 65 each: a cut takes an empty block and lowers `over` by 63,
+// so that each insertion costs at most one of 64 for an empty block.
 // `least` is kept as each block keeps its own bound.
-ghost use Rattle.std.specs.Prelude.{◌≡◌, ◌≤◌, ◌<◌, ◌^◌, [], IsOk, OnOk, length};
+ghost use Rattle.std.specs.Prelude.{◌≡◌, ◌≤◌, ◌<◌, ◌^◌, [], IsOk, OnOk, length, sum_by};
 ghost use Rattle.blocks.specs.Groups.{AreGroups};
 ghost use Rattle.blocks.specs.Light.{IsFirstLight};
 ghost use Rattle.blocks.specs.Rows.{AreFilled, flat};
 
 use crate::block::{BLOCK_HALF, Block};
-use crate::groups::{Group, mend};
+use crate::groups::Group;
 use crate::growth::{FULL_OVER, another};
 use crate::light::{Wanted, first_light, least_of_all};
 use crate::ranked::Ranked;
@@ -28,7 +29,7 @@ pub(crate) struct BlockRow<T: Ranked, A: Allocator + Copy> {
 }
 
 impl<T: Ranked, A: Allocator + Copy> Model for BlockRow<T, A> {
-    ghost use Rattle.std.specs.Prelude.{◌≤◌, ◌+◌, ◌*◌, All, length, vec_capacity};
+    ghost use Rattle.std.specs.Prelude.{◌≤◌, ◌<◌, ◌+◌, ◌*◌, ◌^◌, All, length, vec_capacity};
     ghost use Rattle.blocks.specs.Groups.{AreGroups};
     ghost use Rattle.blocks.specs.Rows.{BlocksView, IsRow, flat, capacity_of};
 
@@ -36,7 +37,7 @@ impl<T: Ranked, A: Allocator + Copy> Model for BlockRow<T, A> {
 
     ghost view = { λ r. record { blocks = r.used.items; spare = capacity_of (length r.used.items) (length r.empty.items) r.over } };
 
-    ghost invariant = { λ r. IsRow r.used.items r.empty.items r.over r.len (vec_capacity r.used) (vec_capacity r.empty) × All (λ x. r.least ≤ T.weight x) (flat r.used.items) × AreGroups T.weight r.used.items r.groups.items × (length r.used.items + length r.empty.items ≤ 64 * vec_capacity r.groups + 63) };
+    ghost invariant = { λ r. IsRow r.used.items r.empty.items r.over r.len (vec_capacity r.used) (vec_capacity r.empty) × All (λ x. r.least ≤ T.weight x) (flat r.used.items) × AreGroups T.weight r.used.items r.groups.items × (length r.used.items + length r.empty.items ≤ 64 * vec_capacity r.groups + 63) × All (λ x. T.weight x < 2 ^ 64) (flat r.used.items) };
 }
 
 impl<T: Ranked, A: Allocator + Copy> BlockRow<T, A> {
@@ -63,7 +64,8 @@ impl<T: Ranked, A: Allocator + Copy> BlockRow<T, A> {
     }
 
     pub(crate) fn groups(&self) -> &[Group]
-        ensures { AreGroups T.weight self.now.blocks result.now }
+        ensures known { AreGroups T.weight self.now.blocks result.now }
+        ensures light { sum_by T.weight (flat self.now.blocks) < 2 ^ 127 }
     {
         let _len = &self.len;
         self.groups.as_slice()
@@ -100,7 +102,6 @@ impl<T: Ranked, A: Allocator + Copy> BlockRow<T, A> {
         ensures place { IsFirstLight T.weight wanted.limit (flat self.old.blocks) wanted.from wanted.end result }
         ensures same { self.new ≡ self.old }
     {
-        mend(&mut self.groups, self.used.as_slice());
         first_light(self.used.as_mut_slice(), self.groups.as_mut_slice(), wanted)
     }
 

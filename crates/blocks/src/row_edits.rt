@@ -5,7 +5,7 @@ ghost use Rattle.blocks.specs.Rows.{block_of, cut_at, flat, joined_at, start};
 
 use crate::block::{BLOCK_LIMIT, Block};
 use crate::block_row::BlockRow;
-use crate::groups::{GROUP, put_item, take_item};
+use crate::groups::{GROUP, put_item, renew, take_item};
 use crate::growth::{FULL_OVER, over_of};
 use crate::place::{Place, halved, items_of, mate, open_place};
 use crate::ranked::Ranked;
@@ -35,7 +35,7 @@ impl<T: Ranked, A: Allocator + Copy> BlockRow<T, A> {
         let mut high = Block::take_from(&mut self.empty);
         self.used[block].cut(&mut high);
         high.put_into(&mut self.used, block + 1);
-        self.groups.truncate(block / GROUP);
+        renew(&mut self.groups, block / GROUP, self.used.as_slice());
         self.over -= FULL_OVER;
     }
 
@@ -100,7 +100,7 @@ impl<T: Ranked, A: Allocator + Copy> BlockRow<T, A> {
         let mut last = self.used.remove(block);
         let item = last.remove(0);
         last.keep_in(&mut self.empty);
-        self.groups.truncate(block / GROUP);
+        renew(&mut self.groups, block / GROUP, self.used.as_slice());
         self.len -= 1;
         item
     }
@@ -129,7 +129,7 @@ impl<T: Ranked, A: Allocator + Copy> BlockRow<T, A> {
         let mut next = self.used.remove(block + 1);
         self.used[block].join(&mut next);
         next.keep_in(&mut self.empty);
-        self.groups.truncate(block / GROUP);
+        renew(&mut self.groups, block / GROUP, self.used.as_slice());
     }
 
     // A block that is short then joins a neighbour, where both together fill at most half a block.

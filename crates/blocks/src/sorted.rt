@@ -94,7 +94,8 @@ impl<T: Ranked, A: Allocator + Copy> Blocks<T, A> {
         Some(self.row.remove(place))
     }
 
-    /// The item at a place; None past the last one. It takes one step a block.
+    /// The item at a place; None past the last one. It takes a step for each 64 blocks before it, and at
+    /// most 64 for the last ones.
     pub fn at(&self, place: usize) -> Option<&T>
         ensures { option_copied result ≡ slice_get (flat self.now.blocks) place }
     {
@@ -127,24 +128,26 @@ impl<T: Ranked, A: Allocator + Copy> Blocks<T, A> {
     }
 
     /// How many first blocks weigh together less than this, and what they weigh: as many as there are
-    /// until another one makes it this or more.
+    /// until another one makes it this or more. It takes one step for each 64 of them, and at most 64.
     pub fn lighter(&self, than: u128) -> (usize, u128)
         ensures within { result.0 ≤ length self.now.blocks }
         ensures weight { result.1 ≡ sum_by T.weight (flat (take result.0 self.now.blocks)) }
         ensures less { 1 ≤ than → result.1 < than }
         ensures most { result.0 < length self.now.blocks → than ≤ result.1 + sum_by T.weight (block_of self.now.blocks result.0) }
     {
-        lighter(self.row.blocks(), than)
+        lighter(self.row.blocks(), self.row.groups(), than)
     }
 
-    /// What the items before one with these two numbers weigh together. It takes one step a block.
+    /// What the items before one with these two numbers weigh together. It takes one step for each 64
+    /// blocks of them, and at most 64 for the last ones.
     pub fn weight_before(&self, major: u128, minor: u64) -> u128
         ensures { result ≡ sum_by T.weight (take (place_in T.major T.minor major minor (flat self.now.blocks)) (flat self.now.blocks)) }
     {
-        weight_before(self.row.blocks(), major, minor)
+        weight_before(self.row.blocks(), self.row.groups(), major, minor)
     }
 
-    /// How many items stand before one with these two numbers. It takes one step a block.
+    /// How many items stand before one with these two numbers. It takes a step for each 64 blocks of them,
+    /// and at most 64 for the last ones.
     pub fn before(&self, major: u128, minor: u64) -> usize
         ensures { AreBefore T.major T.minor major minor (flat self.now.blocks) result }
     {

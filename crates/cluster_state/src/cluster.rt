@@ -238,7 +238,8 @@ impl<A: Allocator + Copy> Cluster<A> {
     }
 
     /// How many processors are available at a second: those that are free now, and those of the running
-    /// jobs that are expected to have ended by then. It takes one step for each 128 of these.
+    /// jobs that are expected to have ended by then. These stand in blocks of up to 128, and it takes a
+    /// step for each 64 blocks, and at most 64 for the last ones.
     pub fn available(&self, second: u64) -> u64
         ensures { result ≡ available self.now.state second }
     {

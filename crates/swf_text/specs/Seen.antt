@@ -2,18 +2,17 @@
 -- they came, and the others.
 use Rattle.std.specs.Prelude.{◌≡◌, ℕ, ◌≤◌, ◌<◌, List, length, Bool, ◌||◌, nat_eq, slice_index_or}
 use Rattle.std.specs.List.{list_any}
-use Rattle.std.specs.HashSet.{HashSet, contains}
-use Rattle.std.specs.declared.hash.FoldHasher.{FoldHasher}
-use Rattle.std.specs.declared.hash.BuildHasherDefault.{BuildHasherDefault}
+use Rattle.std.specs.Ordering.{nat_cmp}
+use Rattle.std.specs.BTreeSet.{BTreeSet, contains}
 use Rattle.swf_text.specs.Entry.{LogEntry, has_number}
 
 -- a set of job numbers
 abbrev pub Numbers : Type 0
-Numbers = HashSet ℕ (BuildHasherDefault FoldHasher)
+Numbers = BTreeSet ℕ
 
 -- the number is one of them
 abbrev pub has_seen : List ℕ → Numbers → ℕ → Bool
-has_seen rising others n = list_any (λ m. nat_eq m n) rising || contains nat_eq others n
+has_seen rising others n = list_any (λ m. nat_eq m n) rising || contains nat_cmp others n
 
 -- none is followed by a smaller one
 abbrev pub AreRising : List ℕ → Type 0

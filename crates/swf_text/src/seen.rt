@@ -3,14 +3,13 @@ ghost use Rattle.std.specs.List.{list_any};
 ghost use Rattle.swf_text.specs.Seen.{AreRising, has_seen};
 
 use std::alloc::{AllocFailed, Allocator};
-use std::collections::HashSet;
-use std::hash::{BuildHasherDefault, FoldHasher};
+use std::collections::BTreeSet;
 
-/// The job numbers of the entries that were read. Those of most logs rise, and need no table.
+/// The job numbers of the entries that were read. Those of most logs rise, and need no tree.
 #[derive(Drop)]
 pub(crate) struct SeenNumbers<A: Allocator + Copy> {
     rising: Vec<u64, A>,
-    others: HashSet<u64, BuildHasherDefault<FoldHasher>, A>,
+    others: BTreeSet<u64, A>,
 }
 
 fn is_greater(rising: &[u64], number: u64) -> bool
@@ -40,7 +39,7 @@ impl<A: Allocator + Copy> SeenNumbers<A> {
     {
         SeenNumbers {
             rising: Vec::new(alloc),
-            others: HashSet::new(alloc),
+            others: BTreeSet::new(alloc),
         }
     }
 

@@ -1,20 +1,26 @@
 use Rattle.std.proofs.Common.{◌/◌, ◌*◌, ◌∙◌, List, ap, arith, insert, length, refl, rules, set}
 use Rattle.blocks.specs.declared.groups.Group.{Group}
 use Rattle.blocks.proofs.Edits.{again_is}
-use Rattle.blocks.proofs.Grouped.{group_fits, groups_put, groups_same, groups_unset}
+use Rattle.blocks.proofs.Grouped.{group_fits, group_light, groups_put, groups_same, groups_unset}
 use Rattle.blocks.proofs.groups.put_item.Goals as goal
 use Rattle.blocks.proofs.groups.put_item.Goals.{then-number-groups, else-number-groups}
 
 pub overflow_add-groups : goal.overflow_add-groups
 overflow_add-groups g c =
-    let d : Group = record { items = 0; least = 0 } in
-    let fits = group_fits g.T.Ranked.weight c.args.blocks.now (64 * (c.args.place.block / 64)) _ _ (c.requires.groups (c.args.place.block / 64) d (search rules)) in
+    let d : Group = record { items = 0; weight = 0; least = 0 } in
+    let fits = group_fits g.T.Ranked.weight c.args.blocks.now (64 * (c.args.place.block / 64)) _ (c.requires.groups (c.args.place.block / 64) d (search rules)) in
     omega (arith, fits, c.requires.few)
+
+pub overflow_add-groups-then-number-groups : goal.overflow_add-groups-then-number-groups
+overflow_add-groups-then-number-groups g c =
+    let d : Group = record { items = 0; weight = 0; least = 0 } in
+    let light = group_light g.T.Ranked.weight c.args.blocks.now (64 * (c.args.place.block / 64)) _ (c.requires.groups (c.args.place.block / 64) d (search rules)) in
+    omega (arith, light, c.requires.light)
 
 pub returns-clause-groups : goal.returns-clause-groups
 returns-clause-groups g c =
     elim c.if-number-groups.branch [
-      | then-number-groups w ↦ groups_put g.T.Ranked.weight c.args.blocks.now c.args.place.block c.args.place.at c.args.item c.insert.new.self c.index-blocks-place.result c.args.groups.now c.if-number-groups.groups w.min.result (record { items = 0; least = 0 }) c.requires.block c.requires.within c.index-blocks-place.is c.insert.ensures c.requires.groups w.if-number-groups.true (omega (arith, w.min.ensures)) (omega (arith, w.min.ensures, w.weight.ensures)) w.groups-is
+      | then-number-groups w ↦ groups_put g.T.Ranked.weight c.args.blocks.now c.args.place.block c.args.place.at c.args.item c.insert.new.self c.index-blocks-place.result c.args.groups.now c.if-number-groups.groups w.from.result w.min.result (record { items = 0; weight = 0; least = 0 }) c.requires.block c.requires.within c.index-blocks-place.is c.insert.ensures c.requires.groups w.if-number-groups.true (omega (arith, w.from.ensures, c.weight-weight.ensures)) (omega (arith, w.min.ensures)) (omega (arith, w.min.ensures, w.from.ensures)) w.groups-is
       | else-number-groups w ↦ groups_unset g.T.Ranked.weight c.args.blocks.now _ c.args.place.block (c.args.place.block / 64) c.insert.new.self c.if-number-groups.groups refl refl (groups_same g.T.Ranked.weight c.args.blocks.now c.args.blocks.now c.args.groups.now c.if-number-groups.groups refl w.groups-is c.requires.groups) (omega (arith, w.if-number-groups.false, ap length w.groups-is))
     ]
 

@@ -48,7 +48,7 @@ returns-in-Some-clause-len g c = c.in-Some.ensures.len ∙ c.loop-number.invaria
 
 pub overflow_add-start : goal.overflow_add-start
 overflow_add-start g c =
-    let d : Group = record { items = 0; least = 0 } in
+    let d : Group = record { items = 0; weight = 0; least = 0 } in
     let fits = passed_fits g.T.Ranked.weight c.args.wanted.limit c.args.wanted.from c.args.wanted.end c.args.blocks.now c.loop-number.blocks c.loop-number.invariant.same c.loop-number.groups c.loop-number.number c.loop-number.start (2 ^ 64) d c.loop-number.invariant.known (omega (arith, c.loop-number-test.true, c.loop-number.invariant.count)) c.loop-number.invariant.at c.requires.few in
     omega (arith, fits)
 
@@ -58,7 +58,7 @@ light_in_group-requires-clause-grouped g c =
 
 pub loop-number-preserved : goal.loop-number-preserved
 loop-number-preserved g c =
-    let d : Group = record { items = 0; least = 0 } in
+    let d : Group = record { items = 0; weight = 0; least = 0 } in
     record {
       same = c.light_in_group.ensures.same ∙ c.loop-number.invariant.same;
       count = c.light_in_group.ensures.len ∙ c.loop-number.invariant.count;

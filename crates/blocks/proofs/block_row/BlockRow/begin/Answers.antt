@@ -1,6 +1,6 @@
-use Rattle.std.proofs.Common.{◌≡◌, ◌≤◌, [], ap, arith, length, subst, sym}
+use Rattle.std.proofs.Common.{◌≡◌, ◌≤◌, ◌<◌, ◌^◌, [], ap, arith, length, subst, sym}
 use Rattle.blocks.specs.Rows.{BlocksView}
-use Rattle.blocks.proofs.Bounds.{low_one}
+use Rattle.blocks.proofs.Bounds.{all_one}
 use Rattle.blocks.proofs.Grouped.{groups_empty}
 use Rattle.blocks.proofs.Capacities.{begun_row, first_block}
 use Rattle.blocks.proofs.block_row.BlockRow.begin.Goals as goal
@@ -19,9 +19,10 @@ invariant_of-self g c =
     let none : c.self.inside.used.items ≡ [] = subst (λ (v : BlocksView g.row.T.Denot). v.blocks ≡ []) (sym c.self.view_is) c.requires.none in
     let made = first_block c.self.inside.used.items c.put_into.new.blocks.items c.take_from-block.result c.insert.new.self c.args.item none c.take_from-block.ensures.none c.insert.ensures c.put_into.ensures.items in (
       begun_row c.self.invariant.0 c.args.item c.put_into.new.blocks.items c.take_from-block.new.empty.items _ _ none made c.take_from-block.ensures.cleared c.take_from-block.ensures.count (omega (arith, c.put_into.ensures.kept)) (omega (arith, c.take_from-block.ensures.kept)),
-      low_one g.T.Ranked.weight _ c.args.item c.put_into.new.blocks.items (omega (arith, c.weight-self-inside.ensures)) made,
+      all_one (λ x. c.weight-self-inside.result ≤ g.T.Ranked.weight x) c.args.item c.put_into.new.blocks.items (omega (arith, c.weight-self-inside.ensures)) made,
       groups_empty g.T.Ranked.weight c.self.inside.used.items c.put_into.new.blocks.items c.self.inside.groups.items none c.self.invariant.2,
       omega (arith, c.self.invariant.3, ap length none, ap length made, c.take_from-block.ensures.count),
+      all_one (λ x. g.T.Ranked.weight x < 2 ^ 64) c.args.item c.put_into.new.blocks.items (omega (arith, c.weight-self-inside.ensures, c.weight-self-inside.type_inv)) made,
     )
 
 pub returns-clause-blocks : goal.returns-clause-blocks

@@ -1,10 +1,11 @@
-use Rattle.std.proofs.Common.{◌≡◌, ◌<◌, ◌≤◌, [], ap, arith, get_or, length, subst, sym, ◌∙◌}
+use Rattle.std.proofs.Common.{◌≡◌, ◌<◌, ◌≤◌, ◌^◌, [], ap, arith, get_or, length, refl, subst, sym, ◌∙◌}
+use Rattle.std.specs.List.{sum_by}
 use Rattle.std.proofs.lemmas.List.{length-set}
-use Rattle.blocks.specs.Rows.{BlocksView, cut_at}
-use Rattle.blocks.proofs.Bounds.{low_cut}
-use Rattle.blocks.proofs.Edits.{cut_by, cut_length, read_is}
-use Rattle.blocks.proofs.Grouped.{groups_cut}
-use Rattle.blocks.proofs.Capacities.{cut_row, over_here}
+use Rattle.blocks.specs.Rows.{BlocksView, cut_at, flat}
+use Rattle.blocks.proofs.Bounds.{all_cut}
+use Rattle.blocks.proofs.Edits.{cut_by, cut_flat, cut_length, read_is}
+use Rattle.blocks.proofs.Grouped.{groups_cut, groups_same}
+use Rattle.blocks.proofs.Capacities.{cut_row, many, over_here, weighs}
 use Rattle.blocks.proofs.block_row.BlockRow.cut.Goals as goal
 
 pub take_from-high-requires-clause-some : goal.take_from-high-requires-clause-some
@@ -36,6 +37,32 @@ overflow_sub-self g c =
     let full = subst (λ (v : BlocksView g.row.T.Denot). length (get_or v.blocks c.args.block []) ≡ 128) (sym c.self.view_is) c.requires.full in
     omega (arith, full, over_here c.self.invariant.0 c.args.block lt)
 
+pub renew-requires-clause-few : goal.renew-requires-clause-few
+renew-requires-clause-few g c =
+    let lt = subst (λ (v : BlocksView g.row.T.Denot). c.args.block < length v.blocks) (sym c.self.view_is) c.requires.block in
+    let made = cut_by c.args.block c.self.inside.used.items c.index_mut.result.now lt c.index_mut.ensures.value c.cut.new.self c.cut.new.high c.put_into.new.blocks.items c.cut.ensures.low c.cut.ensures.high c.put_into.ensures.items in
+    let same = ap flat (c.as_slice.ensures.value ∙ made) ∙ cut_flat c.args.block c.self.inside.used.items lt in
+    omega (arith, many c.self.invariant.0, c.self.invariant.0.all, ap length same)
+
+pub renew-requires-clause-light : goal.renew-requires-clause-light
+renew-requires-clause-light g c =
+    let lt = subst (λ (v : BlocksView g.row.T.Denot). c.args.block < length v.blocks) (sym c.self.view_is) c.requires.block in
+    let made = cut_by c.args.block c.self.inside.used.items c.index_mut.result.now lt c.index_mut.ensures.value c.cut.new.self c.cut.new.high c.put_into.new.blocks.items c.cut.ensures.low c.cut.ensures.high c.put_into.ensures.items in
+    let same = ap flat (c.as_slice.ensures.value ∙ made) ∙ cut_flat c.args.block c.self.inside.used.items lt in
+    omega (arith, weighs c.self.invariant.0 g.T.Ranked.weight c.self.invariant.4, ap (sum_by g.T.Ranked.weight) same)
+
+pub renew-requires-clause-groups : goal.renew-requires-clause-groups
+renew-requires-clause-groups g c =
+    let lt = subst (λ (v : BlocksView g.row.T.Denot). c.args.block < length v.blocks) (sym c.self.view_is) c.requires.block in
+    let made = cut_by c.args.block c.self.inside.used.items c.index_mut.result.now lt c.index_mut.ensures.value c.cut.new.self c.cut.new.high c.put_into.new.blocks.items c.cut.ensures.low c.cut.ensures.high c.put_into.ensures.items in
+    groups_cut g.T.Ranked.weight c.args.block c.self.inside.used.items c.as_slice.result.now c.self.inside.groups.items _ lt (c.as_slice.ensures.value ∙ made) refl c.self.invariant.2
+
+pub renew-requires-clause-capacity : goal.renew-requires-clause-capacity
+renew-requires-clause-capacity g c =
+    let lt = subst (λ (v : BlocksView g.row.T.Denot). c.args.block < length v.blocks) (sym c.self.view_is) c.requires.block in
+    let made = cut_by c.args.block c.self.inside.used.items c.index_mut.result.now lt c.index_mut.ensures.value c.cut.new.self c.cut.new.high c.put_into.new.blocks.items c.cut.ensures.low c.cut.ensures.high c.put_into.ensures.items in
+    omega (arith, c.self.invariant.3, ap length (c.as_slice.ensures.value ∙ made) ∙ cut_length c.args.block c.self.inside.used.items lt, c.take_from-high.ensures.count)
+
 pub invariant_of-self : goal.invariant_of-self
 invariant_of-self g c =
     let used = c.self.inside.used.items in
@@ -45,9 +72,10 @@ invariant_of-self g c =
     let made = cut_by c.args.block used c.index_mut.result.now lt c.index_mut.ensures.value c.cut.new.self c.cut.new.high c.put_into.new.blocks.items c.cut.ensures.low c.cut.ensures.high c.put_into.ensures.items in
     let count = ap length made ∙ cut_length c.args.block used lt in (
       cut_row c.self.invariant.0 c.args.block c.put_into.new.blocks.items c.take_from-high.new.empty.items _ _ lt full capacity made c.take_from-high.ensures.cleared c.take_from-high.ensures.count (omega (arith, c.put_into.ensures.kept)) (omega (arith, c.take_from-high.ensures.kept)),
-      low_cut g.T.Ranked.weight c.self.inside.least c.args.block used c.put_into.new.blocks.items c.self.invariant.1 lt made,
-      groups_cut g.T.Ranked.weight c.args.block used c.put_into.new.blocks.items c.self.inside.groups.items _ lt made c.truncate.ensures.items c.self.invariant.2,
-      omega (arith, c.self.invariant.3, count, c.take_from-high.ensures.count, c.truncate.ensures.capacity),
+      all_cut (λ x. c.self.inside.least ≤ g.T.Ranked.weight x) c.args.block used c.put_into.new.blocks.items c.self.invariant.1 lt made,
+      groups_same g.T.Ranked.weight c.as_slice.result.now c.put_into.new.blocks.items c.renew.new.groups.items c.renew.new.groups.items (sym c.as_slice.ensures.value) refl c.renew.ensures.groups,
+      omega (arith, c.self.invariant.3, count, c.take_from-high.ensures.count, c.renew.ensures.capacity),
+      all_cut (λ x. g.T.Ranked.weight x < 2 ^ 64) c.args.block used c.put_into.new.blocks.items c.self.invariant.4 lt made,
     )
 
 pub returns-clause-blocks : goal.returns-clause-blocks

@@ -24,6 +24,7 @@ invariant_of-self g c = (
   subst (λ (r : List (List g.row.T.Denot)). All (λ x. c.least_of_all-self-inside.result ≤ g.T.Ranked.weight x) (flat r)) c.as_slice.ensures.value c.least_of_all-self-inside.ensures,
   c.self-2.invariant.2,
   c.self-2.invariant.3,
+  c.self-2.invariant.4,
 )
 
 pub returns-then-self-end-clause-place : goal.returns-then-self-end-clause-place

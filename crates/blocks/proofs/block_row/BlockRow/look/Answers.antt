@@ -1,4 +1,4 @@
-use Rattle.std.proofs.Common.{◌≤◌, ◌∙◌, List, ap, arith, length, refl, subst, sym, vec_capacity}
+use Rattle.std.proofs.Common.{◌≤◌, ◌<◌, ◌^◌, ◌∙◌, List, ap, arith, length, subst, sym, vec_capacity}
 use Rattle.std.specs.List.{All}
 use Rattle.blocks.specs.Light.{IsFirstLight}
 use Rattle.blocks.specs.Rows.{BlocksView, IsRow, flat, capacity_of}
@@ -6,21 +6,12 @@ use Rattle.blocks.proofs.Grouped.{groups_same, lent}
 use Rattle.blocks.proofs.Capacities.{many}
 use Rattle.blocks.proofs.block_row.BlockRow.look.Goals as goal
 
-pub mend-requires-clause-few : goal.mend-requires-clause-few
-mend-requires-clause-few g c = omega (arith, many c.self.invariant.0, c.self.invariant.0.all, ap (λ (r : List (List g.row.T.Denot)). length (flat r)) c.as_slice.ensures.value)
-
-pub mend-requires-clause-groups : goal.mend-requires-clause-groups
-mend-requires-clause-groups g c = groups_same g.T.Ranked.weight c.self.inside.used.items c.as_slice.result.now c.self.inside.groups.items c.self.inside.groups.items c.as_slice.ensures.value refl c.self.invariant.2
-
-pub mend-requires-clause-capacity : goal.mend-requires-clause-capacity
-mend-requires-clause-capacity g c = omega (arith, c.self.invariant.3, ap length c.as_slice.ensures.value)
-
 pub first_light-requires : goal.first_light-requires
 first_light-requires g c =
     record {
       short = omega (arith, c.self.invariant.0.few, ap length c.as_mut_slice.ensures.value);
       few = omega (arith, many c.self.invariant.0, c.self.invariant.0.all, ap (λ (r : List (List g.row.T.Denot)). length (flat r)) c.as_mut_slice.ensures.value);
-      known = groups_same g.T.Ranked.weight c.as_slice.result.now c.as_mut_slice.result.now c.mend.new.groups.items c.as_mut_slice-2.result.now (c.as_mut_slice.ensures.value ∙ sym c.as_slice.ensures.value) c.as_mut_slice-2.ensures.value c.mend.ensures.groups;
+      known = groups_same g.T.Ranked.weight c.self.inside.used.items c.as_mut_slice.result.now c.self.inside.groups.items c.as_mut_slice-2.result.now c.as_mut_slice.ensures.value c.as_mut_slice-2.ensures.value c.self.invariant.2;
     }
 
 pub invariant_of-self : goal.invariant_of-self
@@ -28,11 +19,12 @@ invariant_of-self g c =
     let same = c.first_light.ensures.same ∙ c.as_mut_slice.ensures.value in
     let back = lent c.self.inside.used.len c.first_light.new.blocks c.self.inside.used.items c.self.inside.used.ok.0 (ap length same) in
     let made = back ∙ same in
-    let groups = lent c.mend.new.groups.len c.first_light.new.groups c.mend.new.groups.items c.mend.new.groups.ok.0 (c.first_light.ensures.len ∙ ap length c.as_mut_slice-2.ensures.value) in (
+    let groups = lent c.self.inside.groups.len c.first_light.new.groups c.self.inside.groups.items c.self.inside.groups.ok.0 (c.first_light.ensures.len ∙ ap length c.as_mut_slice-2.ensures.value) in (
       subst (λ (r : List (List g.row.T.Denot)). IsRow r c.self.inside.empty.items c.self.inside.over c.self.inside.len c.self.inside.used.cap (vec_capacity c.self.inside.empty)) (sym made) c.self.invariant.0,
       subst (λ (r : List (List g.row.T.Denot)). All (λ x. c.self.inside.least ≤ g.T.Ranked.weight x) (flat r)) (sym made) c.self.invariant.1,
       groups_same g.T.Ranked.weight c.as_mut_slice.result.now _ c.first_light.new.groups _ (made ∙ sym c.as_mut_slice.ensures.value) groups c.first_light.ensures.groups,
-      omega (arith, c.self.invariant.3, ap length made, c.mend.ensures.capacity),
+      omega (arith, c.self.invariant.3, ap length made),
+      subst (λ (r : List (List g.row.T.Denot)). All (λ x. g.T.Ranked.weight x < 2 ^ 64) (flat r)) (sym made) c.self.invariant.4,
     )
 
 pub returns-clause-place : goal.returns-clause-place

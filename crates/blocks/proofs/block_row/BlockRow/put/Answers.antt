@@ -1,9 +1,10 @@
-use Rattle.std.proofs.Common.{◌∙◌, ◌<◌, ◌≤◌, List, [], ap, arith, get_or, insert, length, set, subst, sym}
+use Rattle.std.proofs.Common.{◌∙◌, ◌<◌, ◌≤◌, ◌^◌, List, [], ap, arith, get_or, insert, length, set, subst, sym}
+use Rattle.std.specs.List.{sum_by}
 use Rattle.blocks.specs.Rows.{BlocksView, flat}
-use Rattle.blocks.proofs.Bounds.{low_put}
+use Rattle.blocks.proofs.Bounds.{all_put, lower}
 use Rattle.blocks.proofs.Edits.{seen_length}
 use Rattle.blocks.proofs.Grouped.{groups_same, lent, lent_length, lent_set}
-use Rattle.blocks.proofs.Capacities.{many, over_here, over_many, put_kept, put_row, put_spare}
+use Rattle.blocks.proofs.Capacities.{many, over_here, over_many, put_kept, put_row, put_spare, weighs}
 use Rattle.blocks.proofs.block_row.BlockRow.put.Goals as goal
 
 pub put_item-requires-clause-block : goal.put_item-requires-clause-block
@@ -23,6 +24,10 @@ put_item-requires-clause-short g c =
 
 pub put_item-requires-clause-few : goal.put_item-requires-clause-few
 put_item-requires-clause-few g c = omega (arith, many c.self.invariant.0, c.self.invariant.0.all, ap (λ (r : List (List g.row.T.Denot)). length (flat r)) c.as_mut_slice.ensures.value)
+
+pub put_item-requires-clause-light : goal.put_item-requires-clause-light
+put_item-requires-clause-light g c =
+    omega (arith, weighs c.self.invariant.0 g.T.Ranked.weight c.self.invariant.4, ap (λ (r : List (List g.row.T.Denot)). sum_by g.T.Ranked.weight (flat r)) c.as_mut_slice.ensures.value)
 
 pub put_item-requires-clause-groups : goal.put_item-requires-clause-groups
 put_item-requires-clause-groups g c = groups_same g.T.Ranked.weight _ _ _ _ c.as_mut_slice.ensures.value c.as_mut_slice-2.ensures.value c.self.invariant.2
@@ -53,9 +58,10 @@ invariant_of-self g c =
     let back = lent c.self.inside.used.len c.put_item.new.blocks used c.self.inside.used.ok.0 count in
     let groups = lent c.self.inside.groups.len c.put_item.new.groups c.self.inside.groups.items c.self.inside.groups.ok.0 (c.put_item.auto.groups ∙ ap length c.as_mut_slice-2.ensures.value) in (
       put_row c.self.invariant.0 k c.args.place.at (length c.items_of-len.result.now) c.over_of.result c.over_of-2.result _ c.args.item _ _ lt le short capacity len c.over_of.ensures c.over_of-2.ensures made (omega arith) (omega arith),
-      low_put g.T.Ranked.weight c.self.inside.least k used _ c.self.invariant.1 _ c.args.place.at c.args.item lt le made (omega arith) (omega arith),
+      all_put (λ x. c.min-self-inside.result ≤ g.T.Ranked.weight x) k used _ (lower g.T.Ranked.weight c.self.inside.least c.min-self-inside.result (flat used) (omega arith) c.self.invariant.1) c.args.place.at c.args.item lt le made (omega arith),
       groups_same g.T.Ranked.weight c.put_item.new.blocks _ c.put_item.new.groups _ back groups c.put_item.ensures.groups,
       omega (arith, c.self.invariant.3, ap length back, count),
+      all_put (λ x. g.T.Ranked.weight x < 2 ^ 64) k used _ c.self.invariant.4 c.args.place.at c.args.item lt le made (omega arith),
     )
 
 pub returns-clause-blocks : goal.returns-clause-blocks

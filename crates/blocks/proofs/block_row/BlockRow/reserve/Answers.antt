@@ -1,6 +1,6 @@
-use Rattle.std.proofs.Common.{ap, arith, length, ◌∙◌}
+use Rattle.std.proofs.Common.{◌≤◌, ◌<◌, ◌^◌, ap, arith, length, ◌∙◌}
 use Rattle.blocks.specs.Rows.{BlocksView, flat}
-use Rattle.blocks.proofs.Bounds.{low_by}
+use Rattle.blocks.proofs.Bounds.{all_by}
 use Rattle.blocks.proofs.Grouped.{groups_same}
 use Rattle.blocks.proofs.Capacities.{grown_row, kept_row}
 use Rattle.blocks.proofs.block_row.BlockRow.reserve.Goals as goal
@@ -12,9 +12,10 @@ pub invariant_of-self : goal.invariant_of-self
 invariant_of-self g c =
     let e = c.in_err-block.ensures in (
       kept_row c.self.invariant.0 c.another.new.used.items c.another.new.empty.items _ _ e.used.items e.empty.items e.used.capacity e.empty.capacity,
-      low_by g.T.Ranked.weight c.self.inside.least (flat c.self.inside.used.items) (flat c.another.new.used.items) c.self.invariant.1 (ap flat e.used.items),
+      all_by (λ x. c.self.inside.least ≤ g.T.Ranked.weight x) (flat c.self.inside.used.items) (flat c.another.new.used.items) c.self.invariant.1 (ap flat e.used.items),
       groups_same g.T.Ranked.weight c.self.inside.used.items c.another.new.used.items c.self.inside.groups.items c.another.new.groups.items e.used.items e.groups.items c.self.invariant.2,
       omega (arith, c.self.invariant.3, e.groups.capacity, ap length e.used.items, ap length e.empty.items),
+      all_by (λ x. g.T.Ranked.weight x < 2 ^ 64) (flat c.self.inside.used.items) (flat c.another.new.used.items) c.self.invariant.4 (ap flat e.used.items),
     )
 
 pub returns-in_err-block-clause-blocks : goal.returns-in_err-block-clause-blocks
@@ -37,9 +38,10 @@ pub invariant_of-self-in-capacity : goal.invariant_of-self-in-capacity
 invariant_of-self-in-capacity g c =
     let e = c.in_ok-block.ensures in (
       grown_row c.self.invariant.0 c.another.new.used.items c.keep_in.new.empty.items _ _ e.used.items c.keep_in.ensures.cleared (omega (arith, c.keep_in.ensures.count, ap length e.empty.items)) e.few (omega (arith, e.capacity.usable)) (omega (arith, e.capacity.returnable, c.keep_in.ensures.kept)),
-      low_by g.T.Ranked.weight c.self.inside.least (flat c.self.inside.used.items) (flat c.another.new.used.items) c.self.invariant.1 (ap flat e.used.items),
+      all_by (λ x. c.self.inside.least ≤ g.T.Ranked.weight x) (flat c.self.inside.used.items) (flat c.another.new.used.items) c.self.invariant.1 (ap flat e.used.items),
       groups_same g.T.Ranked.weight c.self.inside.used.items c.another.new.used.items c.self.inside.groups.items c.another.new.groups.items e.used.items e.groups.items c.self.invariant.2,
       omega (arith, e.capacity.grouped, ap length e.used.items, ap length e.empty.items, c.keep_in.ensures.count),
+      all_by (λ x. g.T.Ranked.weight x < 2 ^ 64) (flat c.self.inside.used.items) (flat c.another.new.used.items) c.self.invariant.4 (ap flat e.used.items),
     )
 
 pub capacity-preserved : goal.capacity-preserved

@@ -1,6 +1,6 @@
-use Rattle.std.proofs.Common.{◌∙◌, ◌<◌, ◌≤◌, List, [], ap, arith, get_or, length, remove, set, subst, sym}
+use Rattle.std.proofs.Common.{◌∙◌, ◌<◌, ◌≤◌, ◌^◌, List, [], ap, arith, get_or, length, remove, set, subst, sym}
 use Rattle.blocks.specs.Rows.{BlocksView, flat}
-use Rattle.blocks.proofs.Bounds.{low_taken}
+use Rattle.blocks.proofs.Bounds.{all_taken}
 use Rattle.blocks.proofs.Edits.{seen_length}
 use Rattle.blocks.proofs.Grouped.{groups_same, lent, lent_length, lent_set}
 use Rattle.blocks.proofs.Capacities.{here_all, many, over_here, over_many, taken_row, taken_spare}
@@ -55,9 +55,10 @@ invariant_of-self g c =
     let back = lent c.self.inside.used.len c.take_item-item.new.blocks used c.self.inside.used.ok.0 count in
     let groups = lent c.self.inside.groups.len c.take_item-item.new.groups c.self.inside.groups.items c.self.inside.groups.ok.0 (c.take_item-item.auto.groups ∙ ap length c.as_mut_slice-2.ensures.value) in (
       taken_row c.self.invariant.0 k c.args.place.at (length c.items_of-len.result.now) c.over_of.result c.over_of-2.result _ _ _ lt at several len c.over_of.ensures c.over_of-2.ensures made (omega arith) (omega arith),
-      low_taken g.T.Ranked.weight c.self.inside.least k used _ c.self.invariant.1 c.args.place.at lt at made,
+      all_taken (λ x. c.self.inside.least ≤ g.T.Ranked.weight x) k used _ c.self.invariant.1 c.args.place.at lt at made,
       groups_same g.T.Ranked.weight c.take_item-item.new.blocks _ c.take_item-item.new.groups _ back groups c.take_item-item.ensures.groups,
       omega (arith, c.self.invariant.3, ap length back, count),
+      all_taken (λ x. g.T.Ranked.weight x < 2 ^ 64) k used _ c.self.invariant.4 c.args.place.at lt at made,
     )
 
 pub returns-clause-item : goal.returns-clause-item

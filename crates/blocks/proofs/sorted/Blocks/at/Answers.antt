@@ -7,7 +7,7 @@ pub item_at-requires-clause-few : goal.item_at-requires-clause-few
 item_at-requires-clause-few g c = omega (arith, c.blocks-2.ensures.few, ap length c.blocks-2.ensures.blocks)
 
 pub item_at-requires-clause-groups : goal.item_at-requires-clause-groups
-item_at-requires-clause-groups g c = subst (λ (r : List (List g.row.T.Denot)). AreGroups g.T.Ranked.weight r c.groups.result.now) (sym c.blocks-2.ensures.blocks) c.groups.ensures
+item_at-requires-clause-groups g c = subst (λ (r : List (List g.row.T.Denot)). AreGroups g.T.Ranked.weight r c.groups.result.now) (sym c.blocks-2.ensures.blocks) c.groups.ensures.known
 
 pub returns : goal.returns
 returns g c =

@@ -13,7 +13,7 @@ pub count_before-requires-clause-few : goal.count_before-requires-clause-few
 count_before-requires-clause-few g c = omega (arith, c.len-len.type_inv, c.len-len.ensures, ap (λ (r : List (List g.row.T.Denot)). length (flat r)) c.blocks-2.ensures.blocks)
 
 pub count_before-requires-clause-groups : goal.count_before-requires-clause-groups
-count_before-requires-clause-groups g c = subst (λ (r : List (List g.row.T.Denot)). AreGroups g.T.Ranked.weight r c.groups.result.now) (sym c.blocks-2.ensures.blocks) c.groups.ensures
+count_before-requires-clause-groups g c = subst (λ (r : List (List g.row.T.Denot)). AreGroups g.T.Ranked.weight r c.groups.result.now) (sym c.blocks-2.ensures.blocks) c.groups.ensures.known
 
 pub returns : goal.returns
 returns g c =

@@ -1,6 +1,6 @@
 use Rattle.std.proofs.Common.{arith, rules}
 use Rattle.blocks.proofs.Grouped.{groups_added}
-use Rattle.blocks.proofs.groups.mend.Goals as goal
+use Rattle.blocks.proofs.groups.renew.Goals as goal
 
 pub missing-preserved : goal.missing-preserved
 missing-preserved g c =

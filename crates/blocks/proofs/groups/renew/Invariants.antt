@@ -1,6 +1,6 @@
 use Rattle.std.proofs.Common.{◌≤◌, ◌-◌, ◌/◌, length, vec_capacity}
 use Rattle.blocks.specs.Groups.{AreGroups}
-use Rattle.blocks.proofs.groups.mend.Given as goal
+use Rattle.blocks.proofs.groups.renew.Given as goal
 
 abbrev pub invariant-missing : goal.invariant-missing
 invariant-missing g l = record {
