@@ -1,4 +1,3 @@
 mod Joins
 mod Lines
 mod Prints
-mod Writings

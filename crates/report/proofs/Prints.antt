@@ -12,7 +12,7 @@ use Rattle.checkpoints.specs.declared.row.Row.{Row}
 use Rattle.report.specs.declared.page.Page.{Page}
 use Rattle.report.specs.Pages.{rows_in, lines_in, all_rows, all_lines, IsPrint, ArePrints}
 use Rattle.report.specs.Schedule.{row_line}
-use Rattle.report.proofs.Writings.{front_after, front_more, writes_then}
+use Rattle.swf_text.proofs.Lemmas.{front_after, front_more, writes_then}
 
 flat-next : {X Y : Type 0} (f : X → List Y) (xs : List X) (k : ℕ) (d : X) → k < length xs → flat_map f (take (k + 1) xs) ≡ flat_map f (take k xs) ++ f (get_or xs k d)
 flat-next f xs k d lt =

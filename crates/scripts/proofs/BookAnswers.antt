@@ -1,6 +1,6 @@
 -- The responses of a session with a book of its own, as steps of the book machine: to calls, views, scenarios side by side, the log, and
 -- lines of a script.
-use Rattle.std.proofs.Common.{◌≡◌, ℕ, ◌+◌, ◌<◌, List, [], ◌∷◌, ◌++◌, length, suc, zero, refl, sym, ◌∙◌, ap, ap₂, subst, inl, inr, append_assoc, append-nil, true, arith}
+use Rattle.std.proofs.Common.{◌≡◌, ℕ, ◌+◌, ◌<◌, List, [], ◌∷◌, ◌++◌, length, take, suc, zero, refl, sym, ◌∙◌, ap, ap₂, subst, inl, inr, append_assoc, append-nil, true, arith}
 use Rattle.std.specs.Prelude.{codes, slice_get, Option, None, Some, Result, Ok, Err}
 use Rattle.swf_text.specs.Text.{lines}
 use Rattle.scenarios.specs.ScenarioList.{Listed, named}
@@ -42,7 +42,9 @@ use Rattle.scripts.proofs.Looking.{beside-shown, named-viewed, not-viewed, side-
 use Rattle.scripts.proofs.Named.{id-none, id-some, name-found, place-of}
 use Rattle.scripts.proofs.Sides.{listing-kept, side-first}
 use Rattle.scripts.proofs.Transcripts.{some_transcript}
-use Rattle.scripts.proofs.Writings.{front_more}
+use Rattle.std.specs.Io.KnownBytes.{Appends}
+use Rattle.std.proofs.Math.Seq.{take-append-add}
+use Rattle.swf_text.proofs.Lemmas.{front_more}
 
 call-of : (old : Session) (call : BookCall) (says : Reply → List ℕ) (text : List ℕ) (new : Session) → CallBy book_rules old call says text new → IsCall old call says text new
 call-of old call says text new (full, h, is) = inl (h.0, (is, h.1))
@@ -214,9 +216,13 @@ lines-then A comments old (line ∷ front) back number count out more new is (te
 -- what is written of a script by the rules of a book is a transcript of it, or where the writer failed a beginning of one
 pub tells-of-book : {X E : Type 0} (A : Type 0) (comments : List (List ℕ)) (first : Session) (script : List ℕ) (old new : Option (List ℕ)) (result : Result X E) (last : Session) → TellsBy book_rules A comments first script old new result last → Tells A comments first script old new result
 tells-of-book A comments first script old new (Ok x) last (out, h, all) = (out, lines-of-book A comments first (looked_at A (lines script)) 1 out last h, all)
-tells-of-book A comments first script old new (Err fault) last (front, back, out, whole, h, part) =
-    let later = some_transcript A comments last back (1 + length front) in (
-      out ++ later.0,
-      subst (λ (ls : List (List ℕ)). IsTranscript A comments first ls 1 (out ++ later.0)) (sym whole) (lines-then A comments first front back 1 (1 + length front) out later.0 last refl h later.1),
-      front_more old new out later.0 part,
+tells-of-book A comments first script old new (Err fault) last (front, line, back, before, text, mid, whole, h, one, (n, part)) =
+    let later = some_transcript A comments last back (1 + length front + 1) in
+    let more = text ++ later.0 in
+    let behind : IsTranscript A comments mid (line ∷ back) (1 + length front) more = (text, last, later.0, line-of-book comments mid (1 + length front) (command_of_line {A = A} line) text last one, later.1, refl) in
+    let begun = subst (Appends old new) (sym (take-append-add before text n)) part in
+    let first_ones = front_more old new (before ++ text) later.0 (length before + n, begun) in (
+      before ++ more,
+      subst (λ (ls : List (List ℕ)). IsTranscript A comments first ls 1 (before ++ more)) (sym whole) (lines-then A comments first front (line ∷ back) 1 (1 + length front) before more mid refl h behind),
+      subst (λ (l : List ℕ). (n : ℕ) × Appends old new (take n l)) (append_assoc before text later.0) first_ones,
     )

@@ -10,7 +10,6 @@ use Rattle.commands.specs.Commands.{command_of_line}
 use Rattle.scripts.specs.Analysts.{LineBy, LinesBy}
 use Rattle.version_book.specs.Rules.{Rules}
 use Rattle.scripts.specs.Transcript.{is_quit, looked_at}
-use Rattle.scripts.proofs.Writings.{front_after}
 
 lines-more : {S : Type 0} (rules : Rules S) (A : Type 0) (comments : List (List ℕ)) (old now next : S) (front : List (List ℕ)) (line : List ℕ) (first number : ℕ) (done text : List ℕ)
     → number ≡ first + length front → LinesBy rules A comments old front first done now → LineBy rules comments now number (command_of_line {A = A} line) text next → LinesBy rules A comments old (front ++ line ∷ []) first (done ++ text) next
@@ -56,11 +55,15 @@ module _ {S : Type 0} (rules : Rules S) (A : Type 0) (comments : List (List ℕ)
     written = Appends-trans old mid new have.done text have.written all;
   }
 
-  -- where the writer failed in a response, what was written is a beginning of what responds to the lines up to this one
+  -- where the writer failed in a response, this line was the last that was worked, behind those whose responses were written
   pub answered-part : (n : ℕ) × Appends mid new (take n text)
-      → (front back : List (List ℕ)) × (out : List ℕ) × (looked_at A (lines script) ≡ front ++ back) × LinesBy rules A comments first front 1 out next × ((n : ℕ) × Appends old new (take n out))
+      → (front : List (List ℕ)) × (line : List ℕ) × (back : List (List ℕ)) × (before out : List ℕ) × (last : S) × (looked_at A (lines script) ≡ front ++ line ∷ back)
+      × LinesBy rules A comments first front 1 before last × LineBy rules comments last (1 + length front) (command_of_line {A = A} line) out next × ((n : ℕ) × Appends old new (before ++ take n out))
   answered-part part =
-      (have.front ++ before_first is_feed rest ∷ [], after, have.done ++ text, whole-next, lines-next-too, front_after old mid new have.done text have.written part)
+      let line = before_first is_feed rest in
+      let whole : looked_at A (lines script) ≡ have.front ++ line ∷ after = whole-next ∙ append_assoc have.front (line ∷ []) after in
+      let answered : LineBy rules comments now (1 + length have.front) (command_of_line {A = A} line) text next = subst (λ (k : ℕ). LineBy rules comments now k (command_of_line {A = A} line) text next) have.count answers in
+      (have.front, line, after, have.done, text, now, whole, have.answers, answered, (part.0, Appends-trans old mid new have.done (take part.0 text) have.written part.1))
 
   -- with the response to `quit`, those to all lines that are looked at were written
   pub answered-quit : is_quit (command_of_line {A = A} (before_first is_feed rest)) ≡ true → Appends mid new text

@@ -83,8 +83,8 @@ pub(crate) fn is_quit<A: Allocator + Copy>(asked: &Result<Option<Command<A>>, Co
 /// Works a script line after line, up to the first `quit`, and writes the response to each line. The
 /// comments are those of the log, which `save` writes.
 ///
-/// Device where the writer returns an error or takes no byte; what was written then is a beginning of
-/// the responses to the first lines.
+/// Device where the writer returns an error or takes no byte: the response to the line that was worked
+/// last is written in part, and those before it in full. No line behind it is worked.
 pub fn work_lines<S: Analyst<A>, W: Write, A: Allocator + Copy>(
     analyst: &mut S,
     alloc: A,

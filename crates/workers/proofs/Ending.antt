@@ -1,5 +1,5 @@
 -- Where the history of a desk went on for a worker, and ended with it.
-use Rattle.std.proofs.Common.{◌≡◌, ℕ, List, [], ◌∷◌, ◌++◌, refl, sym, ◌∙◌, ap, subst, append_assoc, append-nil}
+use Rattle.std.proofs.Common.{◌≡◌, true, ℕ, List, [], ◌∷◌, ◌++◌, refl, sym, ◌∙◌, ap, subst, append_assoc, append-nil}
 use Rattle.std.specs.Prelude.{Option, None, Some, IfSome, Result, Ok, Err}
 use mathlib.Core.List.{IsPrefix}
 use Rattle.book_machine.specs.declared.caller.Caller.{Caller}
@@ -14,7 +14,8 @@ use Rattle.version_book.specs.declared.faults.FinishFault.{FinishFault}
 use Rattle.version_book.specs.declared.faults.UnknownTicket.{UnknownTicket}
 use Rattle.version_book.specs.declared.refusal.Refusal.{Refusal}
 use Rattle.version_book.specs.declared.refusal.Refusal.TheVariants as why
-use Rattle.workers.specs.History.{Calls, CalledAt, MayEndAt, Works}
+use Rattle.workers.specs.History.{Calls, CalledAt, Leaves, MayEndAt, Stops, Works}
+use Rattle.workers.specs.Settling.{has_stopped}
 use Rattle.workers.specs.Work.{end_of}
 use Rattle.workers.specs.declared.worker.WorkerEnd.{WorkerEnd}
 use Rattle.workers.specs.declared.worker.WorkerEnd.TheVariants as ends
@@ -77,3 +78,14 @@ pub works_round : (opening : Machine) (old mid new : Seen) (who : Caller) (task 
     → Calls opening old who Claim (claim_answer (Ok (Some task))) mid → Works opening mid end new → Works opening old end new
 works_round opening old mid new who task end claims works =
     works_on opening old mid new end (works_called opening old who Claim (claim_answer (Ok (Some task))) mid None claims refl) works
+
+-- a worker that ended at a stop has left
+pub leaves_stopped : (opening : Machine) (old new : Seen) → Works opening old (Some ends.Stopped) new → Leaves opening old ends.Stopped new
+leaves_stopped opening old new works = (λ kept. let w = works kept in (w.0, w.1, w.2), λ kept. let w = works kept in (new.events, w.1, w.2, prefix_self new.events))
+
+-- a worker that ended has left once it has stopped the desk
+pub leaves : (opening : Machine) (old mid new : Seen) (end : WorkerEnd) → Works opening old (Some end) mid → Stops mid new → Leaves opening old end new
+leaves opening old mid new end works stops =
+    let both : new.kept ≡ true → (old.kept ≡ true) × IsPrefix old.events mid.events × MayEndAt opening mid.events end × IsPrefix mid.events new.events × (has_stopped new.events ≡ true) =
+    λ kept. let s = stops kept in let w = works s.0 in (w.0, w.1, w.2, s.1, s.2) in
+    (λ kept. let b = both kept in (b.0, goes_beyond old.events mid.events new.events b.3.0 b.1 (sym b.3.1), b.4), λ kept. let b = both kept in (mid.events, b.1, b.2, b.3))

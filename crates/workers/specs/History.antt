@@ -81,6 +81,14 @@ MayEndAt opening events ends.Memory = Unit {0}
 abbrev pub Works : Machine → Seen → Option WorkerEnd → Seen → Type 0
 Works opening old end new = new.kept ≡ true → (old.kept ≡ true) × IsPrefix old.events new.events × IfSome end (MayEndAt opening new.events)
 
+-- the history went on, up to a stop or past one
+abbrev pub Stops : Seen → Seen → Type 0
+Stops old new = new.kept ≡ true → (old.kept ≡ true) × IsPrefix old.events new.events × (has_stopped new.events ≡ true)
+
+-- the history went on, at a place of it the worker might end so, and the desk is stopped
+abbrev pub Leaves : Machine → Seen → WorkerEnd → Seen → Type 0
+Leaves opening old end new = Stops old new × (new.kept ≡ true → (place : List Happened) × IsPrefix old.events place × MayEndAt opening place end × IsPrefix place new.events)
+
 -- the history went on, and then a task was claimed, or the worker ended
 abbrev pub Claims : Machine → Seen → Caller → Result TaskView WorkerEnd → Seen → Type 0
 Claims opening old who (Ok task) new = Calls opening old who Claim (claim_answer (Ok (Some task))) new

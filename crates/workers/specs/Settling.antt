@@ -1,12 +1,9 @@
 -- What the wait of a session for its runs returns.
-use Rattle.std.specs.Prelude.{◌≡◌, ℕ, Bool, true, false, if◌then◌else◌, List, Option, None, Some}
+use Rattle.std.specs.Prelude.{Bool, true, false, if◌then◌else◌, List, Option, None, Some}
 use Rattle.std.specs.List.{list_any}
 use Rattle.book_machine.specs.declared.settle_state.SettleState.{SettleState}
 use Rattle.book_machine.specs.declared.settle_state.SettleState.TheVariants as state
-use Rattle.book_machine.specs.Machine.{settled}
 use Rattle.chronicle.specs.Events.{Happened, Called, Opened, Stopped}
-use Rattle.version_book.specs.Book.{BookView, machine_of}
-use Rattle.version_book.specs.Sound.{IsBook}
 use Rattle.workers.specs.declared.settled.Settled.{Settled}
 use Rattle.workers.specs.declared.settled.Settled.TheVariants as settled_as
 
@@ -15,10 +12,6 @@ abbrev pub outcome_settled : SettleState → Bool → Option Settled
 outcome_settled state.Waiting stopped = if stopped then Some settled_as.Stopped else None
 outcome_settled (state.Failed n) stopped = Some (settled_as.Failed n)
 outcome_settled state.Done stopped = Some settled_as.Done
-
--- At some moment the wait of a session that has seen this version returned this.
-abbrev pub IsSettledOnce : ℕ → Settled → Type 0
-IsSettledOnce seen answer = (b : BookView) × (stopped : Bool) × IsBook b × (outcome_settled (settled seen (machine_of b)) stopped ≡ Some answer)
 
 -- ---- stops
 

@@ -5,7 +5,7 @@ ghost use Rattle.book_machine.specs.declared.caller.Caller.TheVariants as caller
 ghost use Rattle.book_machine.specs.Machine.{settled};
 ghost use Rattle.version_book.specs.Book.{machine_of};
 ghost use Rattle.workers.specs.Callers.{IsNewSession, IsNewWorker};
-ghost use Rattle.workers.specs.History.{EndsOpened};
+ghost use Rattle.workers.specs.History.{EndsOpened, Stops};
 ghost use Rattle.workers.specs.Readings.{is_idle};
 ghost use Rattle.workers.specs.Settling.{outcome_settled};
 
@@ -71,6 +71,13 @@ impl<A: Allocator + Copy, J: Naming> Desk<A, J> {
     /// Stops the desk and wakes all that wait: workers end, and sessions no longer wait for runs.
     pub fn stop<R: Wait>(&self, rt: &R) {
         self.shared.lock(rt).stop();
+        self.changed.notify_all();
+    }
+
+    pub(crate) fn stop_for<R: Wait>(&self, rt: &R, front: &mut Front<J>)
+        ensures { Stops front.old front.new }
+    {
+        self.shared.lock(rt).stop_for(front);
         self.changed.notify_all();
     }
 

@@ -2,8 +2,6 @@ ghost use Rattle.std.specs.Prelude.{◌≡◌, IfOk};
 ghost use Rattle.scenarios.specs.ScenarioList.{id_of};
 ghost use Rattle.book_machine.specs.Machine.{version};
 ghost use Rattle.workers.specs.History.{IsCurrentAt, Reads, Settles};
-ghost use Rattle.workers.specs.Readings.{IsCurrentOnce, IsFoundOnce, IsVersionOnce};
-ghost use Rattle.workers.specs.Settling.{IsSettledOnce};
 
 use crate::desk::Desk;
 use crate::session::Session;
@@ -19,7 +17,6 @@ impl<A: Allocator + Copy, J: Naming> Session<A, J> {
     /// The id of the scenario with this name, at a place of the history behind all earlier responses to
     /// the session. It is not listed.
     pub fn find<R: Wait>(&mut self, rt: &R, desk: &Desk<A, J>, name: &str) -> Option<ScenarioId>
-        ensures found { IsFoundOnce name.now result }
         ensures history { Reads J.opening self.old.front (λ m. result ≡ id_of name.now m.listing) self.new.front }
         ensures same { self.new ≡ record self.old { front = self.new.front } }
     {
@@ -29,7 +26,6 @@ impl<A: Allocator + Copy, J: Naming> Session<A, J> {
     /// The current version, at a place of the history behind all earlier responses to the session. It is
     /// not listed.
     pub fn version<R: Wait>(&mut self, rt: &R, desk: &Desk<A, J>) -> u64
-        ensures version { IsVersionOnce result }
         ensures history { Reads J.opening self.old.front (λ m. result ≡ version m) self.new.front }
         ensures same { self.new ≡ record self.old { front = self.new.front } }
     {
@@ -39,7 +35,6 @@ impl<A: Allocator + Copy, J: Naming> Session<A, J> {
     /// The current version with its log and the scenarios, all of one moment, at a place of the history
     /// behind all earlier responses to the session. It is not listed. Memory where a growth is refused.
     pub fn current<R: Wait>(&mut self, rt: &R, desk: &Desk<A, J>) -> Result<Reading<A>, Memory>
-        ensures current { IfOk result IsCurrentOnce }
         ensures history { Reads J.opening self.old.front (λ m. IfOk result (IsCurrentAt m)) self.new.front }
         ensures same { self.new ≡ record self.old { front = self.new.front } }
     {
@@ -50,7 +45,6 @@ impl<A: Allocator + Copy, J: Naming> Session<A, J> {
     /// given up, or until the desk is stopped, and returns which, at a place of the history behind all
     /// earlier responses to the session. It sleeps while it waits.
     pub fn settle<R: Wait>(&mut self, rt: &R, desk: &Desk<A, J>) -> Settled
-        ensures settled { IsSettledOnce self.old.seen result }
         ensures history { Settles J.opening self.old.front self.old.seen result self.new.front }
         ensures same { self.new ≡ record self.old { front = self.new.front } }
     {

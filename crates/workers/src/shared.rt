@@ -1,4 +1,4 @@
-ghost use Rattle.std.specs.Prelude.{◌≡◌, true, false, is_none, length, IfOk, IfSome};
+ghost use Rattle.std.specs.Prelude.{◌≡◌, true, false, is_none, IfOk, IfSome};
 ghost use Rattle.std.specs.Option.{option_map};
 ghost use Rattle.scenarios.specs.ScenarioList.{id_of};
 ghost use Rattle.book_machine.specs.declared.caller.Caller.TheVariants as caller;
@@ -8,9 +8,9 @@ ghost use Rattle.chronicle.specs.Fronts.{nothing_yet};
 ghost use Rattle.version_book.specs.Book.{machine_of};
 ghost use Rattle.version_book.specs.Sound.{IsBook};
 ghost use Rattle.workers.specs.Callers.{next_caller, opened_after};
-ghost use Rattle.workers.specs.History.{EndsOpened, IsCurrentAt, Reads, Settles};
+ghost use Rattle.workers.specs.History.{EndsOpened, IsCurrentAt, Reads, Settles, Stops};
 ghost use Rattle.workers.specs.Readings.{is_idle};
-ghost use Rattle.workers.specs.Settling.{IsSettledOnce, outcome_settled};
+ghost use Rattle.workers.specs.Settling.{outcome_settled};
 ghost use Rattle.workers.specs.Tied.{IsTied};
 
 use crate::settled::Settled;
@@ -132,6 +132,14 @@ impl<A: Allocator + Copy, J: Naming> Shared<A, J> {
         self.stopped = true;
     }
 
+    pub(crate) fn stop_for(&mut self, front: &mut Front<J>)
+        ensures { Stops front.old front.new }
+    {
+        self.stop();
+        let _is_kept = self.is_kept();
+        front.follow(&self.whole);
+    }
+
     pub(crate) fn into_book(self) -> Book<A>
         ensures value { result ≡ self.book }
         ensures book { IsBook result }
@@ -149,8 +157,6 @@ impl<A: Allocator + Copy, J: Naming> Shared<A, J> {
     }
 
     pub(crate) fn version(&self, front: &mut Front<J>) -> u64
-        ensures version { result ≡ length self.now.book.state.edits }
-        ensures book { IsBook self.now.book }
         ensures history { Reads J.opening front.old (λ m. result ≡ version m) front.new }
     {
         front.follow(&self.whole);
@@ -158,28 +164,21 @@ impl<A: Allocator + Copy, J: Naming> Shared<A, J> {
     }
 
     pub(crate) fn find(&self, name: &str, front: &mut Front<J>) -> Option<ScenarioId>
-        ensures found { result ≡ id_of name.now self.now.book.state.listing }
-        ensures book { IsBook self.now.book }
         ensures history { Reads J.opening front.old (λ m. result ≡ id_of name.now m.listing) front.new }
     {
         front.follow(&self.whole);
-        let _version = self.book.version();
         self.book.id_of(name)
     }
 
     pub(crate) fn current(&self, front: &mut Front<J>) -> Result<Reading<A>, Memory>
-        ensures current { IfOk result (IsCurrentAt (machine_of self.now.book)) }
-        ensures book { IsBook self.now.book }
         ensures history { Reads J.opening front.old (λ m. IfOk result (IsCurrentAt m)) front.new }
     {
         front.follow(&self.whole);
-        let _version = self.book.version();
         self.book.reading()
     }
 
     pub(crate) fn settle(&self, seen: u64, front: &mut Front<J>) -> Settled
         requires { is_none (outcome_settled (settled seen (machine_of self.now.book)) self.now.stopped) ≡ false }
-        ensures settled { IsSettledOnce seen result }
         ensures history { Settles J.opening front.old seen result front.new }
     {
         front.follow(&self.whole);

@@ -4,7 +4,7 @@ ghost use Rattle.book_machine.specs.declared.caller.Caller.TheVariants as caller
 ghost use Rattle.chronicle.specs.Fronts.{Begins};
 ghost use Rattle.workers.specs.Callers.{new_worker};
 ghost use Rattle.workers.specs.declared.worker.WorkerEnd.TheVariants as ends;
-ghost use Rattle.workers.specs.History.{Claims, Works};
+ghost use Rattle.workers.specs.History.{Claims, Leaves, Stops, Works};
 ghost use Rattle.workers.specs.Work.{Finishes, GainsClaim, GivesUp, HandsInOnce, HandsInWhat, WorksOn, WorksThrough, end_of};
 ghost use Rattle.workers.specs.Lists.{listed_of};
 
@@ -197,23 +197,32 @@ impl<A: Allocator + Copy, J: Naming> Worker<A, J> {
         }
     }
 
+    fn stop<R: Wait>(&mut self, rt: &R, desk: &Desk<A, J>)
+        ensures front { Stops self.old.front self.new.front }
+        ensures same { self.new ≡ record self.old { front = self.new.front } }
+    {
+        desk.stop_for(rt, &mut self.front);
+    }
+
     /// Works until the desk is stopped, the journal is full, or a growth is refused in a claim, a
     /// finish or a give-up; in the last two cases it stops the desk. It sleeps while nothing is due.
     ///
     /// Its list goes on with claims, each of a ticket followed by a finish or a give-up of this
-    /// ticket, the last one perhaps not. The history goes on too: at its end the desk was stopped where
-    /// that ended the worker, and the journal was full where that did.
+    /// ticket, the last one perhaps not. The history goes on too: at a place of it the desk was stopped or
+    /// the journal was full, where that ended the worker, and at its end the desk is stopped, however the
+    /// worker ended.
     pub fn run<R: Wait, G: Gate>(&mut self, rt: &R, desk: &Desk<A, J>, gate: &G) -> WorkerEnd
         ensures list { WorksOn self.old.list self.new.list }
         ensures stopped { result ≡ ends.Stopped → WorksThrough self.old.list self.new.list }
-        ensures history { Works J.opening self.old.front (Some result) self.new.front }
+        ensures history { Leaves J.opening self.old.front result self.new.front }
         ensures number { self.new.number ≡ self.old.number }
     {
         for _ in rt.forever() {
             if let Some(end) = self.round(rt, desk, gate) {
-                if end != WorkerEnd::Stopped {
-                    desk.stop(rt);
+                if end == WorkerEnd::Stopped {
+                    return end;
                 }
+                self.stop(rt, desk);
                 return end;
             }
         }

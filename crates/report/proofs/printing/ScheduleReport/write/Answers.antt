@@ -4,7 +4,7 @@ use Rattle.std.specs.Io.KnownBytes.{Appends}
 use Rattle.std.proofs.lemmas.Result.{err_from_is_err_and}
 use Rattle.swf_text.specs.Writing.{Writes}
 use Rattle.report.specs.Schedule.{row_line}
-use Rattle.report.proofs.Writings.{front_more, writes_then}
+use Rattle.swf_text.proofs.Lemmas.{front_more, writes_then}
 use Rattle.report.proofs.printing.ScheduleReport.write.Goals as goal
 
 pub returns-in_err-write_bytes : goal.returns-in_err-write_bytes
