@@ -1,6 +1,6 @@
 // `head` has the bytes of the first lines, with `headed` entries; each line behind them is blank or the
-// summary line of an entry. `next` is one above the greatest job number. Where capacity for entries is
-// refused, it grows as they come.
+// summary line of an entry. `next` is one above the greatest job number. Capacity for all entries that a log
+// may have is reserved ahead where as much as `LEFT_OVER` can be had beside it; else it grows as they come.
 ghost use Rattle.std.specs.Prelude.{◌≡◌, ◌<◌, ◌+◌, ◌-◌, ◌^◌, ◌++◌, ℕ, List, [], length, IfSome};
 ghost use Rattle.swf_text.specs.Text.{lines};
 ghost use Rattle.parallel_reader.specs.Fronts.{EndsLine, Grows, IsFront, IsReading};
@@ -15,6 +15,9 @@ use std::thread::Threads;
 use swf_text::{
     Builder, ENTRY_LIMIT, Entry, FaultKind, LineRead, SwfFault, SwfText, read_swf, split_line,
 };
+
+/// How many bytes have to be left beside the capacity for all entries.
+const LEFT_OVER: usize = 1 << 30;
 
 /// The front of a log: whole lines that were read. Contracts see what they hold, how many they are,
 /// and how many bytes they have with their line feeds.
@@ -40,6 +43,15 @@ impl<A: Allocator + Copy> Model for LogFront<A> {
     ghost view = { λ f. record { text = record { comments = map (λ c. c.items) f.comments.items; entries = f.entries.items }; lines = f.lines; bytes = f.bytes } };
 
     ghost invariant = { λ f. record { below : Below f.next f.entries.items; within : f.headed ≤ length f.entries.items; head : text_of f.head.items ≡ Ok (record { comments = map (λ c. c.items) f.comments.items; entries = take f.headed f.entries.items }) } };
+}
+
+fn reserve_ahead<A: Allocator + Copy>(alloc: A, entries: &mut Vec<Entry<A>, A>)
+    ensures { entries.new.items ≡ entries.old.items }
+{
+    let Ok(_left_over) = Vec::<u8, A>::with_capacity(alloc, LEFT_OVER) else {
+        return;
+    };
+    let _refused = entries.reserve(ENTRY_LIMIT.saturating_sub(entries.len()));
 }
 
 fn count_lines(bytes: &[u8]) -> u64
@@ -83,7 +95,7 @@ impl<A: Allocator + Copy> LogFront<A> {
         let (comments, mut entries) = text.into_parts();
         let next = number_behind(entries.as_slice());
         let headed = entries.len();
-        let _refused = entries.reserve(ENTRY_LIMIT.saturating_sub(headed));
+        reserve_ahead(alloc, &mut entries);
         Some(LogFront {
             head: lines,
             comments,

@@ -7,13 +7,13 @@ use Rattle.parallel_reader.proofs.front.LogFront.of_head.Goals as goal
 
 pub invariant_of-result : goal.invariant_of-result
 invariant_of-result g c =
-    let entries = c.reserve-refused.new.self.items in
-    let whole : take c.len-headed.result entries ≡ entries = take_all c.len-headed.result entries (omega (arith, c.len-headed.ensures, ap length c.reserve-refused.ensures.items)) in
+    let entries = c.reserve_ahead.new.entries.items in
+    let whole : take c.len-headed.result entries ≡ entries = take_all c.len-headed.result entries (omega (arith, c.len-headed.ensures, ap length c.reserve_ahead.ensures)) in
     record {
-      below = subst (Below c.number_behind-next.result) (c.as_slice.ensures.value ∙ sym c.reserve-refused.ensures.items) c.number_behind-next.ensures;
-      within = omega (arith, c.len-headed.ensures, ap length c.reserve-refused.ensures.items);
-      head = ap text_of c.in-Ok-from_slice.ensures.items ∙ (head_text c.args.head.now c.in-Ok.text _ (take c.len-headed.result entries) c.in-Ok.ensures.text c.into_parts-comments.ensures.comments (whole ∙ c.reserve-refused.ensures.items ∙ c.into_parts-comments.ensures.entries));
+      below = subst (Below c.number_behind-next.result) (c.as_slice.ensures.value ∙ sym c.reserve_ahead.ensures) c.number_behind-next.ensures;
+      within = omega (arith, c.len-headed.ensures, ap length c.reserve_ahead.ensures);
+      head = ap text_of c.in-Ok-from_slice.ensures.items ∙ (head_text c.args.head.now c.in-Ok.text _ (take c.len-headed.result entries) c.in-Ok.ensures.text c.into_parts-comments.ensures.comments (whole ∙ c.reserve_ahead.ensures ∙ c.into_parts-comments.ensures.entries));
     }
 
 pub returns : goal.returns
-returns g c = front_read c.args.head.now c.in-Ok.text _ c.requires c.in-Ok.ensures.text c.into_parts-comments.ensures.comments (c.reserve-refused.ensures.items ∙ c.into_parts-comments.ensures.entries) c.count_lines.ensures refl
+returns g c = front_read c.args.head.now c.in-Ok.text _ c.requires c.in-Ok.ensures.text c.into_parts-comments.ensures.comments (c.reserve_ahead.ensures ∙ c.into_parts-comments.ensures.entries) c.count_lines.ensures refl
