@@ -1,9 +1,8 @@
--- The bounds on those who wait at the first places of a list.
+-- What is known of those who wait at the first places of a list.
 use Rattle.std.proofs.Common.{◌≡◌, ℕ, zero, suc, [], ◌∷◌, ◌+◌, ◌≤◌, ◌<◌, List, length, IfSome, slice_index_or, Option, None, Some, ◌∙◌, arith, subst, ⊎_elim}
 use Rattle.std.proofs.lemmas.Bool.{cases_lt}
 use Rattle.std.proofs.lemmas.List.{get_or_default}
-use Rattle.waiting_places.specs.Bounds.{IsBelow, Keeps, LeastsView}
-use Rattle.waiting_places.specs.Classes.{class_of}
+use Rattle.waiting_places.specs.Bounds.{FrontierView, IsBelow, Keeps}
 
 module _ {X : Type 0} where
   abbrev pub FirstAre : (X → Type 0) → List (Option X) → ℕ → Type 0
@@ -20,22 +19,13 @@ module _ {X : Type 0} where
       (cases_lt p count)
 
 module _ {X : Type 0} (size estimate : X → ℕ) where
-  -- the bounds hold of those who wait at the first places
-  abbrev pub FirstAreBelow : LeastsView → List (Option X) → ℕ → Type 0
+  -- a frontier is below those who wait at the first places
+  abbrev pub FirstAreBelow : FrontierView → List (Option X) → ℕ → Type 0
   FirstAreBelow l places count = FirstAre (λ x. IsBelow l (size x) (estimate x)) places count
 
-  -- bounds that keep these hold of those at one place more, if they hold of who waits there
-  pub one_more : (l m : LeastsView) (places : List (Option X)) (count : ℕ) → FirstAreBelow l places count → Keeps l m → (place : Option X) → count < length places → place ≡ slice_index_or places count place → IfSome place (λ x. IsBelow m (size x) (estimate x)) → FirstAreBelow m places (count + 1)
+  -- one that keeps it is below those at one place more, if it is below who waits there
+  pub one_more : (l m : FrontierView) (places : List (Option X)) (count : ℕ) → FirstAreBelow l places count → Keeps l m → (place : Option X) → count < length places → place ≡ slice_index_or places count place → IfSome place (λ x. IsBelow m (size x) (estimate x)) → FirstAreBelow m places (count + 1)
   one_more l m places count first kept place short e here = one_of (λ x. IsBelow l (size x) (estimate x)) (λ x. IsBelow m (size x) (estimate x)) places count first (λ x. kept (size x) (estimate x)) place short e here
-
-  -- for those who wait at the first places, the estimate of their class is no longer than their own
-  abbrev pub FirstAreShort : List ℕ → List (Option X) → ℕ → Type 0
-  FirstAreShort estimates places count = FirstAre (λ x. slice_index_or estimates (class_of (size x)) 0 ≤ estimate x) places count
-
-  -- estimates that are no longer hold at one place more, if that of the class of who waits there is no longer than its own
-  pub one_shorter : (old new : List ℕ) (places : List (Option X)) (count : ℕ) → FirstAreShort old places count → ((c : ℕ) → slice_index_or new c 0 ≤ slice_index_or old c 0) → (place : Option X) → count < length places → place ≡ slice_index_or places count place → IfSome place (λ x. slice_index_or new (class_of (size x)) 0 ≤ estimate x) → FirstAreShort new places (count + 1)
-  one_shorter old new places count first kept place short e here =
-      one_of (λ x. slice_index_or old (class_of (size x)) 0 ≤ estimate x) (λ x. slice_index_or new (class_of (size x)) 0 ≤ estimate x) places count first (λ x below. let less = kept (class_of (size x)) in omega (arith, below, less)) place short e here
 
   -- who waits has a place
   pub within : (xs : List (Option X)) (n : ℕ) (y : X) → slice_index_or xs n None ≡ Some y → n < length xs

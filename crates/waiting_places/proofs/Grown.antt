@@ -2,15 +2,15 @@
 use Rattle.std.proofs.Common.{◌≡◌, ◌≢◌, ℕ, ◌+◌, ◌-◌, ◌*◌, ◌^◌, ◌≤◌, ◌<◌, List, [], ◌∷◌, ◌++◌, length, slice_index_or, set, Option, None, Some, sym, ◌∙◌, ap, arith, subst, ⊎_elim}
 use Rattle.std.proofs.lemmas.Bool.{cases_eq, cases_lt}
 use Rattle.std.proofs.lemmas.List.{length-append, length-set, get_or-set_same, get_or-set_other, get_or_append_left, get_or_push}
-use Rattle.waiting_places.specs.Bounds.{IsBelow, Keeps, LeastsView}
+use Rattle.waiting_places.specs.Bounds.{FrontierView, IsBelow, Keeps}
 use Rattle.waiting_places.specs.Places.{IsHead, IsPlaces, at_place, capacity_of, waiting}
 use Rattle.waiting_places.specs.Tree.{IsTree, halved, leaf_of, node_at}
 use Rattle.waiting_places.proofs.Below.{within}
 use Rattle.waiting_places.proofs.Heads.{head_comes}
 use Rattle.waiting_places.proofs.Standing.{no_more, one_comes, one_less}
 
-module _ {X : Type 0} (size estimate : X → ℕ) (nodes : List LeastsView) (places : List (Option X)) (tree : IsTree size estimate nodes places) where
-  pub grown : (new : List LeastsView) (more : List (Option X)) (item : X) → length new ≡ length nodes → more ≡ places ++ Some item ∷ [] → length places + 1 ≤ 32 * length nodes → ((k : ℕ) → Keeps (node_at nodes k) (node_at new k))
+module _ {X : Type 0} (size estimate : X → ℕ) (nodes : List FrontierView) (places : List (Option X)) (tree : IsTree size estimate nodes places) where
+  pub grown : (new : List FrontierView) (more : List (Option X)) (item : X) → length new ≡ length nodes → more ≡ places ++ Some item ∷ [] → length places + 1 ≤ 32 * length nodes → ((k : ℕ) → Keeps (node_at nodes k) (node_at new k))
       → ((times : ℕ) → 1 ≤ halved times (leaf_of (length nodes) (length places)) → IsBelow (node_at new (halved times (leaf_of (length nodes) (length places)))) (size item) (estimate item)) → IsTree size estimate new more
   grown new more item len e capacity kept met = record {
     whole = record { height = tree.whole.height; power = len ∙ tree.whole.power };
@@ -57,7 +57,7 @@ module _ {X : Type 0} (size estimate : X → ℕ) (nodes : List LeastsView) (pla
           (λ (ne : p ≢ place). sym (get_or-set_other places place p None None ne) ∙ is)
           (cases_eq p place)
 
-module _ {X : Type 0} (size estimate : X → ℕ) (places : List (Option X)) (nodes : List LeastsView) (len head capacity : ℕ) (kept : IsPlaces size estimate places nodes len head capacity) where
+module _ {X : Type 0} (size estimate : X → ℕ) (places : List (Option X)) (nodes : List FrontierView) (len head capacity : ℕ) (kept : IsPlaces size estimate places nodes len head capacity) where
   few : length places ≤ 2 ^ 46
   few = let list = kept.list in let some = kept.few in omega arith
 
@@ -65,8 +65,8 @@ module _ {X : Type 0} (size estimate : X → ℕ) (places : List (Option X)) (no
   pub count_fits : len ≤ 2 ^ 46
   count_fits = let count = kept.count in omega (arith, count, few, no_more places)
 
-  -- one comes at a new place: the fields keep what they kept, if the bounds above its place hold of it
-  pub comes : (more : List (Option X)) (new : List LeastsView) (item : X) (wide : ℕ) → more ≡ places ++ Some item ∷ [] → length new ≡ length nodes → ((k : ℕ) → Keeps (node_at nodes k) (node_at new k))
+  -- one comes at a new place: the fields keep what they kept, if the nodes above its place are below it
+  pub comes : (more : List (Option X)) (new : List FrontierView) (item : X) (wide : ℕ) → more ≡ places ++ Some item ∷ [] → length new ≡ length nodes → ((k : ℕ) → Keeps (node_at nodes k) (node_at new k))
       → ((times : ℕ) → 1 ≤ halved times (leaf_of (length nodes) (length places)) → IsBelow (node_at new (halved times (leaf_of (length nodes) (length places)))) (size item) (estimate item))
       → length places + 1 ≤ capacity_of (length nodes) → length more ≤ wide → IsPlaces size estimate more new (len + 1) head wide
   comes more new item wide e same keeps met l fit =

@@ -1,7 +1,5 @@
-mod Classes
-mod Falling
 mod Below
-mod Sizes
+mod Corners
 mod Nodes
 mod Lowered
 mod Fits

@@ -2,7 +2,7 @@
 use Rattle.std.proofs.Common.{◌≡◌, ℕ, zero, suc, ◌+◌, ◌-◌, ◌/◌, ◌≤◌, ◌<◌, List, length, get_or, set, arith, ⊎_elim, ap, sym, subst, ◌∙◌}
 use Rattle.std.proofs.lemmas.Bool.{cases_lt}
 use Rattle.std.proofs.lemmas.List.{length-set}
-use Rattle.waiting_places.specs.Bounds.{IsBelow, Keeps, LeastsView}
+use Rattle.waiting_places.specs.Bounds.{FrontierView, IsBelow, Keeps}
 use Rattle.waiting_places.specs.Tree.{halved, node_at}
 use Rattle.waiting_places.proofs.Nodes.{kept_by, written}
 
@@ -14,8 +14,8 @@ halved-more zero times often n e =
 halved-more (suc more) times zero n e = absurd (omega arith)
 halved-more (suc more) times (suc often) n e = omega (arith, halved-more more times often n (omega arith))
 
--- from a leaf up to before a node, all bounds hold of this size and estimate; each node keeps what its bounds told
-pub record IsLoweredTo (old new : List LeastsView) (leaf node size estimate : ℕ) : Type 0 where
+-- from a leaf up to before a node, each is below this size and estimate; each node keeps what it knew
+pub record IsLoweredTo (old new : List FrontierView) (leaf node size estimate : ℕ) : Type 0 where
   pub steps : ℕ
   pub here : node ≡ halved steps leaf
   pub low : node ≤ leaf
@@ -23,9 +23,9 @@ pub record IsLoweredTo (old new : List LeastsView) (leaf node size estimate : �
   pub kept : (k : ℕ) → Keeps (node_at old k) (node_at new k)
   pub met : (times : ℕ) → times < steps → IsBelow (node_at new (halved times leaf)) size estimate
 
-module _ (old new : List LeastsView) (leaf node size estimate : ℕ) (low : IsLoweredTo old new leaf node size estimate) where
-  -- one node further up, if the bounds written there keep its own and hold of the size and estimate
-  pub one_up : (here l : LeastsView) → node < length new → here ≡ get_or new node here → Keeps here l → IsBelow l size estimate → IsLoweredTo old (set new node l) leaf (node / 2) size estimate
+module _ (old new : List FrontierView) (leaf node size estimate : ℕ) (low : IsLoweredTo old new leaf node size estimate) where
+  -- one node further up, if the frontier written there keeps its own and is below the size and estimate
+  pub one_up : (here l : FrontierView) → node < length new → here ≡ get_or new node here → Keeps here l → IsBelow l size estimate → IsLoweredTo old (set new node l) leaf (node / 2) size estimate
   one_up here l lt is keeps below =
       let less = low.low in
       record {
@@ -44,10 +44,10 @@ module _ (old new : List LeastsView) (leaf node size estimate : ℕ) (low : IsLo
           (λ (after : low.steps ≤ times).
           let same : times ≡ low.steps = omega arith in
           let at : node ≡ halved times leaf = low.here ∙ ap (λ (n : ℕ). halved n leaf) (sym same) in
-          subst (λ (k : ℕ). IsBelow (node_at (set new node l) k) size estimate) at (subst (λ (m : LeastsView). IsBelow m size estimate) (sym (written new node l lt)) below))
+          subst (λ (k : ℕ). IsBelow (node_at (set new node l) k) size estimate) at (subst (λ (m : FrontierView). IsBelow m size estimate) (sym (written new node l lt)) below))
           (cases_lt times low.steps)
 
-  -- at the top, the bounds of the leaf and of all nodes above it hold of this size and estimate
+  -- at the top, the leaf and all nodes above it are below this size and estimate
   pub to_the_top : node ≡ 0 → (times : ℕ) → 1 ≤ halved times leaf → IsBelow (node_at new (halved times leaf)) size estimate
   to_the_top top times some =
       ⊎_elim

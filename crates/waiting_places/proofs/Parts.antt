@@ -1,12 +1,12 @@
 -- The nodes of a tree, and the places below each: what is known at a node holds of all who wait below it, also once a node is made anew from
 -- the two below it, or a leaf from its places.
-use Rattle.std.proofs.Common.{◌≡◌, ◌≢◌, ℕ, zero, suc, ◌+◌, ◌*◌, ◌/◌, ◌^◌, ◌≤◌, ◌<◌, Bool, true, false, List, length, get_or, slice_index_or, Option, None, Some, refl, sym, ◌∙◌, ap, arith, subst, ⊎_elim}
+use Rattle.std.proofs.Common.{◌≡◌, ◌≢◌, ℕ, zero, suc, ◌+◌, ◌*◌, ◌/◌, ◌^◌, ◌≤◌, ◌<◌, Bool, true, false, IsTrue, ◌↔◌, List, length, get_or, slice_index_or, Option, None, Some, refl, sym, ◌∙◌, ap, arith, subst, ⊎_elim}
 use Rattle.std.proofs.lemmas.Bool.{cases_eq, cases_lt, cases_Bool, true≢false}
 use Rattle.std.proofs.lemmas.List.{get_or_default}
 use Rattle.std.proofs.lemmas.Nat.{pow_pos}
 use Rattle.std.proofs.Math.Nat.{pow-suc, mul-le-mul_left}
 use Rattle.waiting_places.specs.declared.offer.Offer.{Offer}
-use Rattle.waiting_places.specs.Bounds.{IsBelow, LeastsView, may_fit}
+use Rattle.waiting_places.specs.Bounds.{FrontierView, IsBelow, Keeps, MayFit}
 use Rattle.waiting_places.specs.Offers.{fits, holds}
 use Rattle.waiting_places.specs.Places.{NonePasses}
 use Rattle.waiting_places.specs.Tree.{IsPart, IsTree, IsWhole, halved, leaf_of, node_at}
@@ -71,18 +71,15 @@ module _ (count node low span : ℕ) (part : IsPart count node low span) where
             both = omega arith;
           }
 
--- a node that does not pass
-pub refused : (offer : Offer) (nodes : List LeastsView) (node : ℕ) (l : LeastsView) (result : Bool) → node < length nodes → result ≡ may_fit offer (get_or nodes node l) → result ≡ false → may_fit offer (node_at nodes node) ≡ false
-refused offer nodes node l result there is fails = ap (may_fit offer) (get_or_default nodes node no_node l there) ∙ sym is ∙ fails
+-- no corner of a node fits an offer that it refuses
+pub refused : (offer : Offer) (nodes : List FrontierView) (node : ℕ) (l : FrontierView) (result : Bool) → node < length nodes → IsTrue result ↔ MayFit offer (get_or nodes node l) → result ≡ false → MayFit offer (node_at nodes node) → true ≡ false
+refused offer nodes node l result there is fails may = sym (is.1 (subst (MayFit offer) (get_or_default nodes node no_node l there) may)) ∙ fails
 
 -- the root stands above all leaves
 pub root : (count : ℕ) → IsWhole count → IsPart count 1 0 (count / 2)
 root count whole = let e = whole.power in record { height = whole.height; power = omega arith; start = omega arith; end = omega arith }
 
-abbrev pub KeepsBeside : List LeastsView → ℕ → ℕ → List LeastsView → Type 0
-KeepsBeside old node other new = (size estimate : ℕ) → IsBelow (node_at old node) size estimate → IsBelow (node_at old other) size estimate → IsBelow (node_at new node) size estimate
-
-module _ {X : Type 0} (size estimate : X → ℕ) (nodes : List LeastsView) (places : List (Option X)) (tree : IsTree size estimate nodes places) where
+module _ {X : Type 0} (size estimate : X → ℕ) (nodes : List FrontierView) (places : List (Option X)) (tree : IsTree size estimate nodes places) where
   pub known : (node low span place : ℕ) (x : X) → IsPart (length nodes) node low span → slice_index_or places place None ≡ Some x → 64 * low ≤ place → place < 64 * (low + span) → IsBelow (node_at nodes node) (size x) (estimate x)
   known node low span place x part is from to =
       let whole = tree.whole.power in
@@ -94,8 +91,8 @@ module _ {X : Type 0} (size estimate : X → ℕ) (nodes : List LeastsView) (pla
       let one : 1 ≤ halved part.height leaf = subst (λ (n : ℕ). 1 ≤ n) (sym at) (is_node (length nodes) node low span part).0 in
       subst (λ (n : ℕ). IsBelow (node_at nodes n) (size x) (estimate x)) at (tree.below part.height place x is one)
 
-  -- where a node does not pass, none below it fits
-  pub none_fits : (offer : Offer) (node low span from : ℕ) → IsPart (length nodes) node low span → may_fit offer (node_at nodes node) ≡ false → 64 * low ≤ from → NonePasses (holds (fits size estimate offer)) places from (64 * (low + span))
+  -- where no corner of a node fits, none below it does
+  pub none_fits : (offer : Offer) (node low span from : ℕ) → IsPart (length nodes) node low span → (MayFit offer (node_at nodes node) → true ≡ false) → 64 * low ≤ from → NonePasses (holds (fits size estimate offer)) places from (64 * (low + span))
   none_fits offer node low span from part refused after place l u = go (slice_index_or places place None) refl
     where
       go : (o : Option X) → slice_index_or places place None ≡ o → holds (fits size estimate offer) (slice_index_or places place None) ≡ false
@@ -104,12 +101,12 @@ module _ {X : Type 0} (size estimate : X → ℕ) (nodes : List LeastsView) (pla
           ⊎_elim
           (λ (yes : fits size estimate offer x ≡ true).
           let up = passes (node_at nodes node) (size x) (estimate x) (known node low span place x part is (omega arith) u) offer yes in
-          absurd (true≢false (sym up ∙ refused)))
+          absurd (true≢false (refused up)))
           (λ (no : fits size estimate offer x ≡ false). ap (holds (fits size estimate offer)) is ∙ no)
           (cases_Bool (fits size estimate offer x))
 
-  -- a node that is made anew from the two below it leaves a tree of bounds
-  pub raised : (node : ℕ) (new : List LeastsView) → 2 * node + 1 < length nodes → length new ≡ length nodes → KeepsBeside nodes node (2 * node) new → KeepsBeside nodes node (2 * node + 1) new
+  -- a node that is made anew from the two below it leaves a tree of lower bounds
+  pub raised : (node : ℕ) (new : List FrontierView) → 2 * node + 1 < length nodes → length new ≡ length nodes → Keeps (node_at nodes (2 * node)) (node_at new node) → Keeps (node_at nodes (2 * node + 1)) (node_at new node)
       → ((k : ℕ) → k ≢ node → node_at new k ≡ node_at nodes k) → IsTree size estimate new places
   raised node new inner len first second others = record {
     whole = record { height = tree.whole.height; power = len ∙ tree.whole.power };
@@ -123,17 +120,16 @@ module _ {X : Type 0} (size estimate : X → ℕ) (nodes : List LeastsView) (pla
       at times place x is one =
           ⊎_elim
           (λ (same : halved times (leaf_of (length nodes) place) ≡ node). subst (λ (n : ℕ). IsBelow (node_at new n) (size x) (estimate x)) (sym same) (here times same (subst (λ (n : ℕ). 1 ≤ n) same one)))
-          (λ (ne : halved times (leaf_of (length nodes) place) ≢ node). subst (λ (l : LeastsView). IsBelow l (size x) (estimate x)) (sym (others (halved times (leaf_of (length nodes) place)) ne)) (tree.below times place x is one))
+          (λ (ne : halved times (leaf_of (length nodes) place) ≢ node). subst (λ (l : FrontierView). IsBelow l (size x) (estimate x)) (sym (others (halved times (leaf_of (length nodes) place)) ne)) (tree.below times place x is one))
           (cases_eq (halved times (leaf_of (length nodes) place)) node)
         where
           here : (t : ℕ) → halved t (leaf_of (length nodes) place) ≡ node → 1 ≤ node → IsBelow (node_at new node) (size x) (estimate x)
           here zero same some = absurd (omega (arith, inner, same))
           here (suc t) same some =
               let m = halved t (leaf_of (length nodes) place) in
-              let own = subst (λ (n : ℕ). IsBelow (node_at nodes n) (size x) (estimate x)) same (tree.below (suc t) place x is (subst (λ (n : ℕ). 1 ≤ n) (sym same) some)) in
               ⊎_elim
-              (λ (left : m ≡ 2 * node). first (size x) (estimate x) own (subst (λ (n : ℕ). IsBelow (node_at nodes n) (size x) (estimate x)) left (tree.below t place x is (positive t same some))))
-              (λ (ne : m ≢ 2 * node). second (size x) (estimate x) own (subst (λ (n : ℕ). IsBelow (node_at nodes n) (size x) (estimate x)) (right t same ne) (tree.below t place x is (positive t same some))))
+              (λ (left : m ≡ 2 * node). first (size x) (estimate x) (subst (λ (n : ℕ). IsBelow (node_at nodes n) (size x) (estimate x)) left (tree.below t place x is (positive t same some))))
+              (λ (ne : m ≢ 2 * node). second (size x) (estimate x) (subst (λ (n : ℕ). IsBelow (node_at nodes n) (size x) (estimate x)) (right t same ne) (tree.below t place x is (positive t same some))))
               (cases_eq m (2 * node))
             where
               positive : (u : ℕ) → halved (suc u) (leaf_of (length nodes) place) ≡ node → 1 ≤ node → 1 ≤ halved u (leaf_of (length nodes) place)
@@ -142,9 +138,9 @@ module _ {X : Type 0} (size estimate : X → ℕ) (nodes : List LeastsView) (pla
               right : (u : ℕ) → halved (suc u) (leaf_of (length nodes) place) ≡ node → halved u (leaf_of (length nodes) place) ≢ 2 * node → halved u (leaf_of (length nodes) place) ≡ 2 * node + 1
               right u e ne = omega (arith, e, ne)
 
-  -- a leaf that is made anew from those who wait at its places leaves a tree of bounds
-  pub raised_leaf : (leaf : ℕ) (new : List LeastsView) → 2 * (leaf + 1) ≤ length nodes → length new ≡ length nodes
-      → ((place : ℕ) (x : X) → slice_index_or places place None ≡ Some x → place / 64 ≡ leaf → IsBelow (node_at nodes (length nodes / 2 + leaf)) (size x) (estimate x) → IsBelow (node_at new (length nodes / 2 + leaf)) (size x) (estimate x))
+  -- a leaf that is made anew from those who wait at its places leaves a tree of lower bounds
+  pub raised_leaf : (leaf : ℕ) (new : List FrontierView) → 2 * (leaf + 1) ≤ length nodes → length new ≡ length nodes
+      → ((place : ℕ) (x : X) → slice_index_or places place None ≡ Some x → place / 64 ≡ leaf → IsBelow (node_at new (length nodes / 2 + leaf)) (size x) (estimate x))
       → ((k : ℕ) → k ≢ length nodes / 2 + leaf → node_at new k ≡ node_at nodes k) → IsTree size estimate new places
   raised_leaf leaf new inner len here others = record {
     whole = record { height = tree.whole.height; power = len ∙ tree.whole.power };
@@ -157,8 +153,8 @@ module _ {X : Type 0} (size estimate : X → ℕ) (nodes : List LeastsView) (pla
       at : (times place : ℕ) (x : X) → slice_index_or places place None ≡ Some x → 1 ≤ halved times (leaf_of (length nodes) place) → IsBelow (node_at new (halved times (leaf_of (length nodes) place))) (size x) (estimate x)
       at times place x is one =
           ⊎_elim
-          (λ (same : halved times (leaf_of (length nodes) place) ≡ length nodes / 2 + leaf). subst (λ (n : ℕ). IsBelow (node_at new n) (size x) (estimate x)) (sym same) (here place x is (own times same) (subst (λ (n : ℕ). IsBelow (node_at nodes n) (size x) (estimate x)) same (tree.below times place x is one))))
-          (λ (ne : halved times (leaf_of (length nodes) place) ≢ length nodes / 2 + leaf). subst (λ (l : LeastsView). IsBelow l (size x) (estimate x)) (sym (others (halved times (leaf_of (length nodes) place)) ne)) (tree.below times place x is one))
+          (λ (same : halved times (leaf_of (length nodes) place) ≡ length nodes / 2 + leaf). subst (λ (n : ℕ). IsBelow (node_at new n) (size x) (estimate x)) (sym same) (here place x is (own times same)))
+          (λ (ne : halved times (leaf_of (length nodes) place) ≢ length nodes / 2 + leaf). subst (λ (l : FrontierView). IsBelow l (size x) (estimate x)) (sym (others (halved times (leaf_of (length nodes) place)) ne)) (tree.below times place x is one))
           (cases_eq (halved times (leaf_of (length nodes) place)) (length nodes / 2 + leaf))
         where
           own : (t : ℕ) → halved t (leaf_of (length nodes) place) ≡ length nodes / 2 + leaf → place / 64 ≡ leaf

@@ -1,43 +1,55 @@
--- What is known of those below a node of the tree.
-use Rattle.std.specs.Prelude.{◌≡◌, Option, None, Some, ℕ, ◌≤◌, Bool, ◌&&◌, ◌||◌, nat_le, if◌then◌else◌, List, [], slice_index_or}
-use Rattle.waiting_places.specs.declared.leasts.Sizes.{Sizes}
+-- What is known of those below a node of the tree: a lower bound on the Pareto frontier of their sizes and estimates.
+use Rattle.std.specs.Prelude.{◌≡◌, Option, None, Some, ℕ, ◌≤◌, ◌<◌, true, List, slice_index_or}
+use Rattle.waiting_places.specs.declared.frontier.Corner.{Corner}
 use Rattle.waiting_places.specs.declared.offer.Offer.{Offer}
-use Rattle.waiting_places.specs.Classes.{class_of}
+use Rattle.waiting_places.specs.Offers.{fits}
 
--- Lower bounds: on the size; on the size of those that are at most so long; and on the estimate of those of each class of size and of
--- the classes before it.
-pub record LeastsView : Type 0 where
-  pub size : ℕ
-  pub window : ℕ
-  pub size_within : ℕ
-  pub estimates : List ℕ
+-- How many corners there are, and the corners; what stands behind them says nothing.
+pub record FrontierView : Type 0 where
+  pub len : ℕ
+  pub corners : List Corner
 
--- what bounds on sizes alone tell
-abbrev pub sizes_known : Sizes → LeastsView
-sizes_known s = record { size = s.size; window = s.window; size_within = s.size_within; estimates = [] }
+-- a corner, counted from 0
+abbrev pub at_corner : List Corner → ℕ → Corner
+at_corner corners k = slice_index_or corners k (record { size = 0; estimate = 0 })
 
--- no number is greater than one in front of it
-abbrev pub Falls : List ℕ → Type 0
-Falls xs = (i j : ℕ) → i ≤ j → slice_index_or xs j 0 ≤ slice_index_or xs i 0
+abbrev pub corner_at : FrontierView → ℕ → Corner
+corner_at f k = at_corner f.corners k
 
--- the bounds hold of one of this size and estimate
-pub record IsBelow (l : LeastsView) (size estimate : ℕ) : Type 0 where
-  pub least : l.size ≤ size
-  pub within : estimate ≤ l.window → l.size_within ≤ size
-  pub short : (c : ℕ) → class_of size ≤ c → slice_index_or l.estimates c 0 ≤ estimate
+-- no corner is larger than one behind it, and each has a place of its own
+pub record IsFrontier (len : ℕ) (corners : List Corner) : Type 0 where
+  pub few : len ≤ 64
+  pub rises : (i j : ℕ) → i ≤ j → j < len → (at_corner corners i).size ≤ (at_corner corners j).size
 
--- the bounds hold of all of whom the others hold
-abbrev pub Keeps : LeastsView → LeastsView → Type 0
+-- one of this size and estimate is at least as large and at least as long as a corner
+pub record IsBelow (f : FrontierView) (size estimate : ℕ) : Type 0 where
+  pub corner : ℕ
+  pub there : corner < f.len
+  pub small : (corner_at f corner).size ≤ size
+  pub short : (corner_at f corner).estimate ≤ estimate
+
+-- what is known of one is known of it by another frontier too
+abbrev pub Keeps : FrontierView → FrontierView → Type 0
 Keeps old new = (size estimate : ℕ) → IsBelow old size estimate → IsBelow new size estimate
 
--- the bounds hold of all who wait at these places
-abbrev pub AreBelow : {X : Type 0} → (X → ℕ) → (X → ℕ) → LeastsView → List (Option X) → Type 0
-AreBelow {X} size estimate l places = (p : ℕ) (x : X) → slice_index_or places p None ≡ Some x → IsBelow l (size x) (estimate x)
+-- the frontier is below all who wait at these places
+abbrev pub AreBelow : {X : Type 0} → (X → ℕ) → (X → ℕ) → FrontierView → List (Option X) → Type 0
+AreBelow {X} size estimate f places = (p : ℕ) (x : X) → slice_index_or places p None ≡ Some x → IsBelow f (size x) (estimate x)
 
--- none that is at most so long is smaller
-abbrev pub least_size : LeastsView → ℕ → ℕ
-least_size l window = if nat_le window l.window then l.size_within else l.size
+-- one of the size and estimate of a corner fits the offer
+pub record MayFit (offer : Offer) (f : FrontierView) : Type 0 where
+  pub corner : ℕ
+  pub there : corner < f.len
+  pub fit : fits (λ (c : Corner). c.size) (λ c. c.estimate) offer (corner_at f corner) ≡ true
 
--- one of which the bounds hold may fit the offer
-abbrev pub may_fit : Offer → LeastsView → Bool
-may_fit offer l = nat_le l.size offer.extra || (nat_le (least_size l offer.window) offer.free && nat_le (slice_index_or l.estimates (class_of offer.free) 0) offer.window)
+-- the place of a size: none in front of it is larger, and none from there on is smaller
+pub record IsPlace (f : FrontierView) (size place : ℕ) : Type 0 where
+  pub within : place ≤ f.len
+  pub front : (k : ℕ) → k < place → (corner_at f k).size ≤ size
+  pub behind : (k : ℕ) → place ≤ k → k < f.len → size ≤ (corner_at f k).size
+
+-- all from one place to another are at least so long
+pub record IsBehind (f : FrontierView) (estimate from to : ℕ) : Type 0 where
+  pub ahead : from ≤ to
+  pub within : to ≤ f.len
+  pub long : (k : ℕ) → from ≤ k → k < to → estimate ≤ (corner_at f k).estimate

@@ -1,16 +1,16 @@
--- A complete tree of bounds over places, 64 to a leaf: node 1 is the root, the nodes 2 k and 2 k + 1 stand below node k, and the
+-- A complete tree of lower bounds over places, 64 to a leaf: node 1 is the root, the nodes 2 k and 2 k + 1 stand below node k, and the
 -- leaves are the second half of the nodes, in the order of their places.
 use Rattle.std.specs.Prelude.{◌≡◌, ℕ, zero, suc, ◌+◌, ◌*◌, ◌/◌, ◌^◌, ◌≤◌, List, [], length, slice_index_or, Option, None, Some}
-use Rattle.waiting_places.specs.Bounds.{IsBelow, LeastsView}
+use Rattle.waiting_places.specs.Bounds.{FrontierView, IsBelow}
 
 -- a number that is halved so often, rounded down each time
 abbrev pub halved : ℕ → ℕ → ℕ
 halved zero n = n
 halved (suc times) n = halved times n / 2
 
--- what is known below a node; where there is no node, nothing
-abbrev pub node_at : List LeastsView → ℕ → LeastsView
-node_at nodes k = slice_index_or nodes k (record { size = 0; window = 0; size_within = 0; estimates = [] })
+-- what is known below a node; where there is no node, nothing but that all are at least 0
+abbrev pub node_at : List FrontierView → ℕ → FrontierView
+node_at nodes k = slice_index_or nodes k (record { len = 1; corners = [] })
 
 -- the leaf of a place, by how many nodes there are
 abbrev pub leaf_of : ℕ → ℕ → ℕ
@@ -23,7 +23,7 @@ pub record IsWhole (count : ℕ) : Type 0 where
 
 -- the tree is whole, and each place has a leaf; what is known at each node holds of all
 -- who wait below it
-pub record IsTree {X : Type 0} (size estimate : X → ℕ) (nodes : List LeastsView) (places : List (Option X)) : Type 0 where
+pub record IsTree {X : Type 0} (size estimate : X → ℕ) (nodes : List FrontierView) (places : List (Option X)) : Type 0 where
   pub whole : IsWhole (length nodes)
   pub many : 4 ≤ length nodes
   pub few : length nodes ≤ 2 ^ 40

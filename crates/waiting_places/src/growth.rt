@@ -2,7 +2,7 @@ ghost use Rattle.std.specs.Prelude.{◌+◌, ◌*◌, ◌≤◌, ◌^◌, IfOk, 
 ghost use Rattle.waiting_places.specs.Places.{capacity_of};
 ghost use Rattle.waiting_places.specs.Tree.{IsWhole};
 
-use crate::leasts::Leasts;
+use crate::frontier::Frontier;
 use crate::tree::SPAN;
 use std::alloc::Allocator;
 use swf_text::Memory;
@@ -26,7 +26,7 @@ fn power_from(count: usize) -> usize
 pub(crate) fn nodes_for<A: Allocator + Copy>(
     alloc: A,
     capacity: usize,
-) -> Result<Vec<Leasts, A>, Memory>
+) -> Result<Vec<Frontier, A>, Memory>
     requires { capacity ≤ 2 ^ 40 }
     ensures enough { IfOk result (λ nodes. capacity ≤ capacity_of (length nodes.items)) }
     ensures whole { IfOk result (λ nodes. 1 ≤ length nodes.items → IsWhole (length nodes.items)) }
@@ -37,5 +37,5 @@ pub(crate) fn nodes_for<A: Allocator + Copy>(
         return Ok(Vec::new(alloc));
     }
     let leaves = power_from(capacity.div_ceil(SPAN));
-    Ok(vec![in alloc; Leasts::new(0); 2 * leaves]?)
+    Ok(vec![in alloc; Frontier::new(); 2 * leaves]?)
 }

@@ -2,9 +2,8 @@
 //! offer is soon found.
 #![tactic(auto)]
 
-mod class;
+mod frontier;
 mod growth;
-mod leasts;
 mod offer;
 mod places;
 mod search;

@@ -5,8 +5,8 @@ ghost use Rattle.waiting_places.specs.Offers.{fits, holds};
 ghost use Rattle.waiting_places.specs.Places.{IsFirst, IsHead, at_place, found_at, rank, waiting};
 ghost use Rattle.waiting_places.specs.Tree.{halved, leaf_of, node_at};
 
+use crate::frontier::Frontier;
 use crate::growth::{LIST, nodes_for};
-use crate::leasts::Leasts;
 use crate::offer::Offer;
 use crate::search::{first_in, first_in_tree, first_some};
 use crate::tree::{SPAN, lower};
@@ -20,13 +20,14 @@ use swf_text::Memory;
 const PLACES_LIMIT: usize = 1 << 40;
 
 /// Those who wait, each at a place of its own in order of arrival. Who leaves leaves its place empty, so
-/// that it costs a step. Beside more than 128 places stands a tree of lower bounds on those who wait at
-/// 64 places each. They are lowered at once when one comes, and raised only by a search that found
-/// nothing. Contracts see the places, and how many more surely find capacity.
+/// that it costs a step. Beside more than 128 places stands a tree, of 64 places to a leaf: each node has
+/// a lower bound on the Pareto frontier of the sizes and estimates below it. It is lowered at once when one
+/// comes, and raised only by a search that found nothing. Contracts see the places, and how many more
+/// surely find capacity.
 #[derive(Drop)]
 pub struct Places<T: Waits, A: Allocator + Copy> {
     places: Vec<Option<T>, A>,
-    nodes: Vec<Leasts, A>,
+    nodes: Vec<Frontier, A>,
     len: usize,
     head: usize,
 }
@@ -42,7 +43,7 @@ impl<T: Waits, A: Allocator + Copy> Model for Places<T, A> {
     ghost invariant = { λ p. IsPlaces T.size T.estimate p.places.items p.nodes.items p.len p.head (vec_capacity p.places) };
 }
 
-fn note<T: Waits>(nodes: &mut [Leasts], place: usize, item: &T)
+fn note<T: Waits>(nodes: &mut [Frontier], place: usize, item: &T)
     requires { 1 ≤ length nodes.old → leaf_of (length nodes.old) place < length nodes.old }
     ensures len { length nodes.new ≡ length nodes.old }
     ensures kept { (k : ℕ) → Keeps (node_at nodes.old k) (node_at nodes.new k) }

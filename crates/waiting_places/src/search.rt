@@ -1,11 +1,9 @@
 ghost use Rattle.std.specs.Prelude.{◌≡◌, ◌≤◌, ◌+◌, ◌*◌, is_some, length, max, nat_le};
-ghost use Rattle.waiting_places.specs.Classes.{class_of};
 ghost use Rattle.waiting_places.specs.Offers.{fits, holds};
 ghost use Rattle.waiting_places.specs.Places.{IsFirst};
 ghost use Rattle.waiting_places.specs.Tree.{IsPart, IsTree};
 
-use crate::class::class_of;
-use crate::leasts::Leasts;
+use crate::frontier::Frontier;
 use crate::offer::{Offer, holds};
 use crate::tree::{SPAN, raise, raise_leaf};
 use crate::waits::Waits;
@@ -29,13 +27,11 @@ pub(crate) struct Part {
     pub(crate) span: usize,
 }
 
-/// What is looked for: a place from this one on where one waits who fits the offer. The class is that of
-/// what is free.
+/// What is looked for: a place from this one on where one waits who fits the offer.
 #[derive(Clone, Copy)]
 pub(crate) struct Search {
     pub(crate) from: usize,
     pub(crate) offer: Offer,
-    pub(crate) class: usize,
 }
 
 fn takes_at_most<T: Waits>(place: &Option<T>, most: u64) -> bool
@@ -65,7 +61,7 @@ pub(crate) fn first_in<T: Waits>(
 }
 
 fn first_in_leaf<T: Waits>(
-    nodes: &mut [Leasts],
+    nodes: &mut [Frontier],
     places: &[Option<T>],
     leaf: usize,
     search: &Search,
@@ -80,21 +76,20 @@ fn first_in_leaf<T: Waits>(
     if let Some(place) = first_in(places, from, SPAN * (leaf + 1), &search.offer) {
         return Some(place);
     }
-    raise_leaf(nodes, places, leaf, &search.offer);
+    raise_leaf(nodes, places, leaf);
     None
 }
 
-/// The first place of those below a node, unless its bounds showed that there is none.
+/// The first place of those below a node, unless its frontier showed that there is none.
 #[cycle(first_below)]
 pub(crate) fn first_below<T: Waits>(
-    nodes: &mut [Leasts],
+    nodes: &mut [Frontier],
     places: &[Option<T>],
     part: &Part,
     search: &Search,
 ) -> Option<usize>
     requires tree { IsTree T.size T.estimate nodes.old places.now }
     requires part { IsPart (length nodes.old) part.now.node part.now.low part.now.span }
-    requires class { search.now.class ≡ class_of search.now.offer.free }
     ensures tree { IsTree T.size T.estimate nodes.new places.now }
     ensures len { length nodes.new ≡ length nodes.old }
     ensures first { IsFirst (holds (fits T.size T.estimate search.now.offer)) places.now (max search.now.from (64 * part.now.low)) (64 * (part.now.low + part.now.span)) result }
@@ -102,7 +97,7 @@ pub(crate) fn first_below<T: Waits>(
     if SPAN * (part.low + part.span) <= search.from {
         return None;
     }
-    if !nodes[part.node].may_fit(&search.offer, search.class) {
+    if !nodes[part.node].may_fit(&search.offer) {
         return None;
     }
     first_within(nodes, places, part, search)
@@ -110,14 +105,13 @@ pub(crate) fn first_below<T: Waits>(
 
 #[cycle(first_below)]
 fn first_within<T: Waits>(
-    nodes: &mut [Leasts],
+    nodes: &mut [Frontier],
     places: &[Option<T>],
     part: &Part,
     search: &Search,
 ) -> Option<usize>
     requires tree { IsTree T.size T.estimate nodes.old places.now }
     requires part { IsPart (length nodes.old) part.now.node part.now.low part.now.span }
-    requires class { search.now.class ≡ class_of search.now.offer.free }
     ensures tree { IsTree T.size T.estimate nodes.new places.now }
     ensures len { length nodes.new ≡ length nodes.old }
     ensures first { IsFirst (holds (fits T.size T.estimate search.now.offer)) places.now (max search.now.from (64 * part.now.low)) (64 * (part.now.low + part.now.span)) result }
@@ -142,13 +136,13 @@ fn first_within<T: Waits>(
     if let Some(place) = first_below(nodes, places, &second, search) {
         return Some(place);
     }
-    raise(nodes, part.node, &search.offer);
+    raise(nodes, part.node);
     None
 }
 
 // It looks in what is left of a leaf, and then in the tree.
 pub(crate) fn first_in_tree<T: Waits>(
-    nodes: &mut [Leasts],
+    nodes: &mut [Frontier],
     places: &[Option<T>],
     from: usize,
     offer: &Offer,
@@ -170,7 +164,6 @@ pub(crate) fn first_in_tree<T: Waits>(
     let rest = Search {
         from,
         offer: *offer,
-        class: class_of(offer.free),
     };
     if let Some(place) = first_below(nodes, places, &here, &rest) {
         return Some(place);
@@ -184,9 +177,8 @@ pub(crate) fn first_in_tree<T: Waits>(
     let search = Search {
         from: edge,
         offer: *offer,
-        class: rest.class,
     };
-    if !nodes[root.node].may_fit(offer, search.class) {
+    if !nodes[root.node].may_fit(offer) {
         return None;
     }
     first_within(nodes, places, &root, &search)

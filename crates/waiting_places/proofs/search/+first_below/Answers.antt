@@ -17,14 +17,14 @@ pub first_within-first_below-requires : goal.first_within-first_below-requires
 first_within-first_below-requires g t c κs within =
     let half = halves (length c.args.nodes.now) c.args.part.now.node c.args.part.now.low c.args.part.now.span c.requires.part c.if-part-eq1.false in
     let less = half.less in
-    (omega arith, (within, (c.requires.tree, (half.first, c.requires.class))))
+    (omega arith, (within, (c.requires.tree, half.first)))
 
 pub first_within-first_below-requires-2 : goal.first_within-first_below-requires-2
 first_within-first_below-requires-2 g t c κs within =
     let half = halves (length c.args.nodes.now) c.args.part.now.node c.args.part.now.low c.args.part.now.span c.requires.part c.if-part-eq1.false in
     let less = half.less in
     let second = subst (λ n. IsPart n (2 * c.args.part.now.node + 1) (c.args.part.now.low + c.args.part.now.span / 2) (c.args.part.now.span / 2)) (sym c.first_below.ensures.len) half.second in
-    (omega arith, (within, (c.first_below.ensures.tree, (second, c.requires.class))))
+    (omega arith, (within, (c.first_below.ensures.tree, second)))
 
 pub first_within-returns-in-Some-first_below-clause-first : goal.first_within-returns-in-Some-first_below-clause-first
 first_within-returns-in-Some-first_below-clause-first g t c =

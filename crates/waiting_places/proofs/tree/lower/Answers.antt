@@ -1,5 +1,5 @@
 use Rattle.std.proofs.Common.{arith, subst, sym}
-use Rattle.waiting_places.specs.Bounds.{Keeps, LeastsView}
+use Rattle.waiting_places.specs.Bounds.{FrontierView, Keeps}
 use Rattle.waiting_places.proofs.Lowered.{one_up, to_the_top}
 use Rattle.waiting_places.proofs.tree.lower.Goals as goal
 
@@ -9,7 +9,7 @@ loop-node-preserved g c =
     let low = i.low in
     let len = i.len in
     let short = c.requires in
-    one_up c.args.nodes.now c.loop-node.nodes c.args.leaf c.loop-node.node (g.T.Waits.size c.args.item.now) (g.T.Waits.estimate c.args.item.now) i c.index-nodes-node.result c.add.new.self (omega (arith, low, len, short)) c.index-nodes-node.is (subst (λ (l : LeastsView). Keeps l c.add.new.self) (sym c.index-nodes-node.is) c.add.ensures.kept) c.add.ensures.met
+    one_up c.args.nodes.now c.loop-node.nodes c.args.leaf c.loop-node.node (g.T.Waits.size c.args.item.now) (g.T.Waits.estimate c.args.item.now) i c.index-nodes-node.result c.add.new.self (omega (arith, low, len, short)) c.index-nodes-node.is (subst (λ (l : FrontierView). Keeps l c.add.new.self) (sym c.index-nodes-node.is) c.add.ensures.kept) c.add.ensures.met
 
 pub returns-clause-met : goal.returns-clause-met
 returns-clause-met g c =

@@ -1,0 +1,243 @@
+// A leaf has as many places as there may be corners. Above, the last of too many corners stands for all that are larger:
+// a search asks for sizes up to what is free, which is little where many wait.
+ghost use Rattle.std.specs.Prelude.{◌≡◌, ◌⊎◌, ◌↔◌, ℕ, ◌-◌, ◌^◌, ◌≤◌, ◌<◌, ◌&&◌, IfSome, IsTrue, MatchOption, IsFalse, min, nat_le};
+ghost use Rattle.waiting_places.specs.Bounds.{AreBelow, IsBehind, IsBelow, IsPlace, Keeps, MayFit, corner_at};
+
+use crate::offer::Offer;
+use crate::waits::Waits;
+use std::marker::Model;
+
+/// How many corners a frontier has at most.
+const CORNERS: usize = 64;
+
+/// A size and an estimate; those beyond `u32::MAX` as that.
+#[derive(Clone, Copy)]
+pub(crate) struct Corner {
+    size: u32,
+    estimate: u32,
+}
+
+/// What is known of those below a node, a lower bound on their Pareto frontier: each of them is at least as large and
+/// at least as long as one of its corners. These stand by size.
+#[derive(Clone, Copy)]
+pub(crate) struct Frontier {
+    len: usize,
+    corners: [Corner; CORNERS],
+}
+
+impl Model for Frontier {
+    ghost use Rattle.waiting_places.specs.Bounds.{FrontierView, IsFrontier};
+
+    ghost Value = { FrontierView };
+
+    ghost view = { λ f. record { len = f.len; corners = f.corners } };
+
+    ghost inverse = { λ v. record { len = v.len; corners = v.corners } };
+
+    ghost invariant = { λ f. IsFrontier f.len f.corners };
+}
+
+fn short(number: u64) -> u32
+    ensures { result ≡ min number (2 ^ 32 - 1) }
+{
+    u32::try_from(number).unwrap_or(u32::MAX)
+}
+
+/// Whether the next corner, by size, is one of `a`, of which so many have come, as have of `b`.
+fn comes_first(a: &Frontier, i: usize, b: &Frontier, j: usize) -> bool
+    requires { i < a.now.len ⊎ j < b.now.len }
+    ensures first { IsTrue result → (i < a.now.len) × (j < b.now.len → (corner_at a.now i).size ≤ (corner_at b.now j).size) }
+    ensures second { IsFalse result → (j < b.now.len) × (i < a.now.len → (corner_at b.now j).size ≤ (corner_at a.now i).size) }
+{
+    if i >= a.len {
+        return false;
+    }
+    j >= b.len || a.corners[i].size <= b.corners[j].size
+}
+
+impl Corner {
+    fn of<T: Waits>(item: &T) -> Corner
+        ensures size { result.size ≡ min (T.size item.now) (2 ^ 32 - 1) }
+        ensures estimate { result.estimate ≡ min (T.estimate item.now) (2 ^ 32 - 1) }
+    {
+        Corner {
+            size: short(item.size()),
+            estimate: short(item.estimate()),
+        }
+    }
+
+    fn is_below(&self, other: &Corner) -> bool
+        ensures { result ≡ nat_le self.now.size other.now.size && nat_le self.now.estimate other.now.estimate }
+    {
+        self.size <= other.size && self.estimate <= other.estimate
+    }
+
+    fn both(&self, other: &Corner) -> Corner
+        ensures size { result.size ≡ min self.now.size other.now.size }
+        ensures estimate { result.estimate ≡ min self.now.estimate other.now.estimate }
+    {
+        Corner {
+            size: self.size.min(other.size),
+            estimate: self.estimate.min(other.estimate),
+        }
+    }
+}
+
+impl Frontier {
+    pub(crate) fn new() -> Frontier
+        ensures { result.len ≡ 0 }
+    {
+        let corner = Corner {
+            size: 0,
+            estimate: 0,
+        };
+        Frontier {
+            len: 0,
+            corners: [corner; CORNERS],
+        }
+    }
+
+    /// Whether a corner fits the offer: where none does, nobody below fits it.
+    pub(crate) fn may_fit(&self, offer: &Offer) -> bool
+        ensures { IsTrue result ↔ MayFit offer.now self.now }
+    {
+        for at in 0..self.len {
+            let corner = self.corners[at];
+            if u64::from(corner.size) <= offer.extra {
+                return true;
+            }
+            if u64::from(corner.size) > offer.free {
+                return false;
+            }
+            if u64::from(corner.estimate) <= offer.window {
+                return true;
+            }
+        }
+        false
+    }
+
+    /// Behind how many corners one stands by size; None where one of them is as small and as short.
+    fn place_of(&self, corner: &Corner) -> Option<usize>
+        ensures { MatchOption result (IsBelow self.now corner.now.size corner.now.estimate) (λ at. IsPlace self.now corner.now.size at) }
+    {
+        for at in 0..self.len {
+            if self.corners[at].is_below(corner) {
+                return None;
+            }
+            if self.corners[at].size >= corner.size {
+                return Some(at);
+            }
+        }
+        Some(self.len)
+    }
+
+    /// The end of those from a place on that are as long as this one.
+    fn end_of_longer(&self, corner: &Corner, from: usize) -> usize
+        requires { from ≤ self.now.len }
+        ensures { IsBehind self.now corner.now.estimate from result }
+    {
+        let mut end = from;
+        while end < self.len && self.corners[end].estimate >= corner.estimate {
+            end += 1;
+        }
+        end
+    }
+
+    /// One comes to its place, and those up to `end`, which are as large and as long, leave; where there is no
+    /// capacity, the one before it stands for both.
+    fn put(&mut self, corner: &Corner, at: usize, end: usize)
+        requires place { IsPlace self.old corner.now.size at }
+        requires longer { IsBehind self.old corner.now.estimate at end }
+        ensures kept { Keeps self.old self.new }
+        ensures met { IsBelow self.new corner.now.size corner.now.estimate }
+    {
+        let len = self.len + 1 + at - end;
+        if len > CORNERS {
+            let before = at.saturating_sub(1);
+            self.corners[before] = self.corners[before].both(corner);
+            return;
+        }
+        self.corners.copy_within(end..self.len, at + 1);
+        self.corners[at] = *corner;
+        self.len = len;
+    }
+
+    /// One comes behind the last, which is no larger.
+    fn push(&mut self, corner: &Corner)
+        requires { (k : ℕ) → k < self.old.len → (corner_at self.old k).size ≤ corner.now.size }
+        ensures kept { Keeps self.old self.new }
+        ensures met { IsBelow self.new corner.now.size corner.now.estimate }
+        ensures last { (k : ℕ) → k < self.new.len → (corner_at self.new k).size ≤ corner.now.size }
+    {
+        let len = self.len;
+        if len == 0 {
+            self.corners[0] = *corner;
+            self.len = 1;
+            return;
+        }
+        let last = self.corners[len - 1];
+        if last.estimate <= corner.estimate {
+            return;
+        }
+        if last.size == corner.size || len == CORNERS {
+            self.corners[len - 1].estimate = corner.estimate;
+            return;
+        }
+        self.corners[len] = *corner;
+        self.len = len + 1;
+    }
+
+    fn add_corner(&mut self, corner: &Corner)
+        ensures kept { Keeps self.old self.new }
+        ensures met { IsBelow self.new corner.now.size corner.now.estimate }
+    {
+        if let Some(at) = self.place_of(corner) {
+            let end = self.end_of_longer(corner, at);
+            self.put(corner, at, end);
+        }
+    }
+
+    pub(crate) fn add<T: Waits>(&mut self, item: &T)
+        ensures kept { Keeps self.old self.new }
+        ensures met { IsBelow self.new (T.size item.now) (T.estimate item.now) }
+    {
+        self.add_corner(&Corner::of(item));
+    }
+
+    fn add_place<T: Waits>(&mut self, place: &Option<T>)
+        ensures kept { Keeps self.old self.new }
+        ensures met { IfSome place.now (λ item. IsBelow self.new (T.size item) (T.estimate item)) }
+    {
+        if let Some(item) = place {
+            self.add(item);
+        }
+    }
+
+    pub(crate) fn of<T: Waits>(places: &[Option<T>]) -> Frontier
+        ensures { AreBelow T.size T.estimate result places.now }
+    {
+        let mut frontier = Frontier::new();
+        for place in places {
+            frontier.add_place(place);
+        }
+        frontier
+    }
+
+    pub(crate) fn of_both(a: &Frontier, b: &Frontier) -> Frontier
+        ensures first { Keeps a.now result }
+        ensures second { Keeps b.now result }
+    {
+        let mut both = Frontier::new();
+        let mut i = 0;
+        for at in 0..a.len + b.len {
+            let j = at - i;
+            if comes_first(a, i, b, j) {
+                both.push(&a.corners[i]);
+                i += 1;
+            } else {
+                both.push(&b.corners[j]);
+            }
+        }
+        both
+    }
+}
