@@ -3,10 +3,12 @@ use Rattle.std.proofs.Common.{◌≡◌, ◌≢◌, ℕ, ◌+◌, ◌-◌, ◌*�
 use Rattle.std.proofs.lemmas.Bool.{cases_eq, cases_lt}
 use Rattle.std.proofs.lemmas.List.{length-append, length-set, get_or-set_same, get_or-set_other, get_or_append_left, get_or_push}
 use Rattle.waiting_places.specs.Bounds.{FrontierView, IsBelow, Keeps}
+use Rattle.waiting_places.specs.declared.refused.Refused.{Refused}
 use Rattle.waiting_places.specs.Places.{IsHead, IsPlaces, at_place, capacity_of, waiting}
 use Rattle.waiting_places.specs.Tree.{IsTree, halved, leaf_of, node_at}
 use Rattle.waiting_places.proofs.Below.{within}
 use Rattle.waiting_places.proofs.Heads.{head_comes}
+use Rattle.waiting_places.proofs.Refusals.{refused_too, still_refused}
 use Rattle.waiting_places.proofs.Standing.{no_more, one_comes, one_less}
 
 module _ {X : Type 0} (size estimate : X → ℕ) (nodes : List FrontierView) (places : List (Option X)) (tree : IsTree size estimate nodes places) where
@@ -57,7 +59,7 @@ module _ {X : Type 0} (size estimate : X → ℕ) (nodes : List FrontierView) (p
           (λ (ne : p ≢ place). sym (get_or-set_other places place p None None ne) ∙ is)
           (cases_eq p place)
 
-module _ {X : Type 0} (size estimate : X → ℕ) (places : List (Option X)) (nodes : List FrontierView) (len head capacity : ℕ) (kept : IsPlaces size estimate places nodes len head capacity) where
+module _ {X : Type 0} (size estimate : X → ℕ) (places : List (Option X)) (nodes : List FrontierView) (len head capacity : ℕ) (refused : Refused) (kept : IsPlaces size estimate places nodes len head capacity refused) where
   few : length places ≤ 2 ^ 46
   few = let list = kept.list in let some = kept.few in omega arith
 
@@ -68,7 +70,7 @@ module _ {X : Type 0} (size estimate : X → ℕ) (places : List (Option X)) (no
   -- one comes at a new place: the fields keep what they kept, if the nodes above its place are below it
   pub comes : (more : List (Option X)) (new : List FrontierView) (item : X) (wide : ℕ) → more ≡ places ++ Some item ∷ [] → length new ≡ length nodes → ((k : ℕ) → Keeps (node_at nodes k) (node_at new k))
       → ((times : ℕ) → 1 ≤ halved times (leaf_of (length nodes) (length places)) → IsBelow (node_at new (halved times (leaf_of (length nodes) (length places)))) (size item) (estimate item))
-      → length places + 1 ≤ capacity_of (length nodes) → length more ≤ wide → IsPlaces size estimate more new (len + 1) head wide
+      → length places + 1 ≤ capacity_of (length nodes) → length more ≤ wide → IsPlaces size estimate more new (len + 1) head wide refused
   comes more new item wide e same keeps met l fit =
       let count = kept.count in
       let small = kept.few in
@@ -82,10 +84,11 @@ module _ {X : Type 0} (size estimate : X → ℕ) (places : List (Option X)) (no
         tree = λ some. let tree = kept.tree (omega (arith, some, same)) in
             let many = tree.many in
             grown size estimate nodes places tree new more item same e (omega (arith, l, many)) keeps met;
+        unfit = still_refused size estimate places refused kept.unfit more item e;
       }
 
   -- one leaves its place: the fields keep what they kept, with one fewer who waits and the place of the next who waits first
-  pub leaves : (place : ℕ) (item : X) → at_place places place ≡ Some item → (next : ℕ) → IsHead (set places place None) next → IsPlaces size estimate (set places place None) nodes (len - 1) next capacity
+  pub leaves : (place : ℕ) (item : X) → at_place places place ≡ Some item → (next : ℕ) → IsHead (set places place None) next → IsPlaces size estimate (set places place None) nodes (len - 1) next capacity refused
   leaves place item is next first =
       let there = within size estimate places place item is in
       let count = kept.count in
@@ -99,6 +102,7 @@ module _ {X : Type 0} (size estimate : X → ℕ) (places : List (Option X)) (no
         list = omega (arith, list, same);
         few = kept.few;
         tree = λ some. left size estimate nodes places (kept.tree some) place;
+        unfit = refused_too size estimate places refused kept.unfit place;
       }
 
   -- who waits has a place below 2 ^ 46

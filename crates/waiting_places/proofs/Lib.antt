@@ -8,4 +8,5 @@ mod Parts
 mod Standing
 mod Found
 mod Heads
+mod Refusals
 mod Grown

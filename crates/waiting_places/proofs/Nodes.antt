@@ -20,8 +20,7 @@ written nodes k l lt = get_or-set_same nodes k l no_node lt
 pub left : (nodes : List FrontierView) (k j : ℕ) (l : FrontierView) → j ≢ k → node_at (set nodes k l) j ≡ node_at nodes j
 left nodes k j l ne = get_or-set_other nodes k j l no_node ne
 
--- a node keeps what another knows once a frontier that does so is written to it
-pub kept_at : (nodes : List FrontierView) (from k : ℕ) (old new : FrontierView) → from < length nodes → k < length nodes → old ≡ get_or nodes from old → Keeps old new → Keeps (node_at nodes from) (node_at (set nodes k new) k)
+kept_at : (nodes : List FrontierView) (from k : ℕ) (old new : FrontierView) → from < length nodes → k < length nodes → old ≡ get_or nodes from old → Keeps old new → Keeps (node_at nodes from) (node_at (set nodes k new) k)
 kept_at nodes from k old new lt l is keeps size estimate below =
     subst (λ (m : FrontierView). IsBelow m size estimate) (sym (written nodes k new l)) (keeps size estimate (subst (λ (m : FrontierView). IsBelow m size estimate) (read nodes from old lt is) below))
 

@@ -2,6 +2,10 @@
 use Rattle.std.specs.Prelude.{ℕ, Bool, false, ◌&&◌, ◌||◌, nat_le, Option, None, Some}
 use Rattle.waiting_places.specs.declared.offer.Offer.{Offer}
 
+-- who fits the one fits the other
+abbrev pub is_within : Offer → Offer → Bool
+is_within less more = nat_le less.free more.free && nat_le less.extra more.extra && nat_le less.window more.window
+
 module _ {X : Type 0} where
   -- it takes only what the first does not need, or what is free and no longer than the first can wait
   abbrev pub fits : (X → ℕ) → (X → ℕ) → Offer → X → Bool

@@ -1,7 +1,9 @@
 -- Those who wait, each at a place of its own in order of arrival; who left has left its place empty.
 use Rattle.std.specs.Prelude.{◌≡◌, ℕ, ◌*◌, ◌^◌, ◌≤◌, ◌<◌, Bool, false, true, max, List, length, slice_index_or, take, is_some, Option, None, Some}
 use Rattle.std.specs.List.{filter_map}
+use Rattle.waiting_places.specs.declared.refused.Refused.{Refused}
 use Rattle.waiting_places.specs.Bounds.{FrontierView}
+use Rattle.waiting_places.specs.Offers.{fits, holds}
 use Rattle.waiting_places.specs.Tree.{IsTree}
 
 -- What callers see: the places, and how many more surely find capacity.
@@ -47,11 +49,18 @@ pub record IsHead {X : Type 0} (places : List (Option X)) (head : ℕ) : Type 0 
 abbrev pub capacity_of : ℕ → ℕ
 capacity_of nodes = max 128 (32 * nodes)
 
--- what the fields keep: how many wait, the place of the first, capacity, and a tree of lower bounds where there are many places
-pub record IsPlaces {X : Type 0} (size estimate : X → ℕ) (places : List (Option X)) (nodes : List FrontierView) (len head capacity : ℕ) : Type 0 where
+-- nobody from one place to another fits the offer
+pub record IsRefused {X : Type 0} (size estimate : X → ℕ) (places : List (Option X)) (refused : Refused) : Type 0 where
+  pub within : refused.to ≤ length places
+  pub none : NonePasses (holds (fits size estimate refused.offer)) places refused.from refused.to
+
+-- what the fields keep: how many wait, the place of the first, capacity, a tree of lower bounds where there are many places, and
+-- what a search left behind
+pub record IsPlaces {X : Type 0} (size estimate : X → ℕ) (places : List (Option X)) (nodes : List FrontierView) (len head capacity : ℕ) (refused : Refused) : Type 0 where
   pub count : len ≡ length (waiting places)
   pub first : IsHead places head
   pub fit : length places ≤ capacity
   pub list : length places ≤ capacity_of (length nodes)
   pub few : length nodes ≤ 2 ^ 40
   pub tree : 1 ≤ length nodes → IsTree size estimate nodes places
+  pub unfit : IsRefused size estimate places refused

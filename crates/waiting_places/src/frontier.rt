@@ -213,31 +213,31 @@ impl Frontier {
         }
     }
 
-    pub(crate) fn of<T: Waits>(places: &[Option<T>]) -> Frontier
-        ensures { AreBelow T.size T.estimate result places.now }
+    /// Makes it that of those who wait at these places.
+    pub(crate) fn set<T: Waits>(&mut self, places: &[Option<T>])
+        ensures { AreBelow T.size T.estimate self.new places.now }
     {
-        let mut frontier = Frontier::new();
+        self.len = 0;
         for place in places {
-            frontier.add_place(place);
+            self.add_place(place);
         }
-        frontier
     }
 
-    pub(crate) fn of_both(a: &Frontier, b: &Frontier) -> Frontier
-        ensures first { Keeps a.now result }
-        ensures second { Keeps b.now result }
+    /// Makes it that of two.
+    pub(crate) fn set_both(&mut self, a: &Frontier, b: &Frontier)
+        ensures first { Keeps a.now self.new }
+        ensures second { Keeps b.now self.new }
     {
-        let mut both = Frontier::new();
+        self.len = 0;
         let mut i = 0;
         for at in 0..a.len + b.len {
             let j = at - i;
             if comes_first(a, i, b, j) {
-                both.push(&a.corners[i]);
+                self.push(&a.corners[i]);
                 i += 1;
             } else {
-                both.push(&b.corners[j]);
+                self.push(&b.corners[j]);
             }
         }
-        both
     }
 }

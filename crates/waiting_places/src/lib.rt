@@ -6,6 +6,7 @@ mod frontier;
 mod growth;
 mod offer;
 mod places;
+mod refused;
 mod search;
 mod tree;
 mod waiting;

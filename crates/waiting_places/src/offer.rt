@@ -1,5 +1,5 @@
 ghost use Rattle.std.specs.Prelude.{◌≡◌, Option};
-ghost use Rattle.waiting_places.specs.Offers.{fits, holds};
+ghost use Rattle.waiting_places.specs.Offers.{fits, holds, is_within};
 
 use crate::waits::Waits;
 
@@ -23,6 +23,12 @@ impl Offer {
     {
         let size = item.size();
         size <= self.extra || (size <= self.free && item.estimate() <= self.window)
+    }
+
+    pub(crate) fn is_within(&self, other: &Offer) -> bool
+        ensures { result ≡ is_within self.now other.now }
+    {
+        self.free <= other.free && self.extra <= other.extra && self.window <= other.window
     }
 }
 

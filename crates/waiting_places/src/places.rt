@@ -8,6 +8,7 @@ ghost use Rattle.waiting_places.specs.Tree.{halved, leaf_of, node_at};
 use crate::frontier::Frontier;
 use crate::growth::{LIST, nodes_for};
 use crate::offer::Offer;
+use crate::refused::Refused;
 use crate::search::{first_in, first_in_tree, first_some};
 use crate::tree::{SPAN, lower};
 use crate::waiting::Waiting;
@@ -22,14 +23,15 @@ const PLACES_LIMIT: usize = 1 << 40;
 /// Those who wait, each at a place of its own in order of arrival. Who leaves leaves its place empty, so
 /// that it costs a step. Beside more than 128 places stands a tree, of 64 places to a leaf: each node has
 /// a lower bound on the Pareto frontier of the sizes and estimates below it. It is lowered at once when one
-/// comes, and raised only by a search that found nothing. Contracts see the places, and how many more
-/// surely find capacity.
+/// comes, and raised only by a search that found nothing. And it is known of one offer from which place to
+/// which nobody fits it. Contracts see the places, and how many more surely find capacity.
 #[derive(Drop)]
 pub struct Places<T: Waits, A: Allocator + Copy> {
     places: Vec<Option<T>, A>,
     nodes: Vec<Frontier, A>,
     len: usize,
     head: usize,
+    refused: Refused,
 }
 
 impl<T: Waits, A: Allocator + Copy> Model for Places<T, A> {
@@ -40,7 +42,7 @@ impl<T: Waits, A: Allocator + Copy> Model for Places<T, A> {
 
     ghost view = { λ p. record { places = p.places.items; spare = min (vec_capacity p.places) (capacity_of (length p.nodes.items)) - length p.places.items } };
 
-    ghost invariant = { λ p. IsPlaces T.size T.estimate p.places.items p.nodes.items p.len p.head (vec_capacity p.places) };
+    ghost invariant = { λ p. IsPlaces T.size T.estimate p.places.items p.nodes.items p.len p.head (vec_capacity p.places) p.refused };
 }
 
 fn note<T: Waits>(nodes: &mut [Frontier], place: usize, item: &T)
@@ -107,6 +109,7 @@ impl<T: Waits, A: Allocator + Copy> Places<T, A> {
             nodes: Vec::new(alloc),
             len: 0,
             head: 0,
+            refused: Refused::nobody(),
         }
     }
 
@@ -121,6 +124,7 @@ impl<T: Waits, A: Allocator + Copy> Places<T, A> {
             nodes,
             len: 0,
             head: 0,
+            refused: Refused::nobody(),
         })
     }
 
@@ -220,6 +224,33 @@ impl<T: Waits, A: Allocator + Copy> Places<T, A> {
         }
     }
 
+    fn remember(&mut self, from: usize, offer: &Offer, found: Option<usize>)
+        requires { IsFirst (holds (fits T.size T.estimate offer.now)) self.old.places from (length self.old.places) found }
+        ensures { self.new ≡ self.old }
+    {
+        self.refused = Refused {
+            from,
+            to: found.unwrap_or(self.places.len()),
+            offer: *offer,
+        };
+    }
+
+    fn search(&mut self, from: usize, offer: &Offer) -> Option<usize>
+        ensures place { IsFirst (holds (fits T.size T.estimate offer.now)) self.old.places from (length self.old.places) result }
+        ensures same { self.new ≡ self.old }
+    {
+        if self.nodes.is_empty() {
+            return first_in(self.places.as_slice(), from, self.places.len(), offer);
+        }
+        if self.refused.covers(from, offer) {
+            let behind = from.max(self.refused.to);
+            return first_in_tree(&mut self.nodes, self.places.as_slice(), behind, offer);
+        }
+        let found = first_in_tree(&mut self.nodes, self.places.as_slice(), from, offer);
+        self.remember(from, offer, found);
+        found
+    }
+
     /// The first place from one on where one waits who fits the offer; None where none does. What it
     /// learns of those who wait it keeps for later searches.
     #[tactic(auto, using(crate::proofs::Found::found_fit))]
@@ -228,11 +259,7 @@ impl<T: Waits, A: Allocator + Copy> Places<T, A> {
         ensures item { found_at self.old.places result ≡ find (fits T.size T.estimate offer.now) (waiting (drop from self.old.places)) }
         ensures same { self.new ≡ self.old }
     {
-        let begin = from.max(self.head);
-        if self.nodes.is_empty() {
-            return first_in(self.places.as_slice(), begin, self.places.len(), offer);
-        }
-        first_in_tree(&mut self.nodes, self.places.as_slice(), begin, offer)
+        self.search(from.max(self.head), offer)
     }
 
     /// Those who wait, in order.

@@ -24,14 +24,15 @@ pub(crate) fn lower<T: Waits>(nodes: &mut [Frontier], leaf: usize, item: &T)
 }
 
 pub(crate) fn raise(nodes: &mut [Frontier], node: usize)
-    requires { 2 * node + 1 < length nodes.old }
+    requires some { 1 ≤ node }
+    requires inner { 2 * node + 1 < length nodes.old }
     ensures len { length nodes.new ≡ length nodes.old }
     ensures first { Keeps (node_at nodes.old (2 * node)) (node_at nodes.new node) }
     ensures second { Keeps (node_at nodes.old (2 * node + 1)) (node_at nodes.new node) }
     ensures others { (k : ℕ) → k ≢ node → node_at nodes.new k ≡ node_at nodes.old k }
 {
-    let both = Frontier::of_both(&nodes[2 * node], &nodes[2 * node + 1]);
-    nodes[node] = both;
+    let (above, below) = nodes.split_at_mut(2 * node);
+    above[node].set_both(&below[0], &below[1]);
 }
 
 pub(crate) fn raise_leaf<T: Waits>(nodes: &mut [Frontier], places: &[Option<T>], leaf: usize)
@@ -44,5 +45,5 @@ pub(crate) fn raise_leaf<T: Waits>(nodes: &mut [Frontier], places: &[Option<T>],
     let to = (from + SPAN).min(places.len());
     let node = nodes.len() / 2 + leaf;
     let here = &places[from..to];
-    nodes[node] = Frontier::of(here);
+    nodes[node].set(here);
 }

@@ -43,7 +43,8 @@ first_within-raise-requires g t c =
     let half = halves (length c.args.nodes.now) c.args.part.now.node c.args.part.now.low c.args.part.now.span c.requires.part c.if-part-eq1.false in
     let inner = half.inner in
     let len = c.first_below-2.ensures.len ∙ c.first_below.ensures.len in
-    omega (arith, inner, len)
+    let some = (is_node (length c.args.nodes.now) c.args.part.now.node c.args.part.now.low c.args.part.now.span c.requires.part).0 in
+    record { some = some; inner = omega (arith, inner, len) }
 
 pub first_within-returns-clause-tree : goal.first_within-returns-clause-tree
 first_within-returns-clause-tree g t c =

@@ -7,7 +7,7 @@ use Rattle.waiting_places.proofs.places.Places.reserve.Goals as goal
 pub overflow_mul-self-inside : goal.overflow_mul-self-inside
 overflow_mul-self-inside g c =
     let inside = c.self.inside in
-    let fits = count_fits g.T.Waits.size g.T.Waits.estimate inside.places.items inside.nodes.items inside.len inside.head _ c.self.invariant in
+    let fits = count_fits g.T.Waits.size g.T.Waits.estimate inside.places.items inside.nodes.items inside.len inside.head _ _ c.self.invariant in
     omega (arith, fits)
 
 pub returns-clause-waiting : goal.returns-clause-waiting

@@ -11,7 +11,7 @@ pub overflow_sub-self : goal.overflow_sub-self
 overflow_sub-self g c =
     let inside = c.self.inside in
     let at = seen _ _ c.args.place c.in_ok-item.field-0.now c.self.view_is c.in_ok-item.ensures in
-    somebody g.T.Waits.size g.T.Waits.estimate inside.places.items inside.nodes.items inside.len inside.head _ c.self.invariant c.args.place c.in_ok-item.field-0.now at
+    somebody g.T.Waits.size g.T.Waits.estimate inside.places.items inside.nodes.items inside.len inside.head _ _ c.self.invariant c.args.place c.in_ok-item.field-0.now at
 
 pub head_from-self-inside-requires-clause-within : goal.head_from-self-inside-requires-clause-within
 head_from-self-inside-requires-clause-within g c = rw c.as_slice.ensures.value (within_set c.self.inside.places.items c.self.inside.head c.self.invariant.first c.args.place)
@@ -23,7 +23,7 @@ pub invariant_of-self : goal.invariant_of-self
 invariant_of-self g c =
     let inside = c.self.inside in
     let at = seen _ _ c.args.place c.in_ok-item.field-0.now c.self.view_is c.in_ok-item.ensures in
-    leaves g.T.Waits.size g.T.Waits.estimate inside.places.items inside.nodes.items inside.len inside.head _ c.self.invariant c.args.place c.in_ok-item.field-0.now at c.head_from-self-inside.result (rw c.as_slice.ensures.value at c.head_from-self-inside.ensures)
+    leaves g.T.Waits.size g.T.Waits.estimate inside.places.items inside.nodes.items inside.len inside.head _ _ c.self.invariant c.args.place c.in_ok-item.field-0.now at c.head_from-self-inside.result (rw c.as_slice.ensures.value at c.head_from-self-inside.ensures)
 
 pub returns-clause-waiting : goal.returns-clause-waiting
 returns-clause-waiting g c =
@@ -36,4 +36,4 @@ pub returns-clause-few : goal.returns-clause-few
 returns-clause-few g c =
     let inside = c.self.inside in
     let at = seen _ _ c.args.place c.in_ok-item.field-0.now c.self.view_is c.in_ok-item.ensures in
-    place_fits g.T.Waits.size g.T.Waits.estimate inside.places.items inside.nodes.items inside.len inside.head _ c.self.invariant c.args.place c.in_ok-item.field-0.now at
+    place_fits g.T.Waits.size g.T.Waits.estimate inside.places.items inside.nodes.items inside.len inside.head _ _ c.self.invariant c.args.place c.in_ok-item.field-0.now at

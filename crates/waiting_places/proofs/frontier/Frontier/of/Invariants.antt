@@ -1,5 +1,0 @@
-use Rattle.waiting_places.proofs.Below.{FirstAreBelow}
-use Rattle.waiting_places.proofs.frontier.Frontier.of.Given as goal
-
-abbrev pub invariant-loop-place : goal.invariant-loop-place
-invariant-loop-place g l = FirstAreBelow g.T.Waits.size g.T.Waits.estimate l.frontier l.places l.place-index
