@@ -4,7 +4,7 @@ use Rattle.std.proofs.lemmas.Bool.{cases_lt}
 use Rattle.std.proofs.lemmas.List.{get_or-set_same, get_or-set_other}
 use Rattle.std.specs.List.{CopiedTo, SameBelow}
 use Rattle.waiting_places.specs.declared.frontier.Corner.{Corner}
-use Rattle.waiting_places.specs.Bounds.{FrontierView, IsBehind, IsBelow, IsPlace, Keeps, at_corner}
+use Rattle.waiting_places.specs.Bounds.{FrontierView, AreAsLong, IsBelow, IsPlace, Keeps, at_corner}
 
 abbrev nothing : Corner
 nothing = record { size = 0; estimate = 0 }
@@ -17,9 +17,9 @@ wider f size estimate larger longer below l m =
 
 -- one comes to a place, and those from there up to another leave
 abbrev pub after : FrontierView → Corner → ℕ → ℕ → List Corner → FrontierView
-after f corner at end moved = record { len = f.len + 1 + at - end; corners = set moved at corner }
+after f corner at end moved = record { stale = f.stale; len = f.len + 1 + at - end; corners = set moved at corner }
 
-module _ (f : FrontierView) (corner : Corner) (at end : ℕ) (place : IsPlace f corner.size at) (longer : IsBehind f corner.estimate at end) (len : length f.corners ≡ 64) (few : f.len + 1 + at ≤ end + 64) (moved : List Corner)
+module _ (f : FrontierView) (corner : Corner) (at end : ℕ) (place : IsPlace f corner.size at) (longer : AreAsLong f corner.estimate at end) (len : length f.corners ≡ 64) (few : f.len + 1 + at ≤ end + 64) (moved : List Corner)
     (same : SameBelow f.corners moved (at + 1)) (copied : CopiedTo f.corners moved end (at + 1) (f.len - end)) (long : length moved ≡ length f.corners) where
   here : at_corner (set moved at corner) at ≡ corner
   here = let a = longer.ahead in let b = longer.within in get_or-set_same moved at corner nothing (omega (arith, long, len, few, a, b))

@@ -14,19 +14,19 @@ halved-more zero times often n e =
 halved-more (suc more) times zero n e = absurd (omega arith)
 halved-more (suc more) times (suc often) n e = omega (arith, halved-more more times often n (omega arith))
 
--- from a leaf up to before a node, each is below this size and estimate; each node keeps what it knew
-pub record IsLoweredTo (old new : List FrontierView) (leaf node size estimate : ℕ) : Type 0 where
+-- from a leaf up to before a node, each keeps what another frontier knows; each node keeps what it knew
+pub record IsLoweredTo (old new : List FrontierView) (other : FrontierView) (leaf node : ℕ) : Type 0 where
   pub steps : ℕ
   pub here : node ≡ halved steps leaf
   pub low : node ≤ leaf
   pub len : length new ≡ length old
   pub kept : (k : ℕ) → Keeps (node_at old k) (node_at new k)
-  pub met : (times : ℕ) → times < steps → IsBelow (node_at new (halved times leaf)) size estimate
+  pub met : (times : ℕ) → times < steps → Keeps other (node_at new (halved times leaf))
 
-module _ (old new : List FrontierView) (leaf node size estimate : ℕ) (low : IsLoweredTo old new leaf node size estimate) where
-  -- one node further up, if the frontier written there keeps its own and is below the size and estimate
-  pub one_up : (here l : FrontierView) → node < length new → here ≡ get_or new node here → Keeps here l → IsBelow l size estimate → IsLoweredTo old (set new node l) leaf (node / 2) size estimate
-  one_up here l lt is keeps below =
+module _ (old new : List FrontierView) (other : FrontierView) (leaf node : ℕ) (low : IsLoweredTo old new other leaf node) where
+  -- one node further up, if the frontier written there keeps its own and the other
+  pub one_up : (here l : FrontierView) → node < length new → here ≡ get_or new node here → Keeps here l → Keeps other l → IsLoweredTo old (set new node l) other leaf (node / 2)
+  one_up here l lt is keeps others =
       let less = low.low in
       record {
         steps = suc low.steps;
@@ -37,18 +37,18 @@ module _ (old new : List FrontierView) (leaf node size estimate : ℕ) (low : Is
         met = met;
       }
     where
-      met : (times : ℕ) → times < suc low.steps → IsBelow (node_at (set new node l) (halved times leaf)) size estimate
-      met times short =
+      met : (times : ℕ) → times < suc low.steps → Keeps other (node_at (set new node l) (halved times leaf))
+      met times short size estimate below =
           ⊎_elim
-          (λ (before : times < low.steps). kept_by new node (halved times leaf) here l lt is keeps size estimate (low.met times before))
+          (λ (before : times < low.steps). kept_by new node (halved times leaf) here l lt is keeps size estimate (low.met times before size estimate below))
           (λ (after : low.steps ≤ times).
           let same : times ≡ low.steps = omega arith in
           let at : node ≡ halved times leaf = low.here ∙ ap (λ (n : ℕ). halved n leaf) (sym same) in
-          subst (λ (k : ℕ). IsBelow (node_at (set new node l) k) size estimate) at (subst (λ (m : FrontierView). IsBelow m size estimate) (sym (written new node l lt)) below))
+          subst (λ (k : ℕ). IsBelow (node_at (set new node l) k) size estimate) at (subst (λ (m : FrontierView). IsBelow m size estimate) (sym (written new node l lt)) (others size estimate below)))
           (cases_lt times low.steps)
 
-  -- at the top, the leaf and all nodes above it are below this size and estimate
-  pub to_the_top : node ≡ 0 → (times : ℕ) → 1 ≤ halved times leaf → IsBelow (node_at new (halved times leaf)) size estimate
+  -- at the top, the leaf and all nodes above it keep what the other knows
+  pub to_the_top : node ≡ 0 → (times : ℕ) → 1 ≤ halved times leaf → Keeps other (node_at new (halved times leaf))
   to_the_top top times some =
       ⊎_elim
       (λ (before : times < low.steps). low.met times before)

@@ -1,5 +1,5 @@
 -- A node of a tree is read and written, and what is known below it is kept.
-use Rattle.std.proofs.Common.{◌≡◌, ◌≢◌, ℕ, ◌+◌, ◌-◌, ◌*◌, ◌/◌, ◌≤◌, ◌<◌, min, List, [], length, take, drop, get_or, set, slice_index_or, Option, None, Some, arith, ⊎_elim, ap, sym, subst, ◌∙◌}
+use Rattle.std.proofs.Common.{◌≡◌, ◌≢◌, ℕ, false, ◌+◌, ◌-◌, ◌*◌, ◌/◌, ◌≤◌, ◌<◌, min, List, [], length, take, drop, get_or, set, slice_index_or, Option, None, Some, arith, ⊎_elim, ap, sym, subst, ◌∙◌}
 use Rattle.std.proofs.lemmas.Bool.{cases_eq}
 use Rattle.std.proofs.lemmas.List.{get_or_default, get_or-set_same, get_or-set_other, get_or-take, get_or-drop}
 use Rattle.waiting_places.specs.Bounds.{FrontierView, IsBelow, Keeps}
@@ -8,7 +8,7 @@ use Rattle.waiting_places.proofs.Below.{within}
 
 -- what stands where there is no node
 abbrev pub no_node : FrontierView
-no_node = record { len = 1; corners = [] }
+no_node = record { stale = false; len = 1; corners = [] }
 
 pub read : (nodes : List FrontierView) (k : ℕ) (l : FrontierView) → k < length nodes → l ≡ get_or nodes k l → node_at nodes k ≡ l
 read nodes k l lt is = get_or_default nodes k no_node l lt ∙ sym is

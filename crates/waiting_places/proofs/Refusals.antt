@@ -1,5 +1,5 @@
 -- Nobody from one place to another fits an offer: what is so stays so where one comes or leaves, and holds of each offer within it.
-use Rattle.std.proofs.Common.{◌≡◌, ℕ, ◌≤◌, ◌<◌, true, false, max, nat_le, ◌&&◌, ◌||◌, List, [], ◌∷◌, ◌++◌, length, set, Option, None, Some, refl, sym, ◌∙◌, ap, arith, ⊎_elim}
+use Rattle.std.proofs.Common.{◌≡◌, ℕ, ◌≤◌, ◌<◌, ◌⊎◌, true, false, max, nat_le, ◌&&◌, ◌||◌, List, [], ◌∷◌, ◌++◌, length, set, Option, None, Some, refl, sym, ◌∙◌, ap, arith, subst, ⊎_elim}
 use Rattle.std.proofs.lemmas.Bool.{cases_eq, cases_Bool, true≢false}
 use Rattle.std.proofs.lemmas.Bool.Decides.{nat_tests}
 use Rattle.std.proofs.lemmas.List.{length-append, length-set, get_or-set_same, get_or-set_other, get_or_append_left}
@@ -55,6 +55,12 @@ module _ {X : Type 0} (size estimate : X → ℕ) (places : List (Option X)) (re
           front : nat_le refused.from from && is_within offer refused.offer ≡ true → refused.from ≤ p
           front h = grind (arith, nat_tests, l)
 
-  -- who is first to fit an offer within it from there on is the first
-  pub first_too : (from behind : ℕ) (offer : Offer) → nat_le refused.from from && is_within offer refused.offer ≡ true → behind ≡ max from refused.to → (r : Option ℕ) → IsFirst (holds (fits size estimate offer)) places behind (length places) r → IsFirst (holds (fits size estimate offer)) places from (length places) r
-  first_too from behind offer covers e r first = in_second (holds (fits size estimate offer)) places from refused.to behind (length places) r (λ p l m. omega (arith, e, l, m)) (omega (arith, e)) (none_within from offer covers) first
+  -- who is first to fit an offer from there on is the first, where nobody before fits one within it
+  pub first_too : (from known : ℕ) (offer : Offer) → (known ≡ from) ⊎ ((nat_le refused.from from && is_within offer refused.offer ≡ true) × (known ≡ max from refused.to)) → (r : Option ℕ) → IsFirst (holds (fits size estimate offer)) places known (length places) r → IsFirst (holds (fits size estimate offer)) places from (length places) r
+  first_too from known offer behind r first =
+      ⊎_elim
+      (λ (same : known ≡ from). subst (λ (n : ℕ). IsFirst (holds (fits size estimate offer)) places n (length places) r) same first)
+      (λ (more : (nat_le refused.from from && is_within offer refused.offer ≡ true) × (known ≡ max from refused.to)).
+      let e = more.1 in
+      in_second (holds (fits size estimate offer)) places from refused.to known (length places) r (λ p l m. omega (arith, e, l, m)) (omega (arith, e)) (none_within from offer more.0) first)
+      behind

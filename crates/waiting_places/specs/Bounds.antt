@@ -1,11 +1,13 @@
 -- What is known of those below a node of the tree: a lower bound on the Pareto frontier of their sizes and estimates.
-use Rattle.std.specs.Prelude.{◌≡◌, Option, None, Some, ℕ, ◌≤◌, ◌<◌, true, List, slice_index_or}
+use Rattle.std.specs.Prelude.{◌≡◌, Option, None, Some, ℕ, ◌≤◌, ◌<◌, Bool, true, List, slice_index_or}
 use Rattle.waiting_places.specs.declared.frontier.Corner.{Corner}
 use Rattle.waiting_places.specs.declared.offer.Offer.{Offer}
 use Rattle.waiting_places.specs.Offers.{fits}
 
--- How many corners there are, and the corners; what stands behind them says nothing.
+-- Whether it is stale, which says nothing of those below it; how many corners there are, and the corners. What stands behind these
+-- says nothing either.
 pub record FrontierView : Type 0 where
+  pub stale : Bool
   pub len : ℕ
   pub corners : List Corner
 
@@ -16,7 +18,7 @@ at_corner corners k = slice_index_or corners k (record { size = 0; estimate = 0 
 abbrev pub corner_at : FrontierView → ℕ → Corner
 corner_at f k = at_corner f.corners k
 
--- no corner is larger than one behind it, and each has a place of its own
+-- at most 64 corners, none of them larger than one behind it
 pub record IsFrontier (len : ℕ) (corners : List Corner) : Type 0 where
   pub few : len ≤ 64
   pub rises : (i j : ℕ) → i ≤ j → j < len → (at_corner corners i).size ≤ (at_corner corners j).size
@@ -28,7 +30,7 @@ pub record IsBelow (f : FrontierView) (size estimate : ℕ) : Type 0 where
   pub small : (corner_at f corner).size ≤ size
   pub short : (corner_at f corner).estimate ≤ estimate
 
--- what is known of one is known of it by another frontier too
+-- whoever is above the one frontier is above the other too
 abbrev pub Keeps : FrontierView → FrontierView → Type 0
 Keeps old new = (size estimate : ℕ) → IsBelow old size estimate → IsBelow new size estimate
 
@@ -49,7 +51,7 @@ pub record IsPlace (f : FrontierView) (size place : ℕ) : Type 0 where
   pub behind : (k : ℕ) → place ≤ k → k < f.len → size ≤ (corner_at f k).size
 
 -- all from one place to another are at least so long
-pub record IsBehind (f : FrontierView) (estimate from to : ℕ) : Type 0 where
+pub record AreAsLong (f : FrontierView) (estimate from to : ℕ) : Type 0 where
   pub ahead : from ≤ to
   pub within : to ≤ f.len
   pub long : (k : ℕ) → from ≤ k → k < to → estimate ≤ (corner_at f k).estimate

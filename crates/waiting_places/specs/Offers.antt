@@ -2,7 +2,7 @@
 use Rattle.std.specs.Prelude.{ℕ, Bool, false, ◌&&◌, ◌||◌, nat_le, Option, None, Some}
 use Rattle.waiting_places.specs.declared.offer.Offer.{Offer}
 
--- who fits the one fits the other
+-- no more is offered, so who fits the first fits the second
 abbrev pub is_within : Offer → Offer → Bool
 is_within less more = nat_le less.free more.free && nat_le less.extra more.extra && nat_le less.window more.window
 

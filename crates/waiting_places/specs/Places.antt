@@ -4,7 +4,7 @@ use Rattle.std.specs.List.{filter_map}
 use Rattle.waiting_places.specs.declared.refused.Refused.{Refused}
 use Rattle.waiting_places.specs.Bounds.{FrontierView}
 use Rattle.waiting_places.specs.Offers.{fits, holds}
-use Rattle.waiting_places.specs.Tree.{IsTree}
+use Rattle.waiting_places.specs.Tree.{IsTree, covered}
 
 -- What callers see: the places, and how many more surely find capacity.
 pub record PlacesView (X : Type 0) : Type 0 where
@@ -62,5 +62,5 @@ pub record IsPlaces {X : Type 0} (size estimate : X → ℕ) (places : List (Opt
   pub fit : length places ≤ capacity
   pub list : length places ≤ capacity_of (length nodes)
   pub few : length nodes ≤ 2 ^ 40
-  pub tree : 1 ≤ length nodes → IsTree size estimate nodes places
+  pub tree : 1 ≤ length nodes → IsTree size estimate nodes (covered places)
   pub unfit : IsRefused size estimate places refused

@@ -1,6 +1,6 @@
 -- A complete tree of lower bounds over places, 64 to a leaf: node 1 is the root, the nodes 2 k and 2 k + 1 stand below node k, and the
 -- leaves are the second half of the nodes, in the order of their places.
-use Rattle.std.specs.Prelude.{◌≡◌, ℕ, zero, suc, ◌+◌, ◌*◌, ◌/◌, ◌^◌, ◌≤◌, List, [], length, slice_index_or, Option, None, Some}
+use Rattle.std.specs.Prelude.{◌≡◌, ℕ, zero, suc, ◌+◌, ◌*◌, ◌/◌, ◌^◌, ◌≤◌, false, List, [], length, slice_index_or, take, Option, None, Some}
 use Rattle.waiting_places.specs.Bounds.{FrontierView, IsBelow}
 
 -- a number that is halved so often, rounded down each time
@@ -10,11 +10,15 @@ halved (suc times) n = halved times n / 2
 
 -- what is known below a node; where there is no node, nothing but that all are at least 0
 abbrev pub node_at : List FrontierView → ℕ → FrontierView
-node_at nodes k = slice_index_or nodes k (record { len = 1; corners = [] })
+node_at nodes k = slice_index_or nodes k (record { stale = false; len = 1; corners = [] })
 
 -- the leaf of a place, by how many nodes there are
 abbrev pub leaf_of : ℕ → ℕ → ℕ
 leaf_of count place = count / 2 + place / 64
+
+-- the places of whole leaves: those of the last one stand in no tree until each has been taken
+abbrev pub covered : {X : Type 0} → List (Option X) → List (Option X)
+covered places = take (64 * (length places / 64)) places
 
 -- twice as many nodes as leaves, which are a power of two
 pub record IsWhole (count : ℕ) : Type 0 where

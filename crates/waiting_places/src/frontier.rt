@@ -1,7 +1,7 @@
-// A leaf has as many places as there may be corners. Above, the last of too many corners stands for all that are larger:
-// a search asks for sizes up to what is free, which is little where many wait.
+// A leaf has as many places as there may be corners. Where the corners of two nodes are too many, sizes that agree in
+// their leading bits share one: on each level these are the same sizes, so no bound falls from level to level.
 ghost use Rattle.std.specs.Prelude.{◌≡◌, ◌⊎◌, ◌↔◌, ℕ, ◌-◌, ◌^◌, ◌≤◌, ◌<◌, ◌&&◌, IfSome, IsTrue, MatchOption, IsFalse, min, nat_le};
-ghost use Rattle.waiting_places.specs.Bounds.{AreBelow, IsBehind, IsBelow, IsPlace, Keeps, MayFit, corner_at};
+ghost use Rattle.waiting_places.specs.Bounds.{AreAsLong, AreBelow, IsBelow, IsPlace, Keeps, MayFit, corner_at};
 
 use crate::offer::Offer;
 use crate::waits::Waits;
@@ -9,6 +9,9 @@ use std::marker::Model;
 
 /// How many corners a frontier has at most.
 const CORNERS: usize = 64;
+
+/// All bits of a size.
+const ALL_BITS: u32 = 32;
 
 /// A size and an estimate; those beyond `u32::MAX` as that.
 #[derive(Clone, Copy)]
@@ -18,9 +21,11 @@ pub(crate) struct Corner {
 }
 
 /// What is known of those below a node, a lower bound on their Pareto frontier: each of them is at least as large and
-/// at least as long as one of its corners. These stand by size.
+/// at least as long as one of its corners. These stand by size. It is stale where it may be lower than it would be if
+/// it were made anew.
 #[derive(Clone, Copy)]
 pub(crate) struct Frontier {
+    stale: bool,
     len: usize,
     corners: [Corner; CORNERS],
 }
@@ -30,17 +35,39 @@ impl Model for Frontier {
 
     ghost Value = { FrontierView };
 
-    ghost view = { λ f. record { len = f.len; corners = f.corners } };
+    ghost view = { λ f. record { stale = f.stale; len = f.len; corners = f.corners } };
 
-    ghost inverse = { λ v. record { len = v.len; corners = v.corners } };
+    ghost inverse = { λ v. record { stale = v.stale; len = v.len; corners = v.corners } };
 
     ghost invariant = { λ f. IsFrontier f.len f.corners };
 }
 
-fn short(number: u64) -> u32
+fn saturated(number: u64) -> u32
     ensures { result ≡ min number (2 ^ 32 - 1) }
 {
     u32::try_from(number).unwrap_or(u32::MAX)
+}
+
+/// How many leading bits of a size tell its class, so that there are at most as many classes as corners from the
+/// least size to the greatest.
+fn class_bits(least: u32, greatest: u32) -> u32 {
+    let octaves = least
+        .leading_zeros()
+        .saturating_sub(greatest.leading_zeros());
+    match octaves {
+        0 => 7,
+        1 => 6,
+        2..=3 => 5,
+        4..=7 => 4,
+        8..=15 => 3,
+        16..=31 => 2,
+        _ => 1,
+    }
+}
+
+/// Whether two sizes agree in so many bits, from the first one's highest on.
+fn are_alike(first: u32, second: u32, bits: u32) -> bool {
+    (first ^ second).leading_zeros() >= first.leading_zeros().saturating_add(bits)
 }
 
 /// Whether the next corner, by size, is one of `a`, of which so many have come, as have of `b`.
@@ -61,8 +88,8 @@ impl Corner {
         ensures estimate { result.estimate ≡ min (T.estimate item.now) (2 ^ 32 - 1) }
     {
         Corner {
-            size: short(item.size()),
-            estimate: short(item.estimate()),
+            size: saturated(item.size()),
+            estimate: saturated(item.estimate()),
         }
     }
 
@@ -72,7 +99,7 @@ impl Corner {
         self.size <= other.size && self.estimate <= other.estimate
     }
 
-    fn both(&self, other: &Corner) -> Corner
+    fn least_of(&self, other: &Corner) -> Corner
         ensures size { result.size ≡ min self.now.size other.now.size }
         ensures estimate { result.estimate ≡ min self.now.estimate other.now.estimate }
     {
@@ -92,9 +119,21 @@ impl Frontier {
             estimate: 0,
         };
         Frontier {
+            stale: false,
             len: 0,
             corners: [corner; CORNERS],
         }
+    }
+
+    pub(crate) fn is_stale(&self) -> bool {
+        self.stale
+    }
+
+    /// One who waited below it has left.
+    pub(crate) fn set_stale(&mut self)
+        ensures { Keeps self.old self.new }
+    {
+        self.stale = true;
     }
 
     /// Whether a corner fits the offer: where none does, nobody below fits it.
@@ -116,25 +155,32 @@ impl Frontier {
         false
     }
 
-    /// Behind how many corners one stands by size; None where one of them is as small and as short.
+    /// Behind how many corners one stands by size; None where one that it meets is as small and as short. It looks at 0,
+    /// 1, 3, 7 and so on first: most are met there.
     fn place_of(&self, corner: &Corner) -> Option<usize>
         ensures { MatchOption result (IsBelow self.now corner.now.size corner.now.estimate) (λ at. IsPlace self.now corner.now.size at) }
     {
-        for at in 0..self.len {
-            if self.corners[at].is_below(corner) {
+        let mut low = 0;
+        let mut high = self.len;
+        while low < high {
+            let at = (2 * low).min((low + high) / 2);
+            let here = self.corners[at];
+            if here.is_below(corner) {
                 return None;
             }
-            if self.corners[at].size >= corner.size {
-                return Some(at);
+            if here.size < corner.size {
+                low = at + 1;
+            } else {
+                high = at;
             }
         }
-        Some(self.len)
+        Some(low)
     }
 
     /// The end of those from a place on that are as long as this one.
     fn end_of_longer(&self, corner: &Corner, from: usize) -> usize
         requires { from ≤ self.now.len }
-        ensures { IsBehind self.now corner.now.estimate from result }
+        ensures { AreAsLong self.now corner.now.estimate from result }
     {
         let mut end = from;
         while end < self.len && self.corners[end].estimate >= corner.estimate {
@@ -145,16 +191,16 @@ impl Frontier {
 
     /// One comes to its place, and those up to `end`, which are as large and as long, leave; where there is no
     /// capacity, the one before it stands for both.
-    fn put(&mut self, corner: &Corner, at: usize, end: usize)
+    fn insert_at(&mut self, corner: &Corner, at: usize, end: usize)
         requires place { IsPlace self.old corner.now.size at }
-        requires longer { IsBehind self.old corner.now.estimate at end }
+        requires longer { AreAsLong self.old corner.now.estimate at end }
         ensures kept { Keeps self.old self.new }
         ensures met { IsBelow self.new corner.now.size corner.now.estimate }
     {
         let len = self.len + 1 + at - end;
         if len > CORNERS {
             let before = at.saturating_sub(1);
-            self.corners[before] = self.corners[before].both(corner);
+            self.corners[before] = self.corners[before].least_of(corner);
             return;
         }
         self.corners.copy_within(end..self.len, at + 1);
@@ -162,8 +208,8 @@ impl Frontier {
         self.len = len;
     }
 
-    /// One comes behind the last, which is no larger.
-    fn push(&mut self, corner: &Corner)
+    /// One comes behind the last, which is no larger, or shares its corner where both are alike in so many bits.
+    fn push(&mut self, corner: &Corner, bits: u32)
         requires { (k : ℕ) → k < self.old.len → (corner_at self.old k).size ≤ corner.now.size }
         ensures kept { Keeps self.old self.new }
         ensures met { IsBelow self.new corner.now.size corner.now.estimate }
@@ -179,7 +225,7 @@ impl Frontier {
         if last.estimate <= corner.estimate {
             return;
         }
-        if last.size == corner.size || len == CORNERS {
+        if last.size == corner.size || len == CORNERS || are_alike(last.size, corner.size, bits) {
             self.corners[len - 1].estimate = corner.estimate;
             return;
         }
@@ -193,11 +239,11 @@ impl Frontier {
     {
         if let Some(at) = self.place_of(corner) {
             let end = self.end_of_longer(corner, at);
-            self.put(corner, at, end);
+            self.insert_at(corner, at, end);
         }
     }
 
-    pub(crate) fn add<T: Waits>(&mut self, item: &T)
+    fn add<T: Waits>(&mut self, item: &T)
         ensures kept { Keeps self.old self.new }
         ensures met { IsBelow self.new (T.size item.now) (T.estimate item.now) }
     {
@@ -218,25 +264,51 @@ impl Frontier {
         ensures { AreBelow T.size T.estimate self.new places.now }
     {
         self.len = 0;
+        self.stale = false;
         for place in places {
             self.add_place(place);
         }
     }
 
-    /// Makes it that of two.
+    fn greatest_size(&self) -> u32 {
+        self.corners[self.len.saturating_sub(1)].size
+    }
+
+    /// By how many bits of their sizes corners are told apart where those of two become one's.
+    fn bits_with(&self, other: &Frontier) -> u32 {
+        if self.len + other.len <= CORNERS {
+            return ALL_BITS;
+        }
+        let least = self.corners[0].size.min(other.corners[0].size);
+        class_bits(least, self.greatest_size().max(other.greatest_size()))
+    }
+
+    /// Those below another one come below it too.
+    pub(crate) fn lower(&mut self, other: &Frontier)
+        ensures kept { Keeps self.old self.new }
+        ensures met { Keeps other.now self.new }
+    {
+        let own = *self;
+        self.set_both(&own, other);
+        self.stale = own.stale;
+    }
+
+    /// Makes it that of two; it is stale where one of them is.
     pub(crate) fn set_both(&mut self, a: &Frontier, b: &Frontier)
         ensures first { Keeps a.now self.new }
         ensures second { Keeps b.now self.new }
     {
+        let bits = a.bits_with(b);
         self.len = 0;
+        self.stale = a.stale || b.stale;
         let mut i = 0;
         for at in 0..a.len + b.len {
             let j = at - i;
             if comes_first(a, i, b, j) {
-                self.push(&a.corners[i]);
+                self.push(&a.corners[i], bits);
                 i += 1;
             } else {
-                self.push(&b.corners[j]);
+                self.push(&b.corners[j], bits);
             }
         }
     }

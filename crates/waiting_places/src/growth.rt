@@ -8,7 +8,7 @@ use std::alloc::Allocator;
 use swf_text::Memory;
 
 /// So many places are searched one by one, without a tree.
-pub(crate) const LIST: usize = 128;
+pub(crate) const LIST_LIMIT: usize = 128;
 
 fn power_from(count: usize) -> usize
     requires { count ≤ 2 ^ 40 }
@@ -33,7 +33,7 @@ pub(crate) fn nodes_for<A: Allocator + Copy>(
     ensures many { IfOk result (λ nodes. 1 ≤ length nodes.items → 4 ≤ length nodes.items) }
     ensures few { IfOk result (λ nodes. length nodes.items ≤ 2 ^ 40) }
 {
-    if capacity <= LIST {
+    if capacity <= LIST_LIMIT {
         return Ok(Vec::new(alloc));
     }
     let leaves = power_from(capacity.div_ceil(SPAN));

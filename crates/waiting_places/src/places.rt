@@ -1,16 +1,16 @@
-ghost use Rattle.std.specs.Prelude.{◌≡◌, ◌⊎◌, ◌↔◌, ℕ, ◌+◌, ◌*◌, ◌/◌, ◌^◌, ◌≤◌, ◌<◌, [], ◌∷◌, ◌++◌, IfOk, IfSome, IsOk, IsTrue, None, OnErr, OnOk, Some, drop, find, is_some, length, map, option_copied, slice_get, slice_set, take};
+ghost use Rattle.std.specs.Prelude.{◌≡◌, ◌⊎◌, ◌↔◌, ℕ, ◌+◌, ◌-◌, ◌*◌, ◌^◌, ◌≤◌, ◌<◌, [], ◌∷◌, ◌++◌, IfOk, IfSome, IsOk, IsTrue, None, OnErr, OnOk, Some, drop, find, is_some, length, map, option_copied, slice_get, slice_set, take};
 ghost use Rattle.std.specs.List.{remove};
-ghost use Rattle.waiting_places.specs.Bounds.{IsBelow, Keeps};
+ghost use Rattle.waiting_places.specs.Bounds.{Keeps};
 ghost use Rattle.waiting_places.specs.Offers.{fits, holds};
 ghost use Rattle.waiting_places.specs.Places.{IsFirst, IsHead, at_place, found_at, rank, waiting};
-ghost use Rattle.waiting_places.specs.Tree.{halved, leaf_of, node_at};
+ghost use Rattle.waiting_places.specs.Tree.{IsTree, covered, leaf_of, node_at};
 
 use crate::frontier::Frontier;
-use crate::growth::{LIST, nodes_for};
+use crate::growth::{LIST_LIMIT, nodes_for};
 use crate::offer::Offer;
 use crate::refused::Refused;
-use crate::search::{first_in, first_in_tree, first_some};
-use crate::tree::{SPAN, lower};
+use crate::search::{first_from, first_some};
+use crate::tree::{SPAN, lower, set_stale};
 use crate::waiting::Waiting;
 use crate::waits::Waits;
 use std::alloc::Allocator;
@@ -22,9 +22,10 @@ const PLACES_LIMIT: usize = 1 << 40;
 
 /// Those who wait, each at a place of its own in order of arrival. Who leaves leaves its place empty, so
 /// that it costs a step. Beside more than 128 places stands a tree, of 64 places to a leaf: each node has
-/// a lower bound on the Pareto frontier of the sizes and estimates below it. It is lowered at once when one
-/// comes, and raised only by a search that found nothing. And it is known of one offer from which place to
-/// which nobody fits it. Contracts see the places, and how many more surely find capacity.
+/// a lower bound on the Pareto frontier of the sizes and estimates below it. A leaf comes to the tree with
+/// the last of its places. A node below which one has left is made anew by the next search that looks
+/// there and finds nobody. And it is known of one offer from which place to which nobody fits it. Contracts
+/// see the places, and how many more surely find capacity.
 #[derive(Drop)]
 pub struct Places<T: Waits, A: Allocator + Copy> {
     places: Vec<Option<T>, A>,
@@ -45,17 +46,35 @@ impl<T: Waits, A: Allocator + Copy> Model for Places<T, A> {
     ghost invariant = { λ p. IsPlaces T.size T.estimate p.places.items p.nodes.items p.len p.head (vec_capacity p.places) p.refused };
 }
 
-fn note<T: Waits>(nodes: &mut [Frontier], place: usize, item: &T)
+/// One has come to the last place: a leaf comes to the tree once each of its places has been taken.
+fn cover<T: Waits>(nodes: &mut [Frontier], places: &[Option<T>])
+    requires some { 1 ≤ length places.now }
+    requires tree { 1 ≤ length nodes.old → IsTree T.size T.estimate nodes.old (covered (take (length places.now - 1) places.now)) }
+    requires capacity { 1 ≤ length nodes.old → length places.now ≤ 32 * length nodes.old }
+    ensures len { length nodes.new ≡ length nodes.old }
+    ensures tree { 1 ≤ length nodes.new → IsTree T.size T.estimate nodes.new (covered places.now) }
+{
+    if nodes.is_empty() || places.len() % SPAN != 0 {
+        return;
+    }
+    let from = places.len() - SPAN;
+    let mut frontier = Frontier::new();
+    frontier.set(&places[from..]);
+    let leaf = nodes.len() / 2 + from / SPAN;
+    lower(nodes, leaf, &frontier);
+}
+
+/// One has left this place.
+fn uncover(nodes: &mut [Frontier], place: usize)
     requires { 1 ≤ length nodes.old → leaf_of (length nodes.old) place < length nodes.old }
     ensures len { length nodes.new ≡ length nodes.old }
     ensures kept { (k : ℕ) → Keeps (node_at nodes.old k) (node_at nodes.new k) }
-    ensures met { (times : ℕ) → 1 ≤ halved times (leaf_of (length nodes.old) place) → IsBelow (node_at nodes.new (halved times (leaf_of (length nodes.old) place))) (T.size item.now) (T.estimate item.now) }
 {
     if nodes.is_empty() {
         return;
     }
     let leaf = nodes.len() / 2 + place / SPAN;
-    lower(nodes, leaf, item);
+    set_stale(nodes, leaf);
 }
 
 fn head_from<T: Waits>(places: &[Option<T>], from: usize) -> usize
@@ -109,7 +128,7 @@ impl<T: Waits, A: Allocator + Copy> Places<T, A> {
             nodes: Vec::new(alloc),
             len: 0,
             head: 0,
-            refused: Refused::nobody(),
+            refused: Refused::unknown(),
         }
     }
 
@@ -124,7 +143,7 @@ impl<T: Waits, A: Allocator + Copy> Places<T, A> {
             nodes,
             len: 0,
             head: 0,
-            refused: Refused::nobody(),
+            refused: Refused::unknown(),
         })
     }
 
@@ -146,14 +165,15 @@ impl<T: Waits, A: Allocator + Copy> Places<T, A> {
     pub fn spare(&self) -> usize
         ensures { result ≡ self.now.spare }
     {
-        let capacity = LIST.max(SPAN / 2 * self.nodes.len());
+        let capacity = LIST_LIMIT.max(SPAN / 2 * self.nodes.len());
         self.places.capacity().min(capacity) - self.places.len()
     }
 
     /// Reserves capacity for so many more. Where there is none, those who wait move to the first places,
     /// in order; where there is, it takes no memory and nobody moves.
     ///
-    /// Memory where a growth was refused; then nothing has changed.
+    /// Memory where a growth was refused, or where more than 2^40 places would be needed; then nothing has
+    /// changed.
     pub fn reserve(&mut self, count: usize) -> Result<(), Memory>
         ensures waiting { waiting self.new.places ≡ waiting self.old.places }
         ensures places { (self.new.places ≡ self.old.places) ⊎ (self.new.places ≡ map (λ item. Some item) (waiting self.old.places)) }
@@ -181,11 +201,11 @@ impl<T: Waits, A: Allocator + Copy> Places<T, A> {
         ensures spare { self.old.spare ≤ self.new.spare + 1 }
     {
         let place = self.places.len();
-        note(&mut self.nodes, place, &item);
         let Ok(()) = self.places.push(Some(item)) else {
             unreachable!()
         };
         self.len += 1;
+        cover(&mut self.nodes, self.places.as_slice());
         place
     }
 
@@ -200,6 +220,7 @@ impl<T: Waits, A: Allocator + Copy> Places<T, A> {
     {
         let item = *self.get(place)?;
         self.places[place] = None;
+        uncover(&mut self.nodes, place);
         self.len -= 1;
         self.head = head_from(self.places.as_slice(), self.head);
         Some(item)
@@ -224,13 +245,18 @@ impl<T: Waits, A: Allocator + Copy> Places<T, A> {
         }
     }
 
-    fn remember(&mut self, from: usize, offer: &Offer, found: Option<usize>)
+    // What a search found out is remembered where it is more than what was known.
+    fn remember(&mut self, from: usize, known: usize, offer: &Offer, found: Option<usize>)
         requires { IsFirst (holds (fits T.size T.estimate offer.now)) self.old.places from (length self.old.places) found }
         ensures { self.new ≡ self.old }
     {
+        let to = found.unwrap_or(self.places.len());
+        if to.saturating_sub(known) <= known.saturating_sub(from) {
+            return;
+        }
         self.refused = Refused {
             from,
-            to: found.unwrap_or(self.places.len()),
+            to,
             offer: *offer,
         };
     }
@@ -239,15 +265,9 @@ impl<T: Waits, A: Allocator + Copy> Places<T, A> {
         ensures place { IsFirst (holds (fits T.size T.estimate offer.now)) self.old.places from (length self.old.places) result }
         ensures same { self.new ≡ self.old }
     {
-        if self.nodes.is_empty() {
-            return first_in(self.places.as_slice(), from, self.places.len(), offer);
-        }
-        if self.refused.covers(from, offer) {
-            let behind = from.max(self.refused.to);
-            return first_in_tree(&mut self.nodes, self.places.as_slice(), behind, offer);
-        }
-        let found = first_in_tree(&mut self.nodes, self.places.as_slice(), from, offer);
-        self.remember(from, offer, found);
+        let known = self.refused.behind(from, offer);
+        let found = first_from(&mut self.nodes, self.places.as_slice(), known, offer);
+        self.remember(from, known, offer, found);
         found
     }
 

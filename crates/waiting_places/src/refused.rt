@@ -1,4 +1,4 @@
-ghost use Rattle.std.specs.Prelude.{◌≡◌, ◌&&◌, nat_le};
+ghost use Rattle.std.specs.Prelude.{◌≡◌, ◌⊎◌, ◌&&◌, max, nat_le, true};
 ghost use Rattle.waiting_places.specs.Offers.{is_within};
 
 use crate::offer::Offer;
@@ -13,7 +13,7 @@ pub(crate) struct Refused {
 
 impl Refused {
     /// Nothing is known.
-    pub(crate) fn nobody() -> Refused
+    pub(crate) fn unknown() -> Refused
         ensures { result.to ≡ 0 }
     {
         let offer = Offer {
@@ -28,8 +28,19 @@ impl Refused {
         }
     }
 
+    /// The place up to which it tells that nobody from this one on fits this offer.
+    pub(crate) fn behind(&self, from: usize, offer: &Offer) -> usize
+        ensures { (result ≡ from) ⊎ ((nat_le self.now.from from && is_within offer.now self.now.offer ≡ true) × (result ≡ max from self.now.to)) }
+    {
+        if self.covers(from, offer) {
+            from.max(self.to)
+        } else {
+            from
+        }
+    }
+
     /// Whether it tells of this offer, from this place on.
-    pub(crate) fn covers(&self, from: usize, offer: &Offer) -> bool
+    fn covers(&self, from: usize, offer: &Offer) -> bool
         ensures { result ≡ nat_le self.now.from from && is_within offer.now self.now.offer }
     {
         self.from <= from && offer.is_within(&self.offer)

@@ -1,7 +1,7 @@
-ghost use Rattle.std.specs.Prelude.{◌≡◌, ◌≤◌, ◌+◌, ◌*◌, is_some, length, max, nat_le};
+ghost use Rattle.std.specs.Prelude.{◌≡◌, ◌+◌, ◌*◌, ◌≤◌, ◌<◌, is_some, length, max, nat_le};
 ghost use Rattle.waiting_places.specs.Offers.{fits, holds};
 ghost use Rattle.waiting_places.specs.Places.{IsFirst};
-ghost use Rattle.waiting_places.specs.Tree.{IsPart, IsTree};
+ghost use Rattle.waiting_places.specs.Tree.{IsPart, IsTree, covered};
 
 use crate::frontier::Frontier;
 use crate::offer::{Offer, holds};
@@ -43,12 +43,7 @@ fn takes_at_most<T: Waits>(place: &Option<T>, most: u64) -> bool
     }
 }
 
-pub(crate) fn first_in<T: Waits>(
-    places: &[Option<T>],
-    from: usize,
-    to: usize,
-    offer: &Offer,
-) -> Option<usize>
+fn first_in<T: Waits>(places: &[Option<T>], from: usize, to: usize, offer: &Offer) -> Option<usize>
     ensures { IsFirst (holds (fits T.size T.estimate offer.now)) places.now from to result }
 {
     let most = offer.free.max(offer.extra);
@@ -58,6 +53,29 @@ pub(crate) fn first_in<T: Waits>(
         }
     }
     None
+}
+
+fn renew_leaf<T: Waits>(nodes: &mut [Frontier], places: &[Option<T>], leaf: usize)
+    requires tree { IsTree T.size T.estimate nodes.old places.now }
+    requires leaf { 2 * (leaf + 1) ≤ length nodes.old }
+    ensures tree { IsTree T.size T.estimate nodes.new places.now }
+    ensures len { length nodes.new ≡ length nodes.old }
+{
+    if nodes[nodes.len() / 2 + leaf].is_stale() {
+        raise_leaf(nodes, places, leaf);
+    }
+}
+
+fn renew<T: Waits>(nodes: &mut [Frontier], places: &[Option<T>], node: usize)
+    requires tree { IsTree T.size T.estimate nodes.old places.now }
+    requires some { 1 ≤ node }
+    requires inner { 2 * node + 1 < length nodes.old }
+    ensures tree { IsTree T.size T.estimate nodes.new places.now }
+    ensures len { length nodes.new ≡ length nodes.old }
+{
+    if nodes[node].is_stale() {
+        raise(nodes, node);
+    }
 }
 
 fn first_in_leaf<T: Waits>(
@@ -76,13 +94,13 @@ fn first_in_leaf<T: Waits>(
     if let Some(place) = first_in(places, from, SPAN * (leaf + 1), &search.offer) {
         return Some(place);
     }
-    raise_leaf(nodes, places, leaf);
+    renew_leaf(nodes, places, leaf);
     None
 }
 
 /// The first place of those below a node, unless its frontier showed that there is none.
 #[cycle(first_below)]
-pub(crate) fn first_below<T: Waits>(
+fn first_below<T: Waits>(
     nodes: &mut [Frontier],
     places: &[Option<T>],
     part: &Part,
@@ -136,12 +154,12 @@ fn first_within<T: Waits>(
     if let Some(place) = first_below(nodes, places, &second, search) {
         return Some(place);
     }
-    raise(nodes, part.node);
+    renew(nodes, places, part.node);
     None
 }
 
 // It looks in what is left of a leaf, and then in the tree.
-pub(crate) fn first_in_tree<T: Waits>(
+fn first_in_tree<T: Waits>(
     nodes: &mut [Frontier],
     places: &[Option<T>],
     from: usize,
@@ -168,18 +186,36 @@ pub(crate) fn first_in_tree<T: Waits>(
     if let Some(place) = first_below(nodes, places, &here, &rest) {
         return Some(place);
     }
-    let edge = SPAN * (leaf + 1);
     let root = Part {
         node: 1,
         low: 0,
         span: nodes.len() / 2,
     };
     let search = Search {
-        from: edge,
+        from: SPAN * (leaf + 1),
         offer: *offer,
     };
-    if !nodes[root.node].may_fit(offer) {
-        return None;
+    first_below(nodes, places, &root, &search)
+}
+
+// It looks in the tree, and then at the places that stand in no tree.
+pub(crate) fn first_from<T: Waits>(
+    nodes: &mut [Frontier],
+    places: &[Option<T>],
+    from: usize,
+    offer: &Offer,
+) -> Option<usize>
+    requires { 1 ≤ length nodes.old → IsTree T.size T.estimate nodes.old (covered places.now) }
+    ensures tree { 1 ≤ length nodes.new → IsTree T.size T.estimate nodes.new (covered places.now) }
+    ensures len { length nodes.new ≡ length nodes.old }
+    ensures first { IsFirst (holds (fits T.size T.estimate offer.now)) places.now from (length places.now) result }
+{
+    if nodes.is_empty() {
+        return first_in(places, from, places.len(), offer);
     }
-    first_within(nodes, places, &root, &search)
+    let end = SPAN * (places.len() / SPAN);
+    if let Some(place) = first_in_tree(nodes, &places[..end], from, offer) {
+        return Some(place);
+    }
+    first_in(places, from.max(end), places.len(), offer)
 }

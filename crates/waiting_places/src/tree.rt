@@ -1,5 +1,5 @@
 // The frontier of a node is made anew from those of the two below it, and that of a leaf from those who wait at its
-// places.
+// places, where one below it has left since.
 ghost use Rattle.std.specs.Prelude.{◌≡◌, ◌≢◌, ℕ, ◌+◌, ◌*◌, ◌/◌, ◌≤◌, ◌<◌, length, slice_index_or, Some, None};
 ghost use Rattle.waiting_places.specs.Bounds.{IsBelow, Keeps};
 ghost use Rattle.waiting_places.specs.Tree.{halved, node_at};
@@ -10,15 +10,29 @@ use crate::waits::Waits;
 /// How many places a leaf has.
 pub(crate) const SPAN: usize = 64;
 
-pub(crate) fn lower<T: Waits>(nodes: &mut [Frontier], leaf: usize, item: &T)
+/// Those below a frontier come to a leaf, and so below each node above it.
+pub(crate) fn lower(nodes: &mut [Frontier], leaf: usize, frontier: &Frontier)
     requires { leaf < length nodes.old }
     ensures len { length nodes.new ≡ length nodes.old }
     ensures kept { (k : ℕ) → Keeps (node_at nodes.old k) (node_at nodes.new k) }
-    ensures met { (times : ℕ) → 1 ≤ halved times leaf → IsBelow (node_at nodes.new (halved times leaf)) (T.size item.now) (T.estimate item.now) }
+    ensures met { (times : ℕ) → 1 ≤ halved times leaf → Keeps frontier.now (node_at nodes.new (halved times leaf)) }
 {
     let mut node = leaf;
     while node > 0 {
-        nodes[node].add(item);
+        nodes[node].lower(frontier);
+        node /= 2;
+    }
+}
+
+/// One has left a leaf, and so each node above it.
+pub(crate) fn set_stale(nodes: &mut [Frontier], leaf: usize)
+    requires { leaf < length nodes.old }
+    ensures len { length nodes.new ≡ length nodes.old }
+    ensures kept { (k : ℕ) → Keeps (node_at nodes.old k) (node_at nodes.new k) }
+{
+    let mut node = leaf;
+    while node > 0 {
+        nodes[node].set_stale();
         node /= 2;
     }
 }

@@ -3,7 +3,7 @@ use Rattle.waiting_places.specs.Offers.{fits, holds}
 use Rattle.waiting_places.specs.Places.{IsFirst}
 use Rattle.waiting_places.specs.Tree.{IsPart}
 use Rattle.waiting_places.proofs.First.{in_second}
-use Rattle.waiting_places.proofs.Parts.{halves, is_node, none_fits, raised, refused}
+use Rattle.waiting_places.proofs.Parts.{halves, is_node, none_fits, refused}
 use Rattle.waiting_places.proofs.search.+first_below.Goals as goal
 
 pub first_below-returns-then-not-may_fit-clause-first : goal.first_below-returns-then-not-may_fit-clause-first
@@ -38,20 +38,13 @@ first_within-returns-in-Some-first_below-clause-first g t c =
     let rest = subst (λ n. IsFirst test c.args.places.now (max from middle) n (Some c.in-Some-first_below.place)) end c.in-Some-first_below.ensures.first in
     in_second test c.args.places.now (max from (64 * part.low)) middle (max from middle) (64 * (part.low + part.span)) (Some c.in-Some-first_below.place) (λ p l m. omega arith) (omega arith) c.in_default.ensures.first rest
 
-pub first_within-raise-requires : goal.first_within-raise-requires
-first_within-raise-requires g t c =
+pub first_within-renew-requires : goal.first_within-renew-requires
+first_within-renew-requires g t c =
     let half = halves (length c.args.nodes.now) c.args.part.now.node c.args.part.now.low c.args.part.now.span c.requires.part c.if-part-eq1.false in
     let inner = half.inner in
     let len = c.first_below-2.ensures.len ∙ c.first_below.ensures.len in
     let some = (is_node (length c.args.nodes.now) c.args.part.now.node c.args.part.now.low c.args.part.now.span c.requires.part).0 in
-    record { some = some; inner = omega (arith, inner, len) }
-
-pub first_within-returns-clause-tree : goal.first_within-returns-clause-tree
-first_within-returns-clause-tree g t c =
-    let half = halves (length c.args.nodes.now) c.args.part.now.node c.args.part.now.low c.args.part.now.span c.requires.part c.if-part-eq1.false in
-    let inner = half.inner in
-    let len = c.first_below-2.ensures.len ∙ c.first_below.ensures.len in
-    raised g.T.Waits.size g.T.Waits.estimate c.first_below-2.new.nodes c.args.places.now c.first_below-2.ensures.tree c.args.part.now.node c.raise.new.nodes (omega (arith, inner, len)) c.raise.ensures.len c.raise.ensures.first c.raise.ensures.second c.raise.ensures.others
+    record { tree = c.first_below-2.ensures.tree; some = some; inner = omega (arith, inner, len) }
 
 pub first_within-returns-clause-first : goal.first_within-returns-clause-first
 first_within-returns-clause-first g t c =

@@ -4,13 +4,12 @@ use Rattle.waiting_places.proofs.Lowered.{one_up, to_the_top}
 use Rattle.waiting_places.proofs.tree.lower.Goals as goal
 
 pub loop-node-preserved : goal.loop-node-preserved
-loop-node-preserved g c =
+loop-node-preserved c =
     let i = c.loop-node.invariant in
     let low = i.low in
     let len = i.len in
     let short = c.requires in
-    one_up c.args.nodes.now c.loop-node.nodes c.args.leaf c.loop-node.node (g.T.Waits.size c.args.item.now) (g.T.Waits.estimate c.args.item.now) i c.index-nodes-node.result c.add.new.self (omega (arith, low, len, short)) c.index-nodes-node.is (subst (λ (l : FrontierView). Keeps l c.add.new.self) (sym c.index-nodes-node.is) c.add.ensures.kept) c.add.ensures.met
+    one_up c.args.nodes.now c.loop-node.nodes c.args.frontier.now c.args.leaf c.loop-node.node i c.index-nodes-node.result c.lower.new.self (omega (arith, low, len, short)) c.index-nodes-node.is (subst (λ (l : FrontierView). Keeps l c.lower.new.self) (sym c.index-nodes-node.is) c.lower.ensures.kept) c.lower.ensures.met
 
 pub returns-clause-met : goal.returns-clause-met
-returns-clause-met g c =
-    to_the_top c.args.nodes.now c.loop-node.nodes c.args.leaf c.loop-node.node (g.T.Waits.size c.args.item.now) (g.T.Waits.estimate c.args.item.now) c.loop-node.invariant (omega (arith, c.loop-node-test.false))
+returns-clause-met c = to_the_top c.args.nodes.now c.loop-node.nodes c.args.frontier.now c.args.leaf c.loop-node.node c.loop-node.invariant (omega (arith, c.loop-node-test.false))

@@ -1,6 +1,8 @@
-use Rattle.std.proofs.Common.{ap, ◌∙◌}
+use Rattle.std.proofs.Common.{◌≡◌, ◌-◌, List, length, set, None, ap, subst, sym, vec_capacity, ◌∙◌}
+use Rattle.std.proofs.lemmas.List.{with_items_is}
 use Rattle.std.specs.List.{remove}
-use Rattle.waiting_places.specs.Places.{PlacesView, rank, waiting}
+use Rattle.waiting_places.specs.Bounds.{FrontierView}
+use Rattle.waiting_places.specs.Places.{IsPlaces, PlacesView, rank, waiting}
 use Rattle.waiting_places.proofs.Below.{within}
 use Rattle.waiting_places.proofs.Grown.{leaves, place_fits, somebody}
 use Rattle.waiting_places.proofs.Heads.{none_ahead, within_set}
@@ -23,7 +25,11 @@ pub invariant_of-self : goal.invariant_of-self
 invariant_of-self g c =
     let inside = c.self.inside in
     let at = seen _ _ c.args.place c.in_ok-item.field-0.now c.self.view_is c.in_ok-item.ensures in
-    leaves g.T.Waits.size g.T.Waits.estimate inside.places.items inside.nodes.items inside.len inside.head _ _ c.self.invariant c.args.place c.in_ok-item.field-0.now at c.head_from-self-inside.result (rw c.as_slice.ensures.value at c.head_from-self-inside.ensures)
+    let outcome = rw c.deref_mut.ensures.value at c.uncover.ensures in
+    let places = set inside.places.items c.args.place None in
+    let long : length c.uncover.new.nodes ≡ inside.nodes.len = outcome.len ∙ sym inside.nodes.ok.0 in
+    subst (λ (nodes : List FrontierView). IsPlaces g.T.Waits.size g.T.Waits.estimate places nodes (inside.len - 1) c.head_from-self-inside.result (vec_capacity inside.places) inside.refused) (sym (with_items_is inside.nodes c.uncover.new.nodes long))
+    (leaves g.T.Waits.size g.T.Waits.estimate inside.places.items inside.nodes.items inside.len inside.head _ _ c.self.invariant c.args.place c.in_ok-item.field-0.now at c.head_from-self-inside.result (rw c.as_slice.ensures.value at c.head_from-self-inside.ensures) c.uncover.new.nodes outcome.len outcome.kept)
 
 pub returns-clause-waiting : goal.returns-clause-waiting
 returns-clause-waiting g c =
