@@ -33,7 +33,6 @@ module _ {X : Type 0} (test : Option X → Bool) (places : List (Option X)) (pas
       let end = 64 * (0 + span) in
       ends test places past from end r (omega (arith, capacity)) (in_second test places from edge (max edge (64 * 0)) end r (λ p l m. omega arith) (omega arith) (λ p low high. none p (omega arith) high) rest)
 
--- the first place that passes is looked for at the first places, and then at the others
 module _ {X : Type 0} (test : Option X → Bool) (places : List (Option X)) (from end : ℕ) (within : end ≤ length places) where
   long : length (take end places) ≡ end
   long = omega (arith, within, length-take end places)
@@ -41,10 +40,12 @@ module _ {X : Type 0} (test : Option X → Bool) (places : List (Option X)) (fro
   none_in_front : NonePasses test (take end places) from (length (take end places)) → NonePasses test places from end
   none_in_front none p low high = ap test (sym (get_or-take end places p None high)) ∙ none p low (omega (arith, high, long))
 
+  -- the first place that passes among the first places is the first of all
   pub found_in_front : (k : ℕ) → IsFirst test (take end places) from (length (take end places)) (Some k) → IsFirst test places from (length places) (Some k)
   found_in_front k found =
       let short : k < end = omega (arith, found.1, long) in
       (found.0, omega (arith, short, within), ap test (sym (get_or-take end places k None short)) ∙ found.2, λ p low high. ap test (sym (get_or-take end places p None (omega (arith, high, short)))) ∙ found.3 p low high)
 
+  -- where none of these passes, the first of the others is
   pub found_behind : (r : Option ℕ) → NonePasses test (take end places) from (length (take end places)) → IsFirst test places (max from end) (length places) r → IsFirst test places from (length places) r
   found_behind r none rest = in_second test places from end (max from end) (length places) r (λ p l m. omega (arith, l, m)) (omega arith) (none_in_front none) rest

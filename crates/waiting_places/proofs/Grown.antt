@@ -1,5 +1,5 @@
 -- Where one comes and where one leaves.
-use Rattle.std.proofs.Common.{◌≡◌, ◌≢◌, ℕ, ◌+◌, ◌-◌, ◌*◌, ◌/◌, ◌^◌, ◌≤◌, ◌<◌, ◌⊎◌, inl, inr, List, [], ◌∷◌, ◌++◌, length, take, drop, slice_index_or, set, Option, None, Some, refl, sym, ◌∙◌, ap, arith, subst, ⊎_elim}
+use Rattle.std.proofs.Common.{◌≡◌, ◌≢◌, ℕ, ◌+◌, ◌-◌, ◌*◌, ◌/◌, ◌^◌, ◌≤◌, ◌<◌, ◌⊎◌, inl, inr, List, [], ◌∷◌, ◌++◌, length, take, drop, slice_index_or, set, Option, None, Some, sym, ◌∙◌, ap, arith, subst, ⊎_elim}
 use Rattle.std.proofs.lemmas.Bool.{cases_eq, cases_lt}
 use Rattle.std.proofs.lemmas.List.{length-append, length-set, length-take, get_or-set_same, get_or-set_other, get_or-take, get_or-drop}
 use Rattle.waiting_places.specs.Bounds.{AreBelow, FrontierView, IsBelow, Keeps}
@@ -11,7 +11,6 @@ use Rattle.waiting_places.proofs.Heads.{head_comes}
 use Rattle.waiting_places.proofs.Refusals.{refused_too, still_refused}
 use Rattle.waiting_places.proofs.Standing.{no_more, one_comes, one_less}
 
--- who waits at a place of a whole leaf
 module _ {X : Type 0} (places : List (Option X)) (place : ℕ) where
   pub in_leaves : place < 64 * (length places / 64) → at_place (covered places) place ≡ at_place places place
   in_leaves short = get_or-take (64 * (length places / 64)) places place None short
@@ -22,8 +21,6 @@ module _ {X : Type 0} (places : List (Option X)) (place : ℕ) where
       omega (arith, there, length-take (64 * (length places / 64)) places)
 
 module _ {X : Type 0} (size estimate : X → ℕ) (nodes : List FrontierView) (places : List (Option X)) (tree : IsTree size estimate nodes places) where
-  -- nodes that keep what these know are a tree of lower bounds too, over places where only those wait who waited there before, and
-  -- others whose leaf and all nodes above it are below them
   pub renewed : (new : List FrontierView) (more : List (Option X)) → length new ≡ length nodes → length more ≤ 32 * length nodes → ((k : ℕ) → Keeps (node_at nodes k) (node_at new k))
       → ((times place : ℕ) (x : X) → at_place more place ≡ Some x → 1 ≤ halved times (leaf_of (length nodes) place) → (at_place places place ≡ Some x) ⊎ IsBelow (node_at new (halved times (leaf_of (length nodes) place))) (size x) (estimate x)) → IsTree size estimate new more
   renewed new more len capacity kept met = record {
@@ -48,18 +45,12 @@ module _ {X : Type 0} (size estimate : X → ℕ) (nodes : List FrontierView) (p
   shorter : length before ≡ length places - 1
   shorter = omega (arith, some, length-take (length places - 1) places)
 
-  -- who stood in whole leaves before one came to the last place
   stood : (place : ℕ) (x : X) → place < 64 * ((length places - 1) / 64) → at_place places place ≡ Some x → at_place (covered before) place ≡ Some x
   stood place x short is =
       let same : 64 * (length before / 64) ≡ 64 * ((length places - 1) / 64) = ap (λ (n : ℕ). 64 * (n / 64)) shorter in
       in_leaves before place (omega (arith, short, same)) ∙ get_or-take (length places - 1) places place None (omega (arith, short)) ∙ is
 
-  -- the last leaf is not whole: the tree is that of before
-  pub still_covered : length places ≢ 64 * (length places / 64) → IsTree size estimate nodes (covered places)
-  still_covered ne = renewed size estimate nodes (covered before) tree nodes (covered places) refl (omega (arith, capacity, length-take (64 * (length places / 64)) places)) (λ k s e b. b)
-      (λ times place x is one. inl (let short = has_leaf places place x is in stood place x (omega (arith, short, ne, some)) (sym (in_leaves places place short) ∙ is)))
-
-  -- the last leaf is whole: the nodes are lowered to who waits there
+  -- one has come to the last place of a leaf: it comes to the tree with all who wait there
   pub now_covered : (from : ℕ) (f : FrontierView) (new : List FrontierView) → length places ≡ 64 * (length places / 64) → from + 64 ≡ length places → AreBelow size estimate f (take (length places - from) (drop from places)) → length new ≡ length nodes
       → ((k : ℕ) → Keeps (node_at nodes k) (node_at new k)) → ((times : ℕ) → 1 ≤ halved times (length nodes / 2 + from / 64) → Keeps f (node_at new (halved times (length nodes / 2 + from / 64)))) → IsTree size estimate new (covered places)
   now_covered from f new whole e below len kept met = renewed size estimate nodes (covered before) tree new (covered places) len (omega (arith, capacity, length-take (64 * (length places / 64)) places)) kept

@@ -9,7 +9,7 @@ use Rattle.waiting_places.specs.declared.offer.Offer.{Offer}
 use Rattle.waiting_places.specs.Bounds.{FrontierView, IsBelow, Keeps, MayFit}
 use Rattle.waiting_places.specs.Offers.{fits, holds}
 use Rattle.waiting_places.specs.Places.{NonePasses}
-use Rattle.waiting_places.specs.Tree.{IsPart, IsTree, IsWhole, halved, leaf_of, node_at}
+use Rattle.waiting_places.specs.Tree.{IsPart, IsTree, halved, leaf_of, node_at}
 use Rattle.waiting_places.proofs.Below.{within}
 use Rattle.waiting_places.proofs.Fits.{passes}
 use Rattle.waiting_places.proofs.Lowered.{halved-more}
@@ -74,10 +74,6 @@ module _ (count node low span : ℕ) (part : IsPart count node low span) where
 -- no corner of a node fits an offer that it refuses
 pub refused : (offer : Offer) (nodes : List FrontierView) (node : ℕ) (l : FrontierView) (result : Bool) → node < length nodes → IsTrue result ↔ MayFit offer (get_or nodes node l) → result ≡ false → MayFit offer (node_at nodes node) → true ≡ false
 refused offer nodes node l result there is fails may = sym (is.1 (subst (MayFit offer) (get_or_default nodes node no_node l there) may)) ∙ fails
-
--- the root stands above all leaves
-pub root : (count : ℕ) → IsWhole count → IsPart count 1 0 (count / 2)
-root count whole = let e = whole.power in record { height = whole.height; power = omega arith; start = omega arith; end = omega arith }
 
 module _ {X : Type 0} (size estimate : X → ℕ) (nodes : List FrontierView) (places : List (Option X)) (tree : IsTree size estimate nodes places) where
   pub known : (node low span place : ℕ) (x : X) → IsPart (length nodes) node low span → slice_index_or places place None ≡ Some x → 64 * low ≤ place → place < 64 * (low + span) → IsBelow (node_at nodes node) (size x) (estimate x)

@@ -198,7 +198,7 @@ fn first_in_tree<T: Waits>(
     first_below(nodes, places, &root, &search)
 }
 
-// It looks in the tree, and then at the places that stand in no tree.
+/// The first place from one on where one waits who fits the offer, in the tree or behind its last leaf.
 pub(crate) fn first_from<T: Waits>(
     nodes: &mut [Frontier],
     places: &[Option<T>],

@@ -12,7 +12,6 @@ overflow_add-self g c =
     let fits = count_fits g.T.Waits.size g.T.Waits.estimate inside.places.items inside.nodes.items inside.len inside.head _ _ c.self.invariant in
     omega (arith, fits)
 
--- those before one who comes
 before : {X : Type 0} (places more : List X) (item : X) → more ≡ places ++ item ∷ [] → take (length more - 1) more ≡ places
 before places more item e =
     let shorter : length more - 1 ≡ length places = omega (arith, ap length e, length-append places (item ∷ [])) in
