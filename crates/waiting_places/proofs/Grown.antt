@@ -21,6 +21,8 @@ module _ {X : Type 0} (places : List (Option X)) (place : ℕ) where
       omega (arith, there, length-take (64 * (length places / 64)) places)
 
 module _ {X : Type 0} (size estimate : X → ℕ) (nodes : List FrontierView) (places : List (Option X)) (tree : IsTree size estimate nodes places) where
+  -- nodes that keep what these know are a tree of lower bounds too, over places where only those wait who waited there before, and
+  -- others whose leaf and all nodes above it are below them
   pub renewed : (new : List FrontierView) (more : List (Option X)) → length new ≡ length nodes → length more ≤ 32 * length nodes → ((k : ℕ) → Keeps (node_at nodes k) (node_at new k))
       → ((times place : ℕ) (x : X) → at_place more place ≡ Some x → 1 ≤ halved times (leaf_of (length nodes) place) → (at_place places place ≡ Some x) ⊎ IsBelow (node_at new (halved times (leaf_of (length nodes) place))) (size x) (estimate x)) → IsTree size estimate new more
   renewed new more len capacity kept met = record {

@@ -50,7 +50,9 @@ fn saturated(number: u64) -> u32
 
 /// How many leading bits of a size tell its class, so that there are at most as many classes as corners from the
 /// least size to the greatest.
-fn class_bits(least: u32, greatest: u32) -> u32 {
+fn class_bits(least: u32, greatest: u32) -> u32
+    ensures { result < 32 }
+{
     let octaves = least
         .leading_zeros()
         .saturating_sub(greatest.leading_zeros());
@@ -129,7 +131,17 @@ impl Frontier {
         self.stale
     }
 
-    /// One who waited below it has left.
+    pub(crate) fn is_same(&self, other: &Frontier) -> bool {
+        for at in 0..self.len {
+            let (corner, old) = (self.corners[at], other.corners[at]);
+            if corner.size != old.size || corner.estimate != old.estimate {
+                return false;
+            }
+        }
+        self.len == other.len
+    }
+
+    /// What it was made of has changed.
     pub(crate) fn set_stale(&mut self)
         ensures { Keeps self.old self.new }
     {
@@ -208,8 +220,9 @@ impl Frontier {
         self.len = len;
     }
 
-    /// One comes behind the last, which is no larger, or shares its corner where both are alike in so many bits.
-    fn push(&mut self, corner: &Corner, bits: u32)
+    /// One comes behind the last, which is no larger, or shares its corner where both are alike in so many bits. False
+    /// where it had to share one for want of capacity.
+    fn push(&mut self, corner: &Corner, bits: u32) -> bool
         requires { (k : ℕ) → k < self.old.len → (corner_at self.old k).size ≤ corner.now.size }
         ensures kept { Keeps self.old self.new }
         ensures met { IsBelow self.new corner.now.size corner.now.estimate }
@@ -219,18 +232,20 @@ impl Frontier {
         if len == 0 {
             self.corners[0] = *corner;
             self.len = 1;
-            return;
+            return true;
         }
         let last = self.corners[len - 1];
         if last.estimate <= corner.estimate {
-            return;
+            return true;
         }
-        if last.size == corner.size || len == CORNERS || are_alike(last.size, corner.size, bits) {
+        let shares = last.size == corner.size || are_alike(last.size, corner.size, bits);
+        if shares || len == CORNERS {
             self.corners[len - 1].estimate = corner.estimate;
-            return;
+            return shares;
         }
         self.corners[len] = *corner;
         self.len = len + 1;
+        true
     }
 
     fn add_corner(&mut self, corner: &Corner)
@@ -274,11 +289,10 @@ impl Frontier {
         self.corners[self.len.saturating_sub(1)].size
     }
 
-    /// By how many bits of their sizes corners are told apart where those of two become one's.
-    fn bits_with(&self, other: &Frontier) -> u32 {
-        if self.len + other.len <= CORNERS {
-            return ALL_BITS;
-        }
+    /// By how many bits of their sizes the corners of two are told apart where they are too many.
+    fn bits_with(&self, other: &Frontier) -> u32
+        ensures { result < 32 }
+    {
         let least = self.corners[0].size.min(other.corners[0].size);
         class_bits(least, self.greatest_size().max(other.greatest_size()))
     }
@@ -293,23 +307,38 @@ impl Frontier {
         self.stale = own.stale;
     }
 
-    /// Makes it that of two; it is stale where one of them is.
+    /// Makes it that of two.
     pub(crate) fn set_both(&mut self, a: &Frontier, b: &Frontier)
         ensures first { Keeps a.now self.new }
         ensures second { Keeps b.now self.new }
     {
-        let bits = a.bits_with(b);
+        if !self.merge(a, b, ALL_BITS) {
+            self.merge(a, b, a.bits_with(b));
+        }
+    }
+
+    /// Makes it that of two, of which sizes alike in so many bits share a corner. False where some others would have to;
+    /// by all bits it gives up there.
+    fn merge(&mut self, a: &Frontier, b: &Frontier, bits: u32) -> bool
+        ensures first { IsTrue result ⊎ bits < 32 → Keeps a.now self.new }
+        ensures second { IsTrue result ⊎ bits < 32 → Keeps b.now self.new }
+    {
         self.len = 0;
-        self.stale = a.stale || b.stale;
+        self.stale = false;
+        let mut whole = true;
         let mut i = 0;
         for at in 0..a.len + b.len {
+            if !whole && bits >= ALL_BITS {
+                return false;
+            }
             let j = at - i;
             if comes_first(a, i, b, j) {
-                self.push(&a.corners[i], bits);
+                whole &= self.push(&a.corners[i], bits);
                 i += 1;
             } else {
-                self.push(&b.corners[j], bits);
+                whole &= self.push(&b.corners[j], bits);
             }
         }
+        whole
     }
 }

@@ -10,7 +10,7 @@ use crate::growth::{LIST_LIMIT, nodes_for};
 use crate::offer::Offer;
 use crate::refused::Refused;
 use crate::search::{first_from, first_some};
-use crate::tree::{SPAN, lower, set_stale};
+use crate::tree::{SPAN, lower};
 use crate::waiting::Waiting;
 use crate::waits::Waits;
 use std::alloc::Allocator;
@@ -23,8 +23,8 @@ const PLACES_LIMIT: usize = 1 << 40;
 /// Those who wait, each at a place of its own in order of arrival. Who leaves leaves its place empty, so
 /// that it costs a step. Beside more than 128 places stands a tree, of 64 places to a leaf: each node has
 /// a lower bound on the Pareto frontier of the sizes and estimates below it. A leaf comes to the tree with
-/// the last of its places. A node below which one has left is made anew by the next search that looks
-/// there and finds nobody. And it is known of one offer from which place to which nobody fits it. Contracts
+/// the last of its places. One who leaves makes the leaf stale, and a stale node is made anew by the next
+/// search that looks there and finds nobody; where it changes, the node above is stale. And it is known of one offer from which place to which nobody fits it. Contracts
 /// see the places, and how many more surely find capacity.
 #[derive(Drop)]
 pub struct Places<T: Waits, A: Allocator + Copy> {
@@ -74,7 +74,7 @@ fn uncover(nodes: &mut [Frontier], place: usize)
         return;
     }
     let leaf = nodes.len() / 2 + place / SPAN;
-    set_stale(nodes, leaf);
+    nodes[leaf].set_stale();
 }
 
 fn head_from<T: Waits>(places: &[Option<T>], from: usize) -> usize

@@ -5,7 +5,7 @@ ghost use Rattle.waiting_places.specs.Tree.{IsPart, IsTree, covered};
 
 use crate::frontier::Frontier;
 use crate::offer::{Offer, holds};
-use crate::tree::{SPAN, raise, raise_leaf};
+use crate::tree::{SPAN, outdate_above, raise, raise_leaf};
 use crate::waits::Waits;
 
 pub(crate) fn first_some<T: Waits>(places: &[Option<T>], from: usize) -> Option<usize>
@@ -61,8 +61,11 @@ fn renew_leaf<T: Waits>(nodes: &mut [Frontier], places: &[Option<T>], leaf: usiz
     ensures tree { IsTree T.size T.estimate nodes.new places.now }
     ensures len { length nodes.new ≡ length nodes.old }
 {
-    if nodes[nodes.len() / 2 + leaf].is_stale() {
+    let node = nodes.len() / 2 + leaf;
+    let old = nodes[node];
+    if old.is_stale() {
         raise_leaf(nodes, places, leaf);
+        outdate_above(nodes, node, &old);
     }
 }
 
@@ -73,8 +76,10 @@ fn renew<T: Waits>(nodes: &mut [Frontier], places: &[Option<T>], node: usize)
     ensures tree { IsTree T.size T.estimate nodes.new places.now }
     ensures len { length nodes.new ≡ length nodes.old }
 {
-    if nodes[node].is_stale() {
+    let old = nodes[node];
+    if old.is_stale() {
         raise(nodes, node);
+        outdate_above(nodes, node, &old);
     }
 }
 

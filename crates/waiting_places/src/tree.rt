@@ -1,5 +1,5 @@
 // The frontier of a node is made anew from those of the two below it, and that of a leaf from those who wait at its
-// places, where one below it has left since.
+// places, where it is stale: one has left the leaf, or what is below the node has been made anew and has changed.
 ghost use Rattle.std.specs.Prelude.{◌≡◌, ◌≢◌, ℕ, ◌+◌, ◌*◌, ◌/◌, ◌≤◌, ◌<◌, length, slice_index_or, Some, None};
 ghost use Rattle.waiting_places.specs.Bounds.{IsBelow, Keeps};
 ghost use Rattle.waiting_places.specs.Tree.{halved, node_at};
@@ -24,16 +24,14 @@ pub(crate) fn lower(nodes: &mut [Frontier], leaf: usize, frontier: &Frontier)
     }
 }
 
-/// One has left a leaf, and so each node above it.
-pub(crate) fn set_stale(nodes: &mut [Frontier], leaf: usize)
-    requires { leaf < length nodes.old }
+/// The node above one is stale where that one isn't what it was.
+pub(crate) fn outdate_above(nodes: &mut [Frontier], node: usize, old: &Frontier)
+    requires { node < length nodes.old }
     ensures len { length nodes.new ≡ length nodes.old }
     ensures kept { (k : ℕ) → Keeps (node_at nodes.old k) (node_at nodes.new k) }
 {
-    let mut node = leaf;
-    while node > 0 {
-        nodes[node].set_stale();
-        node /= 2;
+    if !nodes[node].is_same(old) {
+        nodes[node / 2].set_stale();
     }
 }
 

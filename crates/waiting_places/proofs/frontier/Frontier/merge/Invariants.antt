@@ -1,6 +1,6 @@
 use Rattle.std.proofs.Common.{ℕ, ◌+◌, ◌-◌, ◌≤◌, ◌<◌}
 use Rattle.waiting_places.specs.Bounds.{IsBelow, corner_at}
-use Rattle.waiting_places.proofs.frontier.Frontier.set_both.Given as goal
+use Rattle.waiting_places.proofs.frontier.Frontier.merge.Given as goal
 
 abbrev pub invariant-loop-at : goal.invariant-loop-at
 invariant-loop-at l = record {
