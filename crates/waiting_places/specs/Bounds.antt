@@ -30,7 +30,7 @@ pub record IsBelow (f : FrontierView) (size estimate : ℕ) : Type 0 where
   pub small : (corner_at f corner).size ≤ size
   pub short : (corner_at f corner).estimate ≤ estimate
 
--- whoever is above the one frontier is above the other too
+-- whoever is above the one frontier, as large and as long as one of its corners, is above the other too
 abbrev pub Keeps : FrontierView → FrontierView → Type 0
 Keeps old new = (size estimate : ℕ) → IsBelow old size estimate → IsBelow new size estimate
 

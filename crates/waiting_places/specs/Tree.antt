@@ -16,7 +16,7 @@ node_at nodes k = slice_index_or nodes k (record { stale = false; len = 1; corne
 abbrev pub leaf_of : ℕ → ℕ → ℕ
 leaf_of count place = count / 2 + place / 64
 
--- the places of whole leaves: those of the last one stand in no tree until each has been taken
+-- the places of whole leaves: those of a last leaf that isn't full stand in no tree
 abbrev pub covered : {X : Type 0} → List (Option X) → List (Option X)
 covered places = take (64 * (length places / 64)) places
 

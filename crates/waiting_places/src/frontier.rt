@@ -1,5 +1,6 @@
 // A leaf has as many places as there may be corners. Where the corners of two nodes are too many, sizes that agree in
-// their leading bits share one: on each level these are the same sizes, so no bound falls from level to level.
+// their leading bits share one. Such a class is one of the level below or a union of some, so bounds fall from level
+// to level only where sizes range wider, and never below their class.
 ghost use Rattle.std.specs.Prelude.{◌≡◌, ◌⊎◌, ◌↔◌, ℕ, ◌-◌, ◌^◌, ◌≤◌, ◌<◌, ◌&&◌, IfSome, IsTrue, MatchOption, IsFalse, min, nat_le};
 ghost use Rattle.waiting_places.specs.Bounds.{AreAsLong, AreBelow, IsBelow, IsPlace, Keeps, MayFit, corner_at};
 
@@ -21,8 +22,8 @@ pub(crate) struct Corner {
 }
 
 /// What is known of those below a node, a lower bound on their Pareto frontier: each of them is at least as large and
-/// at least as long as one of its corners. These stand by size. It is stale where it may be lower than it would be if
-/// it were made anew.
+/// at least as long as one of its corners. These stand by size. It is stale once one has left the leaf, or what is below
+/// the node has been made anew and has changed.
 #[derive(Clone, Copy)]
 pub(crate) struct Frontier {
     stale: bool,
@@ -67,12 +68,12 @@ fn class_bits(least: u32, greatest: u32) -> u32
     }
 }
 
-/// Whether two sizes agree in so many bits, from the first one's highest on.
+/// Whether two sizes agree in so many bits, from the highest of the first on.
 fn are_alike(first: u32, second: u32, bits: u32) -> bool {
     (first ^ second).leading_zeros() >= first.leading_zeros().saturating_add(bits)
 }
 
-/// Whether the next corner, by size, is one of `a`, of which so many have come, as have of `b`.
+/// Whether the next corner by size is one of `a`, once `i` of `a` and `j` of `b` have come.
 fn comes_first(a: &Frontier, i: usize, b: &Frontier, j: usize) -> bool
     requires { i < a.now.len ⊎ j < b.now.len }
     ensures first { IsTrue result → (i < a.now.len) × (j < b.now.len → (corner_at a.now i).size ≤ (corner_at b.now j).size) }
@@ -131,7 +132,7 @@ impl Frontier {
         self.stale
     }
 
-    pub(crate) fn is_same(&self, other: &Frontier) -> bool {
+    pub(crate) fn has_same_corners(&self, other: &Frontier) -> bool {
         for at in 0..self.len {
             let (corner, old) = (self.corners[at], other.corners[at]);
             if corner.size != old.size || corner.estimate != old.estimate {
@@ -141,7 +142,7 @@ impl Frontier {
         self.len == other.len
     }
 
-    /// What it was made of has changed.
+    /// One has left the leaf, or what is below the node has changed.
     pub(crate) fn set_stale(&mut self)
         ensures { Keeps self.old self.new }
     {
@@ -167,8 +168,8 @@ impl Frontier {
         false
     }
 
-    /// Behind how many corners one stands by size; None where one that it meets is as small and as short. It looks at 0,
-    /// 1, 3, 7 and so on first: most are met there.
+    /// Behind how many corners one stands by size; None where one that is looked at is as small and as short. These are
+    /// 0, 2, 6, 14 and so on first: most who come are above one of the smallest.
     fn place_of(&self, corner: &Corner) -> Option<usize>
         ensures { MatchOption result (IsBelow self.now corner.now.size corner.now.estimate) (λ at. IsPlace self.now corner.now.size at) }
     {
@@ -201,8 +202,8 @@ impl Frontier {
         end
     }
 
-    /// One comes to its place, and those up to `end`, which are as large and as long, leave; where there is no
-    /// capacity, the one before it stands for both.
+    /// One comes to its place, and those up to `end`, which are as large and as long, leave. Where there is no capacity,
+    /// which no leaf comes to, the one before it stands for both, or the first.
     fn insert_at(&mut self, corner: &Corner, at: usize, end: usize)
         requires place { IsPlace self.old corner.now.size at }
         requires longer { AreAsLong self.old corner.now.estimate at end }
@@ -220,8 +221,8 @@ impl Frontier {
         self.len = len;
     }
 
-    /// One comes behind the last, which is no larger, or shares its corner where both are alike in so many bits. False
-    /// where it had to share one for want of capacity.
+    /// One comes behind the last, which is no larger: not at all where it is no shorter, into the last one's corner where
+    /// both are as large, or alike in so many bits. False where it had to share that one for lack of capacity.
     fn push(&mut self, corner: &Corner, bits: u32) -> bool
         requires { (k : ℕ) → k < self.old.len → (corner_at self.old k).size ≤ corner.now.size }
         ensures kept { Keeps self.old self.new }
@@ -297,7 +298,7 @@ impl Frontier {
         class_bits(least, self.greatest_size().max(other.greatest_size()))
     }
 
-    /// Those below another one come below it too.
+    /// It comes to bound those too whom another one bounds.
     pub(crate) fn lower(&mut self, other: &Frontier)
         ensures kept { Keeps self.old self.new }
         ensures met { Keeps other.now self.new }
@@ -317,8 +318,8 @@ impl Frontier {
         }
     }
 
-    /// Makes it that of two, of which sizes alike in so many bits share a corner. False where some others would have to;
-    /// by all bits it gives up there.
+    /// Makes it that of two, in which sizes alike in so many bits share a corner. False where sizes not alike had to share
+    /// one; called with all bits it stops there.
     fn merge(&mut self, a: &Frontier, b: &Frontier, bits: u32) -> bool
         ensures first { IsTrue result ⊎ bits < 32 → Keeps a.now self.new }
         ensures second { IsTrue result ⊎ bits < 32 → Keeps b.now self.new }

@@ -1,4 +1,4 @@
-//! Those who wait, each at a place of its own in order of arrival, in which the first who fits an
+//! Those who wait, each at a place of its own in order of arrival, among whom the first who fits an
 //! offer is soon found.
 #![tactic(auto)]
 

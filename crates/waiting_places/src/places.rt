@@ -21,11 +21,12 @@ use swf_text::Memory;
 const PLACES_LIMIT: usize = 1 << 40;
 
 /// Those who wait, each at a place of its own in order of arrival. Who leaves leaves its place empty, so
-/// that it costs a step. Beside more than 128 places stands a tree, of 64 places to a leaf: each node has
-/// a lower bound on the Pareto frontier of the sizes and estimates below it. A leaf comes to the tree with
-/// the last of its places. One who leaves makes the leaf stale, and a stale node is made anew by the next
-/// search that looks there and finds nobody; where it changes, the node above is stale. And it is known of one offer from which place to which nobody fits it. Contracts
-/// see the places, and how many more surely find capacity.
+/// that it costs a step. Beside capacity for more than 128 places stands a tree, of 64 places to a leaf:
+/// each node has a lower bound on the Pareto frontier of the sizes and estimates below it. A leaf comes to
+/// the tree with one at the last of its places. One who leaves makes the leaf stale, and a stale node is
+/// made anew by the next search that looks there and finds nobody; where it changes, the node above is
+/// stale. And it is known of one offer from which place to which nobody fits it. Contracts see the places,
+/// and how many more surely find capacity.
 #[derive(Drop)]
 pub struct Places<T: Waits, A: Allocator + Copy> {
     places: Vec<Option<T>, A>,
@@ -46,7 +47,7 @@ impl<T: Waits, A: Allocator + Copy> Model for Places<T, A> {
     ghost invariant = { λ p. IsPlaces T.size T.estimate p.places.items p.nodes.items p.len p.head (vec_capacity p.places) p.refused };
 }
 
-/// One has come to the last place: a leaf comes to the tree once each of its places has been taken.
+/// One has come to the last place: a leaf comes to the tree with one at the last of its places.
 fn cover<T: Waits>(nodes: &mut [Frontier], places: &[Option<T>])
     requires some { 1 ≤ length places.now }
     requires tree { 1 ≤ length nodes.old → IsTree T.size T.estimate nodes.old (covered (take (length places.now - 1) places.now)) }
@@ -65,7 +66,7 @@ fn cover<T: Waits>(nodes: &mut [Frontier], places: &[Option<T>])
 }
 
 /// One has left this place.
-fn uncover(nodes: &mut [Frontier], place: usize)
+fn outdate_leaf(nodes: &mut [Frontier], place: usize)
     requires { 1 ≤ length nodes.old → leaf_of (length nodes.old) place < length nodes.old }
     ensures len { length nodes.new ≡ length nodes.old }
     ensures kept { (k : ℕ) → Keeps (node_at nodes.old k) (node_at nodes.new k) }
@@ -172,8 +173,8 @@ impl<T: Waits, A: Allocator + Copy> Places<T, A> {
     /// Reserves capacity for so many more. Where there is none, those who wait move to the first places,
     /// in order; where there is, it takes no memory and nobody moves.
     ///
-    /// Memory where a growth was refused, or where more than 2^40 places would be needed; then nothing has
-    /// changed.
+    /// Memory where a growth was refused, or where twice those who wait and these are more than 2^40; then
+    /// nothing has changed.
     pub fn reserve(&mut self, count: usize) -> Result<(), Memory>
         ensures waiting { waiting self.new.places ≡ waiting self.old.places }
         ensures places { (self.new.places ≡ self.old.places) ⊎ (self.new.places ≡ map (λ item. Some item) (waiting self.old.places)) }
@@ -209,8 +210,8 @@ impl<T: Waits, A: Allocator + Copy> Places<T, A> {
         place
     }
 
-    /// Who waits at a place leaves it empty; None where nobody does. It costs a step, and where the first
-    /// leaves one for each empty place behind it.
+    /// Who waits at a place leaves it empty; None where nobody does. It costs a step and, where the first
+    /// leaves, one for each empty place up to the next who waits.
     pub fn take(&mut self, place: usize) -> Option<T>
         ensures item { result ≡ at_place self.old.places place }
         ensures places { self.new.places ≡ slice_set self.old.places place None }
@@ -220,7 +221,7 @@ impl<T: Waits, A: Allocator + Copy> Places<T, A> {
     {
         let item = *self.get(place)?;
         self.places[place] = None;
-        uncover(&mut self.nodes, place);
+        outdate_leaf(&mut self.nodes, place);
         self.len -= 1;
         self.head = head_from(self.places.as_slice(), self.head);
         Some(item)
@@ -245,7 +246,7 @@ impl<T: Waits, A: Allocator + Copy> Places<T, A> {
         }
     }
 
-    // What a search found out is remembered where it is more than what was known.
+    // What a search found out is remembered where it is more places than the search was spared.
     fn remember(&mut self, from: usize, known: usize, offer: &Offer, found: Option<usize>)
         requires { IsFirst (holds (fits T.size T.estimate offer.now)) self.old.places from (length self.old.places) found }
         ensures { self.new ≡ self.old }

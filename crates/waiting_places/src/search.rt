@@ -103,7 +103,7 @@ fn first_in_leaf<T: Waits>(
     None
 }
 
-/// The first place of those below a node, unless its frontier showed that there is none.
+/// The first place below a node, from `search.from` on, where one waits who fits the offer.
 #[cycle(first_below)]
 fn first_below<T: Waits>(
     nodes: &mut [Frontier],

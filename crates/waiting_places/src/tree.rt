@@ -10,7 +10,7 @@ use crate::waits::Waits;
 /// How many places a leaf has.
 pub(crate) const SPAN: usize = 64;
 
-/// Those below a frontier come to a leaf, and so below each node above it.
+/// A leaf and each node above it come to bound those too whom a frontier bounds.
 pub(crate) fn lower(nodes: &mut [Frontier], leaf: usize, frontier: &Frontier)
     requires { leaf < length nodes.old }
     ensures len { length nodes.new ≡ length nodes.old }
@@ -30,7 +30,7 @@ pub(crate) fn outdate_above(nodes: &mut [Frontier], node: usize, old: &Frontier)
     ensures len { length nodes.new ≡ length nodes.old }
     ensures kept { (k : ℕ) → Keeps (node_at nodes.old k) (node_at nodes.new k) }
 {
-    if !nodes[node].is_same(old) {
+    if !nodes[node].has_same_corners(old) {
         nodes[node / 2].set_stale();
     }
 }

@@ -25,11 +25,11 @@ pub invariant_of-self : goal.invariant_of-self
 invariant_of-self g c =
     let inside = c.self.inside in
     let at = seen _ _ c.args.place c.in_ok-item.field-0.now c.self.view_is c.in_ok-item.ensures in
-    let outcome = rw c.deref_mut.ensures.value at c.uncover.ensures in
+    let outcome = rw c.deref_mut.ensures.value at c.outdate_leaf.ensures in
     let places = set inside.places.items c.args.place None in
-    let long : length c.uncover.new.nodes ≡ inside.nodes.len = outcome.len ∙ sym inside.nodes.ok.0 in
-    subst (λ (nodes : List FrontierView). IsPlaces g.T.Waits.size g.T.Waits.estimate places nodes (inside.len - 1) c.head_from-self-inside.result (vec_capacity inside.places) inside.refused) (sym (with_items_is inside.nodes c.uncover.new.nodes long))
-    (leaves g.T.Waits.size g.T.Waits.estimate inside.places.items inside.nodes.items inside.len inside.head _ _ c.self.invariant c.args.place c.in_ok-item.field-0.now at c.head_from-self-inside.result (rw c.as_slice.ensures.value at c.head_from-self-inside.ensures) c.uncover.new.nodes outcome.len outcome.kept)
+    let long : length c.outdate_leaf.new.nodes ≡ inside.nodes.len = outcome.len ∙ sym inside.nodes.ok.0 in
+    subst (λ (nodes : List FrontierView). IsPlaces g.T.Waits.size g.T.Waits.estimate places nodes (inside.len - 1) c.head_from-self-inside.result (vec_capacity inside.places) inside.refused) (sym (with_items_is inside.nodes c.outdate_leaf.new.nodes long))
+    (leaves g.T.Waits.size g.T.Waits.estimate inside.places.items inside.nodes.items inside.len inside.head _ _ c.self.invariant c.args.place c.in_ok-item.field-0.now at c.head_from-self-inside.result (rw c.as_slice.ensures.value at c.head_from-self-inside.ensures) c.outdate_leaf.new.nodes outcome.len outcome.kept)
 
 pub returns-clause-waiting : goal.returns-clause-waiting
 returns-clause-waiting g c =
