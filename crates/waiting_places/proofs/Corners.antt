@@ -3,7 +3,7 @@ use Rattle.std.proofs.Common.{◌≡◌, ℕ, ◌+◌, ◌-◌, ◌≤◌, ◌<�
 use Rattle.std.proofs.lemmas.Bool.{cases_lt}
 use Rattle.std.proofs.lemmas.List.{get_or-set_same, get_or-set_other}
 use Rattle.std.specs.List.{CopiedTo, SameBelow}
-use Rattle.waiting_places.specs.declared.frontier.Corner.{Corner}
+use Rattle.waiting_places.specs.declared.corner.Corner.{Corner}
 use Rattle.waiting_places.specs.Bounds.{FrontierView, AreAsLong, IsBelow, IsPlace, Keeps, at_corner}
 
 abbrev nothing : Corner

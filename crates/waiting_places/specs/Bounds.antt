@@ -1,6 +1,6 @@
 -- What is known of those below a node of the tree: a lower bound on the Pareto frontier of their sizes and estimates.
 use Rattle.std.specs.Prelude.{◌≡◌, Option, None, Some, ℕ, ◌≤◌, ◌<◌, Bool, true, List, slice_index_or}
-use Rattle.waiting_places.specs.declared.frontier.Corner.{Corner}
+use Rattle.waiting_places.specs.declared.corner.Corner.{Corner}
 use Rattle.waiting_places.specs.declared.offer.Offer.{Offer}
 use Rattle.waiting_places.specs.Offers.{fits}
 

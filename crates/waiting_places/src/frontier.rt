@@ -1,9 +1,10 @@
 // A leaf has as many places as there may be corners. Where the corners of two nodes are too many, sizes that agree in
 // their leading bits share one. Such a class is one of the level below or a union of some, so bounds fall from level
 // to level only where sizes range wider, and never below their class.
-ghost use Rattle.std.specs.Prelude.{◌≡◌, ◌⊎◌, ◌↔◌, ℕ, ◌-◌, ◌^◌, ◌≤◌, ◌<◌, ◌&&◌, IfSome, IsTrue, MatchOption, IsFalse, min, nat_le};
+ghost use Rattle.std.specs.Prelude.{◌≡◌, ◌⊎◌, ◌↔◌, ℕ, ◌≤◌, ◌<◌, IfSome, IsTrue, MatchOption, IsFalse};
 ghost use Rattle.waiting_places.specs.Bounds.{AreAsLong, AreBelow, IsBelow, IsPlace, Keeps, MayFit, corner_at};
 
+use crate::corner::{Corner, are_alike, class_bits};
 use crate::offer::Offer;
 use crate::waits::Waits;
 use std::marker::Model;
@@ -13,13 +14,6 @@ const CORNERS: usize = 64;
 
 /// All bits of a size.
 const ALL_BITS: u32 = 32;
-
-/// A size and an estimate; those beyond `u32::MAX` as that.
-#[derive(Clone, Copy)]
-pub(crate) struct Corner {
-    size: u32,
-    estimate: u32,
-}
 
 /// What is known of those below a node, a lower bound on their Pareto frontier: each of them is at least as large and
 /// at least as long as one of its corners. These stand by size. It is stale once one has left the leaf, or what is below
@@ -43,36 +37,6 @@ impl Model for Frontier {
     ghost invariant = { λ f. IsFrontier f.len f.corners };
 }
 
-fn saturated(number: u64) -> u32
-    ensures { result ≡ min number (2 ^ 32 - 1) }
-{
-    u32::try_from(number).unwrap_or(u32::MAX)
-}
-
-/// How many leading bits of a size tell its class, so that there are at most as many classes as corners from the
-/// least size to the greatest.
-fn class_bits(least: u32, greatest: u32) -> u32
-    ensures { result < 32 }
-{
-    let octaves = least
-        .leading_zeros()
-        .saturating_sub(greatest.leading_zeros());
-    match octaves {
-        0 => 7,
-        1 => 6,
-        2..=3 => 5,
-        4..=7 => 4,
-        8..=15 => 3,
-        16..=31 => 2,
-        _ => 1,
-    }
-}
-
-/// Whether two sizes agree in so many bits, from the highest of the first on.
-fn are_alike(first: u32, second: u32, bits: u32) -> bool {
-    (first ^ second).leading_zeros() >= first.leading_zeros().saturating_add(bits)
-}
-
 /// Whether the next corner by size is one of `a`, once `i` of `a` and `j` of `b` have come.
 fn comes_first(a: &Frontier, i: usize, b: &Frontier, j: usize) -> bool
     requires { i < a.now.len ⊎ j < b.now.len }
@@ -83,34 +47,6 @@ fn comes_first(a: &Frontier, i: usize, b: &Frontier, j: usize) -> bool
         return false;
     }
     j >= b.len || a.corners[i].size <= b.corners[j].size
-}
-
-impl Corner {
-    fn of<T: Waits>(item: &T) -> Corner
-        ensures size { result.size ≡ min (T.size item.now) (2 ^ 32 - 1) }
-        ensures estimate { result.estimate ≡ min (T.estimate item.now) (2 ^ 32 - 1) }
-    {
-        Corner {
-            size: saturated(item.size()),
-            estimate: saturated(item.estimate()),
-        }
-    }
-
-    fn is_below(&self, other: &Corner) -> bool
-        ensures { result ≡ nat_le self.now.size other.now.size && nat_le self.now.estimate other.now.estimate }
-    {
-        self.size <= other.size && self.estimate <= other.estimate
-    }
-
-    fn least_of(&self, other: &Corner) -> Corner
-        ensures size { result.size ≡ min self.now.size other.now.size }
-        ensures estimate { result.estimate ≡ min self.now.estimate other.now.estimate }
-    {
-        Corner {
-            size: self.size.min(other.size),
-            estimate: self.estimate.min(other.estimate),
-        }
-    }
 }
 
 impl Frontier {

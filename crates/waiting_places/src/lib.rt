@@ -2,6 +2,7 @@
 //! offer is soon found.
 #![tactic(auto)]
 
+mod corner;
 mod frontier;
 mod growth;
 mod offer;

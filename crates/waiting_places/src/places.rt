@@ -1,16 +1,14 @@
 ghost use Rattle.std.specs.Prelude.{◌≡◌, ◌⊎◌, ◌↔◌, ℕ, ◌+◌, ◌-◌, ◌*◌, ◌^◌, ◌≤◌, ◌<◌, [], ◌∷◌, ◌++◌, IfOk, IfSome, IsOk, IsTrue, None, OnErr, OnOk, Some, drop, find, is_some, length, map, option_copied, slice_get, slice_set, take};
 ghost use Rattle.std.specs.List.{remove};
-ghost use Rattle.waiting_places.specs.Bounds.{Keeps};
 ghost use Rattle.waiting_places.specs.Offers.{fits, holds};
 ghost use Rattle.waiting_places.specs.Places.{IsFirst, IsHead, at_place, found_at, rank, waiting};
-ghost use Rattle.waiting_places.specs.Tree.{IsTree, covered, leaf_of, node_at};
 
 use crate::frontier::Frontier;
 use crate::growth::{LIST_LIMIT, nodes_for};
 use crate::offer::Offer;
 use crate::refused::Refused;
 use crate::search::{first_from, first_some};
-use crate::tree::{SPAN, lower};
+use crate::tree::{SPAN, cover, outdate_leaf};
 use crate::waiting::Waiting;
 use crate::waits::Waits;
 use std::alloc::Allocator;
@@ -45,37 +43,6 @@ impl<T: Waits, A: Allocator + Copy> Model for Places<T, A> {
     ghost view = { λ p. record { places = p.places.items; spare = min (vec_capacity p.places) (capacity_of (length p.nodes.items)) - length p.places.items } };
 
     ghost invariant = { λ p. IsPlaces T.size T.estimate p.places.items p.nodes.items p.len p.head (vec_capacity p.places) p.refused };
-}
-
-/// One has come to the last place: a leaf comes to the tree with one at the last of its places.
-fn cover<T: Waits>(nodes: &mut [Frontier], places: &[Option<T>])
-    requires some { 1 ≤ length places.now }
-    requires tree { 1 ≤ length nodes.old → IsTree T.size T.estimate nodes.old (covered (take (length places.now - 1) places.now)) }
-    requires capacity { 1 ≤ length nodes.old → length places.now ≤ 32 * length nodes.old }
-    ensures len { length nodes.new ≡ length nodes.old }
-    ensures tree { 1 ≤ length nodes.new → IsTree T.size T.estimate nodes.new (covered places.now) }
-{
-    if nodes.is_empty() || places.len() % SPAN != 0 {
-        return;
-    }
-    let from = places.len() - SPAN;
-    let mut frontier = Frontier::new();
-    frontier.set(&places[from..]);
-    let leaf = nodes.len() / 2 + from / SPAN;
-    lower(nodes, leaf, &frontier);
-}
-
-/// One has left this place.
-fn outdate_leaf(nodes: &mut [Frontier], place: usize)
-    requires { 1 ≤ length nodes.old → leaf_of (length nodes.old) place < length nodes.old }
-    ensures len { length nodes.new ≡ length nodes.old }
-    ensures kept { (k : ℕ) → Keeps (node_at nodes.old k) (node_at nodes.new k) }
-{
-    if nodes.is_empty() {
-        return;
-    }
-    let leaf = nodes.len() / 2 + place / SPAN;
-    nodes[leaf].set_stale();
 }
 
 fn head_from<T: Waits>(places: &[Option<T>], from: usize) -> usize

@@ -1,8 +1,8 @@
 // The frontier of a node is made anew from those of the two below it, and that of a leaf from those who wait at its
 // places, where it is stale: one has left the leaf, or what is below the node has been made anew and has changed.
-ghost use Rattle.std.specs.Prelude.{◌≡◌, ◌≢◌, ℕ, ◌+◌, ◌*◌, ◌/◌, ◌≤◌, ◌<◌, length, slice_index_or, Some, None};
+ghost use Rattle.std.specs.Prelude.{◌≡◌, ◌≢◌, ℕ, ◌+◌, ◌-◌, ◌*◌, ◌/◌, ◌≤◌, ◌<◌, length, slice_index_or, take, Some, None};
 ghost use Rattle.waiting_places.specs.Bounds.{IsBelow, Keeps};
-ghost use Rattle.waiting_places.specs.Tree.{halved, node_at};
+ghost use Rattle.waiting_places.specs.Tree.{IsTree, covered, halved, leaf_of, node_at};
 
 use crate::frontier::Frontier;
 use crate::waits::Waits;
@@ -11,7 +11,7 @@ use crate::waits::Waits;
 pub(crate) const SPAN: usize = 64;
 
 /// A leaf and each node above it come to bound those too whom a frontier bounds.
-pub(crate) fn lower(nodes: &mut [Frontier], leaf: usize, frontier: &Frontier)
+fn lower(nodes: &mut [Frontier], leaf: usize, frontier: &Frontier)
     requires { leaf < length nodes.old }
     ensures len { length nodes.new ≡ length nodes.old }
     ensures kept { (k : ℕ) → Keeps (node_at nodes.old k) (node_at nodes.new k) }
@@ -58,4 +58,35 @@ pub(crate) fn raise_leaf<T: Waits>(nodes: &mut [Frontier], places: &[Option<T>],
     let node = nodes.len() / 2 + leaf;
     let here = &places[from..to];
     nodes[node].set(here);
+}
+
+/// One has come to the last place: a leaf comes to the tree with one at the last of its places.
+pub(crate) fn cover<T: Waits>(nodes: &mut [Frontier], places: &[Option<T>])
+    requires some { 1 ≤ length places.now }
+    requires tree { 1 ≤ length nodes.old → IsTree T.size T.estimate nodes.old (covered (take (length places.now - 1) places.now)) }
+    requires capacity { 1 ≤ length nodes.old → length places.now ≤ 32 * length nodes.old }
+    ensures len { length nodes.new ≡ length nodes.old }
+    ensures tree { 1 ≤ length nodes.new → IsTree T.size T.estimate nodes.new (covered places.now) }
+{
+    if nodes.is_empty() || places.len() % SPAN != 0 {
+        return;
+    }
+    let from = places.len() - SPAN;
+    let mut frontier = Frontier::new();
+    frontier.set(&places[from..]);
+    let leaf = nodes.len() / 2 + from / SPAN;
+    lower(nodes, leaf, &frontier);
+}
+
+/// One has left this place.
+pub(crate) fn outdate_leaf(nodes: &mut [Frontier], place: usize)
+    requires { 1 ≤ length nodes.old → leaf_of (length nodes.old) place < length nodes.old }
+    ensures len { length nodes.new ≡ length nodes.old }
+    ensures kept { (k : ℕ) → Keeps (node_at nodes.old k) (node_at nodes.new k) }
+{
+    if nodes.is_empty() {
+        return;
+    }
+    let leaf = nodes.len() / 2 + place / SPAN;
+    nodes[leaf].set_stale();
 }

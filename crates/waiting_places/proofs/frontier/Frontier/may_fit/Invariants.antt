@@ -1,7 +1,7 @@
 use Rattle.std.proofs.Common.{◌≡◌, ℕ, ◌<◌, false}
 use Rattle.waiting_places.specs.Bounds.{corner_at}
 use Rattle.waiting_places.specs.Offers.{fits}
-use Rattle.waiting_places.specs.declared.frontier.Corner.{Corner}
+use Rattle.waiting_places.specs.declared.corner.Corner.{Corner}
 use Rattle.waiting_places.proofs.frontier.Frontier.may_fit.Given as goal
 
 abbrev pub invariant-loop-at : goal.invariant-loop-at

@@ -1,6 +1,6 @@
 use Rattle.std.proofs.Common.{◌≡◌, ◌+◌, ◌-◌, ◌*◌, ◌/◌, ◌≤◌, length, arith}
 use Rattle.waiting_places.proofs.Grown.{now_covered}
-use Rattle.waiting_places.proofs.places.cover.Goals as goal
+use Rattle.waiting_places.proofs.tree.cover.Goals as goal
 
 pub returns-clause-tree : goal.returns-clause-tree
 returns-clause-tree g c some =
