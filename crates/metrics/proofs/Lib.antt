@@ -3,6 +3,7 @@ mod DayLists
 mod Bounds
 mod Joins
 mod RisingLists
+mod ShortLists
 mod UserLists
 mod Storing
 mod Tallies
