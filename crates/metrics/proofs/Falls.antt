@@ -10,7 +10,7 @@ use Rattle.std.specs.List.Sorted.{IsStrictlySortedBy}
 use Rattle.std.proofs.lemmas.Cmp.{nat_cmp_total}
 use Rattle.std.proofs.lemmas.Bool.{cases_Bool}
 use Rattle.std.proofs.lemmas.Bool.Decides.{nat_tests}
-use Rattle.std.proofs.lemmas.List.Sums.{sum_by_more, sum_by_more_le, sum_by-take-le, sum_by-cons, sum_by-append, sum_by-le}
+use Rattle.std.proofs.lemmas.List.Sums.{sum_by_more, sum_by-take-le, sum_by-cons, get_or-le-sum_by, sum_by-append, sum_by-le}
 use Rattle.std.proofs.lemmas.List.Elements.{All-set, All-nil, All-take}
 use Rattle.std.proofs.Math.Nat.{mul-le-mul}
 use Rattle.scenarios.specs.declared.placed.Placed.{Placed}
@@ -27,8 +27,7 @@ use Rattle.metrics.proofs.RisingLists.{total_is, rises-set, rises-insert, All-in
 pub same_day : (q k : ℕ) → is_at (nat_cmp q) k ≡ eqb k q
 same_day q k = grind (arith, nat_tests)
 
--- no entries are falls
-pub no_falls : (es : List (ℕ × ℕ)) → es ≡ [] → IsFalls es
+no_falls : (es : List (ℕ × ℕ)) → es ≡ [] → IsFalls es
 unfolding IsStrictlySortedBy
 no_falls es e = let P : List (ℕ × ℕ) → Type 0 = IsFalls in subst P (sym e) (record { rise = tt; near = All-nil (λ (x : ℕ × ℕ). x.0 < 2 ^ 40) })
 
@@ -148,29 +147,26 @@ rest_fits n old s size e f =
     let r : s % 86400 + (86400 - s % 86400) ≡ 86400 = omega arith in
     let b = times_sum size (s % 86400) (86400 - s % 86400) 86400 r in omega (arith, a, b, f)
 
--- where what two lists have fits, the next entry of the left one fits behind the first ones of both
-pub left_fits : (es fs : List (ℕ × ℕ)) (i j : ℕ) (d : ℕ × ℕ) (n : ℕ) → i < length es → n ≡ from_day 0 (take i es) + from_day 0 (take j fs) → from_day 0 es + from_day 0 fs < 2 ^ 64 → n + (get_or es i d).1 < 2 ^ 64
-left_fits es fs i j d n l e h =
-    let f : ℕ × ℕ → ℕ = λ x. cond (nat_le 0 x.0) x.1 0 in
-    let z : nat_le 0 (get_or es i d).0 ≡ true = grind (arith, nat_tests) in
-    let a : sum_by f (take i es) + cond (nat_le 0 (get_or es i d).0) (get_or es i d).1 0 ≤ sum_by f es = sum_by_more_le f es i d l in
-    let b : cond (nat_le 0 (get_or es i d).0) (get_or es i d).1 0 ≡ (get_or es i d).1 = rw z refl in
-    let c : sum_by f (take j fs) ≤ sum_by f fs = sum_by-take-le f fs j in omega (arith, a, b, c, e, h)
+-- where what two lists have fits, so do an entry of the one and one of the other together
+pub pair_fits : (es fs : List (ℕ × ℕ)) (i j : ℕ) (d : ℕ × ℕ) → i < length es → j < length fs → from_day 0 es + from_day 0 fs < 2 ^ 64 → (get_or es i d).1 + (get_or fs j d).1 < 2 ^ 64
+pair_fits es fs i j d l m h = let a = less es i l in let b = less fs j m in omega (arith, a, b, h)
+  where
+    less : (xs : List (ℕ × ℕ)) (k : ℕ) → k < length xs → (get_or xs k d).1 ≤ from_day 0 xs
+    less xs k w =
+        let z : nat_le 0 (get_or xs k d).0 ≡ true = grind (arith, nat_tests) in
+        let a = get_or-le-sum_by (λ (x : ℕ × ℕ). cond (nat_le 0 x.0) x.1 0) xs k d w in
+        let b : cond (nat_le 0 (get_or xs k d).0) (get_or xs k d).1 0 ≡ (get_or xs k d).1 = rw z refl in omega (arith, a, b)
 
--- where what two lists have fits, the next entry of the right one fits behind the first ones of both
-pub right_fits : (es fs : List (ℕ × ℕ)) (i j : ℕ) (d : ℕ × ℕ) (n : ℕ) → j < length fs → n ≡ from_day 0 (take i es) + from_day 0 (take j fs) → from_day 0 es + from_day 0 fs < 2 ^ 64 → n + (get_or fs j d).1 < 2 ^ 64
-right_fits es fs i j d n l e h = left_fits fs es j i d n l (omega (arith, e)) (omega (arith, h))
+-- two falls and what they are together
+abbrev pub Adds : ℕ → ℕ → ℕ → Type 0
+Adds a b c = c ≡ a + b
 
-pub one_more : (t : ℕ → Bool) (es : List (ℕ × ℕ)) (i : ℕ) (d : ℕ × ℕ) → i < length es → total_at t (λ n. n) (take (i + 1) es) ≡ total_at t (λ n. n) (take i es) + cond (t (get_or es i d).0) (get_or es i d).1 0
+-- a fall behind a day that seconds reach
+abbrev pub IsNear : ℕ × ℕ → Type 0
+IsNear e = e.0 < 2 ^ 40
+
+one_more : (t : ℕ → Bool) (es : List (ℕ × ℕ)) (i : ℕ) (d : ℕ × ℕ) → i < length es → total_at t (λ n. n) (take (i + 1) es) ≡ total_at t (λ n. n) (take i es) + cond (t (get_or es i d).0) (get_or es i d).1 0
 one_more t es i d l = sum_by_more (λ (x : ℕ × ℕ). cond (t x.0) x.1 0) es i d l
-
--- with the next entry of the left list, a merge has what the first ones of both lists add up to
-pub takes_left : (t : ℕ → Bool) (es fs : List (ℕ × ℕ)) (i j : ℕ) (d : ℕ × ℕ) (n m : ℕ) → i < length es → n ≡ total_at t (λ n. n) (take i es) + total_at t (λ n. n) (take j fs) → m ≡ n + cond (t (get_or es i d).0) (get_or es i d).1 0 → m ≡ total_at t (λ n. n) (take (i + 1) es) + total_at t (λ n. n) (take j fs)
-takes_left t es fs i j d n m l is more = let o = one_more t es i d l in omega (arith, o, is, more)
-
--- with the next entry of the right list, a merge has what the first ones of both lists add up to
-pub takes_right : (t : ℕ → Bool) (es fs : List (ℕ × ℕ)) (i j : ℕ) (d : ℕ × ℕ) (n m : ℕ) → j < length fs → n ≡ total_at t (λ n. n) (take i es) + total_at t (λ n. n) (take j fs) → m ≡ n + cond (t (get_or fs j d).0) (get_or fs j d).1 0 → m ≡ total_at t (λ n. n) (take i es) + total_at t (λ n. n) (take (j + 1) fs)
-takes_right t es fs i j d n m l is more = let o = one_more t fs j d l in omega (arith, o, is, more)
 
 -- a list whose days rise has of each what stands there
 pub day_total_is : (q : ℕ) (es : List (ℕ × ℕ)) → IsStrictlySortedBy nat_cmp (keys_of es) → day_total q es ≡ unwrap_or (lookup (is_at (nat_cmp q)) es) 0

@@ -3,6 +3,7 @@ mod DayLists
 mod Bounds
 mod Joins
 mod RisingLists
+mod Merges
 mod ShortLists
 mod UserLists
 mod Storing

@@ -1,5 +1,5 @@
--- What entries by user add up to, also as one is changed or added, and as a merge takes the next entry of one list.
-use Rattle.std.proofs.Common.{◌≡◌, ℕ, ℤ, ◌+◌, ◌<◌, ◌≤◌, Bool, true, false, cond, List, [], ◌∷◌, length, take, set, get_or, map, refl, ap, sym, ◌∙◌, arith, unwrap_or, Option, Some, None, All, subst, Ok, Err}
+-- What entries by user add up to, also as one is changed or added, and as two lists are joined.
+use Rattle.std.proofs.Common.{◌≡◌, ℕ, ℤ, ◌+◌, ◌<◌, ◌≤◌, Bool, true, false, cond, List, [], ◌∷◌, length, set, get_or, map, refl, ap, sym, ◌∙◌, arith, unwrap_or, Option, Some, None, All, subst, Ok, Err, Equal}
 use Rattle.std.specs.Ordering.{int_cmp, int_eq}
 use Rattle.std.specs.BTreeMap.{is_at}
 use Rattle.std.specs.Map.{lookup, keys_of}
@@ -9,7 +9,7 @@ use Rattle.std.specs.List.Sorted.{IsStrictlySortedBy, IsPermutation}
 use Rattle.std.proofs.lemmas.Bool.Decides.{Decides-int_eq}
 use Rattle.std.proofs.lemmas.Cmp.{int_cmp_total}
 use Rattle.std.proofs.lemmas.List.Elements.{All-set, All-nil}
-use Rattle.std.proofs.lemmas.List.Sums.{sum_by_more, sum_by_more_le, sum_by-take-le, sum_by-cons, length-filter}
+use Rattle.std.proofs.lemmas.List.Sums.{sum_by-cons, get_or-le-sum_by, length-filter}
 use Rattle.std.proofs.lemmas.List.Sorted.{sum_by-IsPermutation, All-permutation, length_permutation}
 use Rattle.std.proofs.lemmas.Map.Entries.{All-lookup}
 use Rattle.std.proofs.lemmas.Map.Lookups.{exact_signed}
@@ -21,17 +21,12 @@ use Rattle.metrics.specs.Measures.{wait, slowdown, busy}
 use Rattle.metrics.specs.Users.{plus, no_sums, sums_of, is_of, user_total, CanAdd, IsUserList}
 use Rattle.metrics.specs.Placed.{IsPlaced}
 use Rattle.metrics.specs.Part.{AreJobs}
-use Rattle.metrics.specs.Entries.{IsFound}
+use Rattle.metrics.specs.Entries.{IsFound, total_at}
 use Rattle.metrics.proofs.RisingLists.{total_is, total-set, rises-set, rises-insert, All-insert}
 
-same_sums : (a b : UserSums) → a.count ≡ b.count → a.wait ≡ b.wait → a.slowdown ≡ b.slowdown → a.busy ≡ b.busy → a ≡ b
+-- sums are the same where each number of them is
+pub same_sums : (a b : UserSums) → a.count ≡ b.count → a.wait ≡ b.wait → a.slowdown ≡ b.slowdown → a.busy ≡ b.busy → a ≡ b
 same_sums a b c w s u = λ i. record { count = c i; wait = w i; slowdown = s i; busy = u i }
-
-pub plus-assoc : (a b c : UserSums) → plus (plus a b) c ≡ plus a (plus b c)
-plus-assoc a b c = let n : (k l m : ℕ) → (k + l) + m ≡ k + (l + m) = λ k l m. omega arith in same_sums (plus (plus a b) c) (plus a (plus b c)) (n a.count b.count c.count) (n a.wait b.wait c.wait) (n a.slowdown b.slowdown c.slowdown) (n a.busy b.busy c.busy)
-
-pub plus-swap : (a b c : UserSums) → plus (plus a b) c ≡ plus (plus a c) b
-plus-swap a b c = let n : (k l m : ℕ) → (k + l) + m ≡ (k + m) + l = λ k l m. omega arith in same_sums (plus (plus a b) c) (plus (plus a c) b) (n a.count b.count c.count) (n a.wait b.wait c.wait) (n a.slowdown b.slowdown c.slowdown) (n a.busy b.busy c.busy)
 
 added_if : (b : Bool) (a t s : UserSums) → t.count ≡ a.count + cond b s.count 0 → t.wait ≡ a.wait + cond b s.wait 0 → t.slowdown ≡ a.slowdown + cond b s.slowdown 0 → t.busy ≡ a.busy + cond b s.busy 0 → t ≡ plus a (cond b s no_sums)
 added_if true a t s c w d u = same_sums t (plus a s) c w d u
@@ -44,32 +39,33 @@ user-set q es i d w s l same more = added_if (int_eq q w.0) (user_total q es) (u
     (total-set int_cmp_total (λ x. x.slowdown) q es i d w s.slowdown l same (ap (λ (x : UserSums). x.slowdown) more))
     (total-set int_cmp_total (λ x. x.busy) q es i d w s.busy l same (ap (λ (x : UserSums). x.busy) more))
 
-pub user-more : (q : ℤ) (es : List (ℤ × UserSums)) (i : ℕ) (d : ℤ × UserSums) → i < length es → user_total q (take (i + 1) es) ≡ plus (user_total q (take i es)) (cond (int_eq q (get_or es i d).0) (get_or es i d).1 no_sums)
-user-more q es i d l =
-    let f : (UserSums → ℕ) → ℤ × UserSums → ℕ = λ n e. cond (int_eq q e.0) (n e.1) 0 in
-    added_if (int_eq q (get_or es i d).0) (user_total q (take i es)) (user_total q (take (i + 1) es)) (get_or es i d).1
-    (sum_by_more (f (λ s. s.count)) es i d l) (sum_by_more (f (λ s. s.wait)) es i d l) (sum_by_more (f (λ s. s.slowdown)) es i d l) (sum_by_more (f (λ s. s.busy)) es i d l)
-
 own : (u k : ℤ) → k ≡ u → int_eq u k ≡ true
 own u k e = (Decides-int_eq u k).1 (sym e)
 
--- where what two lists add up to for a user fits, the next entry of the left one fits behind the first ones of both
-pub next_fits : (u : ℤ) (es fs : List (ℤ × UserSums)) (i j : ℕ) (d : ℤ × UserSums) (t : UserSums) → i < length es → (get_or es i d).0 ≡ u → t ≡ plus (user_total u (take i es)) (user_total u (take j fs)) → CanAdd (user_total u es) (user_total u fs) → CanAdd t (get_or es i d).1
-next_fits u es fs i j d t l e is h = record {
-  count = let a = more (λ x. x.count) in let b = fewer (λ x. x.count) in let c = ap (λ (x : UserSums). x.count) is in omega (arith, a, b, c, h.count);
-  wait = let a = more (λ x. x.wait) in let b = fewer (λ x. x.wait) in let c = ap (λ (x : UserSums). x.wait) is in omega (arith, a, b, c, h.wait);
-  slowdown = let a = more (λ x. x.slowdown) in let b = fewer (λ x. x.slowdown) in let c = ap (λ (x : UserSums). x.slowdown) is in omega (arith, a, b, c, h.slowdown);
-  busy = let a = more (λ x. x.busy) in let b = fewer (λ x. x.busy) in let c = ap (λ (x : UserSums). x.busy) is in omega (arith, a, b, c, h.busy);
-}
+-- where what two lists add up to for a user fits, so do the sums of an entry of each, where both are of one user
+pub pair_fits : (es fs : List (ℤ × UserSums)) (i j : ℕ) (d : ℤ × UserSums) → i < length es → j < length fs → int_cmp (get_or es i d).0 (get_or fs j d).0 ≡ Equal → ((q : ℤ) → CanAdd (user_total q es) (user_total q fs)) → CanAdd (get_or es i d).1 (get_or fs j d).1
+pair_fits es fs i j d l m same h =
+    let u = (get_or es i d).0 in let f = h u in let k = sym (exact_signed u (get_or fs j d).0 same) in record {
+      count = let a = less (λ x. x.count) u es i l refl in let b = less (λ x. x.count) u fs j m k in omega (arith, a, b, f.count);
+      wait = let a = less (λ x. x.wait) u es i l refl in let b = less (λ x. x.wait) u fs j m k in omega (arith, a, b, f.wait);
+      slowdown = let a = less (λ x. x.slowdown) u es i l refl in let b = less (λ x. x.slowdown) u fs j m k in omega (arith, a, b, f.slowdown);
+      busy = let a = less (λ x. x.busy) u es i l refl in let b = less (λ x. x.busy) u fs j m k in omega (arith, a, b, f.busy);
+    }
   where
-    more : (n : UserSums → ℕ) → sum_by (λ (x : ℤ × UserSums). cond (int_eq u x.0) (n x.1) 0) (take i es) + n (get_or es i d).1 ≤ sum_by (λ (x : ℤ × UserSums). cond (int_eq u x.0) (n x.1) 0) es
-    more n =
-        let f : ℤ × UserSums → ℕ = λ x. cond (int_eq u x.0) (n x.1) 0 in
-        let a : sum_by f (take i es) + cond (int_eq u (get_or es i d).0) (n (get_or es i d).1) 0 ≤ sum_by f es = sum_by_more_le f es i d l in
-        let b = ap (λ t. cond t (n (get_or es i d).1) 0) (own u (get_or es i d).0 e) in omega (arith, a, b)
+    less : (n : UserSums → ℕ) (u : ℤ) (xs : List (ℤ × UserSums)) (k : ℕ) → k < length xs → (get_or xs k d).0 ≡ u → n (get_or xs k d).1 ≤ total_at (int_eq u) n xs
+    less n u xs k w e =
+        let a = get_or-le-sum_by (λ (x : ℤ × UserSums). cond (int_eq u x.0) (n x.1) 0) xs k d w in
+        let b = ap (λ t. cond t (n (get_or xs k d).1) 0) (own u (get_or xs k d).0 e) in omega (arith, a, b)
 
-    fewer : (n : UserSums → ℕ) → sum_by (λ (x : ℤ × UserSums). cond (int_eq u x.0) (n x.1) 0) (take j fs) ≤ sum_by (λ (x : ℤ × UserSums). cond (int_eq u x.0) (n x.1) 0) fs
-    fewer n = sum_by-take-le (λ (x : ℤ × UserSums). cond (int_eq u x.0) (n x.1) 0) fs j
+-- two sums and what they are together
+abbrev pub Adds : UserSums → UserSums → UserSums → Type 0
+Adds a b c = c ≡ plus a b
+
+-- where each sum of a list is that of two others together, the list adds up to what both do
+pub sums_joined : (es fs gs : List (ℤ × UserSums)) → ((n : UserSums → ℕ) → ((a b c : UserSums) → Adds a b c → n c ≡ n a + n b) → (t : ℤ → Bool) → total_at t n gs ≡ total_at t n es + total_at t n fs) → (q : ℤ) → user_total q gs ≡ plus (user_total q es) (user_total q fs)
+sums_joined es fs gs h q = same_sums (user_total q gs) (plus (user_total q es) (user_total q fs))
+    (h (λ x. x.count) (λ a b c e. ap (λ (x : UserSums). x.count) e) (int_eq q)) (h (λ x. x.wait) (λ a b c e. ap (λ (x : UserSums). x.wait) e) (int_eq q))
+    (h (λ x. x.slowdown) (λ a b c e. ap (λ (x : UserSums). x.slowdown) e) (int_eq q)) (h (λ x. x.busy) (λ a b c e. ap (λ (x : UserSums). x.busy) e) (int_eq q))
 
 abbrev parts : Option UserSums → UserSums
 parts o = record { count = unwrap_or (option_map (λ (x : UserSums). x.count) o) 0; wait = unwrap_or (option_map (λ (x : UserSums). x.wait) o) 0; slowdown = unwrap_or (option_map (λ (x : UserSums). x.slowdown) o) 0; busy = unwrap_or (option_map (λ (x : UserSums). x.busy) o) 0 }
@@ -133,26 +129,6 @@ pub list-insert : (u : ℤ) (es fs : List (ℤ × UserSums)) (i : ℕ) (s : User
 list-insert u es fs i s (l, (low, high)) e h k =
     let P : List (ℤ × UserSums) → Type 0 = IsUserList in
     subst P (sym e) (record { rise = rises-insert int_cmp_total es i (u, s) l low high k.rise; some = All-insert (λ (x : ℤ × UserSums). 0 < x.1.count) es i (u, s) k.some h })
-
--- with the next entry of the left list, a merge has what the first ones of both lists add up to for a user
-pub takes_left : (q : ℤ) (es fs : List (ℤ × UserSums)) (i j : ℕ) (d : ℤ × UserSums) (t n : UserSums) → i < length es → t ≡ plus (user_total q (take i es)) (user_total q (take j fs)) → n ≡ plus t (cond (int_eq q (get_or es i d).0) (get_or es i d).1 no_sums) → n ≡ plus (user_total q (take (i + 1) es)) (user_total q (take j fs))
-takes_left q es fs i j d t n l is more =
-    let e : UserSums = cond (int_eq q (get_or es i d).0) (get_or es i d).1 no_sums in
-    more ∙ ap (λ x. plus x e) is ∙ plus-swap (user_total q (take i es)) (user_total q (take j fs)) e ∙ ap (λ x. plus x (user_total q (take j fs))) (sym (user-more q es i d l))
-
--- with the next entry of the right list, a merge has what the first ones of both lists add up to for a user
-pub takes_right : (q : ℤ) (es fs : List (ℤ × UserSums)) (i j : ℕ) (d : ℤ × UserSums) (t n : UserSums) → j < length fs → t ≡ plus (user_total q (take i es)) (user_total q (take j fs)) → n ≡ plus t (cond (int_eq q (get_or fs j d).0) (get_or fs j d).1 no_sums) → n ≡ plus (user_total q (take i es)) (user_total q (take (j + 1) fs))
-takes_right q es fs i j d t n l is more =
-    let e : UserSums = cond (int_eq q (get_or fs j d).0) (get_or fs j d).1 no_sums in
-    more ∙ ap (λ x. plus x e) is ∙ plus-assoc (user_total q (take i es)) (user_total q (take j fs)) e ∙ ap (plus (user_total q (take i es))) (sym (user-more q fs j d l))
-
-plus-comm : (a b : UserSums) → plus a b ≡ plus b a
-plus-comm a b = let n : (k l : ℕ) → k + l ≡ l + k = λ k l. omega arith in same_sums (plus a b) (plus b a) (n a.count b.count) (n a.wait b.wait) (n a.slowdown b.slowdown) (n a.busy b.busy)
-
--- where what two lists add up to for a user fits, the next entry of the right one fits behind the first ones of both
-pub right_fits : (u : ℤ) (es fs : List (ℤ × UserSums)) (i j : ℕ) (d : ℤ × UserSums) (t : UserSums) → j < length fs → (get_or fs j d).0 ≡ u → t ≡ plus (user_total u (take i es)) (user_total u (take j fs)) → CanAdd (user_total u es) (user_total u fs) → CanAdd t (get_or fs j d).1
-right_fits u es fs i j d t l e is h = next_fits u fs es j i d t l e (is ∙ plus-comm (user_total u (take i es)) (user_total u (take j fs)))
-    (record { count = omega (arith, h.count); wait = omega (arith, h.wait); slowdown = omega (arith, h.slowdown); busy = omega (arith, h.busy) })
 
 -- jobs within the limits are so in another order
 pub jobs-moved : (ps qs : List Placed) → IsPermutation ps qs → AreJobs ps → AreJobs qs

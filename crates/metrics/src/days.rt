@@ -13,10 +13,11 @@ ghost use Rattle.metrics.specs.Part.{AreJobs};
 ghost use Rattle.metrics.specs.Sums.{AreFalls};
 ghost use Rattle.metrics.specs.Tables.{day_row_of};
 
-use crate::entries::{find, is_left_first};
+use crate::entries::find;
 use crate::rows::{DayRow, day_row};
 use scenarios::Placed;
 use std::alloc::{AllocError, Allocator};
+use std::cmp::Ordering;
 
 // A day, and by how much a sum falls behind it. A list has them by rising day.
 type Fall = (u64, u64);
@@ -72,24 +73,33 @@ fn merge_falls<A: Allocator + Copy>(
     right: &[Fall],
 ) -> Result<Falls<A>, AllocError>
     requires fits { from_day 0 left.now + from_day 0 right.now < 2 ^ 64 }
-    requires left { All (λ e. e.0 < 2 ^ 40) left.now }
-    requires right { All (λ e. e.0 < 2 ^ 40) right.now }
+    requires left { IsFalls left.now }
+    requires right { IsFalls right.now }
     ensures list { IfOk result (λ falls. IsFalls falls.items) }
     ensures sums { IfOk result (λ falls. (test : ℕ → Bool) → total_at test (λ n. n) falls.items ≡ total_at test (λ n. n) left.now + total_at test (λ n. n) right.now) }
 {
-    let count = left.len() + right.len();
-    let mut falls = Vec::with_capacity(alloc, count)?;
+    let mut falls = Vec::with_capacity(alloc, left.len() + right.len())?;
     let mut i = 0;
     let mut j = 0;
-    'entries: for _ in 0..count {
-        if is_left_first(left, i, right, j) {
-            add_fall(&mut falls, left[i].0, left[i].1)?;
-            i += 1;
-        } else {
-            add_fall(&mut falls, right[j].0, right[j].1)?;
-            j += 1;
+    'both: while i < left.len() && j < right.len() {
+        match left[i].0.cmp(&right[j].0) {
+            Ordering::Less => {
+                falls.push(left[i])?;
+                i += 1;
+            }
+            Ordering::Greater => {
+                falls.push(right[j])?;
+                j += 1;
+            }
+            Ordering::Equal => {
+                falls.push((left[i].0, left[i].1 + right[j].1))?;
+                i += 1;
+                j += 1;
+            }
         }
     }
+    falls.extend_from_slice(&left[i..])?;
+    falls.extend_from_slice(&right[j..])?;
     Ok(falls)
 }
 

@@ -1,8 +1,6 @@
 //! Lists of entries, each with a key, by rising key.
 
-// Keys that come in their order are found at the end by `find`, with no search. What `is_left_first` returns
-// decides only the order in which two lists are gone over.
-ghost use Rattle.std.specs.Prelude.{◌+◌, ◌<◌, ◌≤◌, length, IsTrue, IsFalse};
+// Keys that come in their order are found at the end, with no search.
 ghost use Rattle.std.specs.List.Sorted.{IsStrictlySortedBy};
 ghost use Rattle.std.specs.Map.{keys_of};
 ghost use Rattle.metrics.specs.Entries.{IsFound};
@@ -21,21 +19,4 @@ pub(crate) fn find<K: Ord + Copy, V>(entries: &[(K, V)], key: K) -> Result<usize
         Ordering::Equal => Ok(entries.len() - 1),
         Ordering::Greater => entries.binary_search_by_key(&key, |entry| entry.0),
     }
-}
-
-pub(crate) fn is_left_first<K: Ord, V>(
-    left: &[(K, V)],
-    i: usize,
-    right: &[(K, V)],
-    j: usize,
-) -> bool
-    requires some { i + j < length left.now + length right.now }
-    requires within { j ≤ length right.now }
-    ensures left { IsTrue result → i < length left.now }
-    ensures right { IsFalse result → j < length right.now }
-{
-    if j == right.len() {
-        return true;
-    }
-    i < left.len() && left[i].0 <= right[j].0
 }

@@ -1,15 +1,15 @@
 //! Sums by user as a part stores them, by rising user: the first ones in 64 bits a sum, as far as they fit,
 //! and the others. Two parts that have no others are merged in 64 bits, unless a sum of both does not fit.
 
-ghost use Rattle.std.specs.Prelude.{◌≡◌, ◌+◌, ◌<◌, ◌≤◌, ℤ, All, IfOk, IfSome, IsTrue, [], if◌then◌else◌, length, map, take};
-ghost use Rattle.std.specs.Ordering.{int_cmp, int_eq};
+ghost use Rattle.std.specs.Prelude.{◌≡◌, ◌≤◌, ℤ, IfOk, IfSome, [], length, map, take};
+ghost use Rattle.std.specs.Ordering.{int_cmp};
 ghost use Rattle.std.specs.BTreeMap.{is_at};
 ghost use Rattle.std.specs.Map.{keys_of, lookup};
 ghost use Rattle.std.specs.List.Sorted.{IsStrictlySortedBy};
 ghost use Rattle.metrics.specs.Stored.{long, long_of};
-ghost use Rattle.metrics.specs.Users.{CanAdd, IsUserList, no_sums, plus, user_total};
+ghost use Rattle.metrics.specs.Users.{CanAdd, IsUserList, plus, user_total};
 
-use crate::entries::{find, is_left_first};
+use crate::entries::find;
 use crate::users::{self, UserEntry, UserSums, Users, sums_at};
 use std::alloc::{AllocError, Allocator};
 use std::cmp::Ordering;
@@ -153,81 +153,43 @@ fn short_at(users: &[ShortEntry], user: i64) -> Option<ShortSums>
     }
 }
 
-// Adds a user's sums to the last entry, if it is the user's, or else behind it. False where the last entry is
-// a greater user's, or a sum of both does not fit.
-fn add_last<A: Allocator + Copy>(
-    users: &mut Vec<ShortEntry, A>,
-    user: i64,
-    sums: &ShortSums,
-) -> Result<bool, AllocError>
-    requires list { IsUserList (map long_of users.old.items) }
-    requires some { 0 < sums.now.count }
-    ensures list { IfOk result (λ added. IsTrue added → IsUserList (map long_of users.new.items)) }
-    ensures sums { IfOk result (λ added. IsTrue added → (q : ℤ) → user_total q (map long_of users.new.items) ≡ plus (user_total q (map long_of users.old.items)) (if int_eq q user then long sums.now else no_sums)) }
-{
-    let Some(last) = users.last() else {
-        users.push((user, *sums))?;
-        return Ok(true);
-    };
-    match last.0.cmp(&user) {
-        Ordering::Less => users.push((user, *sums))?,
-        Ordering::Equal => {
-            let Some(more) = last.1.plus(sums) else {
-                return Ok(false);
-            };
-            let place = users.len() - 1;
-            users[place].1 = more;
-        }
-        Ordering::Greater => return Ok(false),
-    }
-    Ok(true)
-}
-
+// None where sums of both do not fit.
 fn merge_short<A: Allocator + Copy>(
     alloc: A,
     left: &[ShortEntry],
     right: &[ShortEntry],
 ) -> Result<Option<Vec<ShortEntry, A>>, AllocError>
-    requires left { All (λ e. 0 < e.1.count) left.now }
-    requires right { All (λ e. 0 < e.1.count) right.now }
+    requires left { IsUserList (map long_of left.now) }
+    requires right { IsUserList (map long_of right.now) }
     ensures list { IfOk result (λ merged. IfSome merged (λ users. IsUserList (map long_of users.items))) }
     ensures sums { IfOk result (λ merged. IfSome merged (λ users. (q : ℤ) → user_total q (map long_of users.items) ≡ plus (user_total q (map long_of left.now)) (user_total q (map long_of right.now)))) }
 {
-    let count = left.len() + right.len();
-    let mut users = Vec::with_capacity(alloc, count)?;
+    let mut users = Vec::with_capacity(alloc, left.len() + right.len())?;
     let mut i = 0;
     let mut j = 0;
-    'entries: for _ in 0..count {
-        if is_left_first(left, i, right, j) {
-            if !add_last(&mut users, left[i].0, &left[i].1)? {
-                return Ok(None);
+    'both: while i < left.len() && j < right.len() {
+        match left[i].0.cmp(&right[j].0) {
+            Ordering::Less => {
+                users.push(left[i])?;
+                i += 1;
             }
-            i += 1;
-        } else {
-            if !add_last(&mut users, right[j].0, &right[j].1)? {
-                return Ok(None);
+            Ordering::Greater => {
+                users.push(right[j])?;
+                j += 1;
             }
-            j += 1;
+            Ordering::Equal => {
+                let Some(sums) = left[i].1.plus(&right[j].1) else {
+                    return Ok(None);
+                };
+                users.push((left[i].0, sums))?;
+                i += 1;
+                j += 1;
+            }
         }
     }
+    users.extend_from_slice(&left[i..])?;
+    users.extend_from_slice(&right[j..])?;
     Ok(Some(users))
-}
-
-fn merge_long<A: Allocator + Copy>(
-    alloc: A,
-    left: &Stored<A>,
-    right: &Stored<A>,
-) -> Result<Stored<A>, AllocError>
-    requires fits { (q : ℤ) → CanAdd (user_total q left.now) (user_total q right.now) }
-    requires left { All (λ e. 0 < e.1.count) left.now }
-    requires right { All (λ e. 0 < e.1.count) right.now }
-    ensures list { IfOk result (λ users. IsUserList users) }
-    ensures sums { IfOk result (λ users. (q : ℤ) → user_total q users ≡ plus (user_total q left.now) (user_total q right.now)) }
-{
-    let left = left.list(alloc)?;
-    let right = right.list(alloc)?;
-    let users = users::merge(alloc, left.as_slice(), right.as_slice())?;
-    Stored::of(alloc, users.as_slice())
 }
 
 pub(crate) fn merge<A: Allocator + Copy>(
@@ -236,15 +198,18 @@ pub(crate) fn merge<A: Allocator + Copy>(
     right: &Stored<A>,
 ) -> Result<Stored<A>, AllocError>
     requires fits { (q : ℤ) → CanAdd (user_total q left.now) (user_total q right.now) }
-    requires left { All (λ e. 0 < e.1.count) left.now }
-    requires right { All (λ e. 0 < e.1.count) right.now }
+    requires left { IsUserList left.now }
+    requires right { IsUserList right.now }
     ensures list { IfOk result (λ users. IsUserList users) }
     ensures sums { IfOk result (λ users. (q : ℤ) → user_total q users ≡ plus (user_total q left.now) (user_total q right.now)) }
 {
     if left.others.is_empty() && right.others.is_empty() {
-        if let Some(merged) = merge_short(alloc, left.short.as_slice(), right.short.as_slice())? {
-            return Stored::of_short(alloc, merged.as_slice());
+        if let Some(users) = merge_short(alloc, left.short.as_slice(), right.short.as_slice())? {
+            return Stored::of_short(alloc, users.as_slice());
         }
     }
-    merge_long(alloc, left, right)
+    let left = left.list(alloc)?;
+    let right = right.list(alloc)?;
+    let users = users::merge(alloc, left.as_slice(), right.as_slice())?;
+    Stored::of(alloc, users.as_slice())
 }

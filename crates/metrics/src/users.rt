@@ -1,6 +1,6 @@
 //! Sums by user.
 
-ghost use Rattle.std.specs.Prelude.{◌≡◌, ℤ, ◌+◌, ◌<◌, All, map, OnOk, IfOk, if◌then◌else◌};
+ghost use Rattle.std.specs.Prelude.{◌≡◌, ℤ, ◌+◌, ◌<◌, map, OnOk, IfOk, if◌then◌else◌};
 ghost use Rattle.std.specs.Ordering.{int_cmp, int_eq};
 ghost use Rattle.std.specs.BTreeMap.{is_at};
 ghost use Rattle.std.specs.Map.{keys_of, lookup};
@@ -9,10 +9,11 @@ ghost use Rattle.metrics.specs.Users.{plus, CanAdd, alone, no_sums, sums_of, use
 ghost use Rattle.metrics.specs.Placed.{CanStart};
 ghost use Rattle.metrics.specs.Part.{AreJobs};
 
-use crate::entries::{find, is_left_first};
+use crate::entries::find;
 use crate::measures;
 use scenarios::Placed;
 use std::alloc::{AllocError, Allocator};
+use std::cmp::Ordering;
 
 /// The sums over the jobs of one user: seconds of waiting, slowdowns in thousandths,
 /// processor-seconds.
@@ -121,23 +122,32 @@ pub(crate) fn merge<A: Allocator + Copy>(
     right: &[UserEntry],
 ) -> Result<Users<A>, AllocError>
     requires fits { (q : ℤ) → CanAdd (user_total q left.now) (user_total q right.now) }
-    requires left { All (λ e. 0 < e.1.count) left.now }
-    requires right { All (λ e. 0 < e.1.count) right.now }
+    requires left { IsUserList left.now }
+    requires right { IsUserList right.now }
     ensures list { IfOk result (λ users. IsUserList users.items) }
     ensures sums { IfOk result (λ users. (q : ℤ) → user_total q users.items ≡ plus (user_total q left.now) (user_total q right.now)) }
 {
-    let count = left.len() + right.len();
-    let mut users = Vec::with_capacity(alloc, count)?;
+    let mut users = Vec::with_capacity(alloc, left.len() + right.len())?;
     let mut i = 0;
     let mut j = 0;
-    'entries: for _ in 0..count {
-        if is_left_first(left, i, right, j) {
-            add_user(&mut users, left[i].0, &left[i].1)?;
-            i += 1;
-        } else {
-            add_user(&mut users, right[j].0, &right[j].1)?;
-            j += 1;
+    'both: while i < left.len() && j < right.len() {
+        match left[i].0.cmp(&right[j].0) {
+            Ordering::Less => {
+                users.push(left[i])?;
+                i += 1;
+            }
+            Ordering::Greater => {
+                users.push(right[j])?;
+                j += 1;
+            }
+            Ordering::Equal => {
+                users.push((left[i].0, left[i].1.plus(&right[j].1)))?;
+                i += 1;
+                j += 1;
+            }
         }
     }
+    users.extend_from_slice(&left[i..])?;
+    users.extend_from_slice(&right[j..])?;
     Ok(users)
 }

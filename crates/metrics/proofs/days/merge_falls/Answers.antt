@@ -1,60 +1,52 @@
-use Rattle.std.proofs.Common.{ℕ, ◌+◌, List, take, ap, sym, subst, refl, arith, ◌∙◌}
-use Rattle.std.specs.Prelude.{nat_le}
-use Rattle.std.proofs.lemmas.List.{take_all}
-use Rattle.metrics.specs.Days.{IsFalls}
-use Rattle.metrics.specs.Entries.{total_at}
-use Rattle.metrics.proofs.Falls.{left_fits, no_falls, right_fits, takes_left, takes_right}
-use Rattle.metrics.proofs.days.merge_falls.Goals.{then-is_left_first+in_ok-add_fall, else-is_left_first+in_ok-add_fall-2}
+use Rattle.std.proofs.Common.{◌≤◌, ◌⊎◌, ◌+◌, ℕ, inl, inr, arith, get_or, sym, refl, length}
+use Rattle.std.proofs.lemmas.Cmp.{nat_cmp_total}
+use Rattle.std.proofs.lemmas.Map.Lookups.{exact_unsigned}
+use Rattle.metrics.proofs.Falls.{Adds, IsNear, pair_fits}
+use Rattle.metrics.proofs.Merges.{merged_none, merged_left, merged_right, merged_both, merged_rises, merged_each, merged_sums}
+use Rattle.metrics.proofs.days.merge_falls.Goals.{then-both-test+else-j-right, else-both-test}
 use Rattle.metrics.proofs.days.merge_falls.Goals as goal
 
-pub entries-init : goal.entries-init
-entries-init g c = record { gone = refl; left = omega arith; right = omega arith; list = no_falls _ c.in_ok-falls.ensures.items; sums = λ t. ap (total_at t (λ (n : ℕ). n)) c.in_ok-falls.ensures.items }
+abbrev nothing : ℕ × ℕ
+nothing = (0, 0)
 
-pub is_left_first-requires-clause-some : goal.is_left_first-requires-clause-some
-is_left_first-requires-clause-some g c = omega (arith, c.entries.invariant.gone, c.entries-test.true)
+pub both-init : goal.both-init
+both-init g c = record { left = omega arith; right = omega arith; merged = merged_none nat_cmp_total IsNear Adds c.args.left.now c.args.right.now _ c.requires.left.rise c.requires.right.rise c.in_ok-falls.ensures.items }
 
-pub is_left_first-requires-clause-within : goal.is_left_first-requires-clause-within
-is_left_first-requires-clause-within g c = c.entries.invariant.right
+pub both-preserved-in-Less : goal.both-preserved-in-Less
+both-preserved-in-Less g c = record {
+  left = omega (arith, c.both-test.true);
+  right = c.both.invariant.right;
+  merged = merged_left nat_cmp_total IsNear Adds c.args.left.now c.args.right.now c.both.falls.items c.push.new.self.items c.both.i c.both.j nothing c.both-test.true c.if-j-right.true c.requires.left.near (sym c.in-Less.ensures) c.in_ok-push-in-Less.ensures.items c.both.invariant.merged;
+}
 
-pub add_fall-requires-clause-near : goal.add_fall-requires-clause-near
-add_fall-requires-clause-near g c = c.requires.left c.entries.i (0, 0) (c.if-is_left_first.ensures.left refl)
+pub both-preserved-in-Greater : goal.both-preserved-in-Greater
+both-preserved-in-Greater g c = record {
+  left = c.both.invariant.left;
+  right = omega (arith, c.if-j-right.true);
+  merged = merged_right nat_cmp_total IsNear Adds c.args.left.now c.args.right.now c.both.falls.items c.push-in-Greater.new.self.items c.both.i c.both.j nothing c.both-test.true c.if-j-right.true c.requires.right.near (sym c.in-Greater.ensures) c.in_ok-push-in-Greater.ensures.items c.both.invariant.merged;
+}
 
-pub add_fall-requires-clause-fits : goal.add_fall-requires-clause-fits
-add_fall-requires-clause-fits g c = left_fits c.args.left.now c.args.right.now c.entries.i c.entries.j (0, 0) _ (c.if-is_left_first.ensures.left refl) (c.entries.invariant.sums (nat_le 0)) c.requires.fits
+pub both-preserved : goal.both-preserved
+both-preserved g c =
+    record {
+      left = omega (arith, c.both-test.true);
+      right = omega (arith, c.if-j-right.true);
+      merged = merged_both nat_cmp_total IsNear Adds exact_unsigned c.args.left.now c.args.right.now c.both.falls.items c.push-in-Equal.new.self.items c.both.i c.both.j nothing ((get_or c.args.left.now c.both.i nothing).1 + (get_or c.args.right.now c.both.j nothing).1) c.both-test.true c.if-j-right.true (sym c.in-Equal.ensures) (c.requires.left.near c.both.i nothing c.both-test.true) refl c.in_ok-push-in-Equal.ensures.items c.both.invariant.merged;
+    }
 
-pub add_fall-requires-else-is_left_first-clause-near : goal.add_fall-requires-else-is_left_first-clause-near
-add_fall-requires-else-is_left_first-clause-near g c = c.requires.right c.entries.j (0, 0) (c.if-is_left_first.ensures.right refl)
-
-pub add_fall-requires-else-is_left_first-clause-fits : goal.add_fall-requires-else-is_left_first-clause-fits
-add_fall-requires-else-is_left_first-clause-fits g c = right_fits c.args.left.now c.args.right.now c.entries.i c.entries.j (0, 0) _ (c.if-is_left_first.ensures.right refl) (c.entries.invariant.sums (nat_le 0)) c.requires.fits
-
-pub entries-preserved : goal.entries-preserved
-entries-preserved g c = elim c.if-is_left_first.branch [
-  | then-is_left_first+in_ok-add_fall w ↦ record {
-    gone = omega (arith, c.entries.invariant.gone, w.i-is, w.j-is);
-    left = omega (arith, c.entries.invariant.left, w.i-is, w.if-is_left_first.ensures.left refl);
-    right = omega (arith, c.entries.invariant.right, w.j-is, w.if-is_left_first.ensures.left refl);
-    list = (let P : List (ℕ × ℕ) → Type 0 = IsFalls in subst P (sym (ap (λ v. v.items) w.falls-is)) w.in_ok-add_fall.ensures.list);
-    sums = λ t.
-        ap (λ (v : List (ℕ × ℕ)). total_at t (λ (n : ℕ). n) v) (ap (λ v. v.items) w.falls-is) ∙ takes_left t c.args.left.now c.args.right.now c.entries.i c.entries.j (0, 0) _ _ (w.if-is_left_first.ensures.left refl) (c.entries.invariant.sums t) (w.in_ok-add_fall.ensures.sums t)
-        ∙ (λ k. total_at t (λ (n : ℕ). n) (take (sym w.i-is k) c.args.left.now) + total_at t (λ (n : ℕ). n) (take (sym w.j-is k) c.args.right.now));
-  }
-  | else-is_left_first+in_ok-add_fall-2 w ↦ record {
-    gone = omega (arith, c.entries.invariant.gone, w.i-is, w.j-is);
-    left = omega (arith, c.entries.invariant.left, w.i-is, w.if-is_left_first.ensures.right refl);
-    right = omega (arith, c.entries.invariant.right, w.j-is, w.if-is_left_first.ensures.right refl);
-    list = (let P : List (ℕ × ℕ) → Type 0 = IsFalls in subst P (sym (ap (λ v. v.items) w.falls-is)) w.in_ok-add_fall-2.ensures.list);
-    sums = λ t.
-        ap (λ (v : List (ℕ × ℕ)). total_at t (λ (n : ℕ). n) v) (ap (λ v. v.items) w.falls-is) ∙ takes_right t c.args.left.now c.args.right.now c.entries.i c.entries.j (0, 0) _ _ (w.if-is_left_first.ensures.right refl) (c.entries.invariant.sums t) (w.in_ok-add_fall-2.ensures.sums t)
-        ∙ (λ k. total_at t (λ (n : ℕ). n) (take (sym w.i-is k) c.args.left.now) + total_at t (λ (n : ℕ). n) (take (sym w.j-is k) c.args.right.now));
-  }
-]
+pub overflow_add-left-in-Equal : goal.overflow_add-left-in-Equal
+overflow_add-left-in-Equal g c = let p = pair_fits c.args.left.now c.args.right.now c.both.i c.both.j nothing c.both-test.true c.if-j-right.true c.requires.fits in omega (arith, p)
 
 pub returns-clause-list : goal.returns-clause-list
-returns-clause-list g c = c.entries.invariant.list
+returns-clause-list g c =
+    let end : (length c.args.left.now ≤ c.both.i) ⊎ (length c.args.right.now ≤ c.both.j) = elim c.both-test.branch [
+      | then-both-test+else-j-right w ↦ inr (omega (arith, w.if-j-right.false))
+      | else-both-test w ↦ inl (omega (arith, w.both-test.false))
+    ] in
+    let rise = merged_rises nat_cmp_total IsNear Adds c.args.left.now c.args.right.now c.both.falls.items c.extend_from_slice.new.self.items c.extend_from_slice-2.new.self.items c.both.i c.both.j end c.in_ok-extend_from_slice.ensures.items c.in_ok-extend_from_slice-2.ensures.items c.both.invariant.merged in
+    let each = merged_each nat_cmp_total IsNear Adds c.args.left.now c.args.right.now c.both.falls.items c.extend_from_slice.new.self.items c.extend_from_slice-2.new.self.items c.both.i c.both.j c.requires.left.near c.requires.right.near c.in_ok-extend_from_slice.ensures.items c.in_ok-extend_from_slice-2.ensures.items c.both.invariant.merged in
+    record { rise = rise; near = each }
 
 pub returns-clause-sums : goal.returns-clause-sums
-returns-clause-sums g c = λ t.
-    let i = take_all c.entries.i c.args.left.now (omega (arith, c.entries.invariant.gone, c.entries.invariant.right, c.entries-test.false)) in
-    let j = take_all c.entries.j c.args.right.now (omega (arith, c.entries.invariant.gone, c.entries.invariant.left, c.entries-test.false)) in
-    c.entries.invariant.sums t ∙ (λ k. total_at t (λ (n : ℕ). n) (i k) + total_at t (λ (n : ℕ). n) (j k))
+returns-clause-sums g c = λ test.
+    merged_sums nat_cmp_total IsNear Adds c.args.left.now c.args.right.now c.both.falls.items c.extend_from_slice.new.self.items c.extend_from_slice-2.new.self.items c.both.i c.both.j c.in_ok-extend_from_slice.ensures.items c.in_ok-extend_from_slice-2.ensures.items c.both.invariant.merged (λ n. n) (λ a b c e. e) test

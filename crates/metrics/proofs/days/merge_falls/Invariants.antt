@@ -1,13 +1,15 @@
-use Rattle.std.proofs.Common.{◌≡◌, ℕ, ◌+◌, ◌≤◌, Bool, take, length}
-use Rattle.metrics.specs.Days.{IsFalls}
-use Rattle.metrics.specs.Entries.{total_at}
+use Rattle.std.proofs.Common.{◌+◌, ◌-◌, ◌≤◌, length}
+use Rattle.std.specs.Ordering.{nat_cmp}
+use Rattle.metrics.proofs.Falls.{Adds, IsNear}
+use Rattle.metrics.proofs.Merges.{IsMerged}
 use Rattle.metrics.proofs.days.merge_falls.Given as goal
 
-abbrev pub invariant-entries : goal.invariant-entries
-invariant-entries g l = record {
-  gone : l.i + l.j ≡ l.counter;
+abbrev pub decreases-both : goal.decreases-both
+decreases-both g l = (length l.left - l.i) + (length l.right - l.j)
+
+abbrev pub invariant-both : goal.invariant-both
+invariant-both g l = record {
   left : l.i ≤ length l.left;
   right : l.j ≤ length l.right;
-  list : IsFalls l.falls.items;
-  sums : (t : ℕ → Bool) → total_at t (λ n. n) l.falls.items ≡ total_at t (λ n. n) (take l.i l.left) + total_at t (λ n. n) (take l.j l.right);
+  merged : IsMerged nat_cmp IsNear Adds l.left l.right l.i l.j l.falls.items;
 }

@@ -1,13 +1,15 @@
-use Rattle.std.proofs.Common.{◌≡◌, ℤ, ◌+◌, ◌≤◌, take, length, map}
-use Rattle.metrics.specs.Stored.{long_of}
-use Rattle.metrics.specs.Users.{plus, user_total, IsUserList}
+use Rattle.std.proofs.Common.{◌+◌, ◌-◌, ◌≤◌, length}
+use Rattle.std.specs.Ordering.{int_cmp}
+use Rattle.metrics.proofs.ShortLists.{Adds, HasJob}
+use Rattle.metrics.proofs.Merges.{IsMerged}
 use Rattle.metrics.proofs.stored.merge_short.Given as goal
 
-abbrev pub invariant-entries : goal.invariant-entries
-invariant-entries g l = record {
-  gone : l.i + l.j ≡ l.counter;
+abbrev pub decreases-both : goal.decreases-both
+decreases-both g l = (length l.left - l.i) + (length l.right - l.j)
+
+abbrev pub invariant-both : goal.invariant-both
+invariant-both g l = record {
   left : l.i ≤ length l.left;
   right : l.j ≤ length l.right;
-  list : IsUserList (map long_of l.users.items);
-  sums : (q : ℤ) → user_total q (map long_of l.users.items) ≡ plus (user_total q (take l.i (map long_of l.left))) (user_total q (take l.j (map long_of l.right)));
+  merged : IsMerged int_cmp HasJob Adds l.left l.right l.i l.j l.users.items;
 }

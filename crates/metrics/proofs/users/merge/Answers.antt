@@ -1,61 +1,60 @@
-use Rattle.std.proofs.Common.{ℤ, List, get_or, take, ap, sym, subst, refl, arith, ◌∙◌, rules, w64, pos}
+use Rattle.std.proofs.Common.{◌≤◌, ◌⊎◌, ◌<◌, ℤ, ap, inl, inr, arith, get_or, sym, pos, length, rules, w64}
 use mir.Val.{SFits}
 use Rattle.std.proofs.lemmas.Int.{to_z-of_z}
+use Rattle.std.proofs.lemmas.Cmp.{int_cmp_total}
+use Rattle.std.proofs.lemmas.Map.Lookups.{exact_signed}
 use Rattle.metrics.specs.declared.users.UserSums.{UserSums}
-use Rattle.std.proofs.lemmas.List.{take_all}
-use Rattle.metrics.specs.Users.{no_sums, plus, user_total, IsUserList}
-use Rattle.metrics.proofs.UserLists.{no_users, next_fits, right_fits, takes_left, takes_right}
-use Rattle.metrics.proofs.users.merge.Goals.{then-is_left_first+in_ok-add_user, else-is_left_first+in_ok-add_user-2}
+use Rattle.metrics.specs.Users.{no_sums}
+use Rattle.metrics.proofs.UserLists.{Adds, pair_fits, sums_joined}
+use Rattle.metrics.proofs.Merges.{merged_none, merged_left, merged_right, merged_both, merged_rises, merged_each, merged_sums}
+use Rattle.metrics.proofs.users.merge.Goals.{then-both-test+else-j-right, else-both-test}
 use Rattle.metrics.proofs.users.merge.Goals as goal
 
-pub entries-init : goal.entries-init
-entries-init g c = record { gone = refl; left = omega arith; right = omega arith; list = no_users _ c.in_ok-users.ensures.items; sums = λ q. ap (user_total q) c.in_ok-users.ensures.items }
+abbrev nothing : ℤ × UserSums
+nothing = (pos 0, no_sums)
 
-pub is_left_first-requires-clause-some : goal.is_left_first-requires-clause-some
-is_left_first-requires-clause-some g c = omega (arith, c.entries.invariant.gone, c.entries-test.true)
+abbrev HasJob : ℤ × UserSums → Type 0
+HasJob e = 0 < e.1.count
 
-pub is_left_first-requires-clause-within : goal.is_left_first-requires-clause-within
-is_left_first-requires-clause-within g c = c.entries.invariant.right
+pub both-init : goal.both-init
+both-init g c = record { left = omega arith; right = omega arith; merged = merged_none int_cmp_total HasJob Adds c.args.left.now c.args.right.now _ c.requires.left.rise c.requires.right.rise c.in_ok-users.ensures.items }
 
-pub add_user-requires-clause-fits : goal.add_user-requires-clause-fits
-add_user-requires-clause-fits g c =
-    let f : SFits w64 (get_or c.args.left.now c.entries.i (pos 0, no_sums)).0 = search rules in
-    rw (to_z-of_z w64 (get_or c.args.left.now c.entries.i (pos 0, no_sums)).0 f) (next_fits (get_or c.args.left.now c.entries.i (pos 0, no_sums)).0 c.args.left.now c.args.right.now c.entries.i c.entries.j (pos 0, no_sums) (user_total (get_or c.args.left.now c.entries.i (pos 0, no_sums)).0 c.entries.users.items) (c.if-is_left_first.ensures.left refl) refl (c.entries.invariant.sums (get_or c.args.left.now c.entries.i (pos 0, no_sums)).0) (c.requires.fits (get_or c.args.left.now c.entries.i (pos 0, no_sums)).0))
+pub both-preserved-in-Less : goal.both-preserved-in-Less
+both-preserved-in-Less g c = record {
+  left = omega (arith, c.both-test.true);
+  right = c.both.invariant.right;
+  merged = merged_left int_cmp_total HasJob Adds c.args.left.now c.args.right.now c.both.users.items c.push.new.self.items c.both.i c.both.j nothing c.both-test.true c.if-j-right.true c.requires.left.some (sym c.in-Less.ensures) c.in_ok-push-in-Less.ensures.items c.both.invariant.merged;
+}
 
-pub add_user-requires-else-is_left_first-clause-fits : goal.add_user-requires-else-is_left_first-clause-fits
-add_user-requires-else-is_left_first-clause-fits g c =
-    let f : SFits w64 (get_or c.args.right.now c.entries.j (pos 0, no_sums)).0 = search rules in
-    rw (to_z-of_z w64 (get_or c.args.right.now c.entries.j (pos 0, no_sums)).0 f) (right_fits (get_or c.args.right.now c.entries.j (pos 0, no_sums)).0 c.args.left.now c.args.right.now c.entries.i c.entries.j (pos 0, no_sums) (user_total (get_or c.args.right.now c.entries.j (pos 0, no_sums)).0 c.entries.users.items) (c.if-is_left_first.ensures.right refl) refl (c.entries.invariant.sums (get_or c.args.right.now c.entries.j (pos 0, no_sums)).0) (c.requires.fits (get_or c.args.right.now c.entries.j (pos 0, no_sums)).0))
+pub both-preserved-in-Greater : goal.both-preserved-in-Greater
+both-preserved-in-Greater g c = record {
+  left = c.both.invariant.left;
+  right = omega (arith, c.if-j-right.true);
+  merged = merged_right int_cmp_total HasJob Adds c.args.left.now c.args.right.now c.both.users.items c.push-in-Greater.new.self.items c.both.i c.both.j nothing c.both-test.true c.if-j-right.true c.requires.right.some (sym c.in-Greater.ensures) c.in_ok-push-in-Greater.ensures.items c.both.invariant.merged;
+}
 
-pub entries-preserved : goal.entries-preserved
-entries-preserved g c = elim c.if-is_left_first.branch [
-  | then-is_left_first+in_ok-add_user w ↦ record {
-    gone = omega (arith, c.entries.invariant.gone, w.i-is, w.j-is);
-    left = omega (arith, c.entries.invariant.left, w.i-is, w.if-is_left_first.ensures.left refl);
-    right = omega (arith, c.entries.invariant.right, w.j-is, w.if-is_left_first.ensures.left refl);
-    list = (let P : List (ℤ × UserSums) → Type 0 = IsUserList in subst P (sym (ap (λ v. v.items) w.users-is)) w.in_ok-add_user.ensures.list);
-    sums = λ q.
-        let f : SFits w64 (get_or c.args.left.now c.entries.i (pos 0, no_sums)).0 = search rules in
-        ap (λ (v : List (ℤ × UserSums)). user_total q v) (ap (λ v. v.items) w.users-is) ∙ takes_left q c.args.left.now c.args.right.now c.entries.i c.entries.j (pos 0, no_sums) (user_total q c.entries.users.items) _ (w.if-is_left_first.ensures.left refl) (c.entries.invariant.sums q) (rw (to_z-of_z w64 (get_or c.args.left.now c.entries.i (pos 0, no_sums)).0 f) at w.in_ok-add_user.ensures.sums q)
-        ∙ (λ k. plus (user_total q (take (sym w.i-is k) c.args.left.now)) (user_total q (take (sym w.j-is k) c.args.right.now)));
-  }
-  | else-is_left_first+in_ok-add_user-2 w ↦ record {
-    gone = omega (arith, c.entries.invariant.gone, w.i-is, w.j-is);
-    left = omega (arith, c.entries.invariant.left, w.i-is, w.if-is_left_first.ensures.right refl);
-    right = omega (arith, c.entries.invariant.right, w.j-is, w.if-is_left_first.ensures.right refl);
-    list = (let P : List (ℤ × UserSums) → Type 0 = IsUserList in subst P (sym (ap (λ v. v.items) w.users-is)) w.in_ok-add_user-2.ensures.list);
-    sums = λ q.
-        let f : SFits w64 (get_or c.args.right.now c.entries.j (pos 0, no_sums)).0 = search rules in
-        ap (λ (v : List (ℤ × UserSums)). user_total q v) (ap (λ v. v.items) w.users-is) ∙ takes_right q c.args.left.now c.args.right.now c.entries.i c.entries.j (pos 0, no_sums) (user_total q c.entries.users.items) _ (w.if-is_left_first.ensures.right refl) (c.entries.invariant.sums q) (rw (to_z-of_z w64 (get_or c.args.right.now c.entries.j (pos 0, no_sums)).0 f) at w.in_ok-add_user-2.ensures.sums q)
-        ∙ (λ k. plus (user_total q (take (sym w.i-is k) c.args.left.now)) (user_total q (take (sym w.j-is k) c.args.right.now)));
-  }
-]
+pub both-preserved : goal.both-preserved
+both-preserved g c =
+    let f : SFits w64 (get_or c.args.left.now c.both.i nothing).0 = search rules in
+    record {
+      left = omega (arith, c.both-test.true);
+      right = omega (arith, c.if-j-right.true);
+      merged = merged_both int_cmp_total HasJob Adds exact_signed c.args.left.now c.args.right.now c.both.users.items c.push-in-Equal.new.self.items c.both.i c.both.j nothing c.plus.result c.both-test.true c.if-j-right.true (sym c.in-Equal.ensures) (let n = ap (λ (t : UserSums). t.count) c.plus.ensures in let p = c.requires.left.some c.both.i nothing c.both-test.true in omega (arith, n, p)) c.plus.ensures (rw (to_z-of_z w64 (get_or c.args.left.now c.both.i nothing).0 f) at c.in_ok-push-in-Equal.ensures.items) c.both.invariant.merged;
+    }
+
+pub plus-requires : goal.plus-requires
+plus-requires g c = pair_fits c.args.left.now c.args.right.now c.both.i c.both.j nothing c.both-test.true c.if-j-right.true (sym c.in-Equal.ensures) c.requires.fits
 
 pub returns-clause-list : goal.returns-clause-list
-returns-clause-list g c = c.entries.invariant.list
+returns-clause-list g c =
+    let end : (length c.args.left.now ≤ c.both.i) ⊎ (length c.args.right.now ≤ c.both.j) = elim c.both-test.branch [
+      | then-both-test+else-j-right w ↦ inr (omega (arith, w.if-j-right.false))
+      | else-both-test w ↦ inl (omega (arith, w.both-test.false))
+    ] in
+    let rise = merged_rises int_cmp_total HasJob Adds c.args.left.now c.args.right.now c.both.users.items c.extend_from_slice.new.self.items c.extend_from_slice-2.new.self.items c.both.i c.both.j end c.in_ok-extend_from_slice.ensures.items c.in_ok-extend_from_slice-2.ensures.items c.both.invariant.merged in
+    let each = merged_each int_cmp_total HasJob Adds c.args.left.now c.args.right.now c.both.users.items c.extend_from_slice.new.self.items c.extend_from_slice-2.new.self.items c.both.i c.both.j c.requires.left.some c.requires.right.some c.in_ok-extend_from_slice.ensures.items c.in_ok-extend_from_slice-2.ensures.items c.both.invariant.merged in
+    record { rise = rise; some = each }
 
 pub returns-clause-sums : goal.returns-clause-sums
-returns-clause-sums g c = λ q.
-    let i = take_all c.entries.i c.args.left.now (omega (arith, c.entries.invariant.gone, c.entries.invariant.right, c.entries-test.false)) in
-    let j = take_all c.entries.j c.args.right.now (omega (arith, c.entries.invariant.gone, c.entries.invariant.left, c.entries-test.false)) in
-    c.entries.invariant.sums q ∙ (λ k. plus (user_total q (i k)) (user_total q (j k)))
+returns-clause-sums g c =
+    sums_joined c.args.left.now c.args.right.now c.extend_from_slice-2.new.self.items (merged_sums int_cmp_total HasJob Adds c.args.left.now c.args.right.now c.both.users.items c.extend_from_slice.new.self.items c.extend_from_slice-2.new.self.items c.both.i c.both.j c.in_ok-extend_from_slice.ensures.items c.in_ok-extend_from_slice-2.ensures.items c.both.invariant.merged)

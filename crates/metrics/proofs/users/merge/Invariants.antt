@@ -1,12 +1,15 @@
-use Rattle.std.proofs.Common.{◌≡◌, ℤ, ◌+◌, ◌≤◌, take, length}
-use Rattle.metrics.specs.Users.{plus, user_total, IsUserList}
+use Rattle.std.proofs.Common.{◌+◌, ◌-◌, ◌<◌, ◌≤◌, length}
+use Rattle.std.specs.Ordering.{int_cmp}
+use Rattle.metrics.proofs.UserLists.{Adds}
+use Rattle.metrics.proofs.Merges.{IsMerged}
 use Rattle.metrics.proofs.users.merge.Given as goal
 
-abbrev pub invariant-entries : goal.invariant-entries
-invariant-entries g l = record {
-  gone : l.i + l.j ≡ l.counter;
+abbrev pub decreases-both : goal.decreases-both
+decreases-both g l = (length l.left - l.i) + (length l.right - l.j)
+
+abbrev pub invariant-both : goal.invariant-both
+invariant-both g l = record {
   left : l.i ≤ length l.left;
   right : l.j ≤ length l.right;
-  list : IsUserList l.users.items;
-  sums : (q : ℤ) → user_total q l.users.items ≡ plus (user_total q (take l.i l.left)) (user_total q (take l.j l.right));
+  merged : IsMerged int_cmp (λ e. 0 < e.1.count) Adds l.left l.right l.i l.j l.users.items;
 }

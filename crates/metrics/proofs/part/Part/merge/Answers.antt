@@ -11,10 +11,10 @@ pub merge-requires-clause-fits : goal.merge-requires-clause-fits
 merge-requires-clause-fits g c = λ q. join_users_fit _ _ c.self.invariant c.other.invariant (both_few c.self.inside.totals c.other.inside.totals c.args.self.now c.args.other.now (ap (λ (v : PartSums). v.totals) c.self.view_is) (ap (λ (v : PartSums). v.totals) c.other.view_is) c.requires) q
 
 pub merge-requires-clause-left : goal.merge-requires-clause-left
-merge-requires-clause-left g c = c.self.invariant.same.user_list.some
+merge-requires-clause-left g c = c.self.invariant.same.user_list
 
 pub merge-requires-clause-right : goal.merge-requires-clause-right
-merge-requires-clause-right g c = c.other.invariant.same.user_list.some
+merge-requires-clause-right g c = c.other.invariant.same.user_list
 
 pub merge-requires-2 : goal.merge-requires-2
 merge-requires-2 g c = (c.self.invariant.jobs, c.other.invariant.jobs, (is_joined_part _ _ c.self.invariant c.other.invariant (both_few c.self.inside.totals c.other.inside.totals c.args.self.now c.args.other.now (ap (λ (v : PartSums). v.totals) c.self.view_is) (ap (λ (v : PartSums). v.totals) c.other.view_is) c.requires)), c.self.invariant.same.days, c.other.invariant.same.days)
