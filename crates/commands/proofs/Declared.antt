@@ -1,8 +1,8 @@
 -- The comments of a log one after another: which are kept, which scenarios they tell of, and each step of the loops that gather either.
-use Rattle.std.proofs.Common.{◌≡◌, ℕ, ◌+◌, ◌<◌, ◌≤◌, Bool, true, false, List, [], ◌∷◌, ◌++◌, length, get_or, take, drop, map, Option, Some, None, is_some, refl, sym, ap, ◌∙◌, arith, take-append-drop, length-append, append_assoc, eqb, eq-eqb}
+use Rattle.std.proofs.Common.{◌≡◌, ℕ, ◌+◌, ◌<◌, ◌≤◌, Bool, true, false, not, List, [], ◌∷◌, ◌++◌, length, get_or, take, drop, map, Option, Some, None, is_some, refl, sym, ap, ◌∙◌, arith, take-append-drop, length-append, append_assoc, eqb, eq-eqb}
 use Rattle.std.specs.Prelude.{is_none, Result, Ok, Err, IfOk}
-use Rattle.std.specs.List.{fold}
-use Rattle.std.proofs.lemmas.List.{take_more, get_or-map, length-map, map-append, append-nil}
+use Rattle.std.specs.List.{filter, fold}
+use Rattle.std.proofs.lemmas.List.{take_more, get_or-map, length-map, map-append}
 use Rattle.scenarios.specs.Scenario.{ScenarioView}
 use Rattle.scenarios.specs.ScenarioList.{Listed, Listing, empty, add_fault}
 use Rattle.commands.specs.declared.comment.ScenarioLine.{ScenarioLine}
@@ -20,12 +20,6 @@ kept-append (x ∷ xs) ys = go (is_none (scenario_line x)) refl (kept-append xs 
     go : (b : Bool) → is_none (scenario_line x) ≡ b → kept (xs ++ ys) ≡ kept xs ++ kept ys → kept ((x ∷ xs) ++ ys) ≡ kept (x ∷ xs) ++ kept ys
     go true e more = rw e (ap (λ (l : List (List ℕ)). x ∷ l) more)
     go false e more = rw e more
-
-pub kept_one : (x : List ℕ) → is_none (scenario_line x) ≡ true → kept (x ∷ []) ≡ x ∷ []
-kept_one x e = rw e refl
-
-pub kept_none : (x : List ℕ) → is_none (scenario_line x) ≡ false → kept (x ∷ []) ≡ []
-kept_none x e = rw e refl
 
 -- a list with the scenarios that further comments tell of, in order, as far as each can be added
 abbrev pub declared_from : Listing → List (List ℕ) → Listing
@@ -92,29 +86,21 @@ pub joined_more : (front old new xs : List (List ℕ)) (i : ℕ) (x : List ℕ) 
 joined_more front old new xs i x sofar is lt there =
     is ∙ ap (λ (l : List (List ℕ)). l ++ x ∷ []) sofar ∙ append_assoc front (take i xs) (x ∷ []) ∙ ap (λ (l : List (List ℕ)). front ++ l) (sym (take_next xs i x lt there))
 
-is_none-some : (o : Option ScenarioLine) → is_some o ≡ false → is_none o ≡ true
-is_none-some None h = refl
-is_none-some (Some x) h = absurd (cc)
+-- a test that answers the opposite of whether there is a scenario's line tells whether there is none
+pub none_as_told : (o : Option ScenarioLine) (b : Bool) → is_some o ≡ not b → b ≡ is_none o
+none_as_told None true e = refl
+none_as_told None false e = absurd (cc)
+none_as_told (Some line) true e = absurd (cc)
+none_as_told (Some line) false e = refl
 
-is_none-not : (o : Option ScenarioLine) → is_some o ≡ true → is_none o ≡ false
-is_none-not None h = absurd (cc)
-is_none-not (Some x) h = refl
-
--- what is kept of the first comments, and the next one behind it, which tells of no scenario, is what is kept of one comment more
-pub kept_more : (old new xs : List (List ℕ)) (i : ℕ) (x : List ℕ) → old ≡ kept (take i xs) → new ≡ old ++ x ∷ [] → i < length xs → get_or xs i [] ≡ x → is_some (scenario_line x) ≡ false → new ≡ kept (take (i + 1) xs)
-kept_more old new xs i x sofar is lt there none =
-    is ∙ ap (λ (l : List (List ℕ)). l ++ x ∷ []) sofar
-    ∙ ap (λ (l : List (List ℕ)). kept (take i xs) ++ l) (sym (kept_one x (is_none-some (scenario_line x) none)))
-    ∙ sym (kept-append (take i xs) (x ∷ []))
-    ∙ ap kept (sym (take_next xs i x lt there))
-
--- what is kept of the first comments is what is kept of one more, where that one tells of a scenario
-pub kept_same : (old xs : List (List ℕ)) (i : ℕ) (x : List ℕ) → old ≡ kept (take i xs) → i < length xs → get_or xs i [] ≡ x → is_some (scenario_line x) ≡ true → old ≡ kept (take (i + 1) xs)
-kept_same old xs i x sofar lt there some =
-    sofar ∙ sym (append-nil (kept (take i xs)))
-    ∙ ap (λ (l : List (List ℕ)). kept (take i xs) ++ l) (sym (kept_none x (is_none-not (scenario_line x) some)))
-    ∙ sym (kept-append (take i xs) (x ∷ []))
-    ∙ ap kept (sym (take_next xs i x lt there))
+-- the texts of the items whose text tells of no scenario are what is kept of all their texts
+pub kept_texts : {X : Type 0} (f : X → List ℕ) (xs : List X) → map f (filter (λ x. is_none (scenario_line (f x))) xs) ≡ kept (map f xs)
+kept_texts f [] = refl
+kept_texts f (x ∷ xs) = go (is_none (scenario_line (f x))) refl (kept_texts f xs)
+  where
+    go : (b : Bool) → is_none (scenario_line (f x)) ≡ b → map f (filter (λ y. is_none (scenario_line (f y))) xs) ≡ kept (map f xs) → map f (filter (λ y. is_none (scenario_line (f y))) (x ∷ xs)) ≡ kept (map f (x ∷ xs))
+    go true e more = rw e (ap (λ (l : List (List ℕ)). f x ∷ l) more)
+    go false e more = rw e more
 
 -- where the comments make no scenario, a log is opened with `base` alone, on its machine, or refused for the reason that there is no `base`
 pub opened_is_base : (procs : Option ℕ) (comments : List (List ℕ)) → length (declared comments).scenarios ≡ 0 → opened procs comments ≡ base_on (machine_of procs comments)

@@ -17,7 +17,9 @@ const DIGIT_LIMIT: usize = 18;
 #[derive(Drop)]
 pub struct ScenarioLine {
     pub name: ScenarioName,
+    /// The machine's size, in processors.
     pub procs: u64,
+    /// What the estimates are multiplied by, in thousandths.
     pub factor: u64,
     pub order: Order,
 }

@@ -23,3 +23,4 @@ pub use opening::{Opening, open_text};
 pub use opening_fault::OpenTextFault;
 pub use parse::parse_command;
 pub use saving::save_text;
+pub use values::number_between;

@@ -28,7 +28,7 @@ impl Model for ScenarioName {
 }
 
 impl ScenarioName {
-    /// The name of these bytes; None where they are none. Takes no memory.
+    /// The name of these bytes; None where they are no name. Takes no memory.
     pub fn new(bytes: &[u8]) -> Option<ScenarioName>
         ensures { result ≡ name_of bytes.now }
     {

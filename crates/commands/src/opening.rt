@@ -94,19 +94,10 @@ fn opened<A: Allocator + Copy>(
     base_on(alloc, machine_of(text, procs))
 }
 
-fn kept<A: Allocator + Copy>(
-    alloc: A,
-    comments: &[Vec<u8, A>],
-) -> Result<Vec<Vec<u8, A>, A>, Memory>
-    ensures { IfOk result (λ kept_ones. map (λ c. c.items) kept_ones.items ≡ kept (map (λ c. c.items) comments.now)) }
+fn keep_others<A: Allocator + Copy>(comments: &mut Vec<Vec<u8, A>, A>)
+    ensures { map (λ c. c.items) comments.new.items ≡ kept (map (λ c. c.items) comments.old.items) }
 {
-    let mut others = Vec::new(alloc);
-    for comment in comments {
-        if scenario_line(comment.as_slice()).is_none() {
-            others.push(Vec::from_slice(alloc, comment.as_slice())?)?;
-        }
-    }
-    Ok(others)
+    comments.retain(|c| scenario_line(c.as_slice()).is_none());
 }
 
 /// Opens a log: its jobs, the scenarios that its comments tell of, and the other comments.
@@ -128,8 +119,8 @@ pub fn open_text<A: Allocator + Copy>(
     ensures fault { IfErr result (IsOpenFault procs text.comments) }
 {
     let scenarios = opened(alloc, &text, procs)?;
-    let comments = kept(alloc, text.comments())?;
-    let (_lines, entries) = text.into_parts();
+    let (mut comments, entries) = text.into_parts();
+    keep_others(&mut comments);
     let table = JobTable::of_entries(alloc, entries)?;
     Ok(Opening {
         comments,

@@ -1,4 +1,4 @@
-ghost use Rattle.std.specs.Prelude.{◌≡◌, ◌≤◌, map, length};
+ghost use Rattle.std.specs.Prelude.{◌≡◌, ◌≤◌, map, length, IfSome};
 ghost use Rattle.swf_text.specs.Number.{number_of};
 ghost use Rattle.commands.specs.Words.{job_limit, number_between, entry_value, may_stand, entry_values, job_value};
 
@@ -7,9 +7,15 @@ use swf_text::{Value, read_digits};
 /// The greatest job number.
 pub(crate) const JOB_LIMIT: u64 = 1_000_000_000_000;
 
-pub(crate) fn number_between(word: &[u8], least: u64, most: u64) -> Option<u64>
+/// The number that a word spells in digits alone, one or more, where it is `least` to `most`.
+///
+/// None where the word is empty, a byte of it is no digit, or the number is less than `least` or
+/// greater than `most`, which is a trillion at most. Leading zeros count for nothing. Takes no
+/// memory.
+pub fn number_between(word: &[u8], least: u64, most: u64) -> Option<u64>
     requires { most ≤ job_limit }
-    ensures { result ≡ number_between least most word.now }
+    ensures value { result ≡ number_between least most word.now }
+    ensures within { IfSome result (λ n. (least ≤ n) × (n ≤ most)) }
 {
     let number = read_digits(word)?;
     if number < least || number > most {

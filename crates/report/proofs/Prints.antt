@@ -1,12 +1,13 @@
 -- What is printed of pages, and written of it: the lines of all pages are those of all their rows, whether the pages that are ready are written
 -- while the next ones are printed, or pages are printed and written one after another. Where the writer fails, a beginning of these lines was
 -- written.
-use Rattle.std.proofs.Common.{◌≡◌, ℕ, suc, ◌+◌, ◌<◌, List, [], ◌∷◌, ◌++◌, length, get_or, take, drop, Option, Result, refl, sym, ap, subst, ◌∙◌, append_assoc, arith}
+use Rattle.std.proofs.Common.{◌≡◌, ℕ, suc, ◌+◌, ◌<◌, List, [], ◌∷◌, ◌++◌, length, get_or, take, drop, Vec, Option, Result, refl, sym, ap, subst, ◌∙◌, append_assoc, arith}
 use Rattle.std.specs.List.{flat_map}
 use Rattle.std.specs.Io.KnownBytes.{Appends}
+use Rattle.std.specs.Vec.{with_items}
 use Rattle.std.proofs.KnownBytes.{Appends-trans}
 use Rattle.std.proofs.lemmas.Grind.{flat_map-append}
-use Rattle.std.proofs.lemmas.List.{append-nil, take_more, take-append-drop}
+use Rattle.std.proofs.lemmas.List.{append-nil, take_more, take-append-drop, with_items_is}
 use Rattle.swf_text.specs.Writing.{Writes}
 use Rattle.checkpoints.specs.declared.row.Row.{Row}
 use Rattle.report.specs.declared.page.Page.{Page}
@@ -21,6 +22,10 @@ flat-next f xs k d lt =
 -- with the line of one row more, the lines of the first rows are those of the first ones, one more
 pub lines-next : (rows : List Row) (k : ℕ) (d : Row) (old new : List ℕ) → k < length rows → old ≡ flat_map row_line (take k rows) → new ≡ old ++ row_line (get_or rows k d) → new ≡ flat_map row_line (take (k + 1) rows)
 lines-next rows k d old new lt is more = more ∙ ap (λ l. l ++ row_line (get_or rows k d)) is ∙ sym (flat-next row_line rows k d lt)
+
+-- a vector that was lent as a slice, and is as long still, holds from then on what the slice held at the end
+pub lent : {A : Type 0} (v : Vec Page A) (seen new now : List Page) → seen ≡ v.items → length new ≡ length seen → now ≡ (with_items v new).items → now ≡ new
+lent v seen new now is same after = after ∙ with_items_is v new (same ∙ ap length is ∙ sym v.ok.0)
 
 pub record AreLines (old new : List Page) : Type 0 where
   pub rows : all_rows new ≡ all_rows old
@@ -69,6 +74,10 @@ begun a first ready next behind rows whole none p is more = record {
   all = ap (λ l. l ++ (all_rows next ++ rows)) p.rows ∙ ap (λ l. all_rows first ++ l) more ∙ is;
   lines = p.lines ∙ ap (flat_map row_line) (sym p.rows);
 }
+
+-- what is under way with some pages is so with equal ones
+pub alike : {a b : Option (List ℕ)} {ready next : List Page} {rows whole : List Row} (first second : List Page) → IsPrinting a b ready next rows whole → first ≡ ready → second ≡ next → IsPrinting a b first second rows whole
+alike first second u p q = rw (p, q) u
 
 lines-of : (a b : Option (List ℕ)) (ready next : List Page) (rows whole : List Row) → (u : IsPrinting a b ready next rows whole) → flat_map row_line u.done ++ all_lines ready ≡ flat_map row_line (u.done ++ all_rows ready)
 lines-of a b ready next rows whole u = ap (λ l. flat_map row_line u.done ++ l) u.lines ∙ sym (flat_map-append row_line u.done (all_rows ready))

@@ -24,22 +24,6 @@ fn push_day<A: Allocator + Copy>(text: &mut Vec<u8, A>, row: &DayRow) -> Result<
     Ok(())
 }
 
-fn rows_text<A: Allocator + Copy>(
-    alloc: A,
-    name: &str,
-    version: u64,
-    rows: &[DayRow],
-) -> Result<Vec<u8, A>, Memory>
-    ensures { IfOk result (λ text. text.items ≡ days_text name.now version rows.now) }
-{
-    let mut text = Vec::with_capacity(alloc, rows.len().saturating_add(2).saturating_mul(LINE))?;
-    push_heading(&mut text, "days", name, version, "count", rows.len())?;
-    'lines: for row in rows {
-        push_day(&mut text, row)?;
-    }
-    Ok(text)
-}
-
 /// The numbers of a run for each day in which a processor is taken, by rising day: the day,
 /// counted from 0, processor-seconds, and the utilization. Memory where a growth is refused.
 pub fn days_text<A: Allocator + Copy>(
@@ -51,5 +35,10 @@ pub fn days_text<A: Allocator + Copy>(
     ensures { IfOk result (λ text. text.items ≡ days_text name.now version run.now.tables.days) }
 {
     let rows = run.tables().days()?;
-    rows_text(alloc, name, version, rows.as_slice())
+    let mut text = Vec::with_capacity(alloc, rows.len().saturating_add(2).saturating_mul(LINE))?;
+    push_heading(&mut text, "days", name, version, "count", rows.len())?;
+    'lines: for row in &rows {
+        push_day(&mut text, row)?;
+    }
+    Ok(text)
 }

@@ -10,7 +10,7 @@ use std::alloc::{AllocError, Allocator};
 /// As many blanks as a line ever puts beside a text.
 const BLANKS: [u8; 16] = [b' '; 16];
 
-/// As many zeros as three digits may lack.
+/// A zero for each of three digits.
 const ZEROS: [u8; 3] = [b'0'; 3];
 
 fn blanks(count: usize) -> &'static [u8]

@@ -5,7 +5,7 @@ ghost use Rattle.std.specs.List.{flat_map};
 ghost use Rattle.swf_text.specs.Writing.{Writes};
 ghost use Rattle.report.specs.Schedule.{row_line, rows_text};
 
-use crate::batch::Batch;
+use crate::batch::{pages, print_all, print_beside, take_all, write_all};
 use crate::heading::push_heading;
 use crate::page::{MOST_ROWS, Page};
 use checkpoints::Rows;
@@ -27,8 +27,8 @@ pub struct ScheduleReport<'a, A: Allocator + Copy> {
     heading: Vec<u8, A>,
     rows: Rows<'a, A>,
     // One is printed while the other is written and takes the next rows.
-    printed: Batch<A>,
-    next: Batch<A>,
+    printed: Vec<Page, A>,
+    next: Vec<Page, A>,
 }
 
 impl<'a, A: Allocator + Copy> Model for ScheduleReport<'a, A> {
@@ -40,7 +40,7 @@ impl<'a, A: Allocator + Copy> Model for ScheduleReport<'a, A> {
 
     ghost view = { λ s. s.heading.items ++ flat_map row_line s.rows };
 
-    ghost invariant = { λ s. (0 < length s.printed.pages.items) × (0 < length s.next.pages.items) };
+    ghost invariant = { λ s. (0 < length s.printed.items) × (0 < length s.next.items) };
 }
 
 fn write_alone<W: Write, A: Allocator + Copy>(
@@ -62,23 +62,29 @@ fn write_rows<R: Threads + Sync, W: Write, A: Allocator + Copy>(
     rt: &R,
     writer: &mut W,
     mut rows: Rows<'_, A>,
-    mut printed: Batch<A>,
-    mut next: Batch<A>,
+    mut printed: Vec<Page, A>,
+    mut next: Vec<Page, A>,
 ) -> Result<(), WriteFault>
-    requires printed { 0 < length printed.pages.items }
-    requires next { 0 < length next.pages.items }
+    requires printed { 0 < length printed.items }
+    requires next { 0 < length next.items }
     ensures { Writes result (W.contents writer.old) (W.contents writer.new) (flat_map row_line rows.entry) }
 {
-    printed.take(&mut rows);
-    printed.print(rt);
-    next.take(&mut rows);
+    take_all(printed.as_mut_slice(), &mut rows);
+    print_all(rt, printed.as_mut_slice());
+    take_all(next.as_mut_slice(), &mut rows);
     'rows: while 0 < rows.left() {
-        next.print_beside(rt, writer, &mut rows, &mut printed)?;
+        print_beside(
+            rt,
+            writer,
+            &mut rows,
+            next.as_mut_slice(),
+            printed.as_mut_slice(),
+        )?;
         swap(&mut printed, &mut next);
     }
-    printed.write(writer)?;
-    next.print(rt);
-    next.write(writer)
+    write_all(writer, printed.as_slice())?;
+    print_all(rt, next.as_mut_slice());
+    write_all(writer, next.as_slice())
 }
 
 impl<'a, A: Allocator + Copy> ScheduleReport<'a, A> {
@@ -96,8 +102,8 @@ impl<'a, A: Allocator + Copy> ScheduleReport<'a, A> {
         Ok(ScheduleReport {
             heading,
             rows,
-            printed: Batch::new(alloc, count)?,
-            next: Batch::new(alloc, count)?,
+            printed: pages(alloc, count)?,
+            next: pages(alloc, count)?,
         })
     }
 

@@ -42,7 +42,7 @@ fn push_row<A: Allocator + Copy>(text: &mut Vec<u8, A>, row: &Row) -> Result<(),
     Ok(())
 }
 
-pub(crate) fn rows_report<A: Allocator + Copy>(
+pub(crate) fn rows_text<A: Allocator + Copy>(
     alloc: A,
     name: &str,
     version: u64,

@@ -6,7 +6,7 @@ ghost use Rattle.scenarios.specs.PlanView.{plan_in};
 ghost use Rattle.report.specs.Schedule.{schedule_text, HasALineForEachJob};
 
 use crate::printing::ScheduleReport;
-use crate::schedule::rows_report;
+use crate::schedule::rows_text;
 use checkpoints::{Run, plan_rows};
 use scenarios::Plan;
 use std::alloc::Allocator;
@@ -25,7 +25,7 @@ pub fn schedule_text<A: Allocator + Copy>(
     ensures lines { IfOk result (λ text. HasALineForEachJob name.now version (plan_of run.now.log run.now.scenario) text.items) }
 {
     let rows = run.rows()?;
-    Ok(rows_report(alloc, name, version, rows)?)
+    Ok(rows_text(alloc, name, version, rows)?)
 }
 
 /// The report on the schedule of a plan, simulated for it alone (`checkpoints::plan_rows`), which is

@@ -1,5 +1,5 @@
 use Rattle.std.proofs.Common.{◌≤◌, ◌-◌, length}
-use Rattle.report.proofs.batch.Batch.new.Given as goal
+use Rattle.report.proofs.batch.pages.Given as goal
 
 abbrev pub invariant-loop-pages : goal.invariant-loop-pages
 invariant-loop-pages g l = length l.pages.items ≤ l.count
