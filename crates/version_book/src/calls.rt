@@ -32,10 +32,7 @@ use tasks::{Published, Task};
 fn of_left(outcome: Result<u64, FinishRefusal>) -> Result<Option<u64>, FinishRefusal>
     ensures { outcome_of_run result ≡ Some outcome }
 {
-    match outcome {
-        Ok(version) => Ok(Some(version)),
-        Err(refusal) => Err(refusal),
-    }
+    outcome.map(Some)
 }
 
 impl<A: Allocator + Copy> Book<A> {

@@ -20,10 +20,7 @@ pub(crate) fn reserve_note<F, A: Allocator + Copy>(
     if journal.len() >= NOTE_LIMIT {
         return Err(Refusal::JournalFull);
     }
-    match journal.reserve(1) {
-        Ok(()) => Ok(()),
-        Err(_) => Err(Refusal::Memory),
-    }
+    journal.reserve(1).map_err(|_| Refusal::Memory)
 }
 
 pub(crate) fn note<A: Allocator + Copy>(

@@ -34,10 +34,8 @@ fn after_edit<A: Allocator + Copy>(
     ensures table { IfOk result (λ new. arc_value new ≡ applied (edit_of edit.now) table.now) }
 {
     let mut new = table.copy()?;
-    match new.apply(edit) {
-        Ok(()) => Ok(Arc::new(alloc, new)?),
-        Err(_) => Err(Memory),
-    }
+    new.apply(edit).map_err(|_| Memory)?;
+    Ok(Arc::new(alloc, new)?)
 }
 
 fn put_edit<A: Allocator + Copy>(

@@ -1,4 +1,5 @@
-// How the history records what the book noted of a call.
+// How the history records what the book noted of a call. The book's `version` is called for a clause of its: that it was asked
+// of a book.
 ghost use Rattle.std.specs.Prelude.{◌≡◌, true, IfSome, length, option_copied};
 ghost use Rattle.std.specs.List.{slice_get};
 ghost use Rattle.std.specs.Option.{option_map};

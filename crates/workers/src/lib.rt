@@ -27,5 +27,5 @@ pub use gate::{Gate, NoGate};
 pub use listed_call::ListedCall;
 pub use session::Session;
 pub use settled::Settled;
-pub use shared::{MAX_CALLERS, Shared};
+pub use shared::MAX_CALLERS;
 pub use worker::{Worker, WorkerEnd};

@@ -1,3 +1,6 @@
+// What lies under the lock: the book, the history of the desk, how many callers were opened, and whether the desk is
+// stopped. Its invariant holds each time that the lock is taken: the history's calls are those that the book noted since
+// the desk was made, and lead to the book's state.
 ghost use Rattle.std.specs.Prelude.{◌≡◌, true, false, is_none, IfOk, IfSome};
 ghost use Rattle.std.specs.Option.{option_map};
 ghost use Rattle.scenarios.specs.ScenarioList.{id_of};
@@ -25,11 +28,8 @@ use version_book::{Book, Reading};
 /// The most sessions that a desk opens, and the most workers.
 pub const MAX_CALLERS: u64 = 64;
 
-/// What lies under the lock: the book, the history of the desk, how many callers were opened, and
-/// whether the desk is stopped. The history's calls are those that the book noted since the desk was
-/// made, and lead to the book's state.
 #[derive(Drop)]
-pub struct Shared<A: Allocator + Copy, J: Naming> {
+pub(crate) struct Shared<A: Allocator + Copy, J: Naming> {
     pub(crate) book: Book<A>,
     pub(crate) whole: Whole<J>,
     pub(crate) sessions: u64,
@@ -72,24 +72,9 @@ impl<A: Allocator + Copy, J: Naming> Shared<A, J> {
         }
     }
 
-    /// The book. Its invariant holds each time that the lock is taken: each published run is the
-    /// simulation, second by second, of the log of the version that it names, under its scenario, and
-    /// the journal is a legal history of all calls that leads to the book's state.
-    pub fn book(&self) -> &Book<A>
-        ensures value { result.now ≡ self.now.book }
-        ensures book { IsBook self.now.book }
+    pub(crate) fn settled_for(&self, seen: u64) -> Option<Settled>
+        ensures { result ≡ outcome_settled (settled seen (machine_of self.now.book)) self.now.stopped }
     {
-        let _version = self.book.version();
-        &self.book
-    }
-
-    /// What the wait of a session that has seen this version returns: how far the scenarios are, Stopped
-    /// where one is waited for and the desk is stopped, and None while the wait goes on.
-    pub fn settled_for(&self, seen: u64) -> Option<Settled>
-        ensures outcome { result ≡ outcome_settled (settled seen (machine_of self.now.book)) self.now.stopped }
-        ensures book { IsBook self.now.book }
-    {
-        let _version = self.book.version();
         match self.book.settled(seen) {
             SettleState::Done => Some(Settled::Done),
             SettleState::Failed(n) => Some(Settled::Failed(n)),
