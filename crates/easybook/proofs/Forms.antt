@@ -9,7 +9,7 @@ use Rattle.clap.proofs.OnLiterals.{clap_on_literals}
 use Rattle.swf_text.specs.Number.{are_digits}
 use Rattle.swf_text.proofs.Lemmas.{and_first, and_second}
 use Rattle.commands.specs.Words.{machine, number_between}
-use Rattle.easybook.specs.Forms.{JoinedSpacingChooses, JoinedWordChooses, JoinedWorkersChoose, LiveIsChosen, NextSpacingChooses, NextWordChooses, NoWordChooses, ScriptsAreChosen, on_machine, with_spacing, with_workers}
+use Rattle.easybook.specs.Forms.{JoinedSpacingChooses, JoinedWordChooses, JoinedWorkersChoose, LiveIsChosen, LogIsChosen, NextSpacingChooses, NextWordChooses, NoWordChooses, ScriptsAreChosen, TwiceIsBad, on_machine, with_spacing, with_workers}
 use Rattle.easybook.specs.Words.{Choice, choice, chosen}
 
 -- the program's name alone chooses no log, no machine, and 256 event seconds
@@ -42,7 +42,17 @@ two_scripts name one other = refl
 -- `LOG --live` chooses a conversation on the log; without a log, and with a script beside it, it is bad
 pub live_chosen : LiveIsChosen
 unfolding clap_on_literals
-live_chosen name one = (refl, refl, refl)
+live_chosen name file one = (refl, refl, refl)
+
+-- a word that begins with `/` or `./` is the file that holds the log, and so is a name such as `month.swf`; two of them are bad
+pub log_chosen : LogIsChosen
+unfolding clap_on_literals
+log_chosen name file other = (refl, refl, refl, refl)
+
+-- an option that is given twice is bad, but a script
+pub twice_bad : TwiceIsBad
+unfolding clap_on_literals
+twice_bad name one other = (refl, refl, refl)
 
 -- `--procs=N` chooses what N spells, and is bad where N spells no machine
 pub joined_word : JoinedWordChooses

@@ -14,7 +14,7 @@ use Rattle.easybook.specs.declared.fault.ProgramFault.{ProgramFault}
 use Rattle.easybook.specs.declared.fault.ProgramFault.TheVariants as faults
 use Rattle.easybook.specs.declared.stop.Stop.{Stop}
 use Rattle.easybook.specs.declared.stop.Stop.TheVariants.{Fault}
-use Rattle.easybook.specs.Plain.{IsFaultOf, log_limit}
+use Rattle.easybook.specs.Plain.{IsFaultOf}
 use Rattle.easybook.proofs.Sessions.{keeps}
 
 answers_of : (A : Type 0) (log : List ℕ) (procs : Option ℕ) (spacing : ℕ) (held shown : List (List ℕ)) (book : BookView) (scripts texts : List (List ℕ)) → IsBookOf log procs spacing held book → shown ≡ held → AreAnsweredAlong A shown (machine_of book) scripts texts → AreAnswered A log procs scripts texts
@@ -37,10 +37,6 @@ pub shared_stopped : {X : Type 0} (outcome : Result X ProgramFault) (A : Type 0)
 shared_stopped {X} outcome A log procs spacing held shown book scripts texts old new is b same within along wrote =
     let stopped : RunsShared {X = X} A log procs scripts old new (Err faults.Write) = (within, (texts, answers_of A log procs spacing held shown book scripts texts b same along, wrote)) in
     subst (λ (r : Result X ProgramFault). RunsShared A log procs scripts old new r) (sym is) stopped
-
--- where the log has too many bytes, that, with nothing written, is a result for scripts side by side
-pub shared_long_log : (X A : Type 0) (log : List ℕ) (procs : Option ℕ) (scripts : List (List ℕ)) (old : Option (List ℕ)) → log_limit < length log → RunsShared {X = X} A log procs scripts old old (Err faults.TooLong)
-shared_long_log X A log procs scripts old long = (inl long, keeps old)
 
 -- where one of the scripts has too many bytes, that, with nothing written, is a result for scripts side by side
 pub shared_long_script : (X A : Type 0) (log : List ℕ) (procs : Option ℕ) (scripts : List (List ℕ)) (old : Option (List ℕ)) → (AreWithin scripts → ⊥) → RunsShared {X = X} A log procs scripts old old (Err faults.TooLong)

@@ -1,4 +1,4 @@
--- The forms in which words name a machine and a spacing.
+-- What the words choose, form by form.
 use Rattle.std.specs.Prelude.{◌≡◌, ℕ, List, [], ◌∷◌, ◌++◌, Some, None, codes, true, false}
 use Rattle.std.specs.Option.{option_map}
 use Rattle.swf_text.specs.Number.{are_digits}
@@ -60,10 +60,27 @@ abbrev pub ScriptsAreChosen : Type 0
 ScriptsAreChosen =
     (name one other : List ℕ) → chosen (name ∷ (codes "--script=" ++ one) ∷ (codes "--script=" ++ other) ∷ []) ≡ Some (with_scripts (one ∷ other ∷ []))
 
+-- a word that begins with `/` or `./` is the file that holds the log, and so is a name such as `month.swf`; two of them are bad
+abbrev pub LogIsChosen : Type 0
+LogIsChosen =
+    (name file other : List ℕ)
+    → (chosen (name ∷ (codes "/" ++ file) ∷ []) ≡ Some (on_log (codes "/" ++ file)))
+    × (chosen (name ∷ (codes "./" ++ file) ∷ []) ≡ Some (on_log (codes "./" ++ file)))
+    × (chosen (name ∷ codes "month.swf" ∷ []) ≡ Some (on_log (codes "month.swf")))
+    × (chosen (name ∷ (codes "./" ++ file) ∷ (codes "./" ++ other) ∷ []) ≡ None)
+
 -- `LOG --live` chooses a conversation on the log; without a log, and with a script beside it, it is bad
 abbrev pub LiveIsChosen : Type 0
 LiveIsChosen =
-    (name one : List ℕ)
-    → (chosen (name ∷ codes "month.swf" ∷ codes "--live" ∷ []) ≡ Some (record (on_log (codes "month.swf")) { live = true }))
+    (name file one : List ℕ)
+    → (chosen (name ∷ (codes "./" ++ file) ∷ codes "--live" ∷ []) ≡ Some (record (on_log (codes "./" ++ file)) { live = true }))
     × (chosen (name ∷ codes "--live" ∷ []) ≡ None)
-    × (chosen (name ∷ codes "month.swf" ∷ codes "--live" ∷ (codes "--script=" ++ one) ∷ []) ≡ None)
+    × (chosen (name ∷ (codes "./" ++ file) ∷ codes "--live" ∷ (codes "--script=" ++ one) ∷ []) ≡ None)
+
+-- an option that is given twice is bad, but a script
+abbrev pub TwiceIsBad : Type 0
+TwiceIsBad =
+    (name one other : List ℕ)
+    → (chosen (name ∷ (codes "--procs=" ++ one) ∷ (codes "--procs=" ++ other) ∷ []) ≡ None)
+    × (chosen (name ∷ (codes "--spacing=" ++ one) ∷ (codes "--spacing=" ++ other) ∷ []) ≡ None)
+    × (chosen (name ∷ (codes "--workers=" ++ one) ∷ (codes "--workers=" ++ other) ∷ []) ≡ None)

@@ -1,10 +1,10 @@
-ghost use Rattle.std.specs.Prelude.{ℕ, List, Option, map};
+ghost use Rattle.std.specs.Prelude.{ℕ, List, Option, Some, map};
 ghost use Rattle.easybook.specs.Alone.{RunsAlone};
 ghost use Rattle.easybook.specs.Book.{IsBookOf};
 
 use crate::book::{OpenedBook, opened_book};
 use crate::fault::ProgramFault;
-use crate::input::read_input;
+use crate::input::read_front;
 use crate::options::Options;
 use scripts::run_lines;
 use std::alloc::Allocator;
@@ -15,18 +15,20 @@ use std::thread::Threads;
 /// The most bytes of a script.
 pub(crate) const SCRIPT_LIMIT: u64 = 16_777_216;
 
-pub(crate) fn work_script<R: Read + Drop, W: Write, A: Allocator + Copy>(
+pub(crate) fn work_script<W: Write, A: Allocator + Copy>(
     alloc: A,
-    script: R,
+    script: &[u8],
     writer: &mut W,
     opened: OpenedBook<A>,
 ) -> Result<(), ProgramFault>
     ensures { (log : List ℕ) (procs : Option ℕ) (spacing : ℕ) → IsBookOf log procs spacing (map (λ c. c.items) opened.comments.items) opened.book
-        → RunsAlone A log procs (R.remaining script) (W.contents writer.old) (W.contents writer.new) result }
+        → RunsAlone A log procs (Some script.now) (W.contents writer.old) (W.contents writer.new) result }
 {
+    if script.len() as u64 > SCRIPT_LIMIT {
+        return Err(ProgramFault::TooLong);
+    }
     let OpenedBook { book, comments } = opened;
-    let script = read_input(alloc, script, SCRIPT_LIMIT)?;
-    run_lines(alloc, book, comments.as_slice(), script.as_slice(), writer)?;
+    run_lines(alloc, book, comments.as_slice(), script, writer)?;
     Ok(())
 }
 
@@ -52,5 +54,6 @@ pub fn run_alone<R: Read + Drop, W: Write, T: Threads + Sync, A: Allocator + Cop
     ensures { RunsAlone A log.now options.procs (R.remaining script) (W.contents writer.old) (W.contents writer.new) result }
 {
     let opened = opened_book(rt, alloc, log, options)?;
-    work_script(alloc, script, writer, opened)
+    let script = read_front(alloc, script, SCRIPT_LIMIT)?;
+    work_script(alloc, script.as_slice(), writer, opened)
 }

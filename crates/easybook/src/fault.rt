@@ -14,12 +14,12 @@ use swf_text::{FaultKind, Memory, SwfFault, WriteFault};
 use thiserror::Error;
 use workers::CloseFault;
 
-/// Why the program ends without its output. It displays as the line that the program writes.
+/// Why the program ends without all of its output. It displays as the line that the program writes.
 #[derive(Clone, Copy, Debug, PartialEq, Eq, Error)]
 pub enum ProgramFault {
     /// The log's first faulty line.
     Log(SwfFault),
-    /// Nothing names the machine's size.
+    /// No comment is a scenario, and nothing names the machine's size.
     NoMachine,
     /// The machine's size is not 1 to 16,777,216 processors.
     BadMachine,
@@ -29,7 +29,7 @@ pub enum ProgramFault {
     Read,
     /// A writer returned an error, or took no byte.
     Write,
-    /// The lists of the sessions and workers are not the book's history.
+    /// The lists of the sessions and workers are not the book's history, or one of them is still out.
     Close(CloseFault),
     /// A growth, or the start of a thread, was refused.
     Memory,

@@ -1,4 +1,4 @@
-ghost use Rattle.easybook.specs.Forms.{JoinedSpacingChooses, JoinedWordChooses, NextSpacingChooses, NextWordChooses, NoWordChooses, JoinedWorkersChoose, LiveIsChosen, ScriptsAreChosen};
+ghost use Rattle.easybook.specs.Forms.{JoinedSpacingChooses, JoinedWordChooses, NextSpacingChooses, NextWordChooses, NoWordChooses, JoinedWorkersChoose, LiveIsChosen, LogIsChosen, ScriptsAreChosen, TwiceIsBad};
 ghost use Rattle.easybook.specs.Unrefused.{ItIsAnAnswer, PlainRunsAreScripts, ThereIsOneAnswer};
 
 use std::alloc::Allocator;
@@ -7,7 +7,7 @@ use std::alloc::Allocator;
 /// seconds to a segment; `--procs=N` and, where N is digits, `--procs N` the number that the digits
 /// of N spell, from 1 to 16,777,216, while any other N is bad; `--spacing` likewise, from 1 to
 /// 65,536; `--workers=N` so from 1 to 64; and each `--script=FILE` names a script, in their order.
-/// `--live` beside a log chooses a conversation on it; without a log, and beside a script, it is bad.
+/// `--procs`, `--spacing` and `--workers` are bad where they are given twice.
 pub fn words_law()
     ensures none { NoWordChooses }
     ensures joined { JoinedWordChooses }
@@ -16,6 +16,14 @@ pub fn words_law()
     ensures spacing_apart { NextSpacingChooses }
     ensures workers { JoinedWorkersChoose }
     ensures scripts { ScriptsAreChosen }
+    ensures twice { TwiceIsBad }
+{}
+
+/// What words choose that name a log: the file that the word is, where it begins with `/` or `./`, or is a
+/// plain name, while two such words are bad. `--live` beside one chooses a conversation on it; without a
+/// log, and beside a script, it is bad.
+pub fn log_words_law()
+    ensures log { LogIsChosen }
     ensures live { LiveIsChosen }
 {}
 

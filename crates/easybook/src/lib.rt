@@ -29,7 +29,7 @@ mod works;
 pub use alone::run_alone;
 pub use fault::ProgramFault;
 pub use input::read_input;
-pub use laws::{plain_run_law, script_law, words_law};
+pub use laws::{log_words_law, plain_run_law, script_law, words_law};
 pub use live::run_live;
 pub use options::Options;
 pub use parallel_reader::read_parallel;

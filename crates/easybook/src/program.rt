@@ -195,8 +195,9 @@ fn run_on_named<S: Sources, T: Threads + Sync, R: Read + Drop, W: Write>(
 /// without a file TooLong where the reader has over 1,200,000,000 bytes; Read where the reader returns
 /// an error; those of the called function. A log in a file is read to at most one byte past
 /// 1,073,741,824, a script beside it to one past 16,777,216. Memory where a growth is refused. Where the
-/// words are bad or the input cannot be read, nothing is written. The memory of a log alone is not given
-/// back, since the process ends behind this call.
+/// words are bad or the input cannot be read, nothing is written, but what a conversation was answered
+/// before its reader failed. The memory of a log alone is not given back, since the process ends behind
+/// this call.
 pub fn run_words<F: Files + Threads + Wait + Sync, R: Read + Drop, W: Write>(
     alloc: Global,
     files: &F,

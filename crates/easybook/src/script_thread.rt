@@ -1,4 +1,4 @@
-// No contract speaks of where the scripts are worked, so the view of a `Place` is a unit.
+// No contract speaks of where the scripts are worked, so the view of a `Workplace` is a unit.
 ghost use Rattle.std.specs.Prelude.{OnOk, map};
 ghost use Rattle.workers.specs.Callers.{IsNewSession};
 ghost use Rattle.easybook.specs.DeskRules.{IsWorkedAtDesk};
@@ -17,20 +17,20 @@ use workers::{Desk, Session};
 
 /// What the threads share: the desk, the handle by which a thread waits for it, and the scripts.
 #[derive(Drop)]
-pub(crate) struct Place<'d, A: Allocator + Copy, J: Naming + Works, R: Wait> {
+pub(crate) struct Workplace<'d, A: Allocator + Copy, J: Naming + Works, R: Wait> {
     pub(crate) rt: &'d R,
     pub(crate) alloc: A,
     pub(crate) desk: &'d Desk<A, J>,
     pub(crate) scripts: &'d ScriptList<'d, A, J>,
 }
 
-impl<'d, A: Allocator + Copy, J: Naming + Works, R: Wait> Model for Place<'d, A, J, R> {
+impl<'d, A: Allocator + Copy, J: Naming + Works, R: Wait> Model for Workplace<'d, A, J, R> {
     ghost Value = { Unit {0} };
 
     ghost view = { λ p. tt };
 }
 
-impl<'d, A: Allocator + Copy, J: Naming + Works, R: Wait> Place<'d, A, J, R> {
+impl<'d, A: Allocator + Copy, J: Naming + Works, R: Wait> Workplace<'d, A, J, R> {
     pub(crate) fn stop(&self) {
         let rt = self.rt;
         let desk = self.desk;
@@ -67,7 +67,7 @@ impl<A: Allocator + Copy, J: Naming + Works> ScriptThread<A, J> {
         }
     }
 
-    pub(crate) fn work<R: Wait>(&mut self, place: &Place<'_, A, J, R>) {
+    pub(crate) fn work<R: Wait>(&mut self, place: &Workplace<'_, A, J, R>) {
         let Some(session) = self.session.take() else {
             return;
         };
@@ -91,12 +91,12 @@ fn work_script<'d, A: Allocator + Copy, J: Naming, R: Wait>(
 }
 
 fn work_session<A: Allocator + Copy, J: Naming + Works, R: Wait>(
-    place: &Place<'_, A, J, R>,
+    place: &Workplace<'_, A, J, R>,
     session: Session<A, J>,
 ) -> Option<Answered<A, J>>
     requires { IsNewSession session }
 {
-    let Place {
+    let Workplace {
         rt,
         alloc,
         desk,

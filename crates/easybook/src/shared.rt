@@ -9,7 +9,6 @@ ghost use Rattle.easybook.specs.Shared.{RunsShared, head_line, headed};
 use crate::alone::SCRIPT_LIMIT;
 use crate::book::{OpenedBook, begun_book, opened_book};
 use crate::fault::ProgramFault;
-use crate::opened::LOG_LIMIT;
 use crate::options::Options;
 use crate::threads::run_scripts;
 use chronicle::Unnamed;
@@ -144,9 +143,6 @@ pub fn run_shared_gated<
 ) -> Result<(), ProgramFault>
     ensures { RunsShared A log.now options.procs (map (λ s. s.items) scripts.now) (W.contents writer.old) (W.contents writer.new) result }
 {
-    if log.len() > LOG_LIMIT {
-        return Err(ProgramFault::TooLong);
-    }
     if !are_within(scripts) {
         return Err(ProgramFault::TooLong);
     }

@@ -12,12 +12,12 @@ use std::io::ErrorKind;
 use std::{fmt, io};
 use thiserror::Error;
 
-/// Why the program ends without its output. It displays as the line that the program writes.
+/// Why the program ends without all of its output. It displays as the line that the program writes.
 #[derive(Clone, Copy, Debug, PartialEq, Eq, Error)]
 pub enum Stop {
-    /// The words are bad, or memory ran out while they were read.
+    /// The words are bad, or memory ran out while options were made of them.
     Words(WordsFault),
-    /// The words are good, and this fault came later.
+    /// Memory ran out while the words were had, or they are good and this fault came later.
     Fault(ProgramFault),
 }
 

@@ -11,7 +11,7 @@ ghost use Rattle.easybook.specs.Shared.{IsSharedFault};
 
 use crate::fault::ProgramFault;
 use crate::script_list::ScriptList;
-use crate::script_thread::{Place, ScriptThread};
+use crate::script_thread::{ScriptThread, Workplace};
 use crate::worker_thread::WorkerThread;
 use crate::works::Works;
 use chronicle::{Naming, Unnamed};
@@ -63,7 +63,7 @@ fn run_threads<
 >(
     rt: &R,
     alloc: A,
-    place: &Place<'_, A, J, R>,
+    place: &Workplace<'_, A, J, R>,
     threads: &mut Vec<ScriptThread<A, J>, A>,
     workers: &mut Vec<WorkerThread<A, J>, A>,
     gate: &G,
@@ -177,7 +177,7 @@ pub(crate) fn run_scripts<
     let list = ScriptList::<A, J>::new(comments, scripts);
     let mut threads = threads_of(rt, alloc, &desk, list.count())?;
     let mut pool = workers_of(rt, alloc, &desk, workers)?;
-    let place = Place {
+    let place = Workplace {
         rt,
         alloc,
         desk: &desk,

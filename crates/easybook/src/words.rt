@@ -2,7 +2,6 @@ ghost use Rattle.std.specs.Prelude.{◌≡◌, ◌≤◌, IfOk, IfErr, IfSome, S
 ghost use Rattle.std.specs.Option.{option_map};
 ghost use Rattle.clap.specs.Words.{app_of, fault_of, first_value, found_of, kind_of, matches_of, rows_of, rule_of, with_rule};
 ghost use Rattle.clap.specs.declared.error.kind.ErrorKind.TheVariants.{OutOfMemory};
-ghost use Rattle.commands.specs.Words.{number_between};
 ghost use Rattle.scenarios.specs.Limits.{procs_limit};
 ghost use Rattle.checkpoints.specs.Spacing.{spacing_limit};
 ghost use Rattle.workers.specs.Callers.{callers_limit};
@@ -14,10 +13,10 @@ use crate::options::Options;
 use checkpoints::MAX_SPACING;
 use clap::error::ErrorKind;
 use clap::{Arg, ArgAction, ArgMatches, Command};
+use commands::number_between;
 use scenarios::MAX_PROCS;
 use std::alloc::{AllocError, Global};
 use std::fmt;
-use swf_text::read_digits;
 use thiserror::Error;
 use workers::MAX_CALLERS;
 
@@ -139,25 +138,13 @@ fn matched<'a>(alloc: Global, words: &'a [&'a str]) -> Result<ArgMatches<'a>, Wo
     }
 }
 
-fn number(text: &str, most: u64) -> Option<u64>
-    requires { most ≤ 1000000000000 }
-    ensures value { result ≡ number_between 1 most text.now }
-    ensures within { IfSome result (λ n. (1 ≤ n) × (n ≤ most)) }
-{
-    let number = read_digits(text.as_bytes())?;
-    if number < 1 || number > most {
-        return None;
-    }
-    Some(number)
-}
-
 fn machine(matches: &ArgMatches<'_>) -> Option<Option<u64>>
     ensures value { result ≡ procs_of (first_value (found_of matches.now) (codes "procs")) }
     ensures within { IfSome result (λ procs. IfSome procs (λ n. (1 ≤ n) × (n ≤ procs_limit))) }
 {
     match matches.get_str("procs") {
         None => Some(None),
-        Some(text) => number(text, MAX_PROCS).map(Some),
+        Some(text) => number_between(text.as_bytes(), 1, MAX_PROCS).map(Some),
     }
 }
 
@@ -168,7 +155,7 @@ fn spacing(matches: &ArgMatches<'_>) -> Option<u32>
     let Some(text) = matches.get_str("spacing") else {
         return Some(SPACING);
     };
-    let spacing = number(text, u64::from(MAX_SPACING))?;
+    let spacing = number_between(text.as_bytes(), 1, u64::from(MAX_SPACING))?;
     Some(spacing as u32)
 }
 
@@ -179,7 +166,7 @@ fn workers(matches: &ArgMatches<'_>) -> Option<u32>
     let Some(text) = matches.get_str("workers") else {
         return Some(WORKERS);
     };
-    let workers = number(text, MAX_CALLERS)?;
+    let workers = number_between(text.as_bytes(), 1, MAX_CALLERS)?;
     Some(workers as u32)
 }
 

@@ -1,7 +1,7 @@
 ghost use Rattle.workers.specs.Callers.{IsNewWorker};
 ghost use Rattle.easybook.specs.Along.{AreWork};
 
-use crate::script_thread::Place;
+use crate::script_thread::Workplace;
 use crate::works::Works;
 use chronicle::Naming;
 use std::alloc::Allocator;
@@ -33,7 +33,7 @@ impl<A: Allocator + Copy, J: Naming + Works> WorkerThread<A, J> {
         WorkerThread { worker }
     }
 
-    pub(crate) fn run<R: Wait, G: Gate>(&mut self, place: &Place<'_, A, J, R>, gate: &G) {
+    pub(crate) fn run<R: Wait, G: Gate>(&mut self, place: &Workplace<'_, A, J, R>, gate: &G) {
         let rt = place.rt;
         let desk = place.desk;
         let _ = self.worker.run(rt, desk, gate);

@@ -9,7 +9,7 @@ use commands::{CommandFault, ScenarioName};
 use itoa::Buffer;
 use version_book::{Named, Refusal};
 
-/// As many bytes as the longest line that responds to a command.
+/// No line that responds to a command has more bytes.
 const CAPACITY: usize = 96;
 
 /// What became of a scenario.

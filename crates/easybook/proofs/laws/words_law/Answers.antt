@@ -1,4 +1,4 @@
-use Rattle.easybook.proofs.Forms.{joined_spacing, joined_word, joined_workers, live_chosen, next_spacing, next_word, no_word, two_scripts}
+use Rattle.easybook.proofs.Forms.{joined_spacing, joined_word, joined_workers, next_spacing, next_word, no_word, twice_bad, two_scripts}
 use Rattle.easybook.proofs.laws.words_law.Goals as goal
 
 pub returns-clause-none : goal.returns-clause-none
@@ -22,5 +22,5 @@ returns-clause-workers c = joined_workers
 pub returns-clause-scripts : goal.returns-clause-scripts
 returns-clause-scripts c = two_scripts
 
-pub returns-clause-live : goal.returns-clause-live
-returns-clause-live c = live_chosen
+pub returns-clause-twice : goal.returns-clause-twice
+returns-clause-twice c = twice_bad

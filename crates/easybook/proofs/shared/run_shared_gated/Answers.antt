@@ -1,20 +1,14 @@
-use Rattle.std.proofs.Common.{rules, ◌≡◌, ℕ, ◌<◌, List, length, map, true, false, nat_le, Err, sym, ◌∙◌}
+use Rattle.std.proofs.Common.{rules, ◌≡◌, ℕ, List, length, map, true, false, nat_le, Err, sym, ◌∙◌}
 use Rattle.std.specs.List.{list_all}
 use Rattle.std.proofs.lemmas.List.Folds.{list_all-map}
 use Rattle.std.proofs.lemmas.Bool.{true≢false}
 use Rattle.easybook.specs.Alone.{script_limit}
-use Rattle.easybook.specs.Plain.{log_limit}
 use Rattle.easybook.specs.Shared.{are_within}
-use Rattle.easybook.proofs.Shareds.{shared_long_log, shared_long_script, shared_unopened}
+use Rattle.easybook.proofs.Shareds.{shared_long_script, shared_unopened}
 use Rattle.easybook.proofs.shared.run_shared_gated.Goals as goal
 
 pub returns : goal.returns
 returns g c = c.share.ensures c.args.log.now c.args.options.procs c.args.options.spacing c.in_ok-opened.ensures.book
-
-pub returns-then-log-gt-LOG_LIMIT : goal.returns-then-log-gt-LOG_LIMIT
-returns-then-log-gt-LOG_LIMIT g c =
-    let long : log_limit < length c.args.log.now = search rules in
-    shared_long_log (Unit {0}) g.row.A.Denot c.args.log.now c.args.options.procs (map (λ s. s.items) c.args.scripts.now) _ long
 
 pub returns-then-not-are_within : goal.returns-then-not-are_within
 returns-then-not-are_within g c =

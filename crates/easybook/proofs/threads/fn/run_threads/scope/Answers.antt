@@ -1,6 +1,6 @@
 use denote.Param.Send.{sendable}
 use Rattle.easybook.proofs.script_thread.ScriptThread.TheSendSync as thread
-use Rattle.easybook.proofs.script_thread.Place.TheSendSync as place
+use Rattle.easybook.proofs.script_thread.Workplace.TheSendSync as place
 use Rattle.easybook.proofs.threads.fn.run_threads.scope.Goals as goal
 
 pub spawn-requires-in-loop-thread-send-F : goal.spawn-requires-in-loop-thread-send-F
