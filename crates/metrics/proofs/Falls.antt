@@ -8,9 +8,10 @@ use Rattle.std.specs.Option.{option_map}
 use Rattle.std.specs.List.{sum_by, insert}
 use Rattle.std.specs.List.Sorted.{IsStrictlySortedBy}
 use Rattle.std.proofs.lemmas.Cmp.{nat_cmp_total}
+use Rattle.std.proofs.lemmas.Map.Lookups.{exact_unsigned}
 use Rattle.std.proofs.lemmas.Bool.{cases_Bool}
 use Rattle.std.proofs.lemmas.Bool.Decides.{nat_tests}
-use Rattle.std.proofs.lemmas.List.Sums.{sum_by_more, sum_by-take-le, sum_by-cons, get_or-le-sum_by, sum_by-append, sum_by-le}
+use Rattle.std.proofs.lemmas.List.Sums.{sum_by_more, sum_by-take-le, sum_by-cons, sum_by-append, sum_by-le}
 use Rattle.std.proofs.lemmas.List.Elements.{All-set, All-nil, All-take}
 use Rattle.std.proofs.Math.Nat.{mul-le-mul}
 use Rattle.scenarios.specs.declared.placed.Placed.{Placed}
@@ -19,8 +20,9 @@ use Rattle.metrics.specs.Measures.{overlap, busy_in}
 use Rattle.metrics.specs.Placed.{IsPlaced}
 use Rattle.metrics.specs.Part.{AreJobs}
 use Rattle.metrics.specs.Days.{AreFallsOf, IsFalls, before_in, before_on, busy_on, day_total, end_of, from_day}
-use Rattle.metrics.specs.Entries.{IsFound, total_at}
+use Rattle.metrics.specs.Entries.{IsFound, IsMerge, total_at}
 use Rattle.std.proofs.lemmas.List.{length-take-le, take_more}
+use Rattle.metrics.proofs.Merges.{merge_rises, merge_each, merge_sums}
 use Rattle.metrics.proofs.RisingLists.{total_is, rises-set, rises-insert, All-insert}
 
 -- a day is that of an entry where the two are equal
@@ -147,23 +149,20 @@ rest_fits n old s size e f =
     let r : s % 86400 + (86400 - s % 86400) ≡ 86400 = omega arith in
     let b = times_sum size (s % 86400) (86400 - s % 86400) 86400 r in omega (arith, a, b, f)
 
--- where what two lists have fits, so do an entry of the one and one of the other together
-pub pair_fits : (es fs : List (ℕ × ℕ)) (i j : ℕ) (d : ℕ × ℕ) → i < length es → j < length fs → from_day 0 es + from_day 0 fs < 2 ^ 64 → (get_or es i d).1 + (get_or fs j d).1 < 2 ^ 64
-pair_fits es fs i j d l m h = let a = less es i l in let b = less fs j m in omega (arith, a, b, h)
-  where
-    less : (xs : List (ℕ × ℕ)) (k : ℕ) → k < length xs → (get_or xs k d).1 ≤ from_day 0 xs
-    less xs k w =
-        let z : nat_le 0 (get_or xs k d).0 ≡ true = grind (arith, nat_tests) in
-        let a = get_or-le-sum_by (λ (x : ℕ × ℕ). cond (nat_le 0 x.0) x.1 0) xs k d w in
-        let b : cond (nat_le 0 (get_or xs k d).0) (get_or xs k d).1 0 ≡ (get_or xs k d).1 = rw z refl in omega (arith, a, b)
-
 -- two falls and what they are together
 abbrev pub Adds : ℕ → ℕ → ℕ → Type 0
 Adds a b c = c ≡ a + b
 
--- a fall behind a day that seconds reach
-abbrev pub IsNear : ℕ × ℕ → Type 0
-IsNear e = e.0 < 2 ^ 40
+-- falls that are merged are entries by rising day
+pub falls_merged : (l r es : List (ℕ × ℕ)) → IsFalls l → IsFalls r → IsMerge nat_cmp Adds l r es → IsFalls es
+falls_merged l r es h k m = record {
+  rise = merge_rises nat_cmp_total exact_unsigned m h.rise k.rise;
+  near = merge_each (λ (e : ℕ × ℕ). e.0 < 2 ^ 40) (λ q a b s n add. n) m h.near k.near;
+}
+
+-- falls that are merged add up to what both lists do
+pub falls_sum : (l r es : List (ℕ × ℕ)) → IsMerge nat_cmp Adds l r es → (t : ℕ → Bool) → total_at t (λ n. n) es ≡ total_at t (λ n. n) l + total_at t (λ n. n) r
+falls_sum l r es m t = merge_sums exact_unsigned (λ n. n) (λ a b s e. e) t m
 
 one_more : (t : ℕ → Bool) (es : List (ℕ × ℕ)) (i : ℕ) (d : ℕ × ℕ) → i < length es → total_at t (λ n. n) (take (i + 1) es) ≡ total_at t (λ n. n) (take i es) + cond (t (get_or es i d).0) (get_or es i d).1 0
 one_more t es i d l = sum_by_more (λ (x : ℕ × ℕ). cond (t x.0) x.1 0) es i d l

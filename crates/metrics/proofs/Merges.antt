@@ -1,117 +1,114 @@
--- A merge of two lists whose keys rise, as it takes the next entry of one of them, or one of both, and at its end what is left.
+-- A merge of two lists: that a loop makes one, that its keys rise, and what its entries and their sums are.
 use Rattle.std.proofs.Common.{◌≡◌, ◌⊎◌, inl, inr, ℕ, ◌+◌, ◌-◌, ◌<◌, ◌≤◌, Bool, true, false, cond, List, [], ◌∷◌, ◌++◌, length, take, drop, get_or, refl, ap, sym, ◌∙◌, arith, All, subst, Ordering, Less, Equal, Greater}
 use Rattle.std.specs.Ordering.{ordering_reverse}
 use Rattle.std.specs.Cmp.{IsTotalOrder}
 use Rattle.std.specs.Map.{keys_of}
 use Rattle.std.specs.List.{AllByRecursion}
 use Rattle.std.specs.List.Sorted.{IsStrictlySortedBy}
-use Rattle.std.proofs.lemmas.List.{append-nil, drop_all, drop_more, take_rest}
-use Rattle.std.proofs.lemmas.List.Elements.{All-append, All-drop, All-get_or, All-nil, All-push}
-use Rattle.std.proofs.lemmas.List.Sums.{sum_by-append, sum_by-drop_more, sum_by_push}
-use Rattle.std.proofs.lemmas.Map.Lookups.{CmpEqualImpliesEq}
-use Rattle.metrics.specs.Entries.{total_at}
+use Rattle.std.proofs.lemmas.List.{append_assoc, append-nil, drop_all, drop_more, take_rest}
+use Rattle.std.proofs.lemmas.List.Elements.{All-cons, All-tail}
+use Rattle.std.proofs.lemmas.List.Sums.{sum_by-cons}
+use Rattle.metrics.specs.Entries.{total_at, IsMerge, no_left, no_right, from_left, from_right, from_both}
 
--- What a merge has once it has gone over the first i and j entries of two lists: entries of which P holds, below all that are left of each list,
--- which add up to what both lists do with what is left of these. Of two values and a third Adds says that this is what they are together.
-pub record IsMerged {K X : Type 0} (R : K → K → Ordering) (P : K × X → Type 0) (Adds : X → X → X → Type 0) (l r : List (K × X)) (i j : ℕ) (us : List (K × X)) : Type 0 where
-  pub left : IsStrictlySortedBy R (keys_of (us ++ drop i l))
-  pub right : IsStrictlySortedBy R (keys_of (us ++ drop j r))
-  pub each : All P us
-  pub sums : (n : X → ℕ) → ((a b c : X) → Adds a b c → n c ≡ n a + n b) → (t : K → Bool) → total_at t n us + (total_at t n (drop i l) + total_at t n (drop j r)) ≡ total_at t n l + total_at t n r
+-- what a merge has once it has gone over the first i and j entries of two lists: with a merge of what is left of both behind it, it is one of both
+abbrev pub IsMergedTo : {K X : Type 0} → (K → K → Ordering) → (X → X → X → Type 0) → List (K × X) → List (K × X) → ℕ → ℕ → List (K × X) → Type 0
+IsMergedTo R Adds l r i j us = (es : List _) → IsMerge R Adds (drop i l) (drop j r) es → IsMerge R Adds l r (us ++ es)
 
-module _ {K X : Type 0} {R : K → K → Ordering} (o : IsTotalOrder R) where
-  abbrev Rise : List (K × X) → Type 0
-  Rise es = IsStrictlySortedBy R (keys_of es)
+module _ {K X : Type 0} {R : K → K → Ordering} {Adds : X → X → X → Type 0} (l r us vs : List (K × X)) (i j : ℕ) where
+  module _ (x y : K × X) (a : i < length l) (b : j < length r) (p : x ≡ get_or l i x) (q : y ≡ get_or r j y) (h : IsMergedTo R Adds l r i j us) where
+    next : drop i l ≡ x ∷ drop (i + 1) l
+    next = drop_more l i x a ∙ ap (λ z. z ∷ drop (i + 1) l) (sym p)
 
-  keys_same : (us ls : List (K × X)) (x w : K × X) → w.0 ≡ x.0 → keys_of (us ++ x ∷ ls) ≡ keys_of ((us ++ w ∷ []) ++ ls)
-  keys_same [] ls x w e = ap (λ k. k ∷ keys_of ls) (sym e)
-  keys_same (u ∷ us) ls x w e = ap (λ ks. u.0 ∷ ks) (keys_same us ls x w e)
+    other : drop j r ≡ y ∷ drop (j + 1) r
+    other = drop_more r j y b ∙ ap (λ z. z ∷ drop (j + 1) r) (sym q)
 
-  rises_on : (us vs l : List (K × X)) (i : ℕ) (w d : K × X) → i < length l → w.0 ≡ (get_or l i d).0 → vs ≡ us ++ w ∷ [] → Rise (us ++ drop i l) → Rise (vs ++ drop (i + 1) l)
-  rises_on us vs l i w d b e is h =
-      subst (λ xs. Rise (xs ++ drop (i + 1) l)) (sym is)
-      (subst (IsStrictlySortedBy R) (keys_same us (drop (i + 1) l) (get_or l i d) w e) (subst (λ xs. Rise (us ++ xs)) (drop_more l i d b) h))
+    pushed : (z : K × X) (es : List (K × X)) → vs ≡ us ++ z ∷ [] → IsMerge R Adds l r (us ++ z ∷ es) → IsMerge R Adds l r (vs ++ es)
+    pushed z es is = subst (IsMerge R Adds l r) (sym (ap (λ xs. xs ++ es) is ∙ append_assoc us (z ∷ []) es))
 
-  between : (us ls rs : List (K × X)) (x y : K × X) → R x.0 y.0 ≡ Less → Rise (us ++ x ∷ ls) → Rise (us ++ y ∷ rs) → Rise ((us ++ x ∷ []) ++ y ∷ rs)
-  unfolding IsStrictlySortedBy
-  between [] ls rs x y b s t = ((b, above rs t.0), t)
-    where
-      above : (zs : List (K × X)) → AllByRecursion (λ k. R y.0 k ≡ Less) (keys_of zs) → AllByRecursion (λ k. R x.0 k ≡ Less) (keys_of zs)
-      above [] h = tt
-      above (z ∷ zs) h = (o.trans x.0 y.0 z.0 b h.0, above zs h.1)
-  between (u ∷ us) ls rs x y b s t = (first us s.0 t.0, between us ls rs x y b s.1 t.1)
-    where
-      first : (vs : List (K × X)) → AllByRecursion (λ k. R u.0 k ≡ Less) (keys_of (vs ++ x ∷ ls)) → AllByRecursion (λ k. R u.0 k ≡ Less) (keys_of (vs ++ y ∷ rs)) → AllByRecursion (λ k. R u.0 k ≡ Less) (keys_of ((vs ++ x ∷ []) ++ y ∷ rs))
-      first [] h k = (h.0, k)
-      first (v ∷ vs) h k = (h.0, first vs h.1 k.1)
-
-  module _ (P : K × X → Type 0) (Adds : X → X → X → Type 0) where
-    pushed : (n : X → ℕ) (t : K → Bool) (us vs : List (K × X)) (w : K × X) → vs ≡ us ++ w ∷ [] → total_at t n vs ≡ total_at t n us + cond (t w.0) (n w.1) 0
-    pushed n t us vs w is = ap (total_at t n) is ∙ sum_by_push (λ (x : K × X). cond (t x.0) (n x.1) 0) us w
-
-    taken : (n : X → ℕ) (t : K → Bool) (l : List (K × X)) (i : ℕ) (d : K × X) → i < length l → total_at t n (drop i l) ≡ cond (t (get_or l i d).0) (n (get_or l i d).1) 0 + total_at t n (drop (i + 1) l)
-    taken n t l i d b = sum_by-drop_more (λ (x : K × X). cond (t x.0) (n x.1) 0) l i d b
-
-    -- a merge that has nothing yet has gone over no entry
-    pub merged_none : (l r us : List (K × X)) → Rise l → Rise r → us ≡ [] → IsMerged R P Adds l r 0 0 us
-    merged_none l r us a b e = subst (IsMerged R P Adds l r 0 0) (sym e) (record { left = a; right = b; each = All-nil P; sums = λ n h t. omega arith })
-
-    flip : (l r us : List (K × X)) (i j : ℕ) → IsMerged R P Adds l r i j us → IsMerged R P Adds r l j i us
-    flip l r us i j h = record { left = h.right; right = h.left; each = h.each; sums = λ n a t. let s = h.sums n a t in omega (arith, s) }
+    goes : (es : List (K × X)) → IsMerge R Adds (x ∷ drop (i + 1) l) (y ∷ drop (j + 1) r) es → IsMerge R Adds l r (us ++ es)
+    goes es m = h es (subst (λ ls. IsMerge R Adds ls (drop j r) es) (sym next) (subst (λ rs. IsMerge R Adds (x ∷ drop (i + 1) l) rs es) (sym other) m))
 
     -- a merge takes the next entry of the left list, where it is below that of the right one
-    pub merged_left : (l r us vs : List (K × X)) (i j : ℕ) (d : K × X) → i < length l → j < length r → All P l → R (get_or l i d).0 (get_or r j d).0 ≡ Less → vs ≡ us ++ get_or l i d ∷ [] → IsMerged R P Adds l r i j us → IsMerged R P Adds l r (i + 1) j vs
-    merged_left l r us vs i j d a b m low is h =
-        let x = get_or l i d in let y = get_or r j d in record {
-          left = rises_on us vs l i x d a refl is h.left;
-          right = subst (λ xs. Rise (xs ++ drop j r)) (sym is) (subst (λ xs. Rise ((us ++ x ∷ []) ++ xs)) (sym (drop_more r j d b))
-              (between us (drop (i + 1) l) (drop (j + 1) r) x y low (subst (λ xs. Rise (us ++ xs)) (drop_more l i d a) h.left) (subst (λ xs. Rise (us ++ xs)) (drop_more r j d b) h.right)));
-          each = subst (All P) (sym is) (All-push P us x h.each (All-get_or P l i d a m));
-          sums = λ n add t. let p = pushed n t us vs x is in let q = taken n t l i d a in let s = h.sums n add t in omega (arith, p, q, s);
-        }
+    pub merged_left : R x.0 y.0 ≡ Less → vs ≡ us ++ x ∷ [] → IsMergedTo R Adds l r (i + 1) j vs
+    merged_left low is = λ es m. pushed x es is (goes (x ∷ es) (from_left x y (drop (i + 1) l) (drop (j + 1) r) es low (subst (λ rs. IsMerge R Adds (drop (i + 1) l) rs es) other m)))
 
     -- a merge takes the next entry of the right list, where that of the left one is above it
-    pub merged_right : (l r us vs : List (K × X)) (i j : ℕ) (d : K × X) → i < length l → j < length r → All P r → R (get_or l i d).0 (get_or r j d).0 ≡ Greater → vs ≡ us ++ get_or r j d ∷ [] → IsMerged R P Adds l r i j us → IsMerged R P Adds l r i (j + 1) vs
-    merged_right l r us vs i j d a b m high is h =
-        flip r l vs (j + 1) i (merged_left r l us vs j i d b a m (o.antisymm (get_or r j d).0 (get_or l i d).0 ∙ ap ordering_reverse high) is (flip l r us i j h))
+    pub merged_right : R x.0 y.0 ≡ Greater → vs ≡ us ++ y ∷ [] → IsMergedTo R Adds l r i (j + 1) vs
+    merged_right high is = λ es m. pushed y es is (goes (y ∷ es) (from_right x y (drop (i + 1) l) (drop (j + 1) r) es high (subst (λ ls. IsMerge R Adds ls (drop (j + 1) r) es) next m)))
 
     -- a merge takes the next entries of both lists as one, where they have one key
-    pub merged_both : CmpEqualImpliesEq R → (l r us vs : List (K × X)) (i j : ℕ) (d : K × X) (s : X) → i < length l → j < length r → R (get_or l i d).0 (get_or r j d).0 ≡ Equal → P ((get_or l i d).0, s) → Adds (get_or l i d).1 (get_or r j d).1 s → vs ≡ us ++ ((get_or l i d).0, s) ∷ [] → IsMerged R P Adds l r i j us → IsMerged R P Adds l r (i + 1) (j + 1) vs
-    merged_both exact l r us vs i j d s a b same m more is h =
-        let x = get_or l i d in let y = get_or r j d in
-        let own : x.0 ≡ y.0 = exact x.0 y.0 same in record {
-          left = rises_on us vs l i (x.0, s) d a refl is h.left;
-          right = rises_on us vs r j (x.0, s) d b own is h.right;
-          each = subst (All P) (sym is) (All-push P us (x.0, s) h.each m);
-          sums = λ n add t.
-              let p = pushed n t us vs (x.0, s) is in let q = taken n t l i d a in let k = taken n t r j d b in let u = h.sums n add t in
-              let e : cond (t x.0) (n s) 0 ≡ cond (t x.0) (n x.1) 0 + cond (t y.0) (n y.1) 0 = both (t x.0) (n s) (n x.1) (n y.1) (add x.1 y.1 s more) ∙ ap (λ k. cond (t x.0) (n x.1) 0 + cond (t k) (n y.1) 0) own in
-              omega (arith, p, q, k, u, e);
-        }
-      where
-        both : (v : Bool) (c f g : ℕ) → c ≡ f + g → cond v c 0 ≡ cond v f 0 + cond v g 0
-        both true c f g e = e
-        both false c f g e = refl
+    pub merged_both : (s : X) → R x.0 y.0 ≡ Equal → Adds x.1 y.1 s → vs ≡ us ++ (x.0, s) ∷ [] → IsMergedTo R Adds l r (i + 1) (j + 1) vs
+    merged_both s same add is = λ es m. pushed (x.0, s) es is (goes ((x.0, s) ∷ es) (from_both x y s (drop (i + 1) l) (drop (j + 1) r) es same add m))
 
-    module _ (l r us ts vs : List (K × X)) (i j : ℕ) where
-      with_rest : ts ≡ us ++ take (length l - i) (drop i l) → vs ≡ ts ++ take (length r - j) (drop j r) → vs ≡ (us ++ drop i l) ++ drop j r
-      with_rest e f = f ∙ (λ k. e k ++ take_rest r j k) ∙ ap (λ xs. (us ++ xs) ++ drop j r) (take_rest l i)
+  -- a merge that has gone over all of one list has, with what is left of both behind it, all
+  pub merged_all : (ts : List (K × X)) → (length l ≤ i) ⊎ (length r ≤ j) → ts ≡ us ++ take (length l - i) (drop i l) → vs ≡ ts ++ take (length r - j) (drop j r) → IsMergedTo R Adds l r i j us → IsMerge R Adds l r vs
+  merged_all ts end e f h = subst (IsMerge R Adds l r) (sym (f ∙ (λ k. e k ++ take_rest r j k) ∙ ap (λ xs. (us ++ xs) ++ drop j r) (take_rest l i))) (all end)
+    where
+      all : (length l ≤ i) ⊎ (length r ≤ j) → IsMerge R Adds l r ((us ++ drop i l) ++ drop j r)
+      all (inl a) =
+          let e = drop_all i l a in
+          subst (λ xs. IsMerge R Adds l r ((us ++ xs) ++ drop j r)) (sym e) (subst (λ xs. IsMerge R Adds l r (xs ++ drop j r)) (sym (append-nil us)) (h (drop j r) (subst (λ ls. IsMerge R Adds ls (drop j r) (drop j r)) (sym e) (no_left (drop j r)))))
+      all (inr b) =
+          let e = drop_all j r b in
+          subst (λ xs. IsMerge R Adds l r ((us ++ drop i l) ++ xs)) (sym e) (subst (IsMerge R Adds l r) (sym (append-nil (us ++ drop i l))) (h (drop i l) (subst (λ rs. IsMerge R Adds (drop i l) rs (drop i l)) (sym e) (no_right (drop i l)))))
 
-      -- where a merge has gone over all of one list, keys rise with what is left of both behind it
-      pub merged_rises : (length l ≤ i) ⊎ (length r ≤ j) → ts ≡ us ++ take (length l - i) (drop i l) → vs ≡ ts ++ take (length r - j) (drop j r) → IsMerged R P Adds l r i j us → Rise vs
-      merged_rises end e f h = subst Rise (sym (with_rest e f)) (rise end)
-        where
-          rise : (length l ≤ i) ⊎ (length r ≤ j) → Rise ((us ++ drop i l) ++ drop j r)
-          rise (inl a) = subst (λ xs. Rise ((us ++ xs) ++ drop j r)) (sym (drop_all i l a)) (subst (λ xs. Rise (xs ++ drop j r)) (sym (append-nil us)) h.right)
-          rise (inr b) = subst (λ xs. Rise ((us ++ drop i l) ++ xs)) (sym (drop_all j r b)) (subst Rise (sym (append-nil (us ++ drop i l))) h.left)
+further : {K : Type 0} {R : K → K → Ordering} → IsTotalOrder R → (j k : K) (ks : List K) → R j k ≡ Less → AllByRecursion (λ q. R k q ≡ Less) ks → AllByRecursion (λ q. R j q ≡ Less) ks
+further o j k [] b h = tt
+further o j k (q ∷ ks) b h = (o.trans j k q b h.0, further o j k ks b h.1)
 
-      -- what holds of all entries of both lists holds of a merge with what is left of both
-      pub merged_each : All P l → All P r → ts ≡ us ++ take (length l - i) (drop i l) → vs ≡ ts ++ take (length r - j) (drop j r) → IsMerged R P Adds l r i j us → All P vs
-      merged_each m n e f h = subst (All P) (sym (with_rest e f)) (All-append P (us ++ drop i l) (drop j r) (All-append P us (drop i l) h.each (All-drop P i l m)) (All-drop P j r n))
+one : {K X : Type 0} (n : X → ℕ) (t : K → Bool) (e : K × X) (es : List (K × X)) → total_at t n (e ∷ es) ≡ cond (t e.0) (n e.1) 0 + total_at t n es
+one {K} {X} n t e es = sum_by-cons (λ (x : K × X). cond (t x.0) (n x.1) 0) e es
 
-      -- a merge adds up to what both lists do, with what is left of both
-      pub merged_sums : ts ≡ us ++ take (length l - i) (drop i l) → vs ≡ ts ++ take (length r - j) (drop j r) → IsMerged R P Adds l r i j us → (n : X → ℕ) → ((a b c : X) → Adds a b c → n c ≡ n a + n b) → (t : K → Bool) → total_at t n vs ≡ total_at t n l + total_at t n r
-      merged_sums e f h n add t =
-          let g : K × X → ℕ = λ x. cond (t x.0) (n x.1) 0 in
-          let a = ap (total_at t n) (with_rest e f) in let b = sum_by-append g (us ++ drop i l) (drop j r) in let c = sum_by-append g us (drop i l) in let s = h.sums n add t in
-          omega (arith, a, b, c, s)
+module _ {K X : Type 0} {R : K → K → Ordering} {Adds : X → X → X → Type 0} where
+  -- what is below the keys of both lists is below those of their merge
+  below : {l r es : List (K × X)} (k : K) → IsMerge R Adds l r es → AllByRecursion (λ q. R k q ≡ Less) (keys_of l) → AllByRecursion (λ q. R k q ≡ Less) (keys_of r) → AllByRecursion (λ q. R k q ≡ Less) (keys_of es)
+  below k (no_left r) a b = b
+  below k (no_right l) a b = a
+  below k (from_left x y l r es low m) a b = (a.0, below k m a.1 b)
+  below k (from_right x y l r es high m) a b = (b.0, below k m a b.1)
+  below k (from_both x y s l r es same add m) a b = (a.0, below k m a.1 b.1)
+
+  -- where keys rise in both lists, they do in their merge
+  pub merge_rises : {l r es : List (K × X)} → IsTotalOrder R → ((j k : K) → R j k ≡ Equal → j ≡ k) → IsMerge R Adds l r es → IsStrictlySortedBy R (keys_of l) → IsStrictlySortedBy R (keys_of r) → IsStrictlySortedBy R (keys_of es)
+  unfolding IsStrictlySortedBy
+  merge_rises o exact (no_left r) a b = b
+  merge_rises o exact (no_right l) a b = a
+  merge_rises o exact (from_left x y l r es low m) a b = (below x.0 m a.0 (low, further o x.0 y.0 (keys_of r) low b.0), merge_rises o exact m a.1 b)
+  merge_rises o exact (from_right x y l r es high m) a b =
+      let low : R y.0 x.0 ≡ Less = o.antisymm y.0 x.0 ∙ ap ordering_reverse high in
+      (below y.0 m (low, further o y.0 x.0 (keys_of l) low a.0) b.0, merge_rises o exact m a b.1)
+  merge_rises o exact (from_both x y s l r es same add m) a b =
+      (below x.0 m a.0 (subst (λ k. AllByRecursion (λ q. R k q ≡ Less) (keys_of r)) (sym (exact x.0 y.0 same)) b.0), merge_rises o exact m a.1 b.1)
+
+  -- what holds of each entry of both lists, and of what two values at one key are together, holds of each entry of their merge
+  pub merge_each : {l r es : List (K × X)} (P : K × X → Type 0) → ((k : K) (a b c : X) → P (k, a) → Adds a b c → P (k, c)) → IsMerge R Adds l r es → All P l → All P r → All P es
+  merge_each P both (no_left r) a b = b
+  merge_each P both (no_right l) a b = a
+  merge_each P both (from_left x y l r es low m) a b = All-cons P x es (a 0 x (omega arith)) (merge_each P both m (All-tail P x l a) b)
+  merge_each P both (from_right x y l r es high m) a b = All-cons P y es (b 0 y (omega arith)) (merge_each P both m a (All-tail P y r b))
+  merge_each P both (from_both x y s l r es same add m) a b = All-cons P (x.0, s) es (both x.0 x.1 y.1 s (a 0 x (omega arith)) add) (merge_each P both m (All-tail P x l a) (All-tail P y r b))
+
+  -- a measure by which two values at one key add up is over their merge what it is over both lists
+  pub merge_sums : {l r es : List (K × X)} → ((j k : K) → R j k ≡ Equal → j ≡ k) → (n : X → ℕ) → ((a b c : X) → Adds a b c → n c ≡ n a + n b) → (t : K → Bool) → IsMerge R Adds l r es → total_at t n es ≡ total_at t n l + total_at t n r
+  merge_sums exact n adds t (no_left r) = omega arith
+  merge_sums exact n adds t (no_right l) = omega arith
+  merge_sums exact n adds t (from_left x y l r es low m) =
+      let ih = merge_sums exact n adds t m in let a = one n t x es in let b = one n t x l in omega (arith, ih, a, b)
+  merge_sums exact n adds t (from_right x y l r es high m) =
+      let ih = merge_sums exact n adds t m in let a = one n t y es in let b = one n t y r in omega (arith, ih, a, b)
+  merge_sums exact n adds t (from_both x y s l r es same add m) =
+      let ih = merge_sums exact n adds t m in let a = one n t (x.0, s) es in let b = one n t x l in let c = one n t y r in
+      let e : cond (t x.0) (n s) 0 ≡ cond (t x.0) (n x.1) 0 + cond (t y.0) (n y.1) 0 = both (t x.0) (n s) (n x.1) (n y.1) (adds x.1 y.1 s add) ∙ ap (λ k. cond (t x.0) (n x.1) 0 + cond (t k) (n y.1) 0) (exact x.0 y.0 same) in
+      omega (arith, ih, a, b, c, e)
+    where
+      both : (v : Bool) (c f g : ℕ) → c ≡ f + g → cond v c 0 ≡ cond v f 0 + cond v g 0
+      both true c f g e = e
+      both false c f g e = refl
+
+  -- a merge is one by what follows of two values and what they are together
+  pub merge_weaker : {l r es : List (K × X)} {Sums : X → X → X → Type 0} → ((a b c : X) → Adds a b c → Sums a b c) → IsMerge R Adds l r es → IsMerge R Sums l r es
+  merge_weaker f (no_left r) = no_left r
+  merge_weaker f (no_right l) = no_right l
+  merge_weaker f (from_left x y l r es low m) = from_left x y l r es low (merge_weaker f m)
+  merge_weaker f (from_right x y l r es high m) = from_right x y l r es high (merge_weaker f m)
+  merge_weaker f (from_both x y s l r es same add m) = from_both x y s l r es same (f x.1 y.1 s add) (merge_weaker f m)

@@ -21,7 +21,8 @@ use Rattle.metrics.specs.Measures.{wait, slowdown, busy}
 use Rattle.metrics.specs.Users.{plus, no_sums, sums_of, is_of, user_total, CanAdd, IsUserList}
 use Rattle.metrics.specs.Placed.{IsPlaced}
 use Rattle.metrics.specs.Part.{AreJobs}
-use Rattle.metrics.specs.Entries.{IsFound, total_at}
+use Rattle.metrics.specs.Entries.{IsFound, IsMerge, total_at}
+use Rattle.metrics.proofs.Merges.{merge_rises, merge_each, merge_sums}
 use Rattle.metrics.proofs.RisingLists.{total_is, total-set, rises-set, rises-insert, All-insert}
 
 -- sums are the same where each number of them is
@@ -43,17 +44,17 @@ own : (u k : ℤ) → k ≡ u → int_eq u k ≡ true
 own u k e = (Decides-int_eq u k).1 (sym e)
 
 -- where what two lists add up to for a user fits, so do the sums of an entry of each, where both are of one user
-pub pair_fits : (es fs : List (ℤ × UserSums)) (i j : ℕ) (d : ℤ × UserSums) → i < length es → j < length fs → int_cmp (get_or es i d).0 (get_or fs j d).0 ≡ Equal → ((q : ℤ) → CanAdd (user_total q es) (user_total q fs)) → CanAdd (get_or es i d).1 (get_or fs j d).1
-pair_fits es fs i j d l m same h =
-    let u = (get_or es i d).0 in let f = h u in let k = sym (exact_signed u (get_or fs j d).0 same) in record {
-      count = let a = less (λ x. x.count) u es i l refl in let b = less (λ x. x.count) u fs j m k in omega (arith, a, b, f.count);
-      wait = let a = less (λ x. x.wait) u es i l refl in let b = less (λ x. x.wait) u fs j m k in omega (arith, a, b, f.wait);
-      slowdown = let a = less (λ x. x.slowdown) u es i l refl in let b = less (λ x. x.slowdown) u fs j m k in omega (arith, a, b, f.slowdown);
-      busy = let a = less (λ x. x.busy) u es i l refl in let b = less (λ x. x.busy) u fs j m k in omega (arith, a, b, f.busy);
+pub pair_fits : (es fs : List (ℤ × UserSums)) (i j : ℕ) (d e : ℤ × UserSums) → i < length es → j < length fs → int_cmp (get_or es i d).0 (get_or fs j e).0 ≡ Equal → ((q : ℤ) → CanAdd (user_total q es) (user_total q fs)) → CanAdd (get_or es i d).1 (get_or fs j e).1
+pair_fits es fs i j d e l m same h =
+    let u = (get_or es i d).0 in let f = h u in let k = sym (exact_signed u (get_or fs j e).0 same) in record {
+      count = let a = less (λ x. x.count) u es i d l refl in let b = less (λ x. x.count) u fs j e m k in omega (arith, a, b, f.count);
+      wait = let a = less (λ x. x.wait) u es i d l refl in let b = less (λ x. x.wait) u fs j e m k in omega (arith, a, b, f.wait);
+      slowdown = let a = less (λ x. x.slowdown) u es i d l refl in let b = less (λ x. x.slowdown) u fs j e m k in omega (arith, a, b, f.slowdown);
+      busy = let a = less (λ x. x.busy) u es i d l refl in let b = less (λ x. x.busy) u fs j e m k in omega (arith, a, b, f.busy);
     }
   where
-    less : (n : UserSums → ℕ) (u : ℤ) (xs : List (ℤ × UserSums)) (k : ℕ) → k < length xs → (get_or xs k d).0 ≡ u → n (get_or xs k d).1 ≤ total_at (int_eq u) n xs
-    less n u xs k w e =
+    less : (n : UserSums → ℕ) (u : ℤ) (xs : List (ℤ × UserSums)) (k : ℕ) (d : ℤ × UserSums) → k < length xs → (get_or xs k d).0 ≡ u → n (get_or xs k d).1 ≤ total_at (int_eq u) n xs
+    less n u xs k d w e =
         let a = get_or-le-sum_by (λ (x : ℤ × UserSums). cond (int_eq u x.0) (n x.1) 0) xs k d w in
         let b = ap (λ t. cond t (n (get_or xs k d).1) 0) (own u (get_or xs k d).0 e) in omega (arith, a, b)
 
@@ -61,11 +62,20 @@ pair_fits es fs i j d l m same h =
 abbrev pub Adds : UserSums → UserSums → UserSums → Type 0
 Adds a b c = c ≡ plus a b
 
--- where each sum of a list is that of two others together, the list adds up to what both do
-pub sums_joined : (es fs gs : List (ℤ × UserSums)) → ((n : UserSums → ℕ) → ((a b c : UserSums) → Adds a b c → n c ≡ n a + n b) → (t : ℤ → Bool) → total_at t n gs ≡ total_at t n es + total_at t n fs) → (q : ℤ) → user_total q gs ≡ plus (user_total q es) (user_total q fs)
-sums_joined es fs gs h q = same_sums (user_total q gs) (plus (user_total q es) (user_total q fs))
-    (h (λ x. x.count) (λ a b c e. ap (λ (x : UserSums). x.count) e) (int_eq q)) (h (λ x. x.wait) (λ a b c e. ap (λ (x : UserSums). x.wait) e) (int_eq q))
-    (h (λ x. x.slowdown) (λ a b c e. ap (λ (x : UserSums). x.slowdown) e) (int_eq q)) (h (λ x. x.busy) (λ a b c e. ap (λ (x : UserSums). x.busy) e) (int_eq q))
+-- lists by user that are merged are a list by user
+pub users_merged : (l r es : List (ℤ × UserSums)) → IsUserList l → IsUserList r → IsMerge int_cmp Adds l r es → IsUserList es
+users_merged l r es h k m = record {
+  rise = merge_rises int_cmp_total exact_signed m h.rise k.rise;
+  some = merge_each (λ (e : ℤ × UserSums). 0 < e.1.count) (λ u a b s n is. let e = ap (λ (x : UserSums). x.count) is in omega (arith, e, n)) m h.some k.some;
+}
+
+-- lists by user that are merged add up, for each user, to what both do
+pub users_sum : (l r es : List (ℤ × UserSums)) → IsMerge int_cmp Adds l r es → (q : ℤ) → user_total q es ≡ plus (user_total q l) (user_total q r)
+users_sum l r es m q = same_sums (user_total q es) (plus (user_total q l) (user_total q r))
+    (one (λ x. x.count) (λ a b. refl)) (one (λ x. x.wait) (λ a b. refl)) (one (λ x. x.slowdown) (λ a b. refl)) (one (λ x. x.busy) (λ a b. refl))
+  where
+    one : (n : UserSums → ℕ) → ((a b : UserSums) → n (plus a b) ≡ n a + n b) → total_at (int_eq q) n es ≡ total_at (int_eq q) n l + total_at (int_eq q) n r
+    one n add = merge_sums exact_signed n (λ a b c e. ap n e ∙ add a b) (int_eq q) m
 
 abbrev parts : Option UserSums → UserSums
 parts o = record { count = unwrap_or (option_map (λ (x : UserSums). x.count) o) 0; wait = unwrap_or (option_map (λ (x : UserSums). x.wait) o) 0; slowdown = unwrap_or (option_map (λ (x : UserSums). x.slowdown) o) 0; busy = unwrap_or (option_map (λ (x : UserSums). x.busy) o) 0 }

@@ -13,11 +13,10 @@ ghost use Rattle.metrics.specs.Part.{AreJobs};
 ghost use Rattle.metrics.specs.Sums.{AreFalls};
 ghost use Rattle.metrics.specs.Tables.{day_row_of};
 
-use crate::entries::find;
+use crate::entries::{find, merge};
 use crate::rows::{DayRow, day_row};
 use scenarios::Placed;
 use std::alloc::{AllocError, Allocator};
-use std::cmp::Ordering;
 
 // A day, and by how much a sum falls behind it. A list has them by rising day.
 type Fall = (u64, u64);
@@ -78,29 +77,8 @@ fn merge_falls<A: Allocator + Copy>(
     ensures list { IfOk result (λ falls. IsFalls falls.items) }
     ensures sums { IfOk result (λ falls. (test : ℕ → Bool) → total_at test (λ n. n) falls.items ≡ total_at test (λ n. n) left.now + total_at test (λ n. n) right.now) }
 {
-    let mut falls = Vec::with_capacity(alloc, left.len() + right.len())?;
-    let mut i = 0;
-    let mut j = 0;
-    'both: while i < left.len() && j < right.len() {
-        match left[i].0.cmp(&right[j].0) {
-            Ordering::Less => {
-                falls.push(left[i])?;
-                i += 1;
-            }
-            Ordering::Greater => {
-                falls.push(right[j])?;
-                j += 1;
-            }
-            Ordering::Equal => {
-                falls.push((left[i].0, left[i].1 + right[j].1))?;
-                i += 1;
-                j += 1;
-            }
-        }
-    }
-    falls.extend_from_slice(&left[i..])?;
-    falls.extend_from_slice(&right[j..])?;
-    Ok(falls)
+    let falls = merge(alloc, left, right, |a, b| Some(a + b))?;
+    Ok(falls.unwrap())
 }
 
 fn from_day(falls: &[Fall], day: u64) -> u64

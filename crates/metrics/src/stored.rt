@@ -9,10 +9,9 @@ ghost use Rattle.std.specs.List.Sorted.{IsStrictlySortedBy};
 ghost use Rattle.metrics.specs.Stored.{long, long_of};
 ghost use Rattle.metrics.specs.Users.{CanAdd, IsUserList, plus, user_total};
 
-use crate::entries::find;
+use crate::entries::{self, find};
 use crate::users::{self, UserEntry, UserSums, Users, sums_at};
 use std::alloc::{AllocError, Allocator};
-use std::cmp::Ordering;
 use std::marker::Model;
 
 #[derive(Clone, Copy)]
@@ -164,32 +163,7 @@ fn merge_short<A: Allocator + Copy>(
     ensures list { IfOk result (λ merged. IfSome merged (λ users. IsUserList (map long_of users.items))) }
     ensures sums { IfOk result (λ merged. IfSome merged (λ users. (q : ℤ) → user_total q (map long_of users.items) ≡ plus (user_total q (map long_of left.now)) (user_total q (map long_of right.now)))) }
 {
-    let mut users = Vec::with_capacity(alloc, left.len() + right.len())?;
-    let mut i = 0;
-    let mut j = 0;
-    'both: while i < left.len() && j < right.len() {
-        match left[i].0.cmp(&right[j].0) {
-            Ordering::Less => {
-                users.push(left[i])?;
-                i += 1;
-            }
-            Ordering::Greater => {
-                users.push(right[j])?;
-                j += 1;
-            }
-            Ordering::Equal => {
-                let Some(sums) = left[i].1.plus(&right[j].1) else {
-                    return Ok(None);
-                };
-                users.push((left[i].0, sums))?;
-                i += 1;
-                j += 1;
-            }
-        }
-    }
-    users.extend_from_slice(&left[i..])?;
-    users.extend_from_slice(&right[j..])?;
-    Ok(Some(users))
+    entries::merge(alloc, left, right, |a, b| a.plus(&b))
 }
 
 pub(crate) fn merge<A: Allocator + Copy>(

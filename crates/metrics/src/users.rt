@@ -1,6 +1,6 @@
 //! Sums by user.
 
-ghost use Rattle.std.specs.Prelude.{◌≡◌, ℤ, ◌+◌, ◌<◌, map, OnOk, IfOk, if◌then◌else◌};
+ghost use Rattle.std.specs.Prelude.{◌≡◌, ℤ, ◌+◌, ◌<◌, map, OnOk, IfOk, Some, if◌then◌else◌};
 ghost use Rattle.std.specs.Ordering.{int_cmp, int_eq};
 ghost use Rattle.std.specs.BTreeMap.{is_at};
 ghost use Rattle.std.specs.Map.{keys_of, lookup};
@@ -9,11 +9,10 @@ ghost use Rattle.metrics.specs.Users.{plus, CanAdd, alone, no_sums, sums_of, use
 ghost use Rattle.metrics.specs.Placed.{CanStart};
 ghost use Rattle.metrics.specs.Part.{AreJobs};
 
-use crate::entries::find;
+use crate::entries::{self, find};
 use crate::measures;
 use scenarios::Placed;
 use std::alloc::{AllocError, Allocator};
-use std::cmp::Ordering;
 
 /// The sums over the jobs of one user: seconds of waiting, slowdowns in thousandths,
 /// processor-seconds.
@@ -127,27 +126,10 @@ pub(crate) fn merge<A: Allocator + Copy>(
     ensures list { IfOk result (λ users. IsUserList users.items) }
     ensures sums { IfOk result (λ users. (q : ℤ) → user_total q users.items ≡ plus (user_total q left.now) (user_total q right.now)) }
 {
-    let mut users = Vec::with_capacity(alloc, left.len() + right.len())?;
-    let mut i = 0;
-    let mut j = 0;
-    'both: while i < left.len() && j < right.len() {
-        match left[i].0.cmp(&right[j].0) {
-            Ordering::Less => {
-                users.push(left[i])?;
-                i += 1;
-            }
-            Ordering::Greater => {
-                users.push(right[j])?;
-                j += 1;
-            }
-            Ordering::Equal => {
-                users.push((left[i].0, left[i].1.plus(&right[j].1)))?;
-                i += 1;
-                j += 1;
-            }
-        }
-    }
-    users.extend_from_slice(&left[i..])?;
-    users.extend_from_slice(&right[j..])?;
-    Ok(users)
+    let plus = |a: UserSums, b: UserSums|
+        requires { CanAdd a b }
+        ensures { result ≡ Some (plus a b) }
+    { Some(a.plus(&b)) };
+    let users = entries::merge(alloc, left, right, plus)?;
+    Ok(users.unwrap())
 }
