@@ -149,8 +149,7 @@ rest_fits n old s size e f =
     let r : s % 86400 + (86400 - s % 86400) ≡ 86400 = omega arith in
     let b = times_sum size (s % 86400) (86400 - s % 86400) 86400 r in omega (arith, a, b, f)
 
--- two falls and what they are together
-abbrev pub Adds : ℕ → ℕ → ℕ → Type 0
+abbrev Adds : ℕ → ℕ → ℕ → Type 0
 Adds a b c = c ≡ a + b
 
 -- falls that are merged are entries by rising day

@@ -60,7 +60,6 @@ one : {K X : Type 0} (n : X → ℕ) (t : K → Bool) (e : K × X) (es : List (K
 one {K} {X} n t e es = sum_by-cons (λ (x : K × X). cond (t x.0) (n x.1) 0) e es
 
 module _ {K X : Type 0} {R : K → K → Ordering} {Adds : X → X → X → Type 0} where
-  -- what is below the keys of both lists is below those of their merge
   below : {l r es : List (K × X)} (k : K) → IsMerge R Adds l r es → AllByRecursion (λ q. R k q ≡ Less) (keys_of l) → AllByRecursion (λ q. R k q ≡ Less) (keys_of r) → AllByRecursion (λ q. R k q ≡ Less) (keys_of es)
   below k (no_left r) a b = b
   below k (no_right l) a b = a

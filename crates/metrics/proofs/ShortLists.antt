@@ -7,14 +7,13 @@ use Rattle.metrics.specs.declared.users.UserSums.{UserSums}
 use Rattle.metrics.specs.Entries.{IsMerge, no_left, no_right, from_left, from_right, from_both}
 use Rattle.metrics.specs.Stored.{long, long_of}
 use Rattle.metrics.specs.Users.{plus}
-use Rattle.metrics.proofs.UserLists as UserLists
+use Rattle.metrics.proofs.UserLists.{Adds}
 
--- two sums and what they are together
-abbrev pub Adds : ShortSums → ShortSums → ShortSums → Type 0
-Adds a b c = long c ≡ plus (long a) (long b)
+abbrev AddsShort : ShortSums → ShortSums → ShortSums → Type 0
+AddsShort a b c = long c ≡ plus (long a) (long b)
 
 -- what short entries stand for, once they are merged, is a merge of what both lists stand for
-pub long_merge : {l r es : List (ℤ × ShortSums)} → IsMerge int_cmp Adds l r es → IsMerge int_cmp UserLists.Adds (map long_of l) (map long_of r) (map long_of es)
+pub long_merge : {l r es : List (ℤ × ShortSums)} → IsMerge int_cmp AddsShort l r es → IsMerge int_cmp Adds (map long_of l) (map long_of r) (map long_of es)
 long_merge (no_left r) = no_left (map long_of r)
 long_merge (no_right l) = no_right (map long_of l)
 long_merge (from_left x y l r es low m) = from_left (long_of x) (long_of y) (map long_of l) (map long_of r) (map long_of es) low (long_merge m)

@@ -25,8 +25,7 @@ use Rattle.metrics.specs.Entries.{IsFound, IsMerge, total_at}
 use Rattle.metrics.proofs.Merges.{merge_rises, merge_each, merge_sums}
 use Rattle.metrics.proofs.RisingLists.{total_is, total-set, rises-set, rises-insert, All-insert}
 
--- sums are the same where each number of them is
-pub same_sums : (a b : UserSums) → a.count ≡ b.count → a.wait ≡ b.wait → a.slowdown ≡ b.slowdown → a.busy ≡ b.busy → a ≡ b
+same_sums : (a b : UserSums) → a.count ≡ b.count → a.wait ≡ b.wait → a.slowdown ≡ b.slowdown → a.busy ≡ b.busy → a ≡ b
 same_sums a b c w s u = λ i. record { count = c i; wait = w i; slowdown = s i; busy = u i }
 
 added_if : (b : Bool) (a t s : UserSums) → t.count ≡ a.count + cond b s.count 0 → t.wait ≡ a.wait + cond b s.wait 0 → t.slowdown ≡ a.slowdown + cond b s.slowdown 0 → t.busy ≡ a.busy + cond b s.busy 0 → t ≡ plus a (cond b s no_sums)

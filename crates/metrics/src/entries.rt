@@ -1,6 +1,7 @@
 //! Lists of entries, each with a key, by rising key.
 
-// Keys that come in their order are found at the end, with no search.
+// Keys that come in their order are found at the end, with no search. Two lists are merged into one in which the values
+// at a key of both are what `plus` makes of them; there is none where it makes nothing.
 ghost use Rattle.std.specs.Prelude.{◌≡◌, true, is_none, IfOk, IfSome, Some, None};
 ghost use Rattle.std.specs.List.Sorted.{IsStrictlySortedBy};
 ghost use Rattle.std.specs.Map.{keys_of};
@@ -23,7 +24,6 @@ pub(crate) fn find<K: Ord + Copy, V>(entries: &[(K, V)], key: K) -> Result<usize
     }
 }
 
-// Both lists as one, where the values at a key of both are what `plus` makes of them. None where it makes nothing.
 pub(crate) fn merge<K: Ord + Copy, V: Copy, F: Fn(V, V) -> Option<V>, A: Allocator + Copy>(
     alloc: A,
     left: &[(K, V)],
