@@ -30,14 +30,12 @@ use Rattle.scripts.specs.Analysts.{AnswersBy, AreBeside, CallBy, IsLogText, Line
 use Rattle.version_book.specs.BookRules.{IsAnswered, IsTrueOf, book_rules}
 use Rattle.scripts.specs.Lines.{refused, version_line}
 use Rattle.version_book.specs.Looks.{IsListedAs}
-use Rattle.scripts.specs.Looks.{IsUnseen, NotLooked}
-use Rattle.scripts.specs.Reports.{IsReport}
 use Rattle.version_book.specs.Reading.{Moment, present}
 use Rattle.scripts.specs.Scripts.{TellsBy}
 use Rattle.version_book.specs.Session.{Session}
-use Rattle.scripts.specs.Session.{IsCall}
-use Rattle.scripts.specs.Steps.{Answers, AreSeen, IsMade, IsNamed, IsSeen, IsSettledIf, IsSide, IsView, saved_text, settle_line}
+use Rattle.scripts.specs.Steps.{AreSeen, IsNamed, IsSeen, IsSettledIf, saved_text, settle_line}
 use Rattle.scripts.specs.Transcript.{IsLine, IsTranscript, Tells, looked_at}
+use Rattle.scripts.proofs.Shorts.{Answers, IsCall, IsMade, IsReport, IsSide, IsUnseen, IsView, NotLooked}
 use Rattle.scripts.proofs.Looking.{beside-shown, named-viewed, not-viewed, side-behind, side-not_yet}
 use Rattle.scripts.proofs.Named.{id-none, id-some, name-found, place-of}
 use Rattle.scripts.proofs.Sides.{listing-kept, side-first}

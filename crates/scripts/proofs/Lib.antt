@@ -1,3 +1,4 @@
+mod Shorts
 mod Writings
 mod Transcripts
 mod CallAnswers

@@ -21,10 +21,11 @@ use Rattle.scripts.specs.declared.view_report.Report.{Report}
 use Rattle.scripts.specs.declared.view_report.Report.TheVariants as report
 use Rattle.scripts.specs.Lines.{refused}
 use Rattle.version_book.specs.Looks.{IsListedAs, IsLooked, IsOf}
-use Rattle.scripts.specs.Looks.{NotLooked, unseen_line}
+use Rattle.scripts.specs.Looks.{unseen_line}
 use Rattle.version_book.specs.Session.{Session, IsStep}
-use Rattle.scripts.specs.Steps.{IsView, IsSeen}
-use Rattle.scripts.specs.Reports.{IsReport, report_text}
+use Rattle.scripts.specs.Steps.{IsSeen}
+use Rattle.scripts.specs.Reports.{report_text}
+use Rattle.scripts.proofs.Shorts.{IsReport, IsView, NotLooked}
 use Rattle.scripts.proofs.Named.{place-of, name-found}
 
 schedule-as : (name : List ℕ) (v : ℕ) {log log' : List LogEntry} {under under' : ScenarioView} → log ≡ log' → under ≡ under' → schedule_text name v (plan_of log under) ≡ schedule_text name v (plan_of log' under')

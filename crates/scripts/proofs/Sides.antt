@@ -10,7 +10,8 @@ use Rattle.report.specs.declared.side.SideLine.{SideLine}
 use Rattle.report.specs.Side.{side_line, side_text}
 use Rattle.scripts.specs.Lines.{refused}
 use Rattle.version_book.specs.Session.{Session}
-use Rattle.scripts.specs.Steps.{IsSeen, IsSide, side_of}
+use Rattle.scripts.specs.Steps.{IsSeen, side_of}
+use Rattle.scripts.proofs.Shorts.{IsSide}
 
 take-next : {X : Type 0} (xs : List X) (k : ℕ) (x : X) → slice_get xs k ≡ Some x → take (suc k) xs ≡ take k xs ++ x ∷ []
 take-next [] k x is = cc

@@ -6,9 +6,10 @@ use Rattle.commands.specs.declared.command.Command.TheVariants as asks
 use Rattle.commands.specs.declared.fault.CommandFault.{CommandFault}
 use Rattle.commands.specs.Commands.{command_of_line}
 use Rattle.version_book.specs.Session.{Session}
-use Rattle.scripts.specs.Steps.{Answers, IsNamed}
+use Rattle.scripts.specs.Steps.{IsNamed}
 use Rattle.scripts.specs.Transcript.{IsLine, IsTranscript}
 use Rattle.version_book.proofs.Lemmas.{stops}
+use Rattle.scripts.proofs.Shorts.{Answers}
 
 abbrev Some_of : (List ℕ → Session → Type 0) → Type 0
 Some_of answers = (text : List ℕ) × ((new : Session) × answers text new)

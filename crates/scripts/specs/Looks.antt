@@ -1,11 +1,7 @@
 -- What a look at a scenario's published run gives.
-use Rattle.std.specs.Prelude.{◌≡◌, ℕ, List, ◌++◌, ◌⊎◌, codes}
+use Rattle.std.specs.Prelude.{ℕ, List, ◌++◌, codes}
 use Rattle.report.specs.Pieces.{left}
 use Rattle.report.specs.Side.{shown_line}
-use Rattle.scenarios.specs.ScenarioList.{Listed}
-use Rattle.book_machine.specs.declared.reply.Reply.TheVariants as reply
-use Rattle.book_machine.specs.Call.{View}
-use Rattle.book_machine.specs.Machine.{note_limit}
 use Rattle.version_book.specs.declared.faults.ViewFault.{ViewFault}
 use Rattle.version_book.specs.declared.faults.ViewFault.TheVariants as view
 use Rattle.version_book.specs.declared.refusal.Refusal.{Refusal}
@@ -14,16 +10,6 @@ use Rattle.version_book.specs.Names.{refusal_name, view_fault_name}
 use Rattle.scripts.specs.declared.views.Beside.{Beside}
 use Rattle.scripts.specs.declared.views.Beside.TheVariants as beside
 use Rattle.scripts.specs.Lines.{refused, behind_line}
-use Rattle.version_book.specs.Session.{Session, IsStep}
-use Rattle.version_book.specs.Looks.{IsListedAs}
-
--- nothing is shown: no call was noted, or the book replied why; a listed scenario is there
-abbrev pub NotLooked : Refusal ViewFault → Session → ℕ → Session → Type 0
-NotLooked why.JournalFull old id new = (old.machine.notes ≡ note_limit) × (new ≡ old)
-NotLooked (why.Fault view.NoSuchScenario) old id new = IsStep old (View id old.seen) reply.NoSuchScenario new × ((s : Listed) → IsListedAs old.machine id s → ⊥)
-NotLooked (why.Fault view.NotYet) old id new = IsStep old (View id old.seen) reply.NotYet new
-NotLooked (why.Fault (view.Behind seen found)) old id new = IsStep old (View id old.seen) (reply.Behind seen found) new
-NotLooked why.Memory old id new = new ≡ old
 
 -- the line of a view that shows nothing
 abbrev pub unseen_line : Refusal ViewFault → List ℕ
@@ -37,7 +23,3 @@ abbrev pub beside_line : List ℕ → {A : Type 0} → Beside A → List ℕ
 beside_line name (beside.Shown p) = shown_line name p.version p.run.tables.overall
 beside_line name beside.NotYet = left 16 name ++ codes " not yet\n"
 beside_line name beside.Behind = left 16 name ++ codes " behind\n"
-
--- no view was noted: the journal is full, or memory was refused
-abbrev pub IsUnseen : Refusal ViewFault → Session → Session → Type 0
-IsUnseen refusal old new = (new ≡ old) × (((refusal ≡ why.JournalFull) × (old.machine.notes ≡ note_limit)) ⊎ (refusal ≡ why.Memory))

@@ -1,23 +1,13 @@
 -- The reports on what is published for a scenario.
 use Rattle.std.specs.Prelude.{ℕ, List}
 use Rattle.scenarios.specs.Plan.{plan_of}
-use Rattle.scenarios.specs.ScenarioList.{Listed}
 use Rattle.checkpoints.specs.RunView.{RunView}
 use Rattle.report.specs.Schedule.{schedule_text}
 use Rattle.report.specs.Table.{table_text}
 use Rattle.report.specs.Users.{users_text}
 use Rattle.report.specs.Days.{days_text}
-use Rattle.book_machine.specs.Machine.{Machine}
 use Rattle.scripts.specs.declared.view_report.Report.{Report}
 use Rattle.scripts.specs.declared.view_report.Report.TheVariants as report
-use Rattle.scripts.specs.Steps.{IsSchedule, IsTable, IsUsers, IsDays}
-
--- the report of this kind, on a version of the log under a scenario
-abbrev pub IsReport : Report → Machine → Listed → ℕ → List ℕ → Type 0
-IsReport report.Schedule m s v text = IsSchedule m s v text
-IsReport report.Table m s v text = IsTable m s v text
-IsReport report.Users m s v text = IsUsers m s v text
-IsReport report.Days m s v text = IsDays m s v text
 
 -- ---- of a run
 

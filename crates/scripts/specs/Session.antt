@@ -3,7 +3,6 @@ use Rattle.std.specs.Prelude.{◌≡◌, ℕ, List, Bool, true, false, ◌⊎◌
 use Rattle.book_machine.specs.declared.reply.Reply.{Reply}
 use Rattle.book_machine.specs.Call.{BookCall}
 use Rattle.book_machine.specs.Machine.{note_limit}
-use Rattle.version_book.specs.Steps.{outcome}
 use Rattle.scripts.specs.Lines.{refused}
 use Rattle.version_book.specs.Session.{Session, IsStep}
 
@@ -28,7 +27,3 @@ WantsMemory short old text new = IfShort short (IsRefused old (codes "Memory") t
 abbrev pub IsCallIf : Bool → Session → BookCall → (Reply → List ℕ) → List ℕ → Session → Type 0
 IsCallIf short old call says text new =
     IsFull old text new ⊎ (WantsMemory short old text new ⊎ ((outcome : Reply) × IsStep old call outcome new × (text ≡ says outcome)))
-
--- the same, where memory may run out
-abbrev pub IsCall : Session → BookCall → (Reply → List ℕ) → List ℕ → Session → Type 0
-IsCall old call says text new = IsCallIf true old call says text new

@@ -73,9 +73,6 @@ IsViewIf short old report text new s =
     ⊎ (WantsMemory short old text new
     ⊎ ((outcome : Reply) × IsStep old (View s.id old.seen) outcome new × IsAnswered short (report old.machine s) outcome text))
 
-abbrev pub IsView : Session → (Machine → Listed → ℕ → List ℕ → Type 0) → List ℕ → Session → Listed → Type 0
-IsView old report text new s = IsViewIf true old report text new s
-
 -- ---- scenarios side by side
 
 -- the line of a scenario, by the result of its view
@@ -107,9 +104,6 @@ IsSideIf short old text new =
     ⊎ (((new.machine.notes ≡ note_limit) × (0 < length back) × (text ≡ refused (codes "JournalFull")))
     ⊎ IfShort short (text ≡ refused (codes "Memory"))))
 
-abbrev pub IsSide : Session → List ℕ → Session → Type 0
-IsSide old text new = IsSideIf true old text new
-
 -- ---- settling
 
 -- the response that says how far the scenarios are
@@ -133,9 +127,6 @@ IsSettledIf false old text new = IsSettled false old text new
 -- nothing changes, and the text is made, unless memory is refused
 abbrev pub IsMadeIf : Bool → Session → List ℕ → List ℕ → Session → Type 0
 IsMadeIf short old made text new = ((text ≡ made) × (new ≡ old)) ⊎ WantsMemory short old text new
-
-abbrev pub IsMade : Session → List ℕ → List ℕ → Session → Type 0
-IsMade old made text new = IsMadeIf true old made text new
 
 -- how many lines follow, each ended by a line feed, and the lines
 abbrev pub with_count : List ℕ → List ℕ
@@ -165,6 +156,3 @@ AnswersIf short comments old (asks.Log name) text new =
 AnswersIf short comments old asks.Save text new = IsMadeIf short old (saved_text (saved comments (current old.machine) old.machine.listing)) text new
 AnswersIf short comments old asks.Version text new = (text ≡ version_line (version old.machine)) × (new ≡ old)
 AnswersIf short comments old asks.Quit text new = (text ≡ bye_line) × (new ≡ old)
-
-abbrev pub Answers : {A : Type 0} → List (List ℕ) → Session → Command A → List ℕ → Session → Type 0
-Answers comments old command text new = AnswersIf true comments old command text new

@@ -35,10 +35,8 @@ pub fn bytes_of<A: Allocator + Copy>(alloc: A, text: &SwfText<A>) -> Result<Vec<
     ensures { IfOk result (λ bytes. bytes.items ≡ text_bytes text.now) }
 {
     let mut bytes = Vec::new(alloc);
-    match write_swf(text, &mut bytes) {
-        Ok(()) => Ok(bytes),
-        Err(_) => Err(Memory),
-    }
+    write_swf(text, &mut bytes).map_err(|_| Memory)?;
+    Ok(bytes)
 }
 
 fn log_of<A: Allocator + Copy>(alloc: A, reading: &Reading<A>, name: &ScenarioName) -> Reply<A>

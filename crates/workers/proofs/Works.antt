@@ -1,7 +1,7 @@
 -- How a worker's list goes on in a round. It works through with claims, each of a ticket that is then finished or given up, unless the worker
 -- ends at a full journal or out of memory: then it works on, and the last ticket may be left.
 use Rattle.std.proofs.Common.{◌≡◌, ◌==◌, ℕ, List, [], ◌∷◌, ◌++◌, refl, sym, ◌∙◌, ap, append_assoc, append-nil, arith, subst, inl, inr}
-use Rattle.std.specs.Prelude.{Option, None, Some, Result, Ok, Err, IfNone, Bool, true, false}
+use Rattle.std.specs.Prelude.{Option, None, Some, Result, Ok, Err, IfOk, Bool, true, false}
 use Rattle.std.proofs.lemmas.Bool.Decides.{nat_tests}
 use Rattle.book_machine.specs.Call.{BookCall, Claim, Finish, GiveUp}
 use Rattle.book_machine.specs.declared.reply.Reply.{Reply}
@@ -64,13 +64,16 @@ through_held old mid new t call r h lets is =
     let e : List ListedView = listed_view call r ∷ [] in
     (h.0 ++ e, is ∙ (ap (λ (xs : List ListedView). xs ++ e) h.1 ∙ append_assoc old h.0 e), held_after-append h.0 e None (Some t) h.2 ∙ let_go t r call lets)
 
-abbrev pub GoesOn : List ListedView → List ListedView → Option WorkerEnd → Type 0
-GoesOn old new end = WorksOn old new × IfNone end (WorksThrough old new) × (end ≡ Some ends.Stopped → WorksThrough old new)
+abbrev ending : WorkerEnd → Result (Unit {0}) WorkerEnd
+ending end = Err end
 
-goes_through : (old new : List ListedView) (end : Option WorkerEnd) → end ≡ None → WorksThrough old new → GoesOn old new end
+abbrev pub GoesOn : List ListedView → List ListedView → Result (Unit {0}) WorkerEnd → Type 0
+GoesOn old new end = WorksOn old new × IfOk end (λ _. WorksThrough old new) × (end ≡ Err ends.Stopped → WorksThrough old new)
+
+goes_through : (old new : List ListedView) (end : Result (Unit {0}) WorkerEnd) → end ≡ Ok tt → WorksThrough old new → GoesOn old new end
 goes_through old new end is h = (on_through old new h, rw is h, λ e. h)
 
-goes_out : (old new : List ListedView) (end : Option WorkerEnd) (w : WorkerEnd) → end ≡ Some w → (Some w ≡ Some ends.Stopped → ⊥) → WorksOn old new → GoesOn old new end
+goes_out : (old new : List ListedView) (end : Result (Unit {0}) WorkerEnd) (w : WorkerEnd) → end ≡ Err w → (ending w ≡ ending ends.Stopped → ⊥) → WorksOn old new → GoesOn old new end
 goes_out old new end w is other h = (h, rw is tt, λ e. absurd (other (sym is ∙ e)))
 
 same_ticket : (t : ℕ) → (t == t) ≡ true
@@ -88,7 +91,7 @@ through_finish old mid new t fits r h is = through_held old mid new t (Finish t 
 through_give_up : (old mid new : List ListedView) (t : ℕ) (r : Reply) → Held old mid t → new ≡ mid ++ listed_view (GiveUp t) r ∷ [] → WorksThrough old new
 through_give_up old mid new t r h is = through_held old mid new t (GiveUp t) r h (give_up_lets t r) is
 
-finished : (old mid new : List ListedView) (t : ℕ) (end : Option WorkerEnd) → Held old mid t → (answer : Result ℕ (Refusal FinishFault)) → Gains mid new (Finish t (fitted answer)) (finish_answer answer) → end ≡ end_of answer → GoesOn old new end
+finished : (old mid new : List ListedView) (t : ℕ) (end : Result (Unit {0}) WorkerEnd) → Held old mid t → (answer : Result ℕ (Refusal FinishFault)) → Gains mid new (Finish t (fitted answer)) (finish_answer answer) → end ≡ end_of answer → GoesOn old new end
 finished old mid new t end h (Ok v) g is = goes_through old new end is (through_finish old mid new t true (reply.Finished v) h g)
 finished old mid new t end h (Err why.JournalFull) g is = goes_out old new end _ is (λ e. cc) (on_held old mid new t h g)
 finished old mid new t end h (Err (why.Fault finish.UnknownTicket)) g is = goes_through old new end is (through_finish old mid new t false reply.UnknownTicket h g)
@@ -96,21 +99,21 @@ finished old mid new t end h (Err (why.Fault finish.Stranger)) g is = goes_throu
 finished old mid new t end h (Err (why.Fault (finish.Stale p))) g is = goes_through old new end is (through_finish old mid new t true (reply.Stale p) h g)
 finished old mid new t end h (Err why.Memory) g is = goes_out old new end _ is (λ e. cc) (on_held old mid new t h g)
 
-given_up : (old mid new : List ListedView) (t : ℕ) (end : Option WorkerEnd) → Held old mid t → (answer : Result (Unit {0}) (Refusal UnknownTicket)) → Gains mid new (GiveUp t) (give_up_answer answer) → end ≡ end_of answer → GoesOn old new end
+given_up : (old mid new : List ListedView) (t : ℕ) (end : Result (Unit {0}) WorkerEnd) → Held old mid t → (answer : Result (Unit {0}) (Refusal UnknownTicket)) → Gains mid new (GiveUp t) (give_up_answer answer) → end ≡ end_of answer → GoesOn old new end
 given_up old mid new t end h (Ok u) g is = goes_through old new end is (through_give_up old mid new t reply.GivenUp h g)
 given_up old mid new t end h (Err why.JournalFull) g is = goes_out old new end _ is (λ e. cc) (on_held old mid new t h g)
 given_up old mid new t end h (Err (why.Fault fault)) g is = goes_through old new end is (through_give_up old mid new t reply.UnknownTicket h g)
 given_up old mid new t end h (Err why.Memory) g is = goes_out old new end _ is (λ e. cc) (on_held old mid new t h g)
 
 -- where a ticket was claimed and then handed in or given up, the list works on, and through where the worker does not end or ends at a stop
-pub goes_on : (old mid new : List ListedView) (t id v : ℕ) (base : Option ℕ) (end : Option WorkerEnd) → mid ≡ old ++ listed_view Claim (reply.Claimed t id v base) ∷ [] → HandsInOnce t mid new end → GoesOn old new end
+pub goes_on : (old mid new : List ListedView) (t id v : ℕ) (base : Option ℕ) (end : Result (Unit {0}) WorkerEnd) → mid ≡ old ++ listed_view Claim (reply.Claimed t id v base) ∷ [] → HandsInOnce t mid new end → GoesOn old new end
 goes_on old mid new t id v base end is (inl f) = finished old mid new t end (held_claimed old mid t id v base is) f.0 f.1 f.2
 goes_on old mid new t id v base end is (inr g) = given_up old mid new t end (held_claimed old mid t id v base is) g.0 g.1 g.2
 
-handed_in : (t : ℕ) (made : Option RunView) (old new : List ListedView) (end : Option WorkerEnd) → HandsIn t made old new end → HandsInOnce t old new end
+handed_in : (t : ℕ) (made : Option RunView) (old new : List ListedView) (end : Result (Unit {0}) WorkerEnd) → HandsIn t made old new end → HandsInOnce t old new end
 handed_in t (Some run) old new end h = inl h
 handed_in t None old new end h = inr h
 
 -- where what came of a task's work was handed in for its ticket, the ticket was handed in or given up
-pub hands_in : (gives : Option RunView → Type 0) (t of : ℕ) (old new : List ListedView) (end : Option WorkerEnd) → t ≡ of → HandsInWhat gives t old new end → HandsInOnce of old new end
+pub hands_in : (gives : Option RunView → Type 0) (t of : ℕ) (old new : List ListedView) (end : Result (Unit {0}) WorkerEnd) → t ≡ of → HandsInWhat gives t old new end → HandsInOnce of old new end
 hands_in gives t of old new end is h = subst (λ (n : ℕ). HandsInOnce n old new end) is (handed_in t h.0 old new end h.2)

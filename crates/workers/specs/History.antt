@@ -1,6 +1,6 @@
 -- Where in the history of a desk the response to a caller stands. The history begins in the machine's state `opening`; what is said of a
 -- front holds where it is kept.
-use Rattle.std.specs.Prelude.{◌≡◌, ◌<◌, ℕ, true, List, [], ◌∷◌, ◌++◌, Option, Some, IfSome, Result, Ok, Err}
+use Rattle.std.specs.Prelude.{◌≡◌, ◌<◌, ℕ, true, List, [], ◌∷◌, ◌++◌, Some, IfErr, Result, Ok, Err}
 use mathlib.Core.List.{IsPrefix}
 use Rattle.book_machine.specs.declared.caller.Caller.{Caller}
 use Rattle.book_machine.specs.declared.settle_state.SettleState.TheVariants as state
@@ -78,8 +78,8 @@ MayEndAt opening events ends.Full = (state_after opening events).notes ≡ note_
 MayEndAt opening events ends.Memory = Unit {0}
 
 -- the history went on, and at its end the worker went on or ended so
-abbrev pub Works : Machine → Seen → Option WorkerEnd → Seen → Type 0
-Works opening old end new = new.kept ≡ true → (old.kept ≡ true) × IsPrefix old.events new.events × IfSome end (MayEndAt opening new.events)
+abbrev pub Works : Machine → Seen → Result (Unit {0}) WorkerEnd → Seen → Type 0
+Works opening old end new = new.kept ≡ true → (old.kept ≡ true) × IsPrefix old.events new.events × IfErr end (MayEndAt opening new.events)
 
 -- the history went on, up to a stop or past one
 abbrev pub Stops : Seen → Seen → Type 0
@@ -92,4 +92,4 @@ Leaves opening old end new = Stops old new × (new.kept ≡ true → (place : Li
 -- the history went on, and then a task was claimed, or the worker ended
 abbrev pub Claims : Machine → Seen → Caller → Result TaskView WorkerEnd → Seen → Type 0
 Claims opening old who (Ok task) new = Calls opening old who Claim (claim_answer (Ok (Some task))) new
-Claims opening old who (Err end) new = Works opening old (Some end) new
+Claims opening old who (Err end) new = Works opening old (Err end) new

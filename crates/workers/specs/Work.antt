@@ -68,19 +68,19 @@ GainsClaim (Err end) old new = new ≡ old
 -- ---- how a ticket is handed in
 
 -- a worker ends at a full journal and at out of memory, and not at other results
-abbrev pub end_of : {T F : Type 0} → Result T (Refusal F) → Option WorkerEnd
-end_of (Ok value) = None
-end_of (Err why.JournalFull) = Some ends.Full
-end_of (Err (why.Fault fault)) = None
-end_of (Err why.Memory) = Some ends.Memory
+abbrev pub end_of : {T F : Type 0} → Result T (Refusal F) → Result (Unit {0}) WorkerEnd
+end_of (Ok value) = Ok tt
+end_of (Err why.JournalFull) = Err ends.Full
+end_of (Err (why.Fault fault)) = Ok tt
+end_of (Err why.Memory) = Err ends.Memory
 
 -- the run for the ticket was handed in, the list has the reply, and the worker ends by it
-abbrev pub Finishes : ℕ → List ListedView → List ListedView → Option WorkerEnd → Type 0
+abbrev pub Finishes : ℕ → List ListedView → List ListedView → Result (Unit {0}) WorkerEnd → Type 0
 Finishes ticket old new end =
     (answer : Result ℕ (Refusal FinishFault)) × Gains old new (Finish ticket (fitted answer)) (finish_answer answer) × (end ≡ end_of answer)
 
 -- the ticket was given up, the list has the reply, and the worker ends by it
-abbrev pub GivesUp : ℕ → List ListedView → List ListedView → Option WorkerEnd → Type 0
+abbrev pub GivesUp : ℕ → List ListedView → List ListedView → Result (Unit {0}) WorkerEnd → Type 0
 GivesUp ticket old new end =
     (answer : Result (Unit {0}) (Refusal UnknownTicket)) × Gains old new (GiveUp ticket) (give_up_answer answer) × (end ≡ end_of answer)
 
@@ -89,14 +89,14 @@ abbrev pub IsWanted : TaskView → Option RunView → Type 0
 IsWanted task made = IfSome made (λ (run : RunView). (run.log ≡ task.log) × (run.scenario ≡ task.scenario))
 
 -- a run that was made is handed in, and where none was the ticket is given up
-abbrev pub HandsIn : ℕ → Option RunView → List ListedView → List ListedView → Option WorkerEnd → Type 0
+abbrev pub HandsIn : ℕ → Option RunView → List ListedView → List ListedView → Result (Unit {0}) WorkerEnd → Type 0
 HandsIn ticket (Some run) old new end = Finishes ticket old new end
 HandsIn ticket None old new end = GivesUp ticket old new end
 
 -- what came of the work is what may come of it, and is handed in
-abbrev pub HandsInWhat : (Option RunView → Type 0) → ℕ → List ListedView → List ListedView → Option WorkerEnd → Type 0
+abbrev pub HandsInWhat : (Option RunView → Type 0) → ℕ → List ListedView → List ListedView → Result (Unit {0}) WorkerEnd → Type 0
 HandsInWhat gives ticket old new end = (made : Option RunView) × gives made × HandsIn ticket made old new end
 
 -- one of the two
-abbrev pub HandsInOnce : ℕ → List ListedView → List ListedView → Option WorkerEnd → Type 0
+abbrev pub HandsInOnce : ℕ → List ListedView → List ListedView → Result (Unit {0}) WorkerEnd → Type 0
 HandsInOnce ticket old new end = Finishes ticket old new end ⊎ GivesUp ticket old new end

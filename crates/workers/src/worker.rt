@@ -1,5 +1,5 @@
 // A worker makes the run for a ticket without the lock.
-ghost use Rattle.std.specs.Prelude.{◌≡◌, ◌↔◌, IfNone, IsTrue, Some, map};
+ghost use Rattle.std.specs.Prelude.{◌≡◌, ◌↔◌, Err, IfOk, IsTrue, map};
 ghost use Rattle.book_machine.specs.declared.caller.Caller.TheVariants as caller;
 ghost use Rattle.chronicle.specs.Fronts.{Begins};
 ghost use Rattle.workers.specs.Callers.{new_worker};
@@ -58,13 +58,13 @@ impl<A: Allocator + Copy, J: Naming> Model for Worker<A, J> {
     ghost view = { λ w. record { number = w.number; list = map listed_of w.list.items; front = w.front } };
 }
 
-fn end_of<T: Copy, F: Copy>(outcome: Result<T, Refusal<F>>) -> Option<WorkerEnd>
+fn end_of<T: Copy, F: Copy>(outcome: Result<T, Refusal<F>>) -> Result<(), WorkerEnd>
     ensures { result ≡ end_of outcome }
 {
     match outcome {
-        Err(Refusal::JournalFull) => Some(WorkerEnd::Full),
-        Err(Refusal::Memory) => Some(WorkerEnd::Memory),
-        _ => None,
+        Err(Refusal::JournalFull) => Err(WorkerEnd::Full),
+        Err(Refusal::Memory) => Err(WorkerEnd::Memory),
+        _ => Ok(()),
     }
 }
 
@@ -115,14 +115,12 @@ impl<A: Allocator + Copy, J: Naming> Worker<A, J> {
         desk: &Desk<A, J>,
         ticket: u64,
         run: Arc<Run<A>, A>,
-    ) -> Option<WorkerEnd>
+    ) -> Result<(), WorkerEnd>
         ensures list { Finishes ticket self.old.list self.new.list result }
         ensures history { Works J.opening self.old.front result self.new.front }
         ensures number { self.new.number ≡ self.old.number }
     {
-        if reserve_call(&mut self.list).is_err() {
-            return Some(WorkerEnd::Memory);
-        }
+        reserve_call(&mut self.list)?;
         let outcome = desk
             .shared
             .lock(rt)
@@ -131,14 +129,12 @@ impl<A: Allocator + Copy, J: Naming> Worker<A, J> {
         end_of(outcome)
     }
 
-    fn give_up<R: Wait>(&mut self, rt: &R, desk: &Desk<A, J>, ticket: u64) -> Option<WorkerEnd>
+    fn give_up<R: Wait>(&mut self, rt: &R, desk: &Desk<A, J>, ticket: u64) -> Result<(), WorkerEnd>
         ensures list { GivesUp ticket self.old.list self.new.list result }
         ensures history { Works J.opening self.old.front result self.new.front }
         ensures number { self.new.number ≡ self.old.number }
     {
-        if reserve_call(&mut self.list).is_err() {
-            return Some(WorkerEnd::Memory);
-        }
+        reserve_call(&mut self.list)?;
         let outcome = desk
             .shared
             .lock(rt)
@@ -154,7 +150,7 @@ impl<A: Allocator + Copy, J: Naming> Worker<A, J> {
         gate: &G,
         ticket: u64,
         making: &mut M,
-    ) -> Option<WorkerEnd>
+    ) -> Result<(), WorkerEnd>
         ensures list { HandsInWhat (M.gives making.old) ticket self.old.list self.new.list result }
         ensures history { Works J.opening self.old.front result self.new.front }
         ensures number { self.new.number ≡ self.old.number }
@@ -175,7 +171,7 @@ impl<A: Allocator + Copy, J: Naming> Worker<A, J> {
         desk: &Desk<A, J>,
         gate: &G,
         mut task: Task<A>,
-    ) -> Option<WorkerEnd>
+    ) -> Result<(), WorkerEnd>
         ensures list { HandsInOnce task.ticket self.old.list self.new.list result }
         ensures history { Works J.opening self.old.front result self.new.front }
         ensures number { self.new.number ≡ self.old.number }
@@ -184,17 +180,20 @@ impl<A: Allocator + Copy, J: Naming> Worker<A, J> {
         self.make(rt, desk, gate, ticket, &mut task)
     }
 
-    fn round<R: Wait, G: Gate>(&mut self, rt: &R, desk: &Desk<A, J>, gate: &G) -> Option<WorkerEnd>
+    fn round<R: Wait, G: Gate>(
+        &mut self,
+        rt: &R,
+        desk: &Desk<A, J>,
+        gate: &G,
+    ) -> Result<(), WorkerEnd>
         ensures on { WorksOn self.old.list self.new.list }
-        ensures through { IfNone result (WorksThrough self.old.list self.new.list) }
-        ensures stopped { result ≡ Some ends.Stopped → WorksThrough self.old.list self.new.list }
+        ensures through { IfOk result (λ _. WorksThrough self.old.list self.new.list) }
+        ensures stopped { result ≡ Err ends.Stopped → WorksThrough self.old.list self.new.list }
         ensures history { Works J.opening self.old.front result self.new.front }
         ensures number { self.new.number ≡ self.old.number }
     {
-        match self.claim(rt, desk) {
-            Ok(task) => self.work(rt, desk, gate, task),
-            Err(end) => Some(end),
-        }
+        let task = self.claim(rt, desk)?;
+        self.work(rt, desk, gate, task)
     }
 
     fn stop<R: Wait>(&mut self, rt: &R, desk: &Desk<A, J>)
@@ -218,7 +217,7 @@ impl<A: Allocator + Copy, J: Naming> Worker<A, J> {
         ensures number { self.new.number ≡ self.old.number }
     {
         for _ in rt.forever() {
-            if let Some(end) = self.round(rt, desk, gate) {
+            if let Err(end) = self.round(rt, desk, gate) {
                 if end == WorkerEnd::Stopped {
                     return end;
                 }

@@ -1,5 +1,5 @@
 use Rattle.std.proofs.Common.{rules, ◌≡◌, ◌∙◌, ap, refl, subst, sym}
-use Rattle.std.specs.Prelude.{None, Some}
+use Rattle.std.specs.Prelude.{Ok, Err}
 use Rattle.workers.specs.declared.worker.WorkerEnd.TheVariants as ends
 use Rattle.workers.specs.declared.worker.WorkerEnd.{WorkerEnd}
 use Rattle.workers.specs.Callers.{WorkerView}
@@ -14,28 +14,28 @@ returns-then-eq-clause-list g c = on_after_through _ _ _ c.loop.invariant.2 c.ro
 
 pub returns-then-eq-clause-stopped : goal.returns-then-eq-clause-stopped
 returns-then-eq-clause-stopped g c = λ e.
-    let stopped : c.round.result ≡ Some ends.Stopped = search rules in
+    let stopped : c.round.result ≡ Err ends.Stopped = search rules in
     through_after_through _ _ _ c.loop.invariant.2 (c.round.ensures.stopped stopped)
 
 pub returns-then-eq-clause-history : goal.returns-then-eq-clause-history
 returns-then-eq-clause-history g c =
-    let stopped : c.in-Some-round.end ≡ ends.Stopped = search rules in
-    let works = works_on g.J.Naming.opening _ c.loop.self.front c.round.new.self.front (Some c.in-Some-round.end) c.loop.invariant.4 c.in-Some-round.ensures.history in
+    let stopped : c.in-Err.end ≡ ends.Stopped = search rules in
+    let works = works_on g.J.Naming.opening _ c.loop.self.front c.round.new.self.front (Err c.in-Err.end) c.loop.invariant.4 c.in-Err.ensures.history in
     subst (λ (end : WorkerEnd). Leaves g.J.Naming.opening c.args.self.now.front end c.round.new.self.front) (sym stopped)
-    (leaves_stopped g.J.Naming.opening _ _ (subst (λ (end : WorkerEnd). Works g.J.Naming.opening c.args.self.now.front (Some end) c.round.new.self.front) stopped works))
+    (leaves_stopped g.J.Naming.opening _ _ (subst (λ (end : WorkerEnd). Works g.J.Naming.opening c.args.self.now.front (Err end) c.round.new.self.front) stopped works))
 
-pub returns-in-Some-round-clause-list : goal.returns-in-Some-round-clause-list
-returns-in-Some-round-clause-list g c = subst (WorksOn c.args.self.now.list) (sym (ap (λ (w : WorkerView). w.list) c.stop.ensures.same)) (on_after_through _ _ _ c.loop.invariant.2 c.round.ensures.on)
+pub returns-in-Err-clause-list : goal.returns-in-Err-clause-list
+returns-in-Err-clause-list g c = subst (WorksOn c.args.self.now.list) (sym (ap (λ (w : WorkerView). w.list) c.stop.ensures.same)) (on_after_through _ _ _ c.loop.invariant.2 c.round.ensures.on)
 
-pub returns-in-Some-round-clause-stopped : goal.returns-in-Some-round-clause-stopped
-returns-in-Some-round-clause-stopped g c = λ e.
-    let stopped : c.round.result ≡ Some ends.Stopped = search rules in
+pub returns-in-Err-clause-stopped : goal.returns-in-Err-clause-stopped
+returns-in-Err-clause-stopped g c = λ e.
+    let stopped : c.round.result ≡ Err ends.Stopped = search rules in
     subst (WorksThrough c.args.self.now.list) (sym (ap (λ (w : WorkerView). w.list) c.stop.ensures.same)) (through_after_through _ _ _ c.loop.invariant.2 (c.round.ensures.stopped stopped))
 
-pub returns-in-Some-round-clause-history : goal.returns-in-Some-round-clause-history
-returns-in-Some-round-clause-history g c =
-    let works = works_on g.J.Naming.opening _ c.loop.self.front c.round.new.self.front (Some c.in-Some-round.end) c.loop.invariant.4 c.in-Some-round.ensures.history in
-    leaves g.J.Naming.opening _ c.round.new.self.front c.stop.new.self.front c.in-Some-round.end works c.stop.ensures.front
+pub returns-in-Err-clause-history : goal.returns-in-Err-clause-history
+returns-in-Err-clause-history g c =
+    let works = works_on g.J.Naming.opening _ c.loop.self.front c.round.new.self.front (Err c.in-Err.end) c.loop.invariant.4 c.in-Err.ensures.history in
+    leaves g.J.Naming.opening _ c.round.new.self.front c.stop.new.self.front c.in-Err.end works c.stop.ensures.front
 
 pub loop-init : goal.loop-init
 loop-init g c = (tt, tt, through_stays _ _ refl, refl, works_same g.J.Naming.opening _)
@@ -43,5 +43,5 @@ loop-init g c = (tt, tt, through_stays _ _ refl, refl, works_same g.J.Naming.ope
 pub loop-preserved : goal.loop-preserved
 loop-preserved g c =
     let through : WorksThrough c.loop.self.list c.round.new.self.list = c.in_default.ensures.through in
-    let on = works_on g.J.Naming.opening _ c.loop.self.front c.round.new.self.front None c.loop.invariant.4 c.in_default.ensures.history in
+    let on = works_on g.J.Naming.opening _ c.loop.self.front c.round.new.self.front (Ok tt) c.loop.invariant.4 c.in_default.ensures.history in
     (tt, tt, through_after_through _ _ _ c.loop.invariant.2 through, c.round.ensures.number ∙ c.loop.invariant.3, on)
