@@ -84,10 +84,7 @@ fn work_script<'d, A: Allocator + Copy, J: Naming, R: Wait>(
 ) -> Result<(), Memory>
     ensures { OnOk result (IsWorkedAtDesk A J.opening (map (λ c. c.items) comments.now) analyst.old script.now analyst.new text.old.items text.new.items) }
 {
-    match work_lines(analyst, alloc, comments, script, text) {
-        Ok(()) => Ok(()),
-        Err(_) => Err(Memory),
-    }
+    work_lines(analyst, alloc, comments, script, text).map_err(|_| Memory)
 }
 
 fn work_session<A: Allocator + Copy, J: Naming + Works, R: Wait>(

@@ -211,15 +211,9 @@ pub fn read_words<'a>(alloc: Global, words: &'a [&'a str]) -> Result<Words<'a>, 
     ensures scripts { IfOk result (λ w. vec_len w.scripts ≤ callers_limit) }
 {
     let matches = matched(alloc, words)?;
-    let Some(procs) = machine(&matches) else {
-        return Err(WordsFault::BadWords);
-    };
-    let Some(spacing) = spacing(&matches) else {
-        return Err(WordsFault::BadWords);
-    };
-    let Some(workers) = workers(&matches) else {
-        return Err(WordsFault::BadWords);
-    };
+    let procs = machine(&matches).ok_or(WordsFault::BadWords)?;
+    let spacing = spacing(&matches).ok_or(WordsFault::BadWords)?;
+    let workers = workers(&matches).ok_or(WordsFault::BadWords)?;
     let scripts = scripts(alloc, &matches)?;
     if scripts.len() as u64 > MAX_CALLERS {
         return Err(WordsFault::BadWords);
