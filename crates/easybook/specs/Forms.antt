@@ -60,7 +60,7 @@ abbrev pub ScriptsAreChosen : Type 0
 ScriptsAreChosen =
     (name one other : List ℕ) → chosen (name ∷ (codes "--script=" ++ one) ∷ (codes "--script=" ++ other) ∷ []) ≡ Some (with_scripts (one ∷ other ∷ []))
 
--- a word that begins with `/` or `./` is the file that holds the log, and so is a name such as `month.swf`; two of them are bad
+-- a word that begins with `/` or `./` is the file that holds the log, and so is `month.swf`; two that begin with `./` are bad
 abbrev pub LogIsChosen : Type 0
 LogIsChosen =
     (name file other : List ℕ)

@@ -19,9 +19,9 @@ pub fn words_law()
     ensures twice { TwiceIsBad }
 {}
 
-/// What words choose that name a log: the file that the word is, where it begins with `/` or `./`, or is a
-/// plain name, while two such words are bad. `--live` beside one chooses a conversation on it; without a
-/// log, and beside a script, it is bad.
+/// What words choose that name a log: the file that the word is, where it begins with `/` or `./`, or is
+/// `month.swf`, while two words that begin with `./` are bad. `--live` beside such a one chooses a
+/// conversation on it; without a log, and beside a script, it is bad.
 pub fn log_words_law()
     ensures log { LogIsChosen }
     ensures live { LiveIsChosen }
